@@ -1,7 +1,6 @@
 -- The test and its form by witnesses are the same.
-use Rattle.std.proofs.Common.{ℕ, ◌+◌, ◌-◌, ◌*◌, ◌<◌, ◌≤◌, ◌≡◌, arith, sym, le_refl, refl, length, Option, le_trans, le_of_eq}
-use Rattle.std.specs.Option.{ForSome}
-use Rattle.cop_rta.specs.Test.{Place, Passes, busy_at, queueing_at, cost_at, jitter_at, period_at, deadline_at}
+use Rattle.std.proofs.Common.{ℕ, ◌+◌, ◌-◌, ◌*◌, ◌<◌, ◌≤◌, ◌≡◌, arith, sym, le_refl, refl, length, le_trans, le_of_eq}
+use Rattle.cop_rta.specs.Test.{Place, Passes, busy_at, queueing_at, cost_at, jitter_at, period_at}
 use Rattle.cop_rta.specs.TestLemmas.{busy_at-mono, queueing_at-mono}
 use Rattle.cop_rta.specs.Witnesses.{HasWitnesses}
 use Rattle.cop_rta.proofs.LeastLemmas.{climb, least_exists}
