@@ -1,5 +1,5 @@
 -- Where streams stand, one more.
-use Rattle.std.proofs.Common.{◌≡◌, ◌≢◌, ◌==◌, ◌≤◌, ℕ, suc, Bool, true, false, List, [], ◌∷◌, ◌++◌, length, ◌||◌, Option, Some, None, if◌then◌else◌, arith, refl, sym, ap, ◌∙◌, option_map, ⊎_elim, set, replicate, is_some, true≢false}
+use Rattle.std.proofs.Common.{◌<◌, ◌≡◌, ◌≢◌, ◌==◌, ◌≤◌, ℕ, suc, Bool, true, false, List, [], ◌∷◌, ◌++◌, length, ◌||◌, Option, Some, None, IfSome, if◌then◌else◌, arith, refl, sym, ap, ◌∙◌, option_map, ⊎_elim, set, replicate, is_some, true≢false}
 use Rattle.std.proofs.lemmas.Bool.{cases_eq, eq-eqb, ne_eqb}
 use Rattle.std.proofs.lemmas.List.{length-set, get_or-set_same, get_or-set_other, get_or-replicate}
 use Rattle.cop_rta.specs.declared.streams.Stream.{Stream}
@@ -21,6 +21,15 @@ some_after false (Some k) c e = e
 pub place_is_some : (ss : List Stream) (id : ℕ) → is_some (place_of_id ss id) ≡ has_id ss id
 place_is_some [] id = refl
 place_is_some (s ∷ ss) id = some_after (s.id == id) (place_of_id ss id) (has_id ss id) (place_is_some ss id)
+
+within_after : (b : Bool) (o : Option ℕ) (n : ℕ) → IfSome o (λ k. k < n) → IfSome (if b then Some 0 else option_map (λ k. suc k) o) (λ k. k < suc n)
+within_after true o n h = omega arith
+within_after false None n h = h
+within_after false (Some k) n h = omega (arith, h)
+
+pub place_within : (ss : List Stream) (id : ℕ) → IfSome (place_of_id ss id) (λ k. k < length ss)
+place_within [] id = tt
+place_within (s ∷ ss) id = within_after (s.id == id) (place_of_id ss id) (length ss) (place_within ss id)
 
 -- a stream more at the end stands there, and no other moves
 place_other : (ss : List Stream) (x : Stream) (id : ℕ) → x.id ≢ id → place_of_id (ss ++ x ∷ []) id ≡ place_of_id ss id
