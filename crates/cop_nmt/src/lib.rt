@@ -1,0 +1,15 @@
+//! The states of a node, and the frames and timers that tell of them.
+#![tactic(auto)]
+
+mod consumer;
+mod fixed;
+mod producer;
+mod states;
+
+pub use consumer::Consumer;
+pub use fixed::{boot_up, emcy, heartbeat, sync};
+pub use producer::Producer;
+pub use states::{Effect, NodeState, Service, state_after};
+
+#[cfg(test)]
+mod tests;
