@@ -1,0 +1,44 @@
+-- The sub sections of an index, one after the other.
+use Rattle.std.proofs.Common.{◌≡◌, ℕ, suc, ◌+◌, ◌-◌, ◌≤◌, ◌<◌, List, [], ◌∷◌, Result, Ok, Err, Some, None, refl, arith}
+use Rattle.cop_eds.specs.declared.fault.Refusal.{Refusal}
+use Rattle.cop_eds.specs.declared.line.Place.{Place}
+use Rattle.cop_eds.specs.declared.description.Description.{Description}
+use Rattle.cop_eds.specs.Names.{sub_code}
+use Rattle.cop_eds.specs.Sections.{coded_place}
+use Rattle.cop_eds.specs.Steps.{each}
+use Rattle.cop_eds.specs.Description.{described}
+use Rattle.cop_eds.specs.Lists.{subs_from, described_sub}
+
+pub sub_there : (text : List ℕ) (index sub : ℕ) (place : Place) → sub < 256 → coded_place text (sub_code index sub) ≡ Some place
+    → subs_from text index sub (256 - sub) ≡ (sub, place) ∷ subs_from text index (sub + 1) (256 - (sub + 1))
+unfolding subs_from
+sub_there text index sub place lt e =
+    let k : 256 - sub ≡ suc (256 - (sub + 1)) = omega arith in
+    rw (k, e) refl
+
+pub sub_absent : (text : List ℕ) (index sub : ℕ) → sub < 256 → coded_place text (sub_code index sub) ≡ None
+    → subs_from text index sub (256 - sub) ≡ subs_from text index (sub + 1) (256 - (sub + 1))
+unfolding subs_from
+sub_absent text index sub lt e =
+    let k : 256 - sub ≡ suc (256 - (sub + 1)) = omega arith in
+    rw (k, e) refl
+
+pub subs_end : (text : List ℕ) (index sub : ℕ) → 256 ≤ sub → subs_from text index sub (256 - sub) ≡ []
+unfolding subs_from
+subs_end text index sub le =
+    let k : 256 - sub ≡ 0 = omega arith in
+    rw k refl
+
+pub sub_passes : (text : List ℕ) (sub : ℕ) (place : Place) (xs : List (ℕ × Place)) (d : Description) → described text place ≡ Ok d
+    → each (described_sub text) ((sub, place) ∷ xs) ≡ each (described_sub text) xs
+unfolding each
+sub_passes text sub place xs d e = rw e refl
+
+pub sub_stops : (text : List ℕ) (sub : ℕ) (place : Place) (xs : List (ℕ × Place)) (r : Refusal) → described text place ≡ Err r
+    → each (described_sub text) ((sub, place) ∷ xs) ≡ Err r
+unfolding each
+sub_stops text sub place xs r e = rw e refl
+
+pub no_subs : (text : List ℕ) → each (described_sub text) [] ≡ Ok tt
+unfolding each
+no_subs text = refl

@@ -1,0 +1,15 @@
+pub mod Rules
+pub mod Text
+pub mod Number
+pub mod Names
+pub mod Lines
+pub mod Sections
+pub mod Amount
+pub mod Steps
+pub mod Rates
+pub mod Access
+pub mod Description
+pub mod Lists
+pub mod Objects
+pub mod Reading
+pub mod Eds

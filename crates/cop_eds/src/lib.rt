@@ -1,0 +1,26 @@
+//! EDS and DCF text: lines, sections and pairs, as slices of the source.
+#![tactic(auto)]
+
+mod amount;
+mod description;
+mod eds;
+mod fault;
+pub mod laws;
+mod line;
+mod lines;
+mod lists;
+mod names;
+mod number;
+mod objects;
+mod rates;
+mod sections;
+mod text;
+
+pub use amount::{Amount, amount_of};
+pub use description::{Access, Description, Object, ObjectType};
+pub use eds::{Eds, parse};
+pub use fault::{EdsFault, Refusal, Rule};
+pub use line::{Kind, Line, Place};
+
+#[cfg(test)]
+mod tests;
