@@ -1,0 +1,24 @@
+//! The object dictionary of a device (CiA 301), as a map from index and sub to entries.
+#![tactic(auto)]
+
+mod abort;
+mod data_type;
+mod description;
+mod dictionary;
+pub mod laws;
+mod mapping;
+mod number;
+mod object;
+mod pdo;
+mod search;
+mod writing;
+
+pub use abort::Abort;
+pub use data_type::{Access, DataType};
+pub use description::Description;
+pub use dictionary::Dictionary;
+pub use mapping::{Direction, Mapped, MappingFault};
+pub use object::Object;
+
+#[cfg(test)]
+mod tests;
