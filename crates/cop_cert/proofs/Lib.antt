@@ -1,1 +1,2 @@
 pub mod WriterLemmas
+pub mod ReadingLemmas

@@ -7,7 +7,9 @@ use cop_frame::Rate;
 #[derive(Drop)]
 pub enum Evidence {
     /// The busy time is above the horizon: a busy list ends there.
-    Long { busy: Items<u64> },
+    Long {
+        busy: Items<u64>,
+    },
     /// Instance `q`, counted from 0, is late: a busy list reaches it, and a queue list ends past its deadline.
     Late {
         q: u64,
