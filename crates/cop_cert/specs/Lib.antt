@@ -4,3 +4,4 @@ pub mod Faults
 pub mod Entries
 pub mod Steps
 pub mod Reading
+pub mod Writable

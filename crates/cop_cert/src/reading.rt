@@ -1,6 +1,9 @@
 //! Reading refusals from a table.
 
-ghost use Rattle.std.specs.Prelude.{◌≡◌, ◌≤◌, ◌+◌, length, IfOk, OnOk};
+ghost use Rattle.std.specs.Prelude.{◌≡◌, ◌≤◌, ◌+◌, length, IfOk, OnOk, List, Ok};
+ghost use Rattle.cop_cert.specs.declared.refusals.Refusal.{Refusal};
+ghost use Rattle.cop_cert.specs.Format.{text_of};
+ghost use Rattle.cop_cert.specs.Writable.{AreWritable};
 ghost use Rattle.cop_table.specs.Reading.{Gives};
 ghost use Rattle.cop_cert.specs.Faults.{breach_of};
 ghost use Rattle.cop_cert.specs.Steps.{fault_at};
@@ -87,9 +90,8 @@ fn take(
 }
 
 #[tactic(auto, unfolding(crate::specs::Reading::refusals_of), using(cop_table::proofs::RowsLemmas::goes_on, cop_table::proofs::RowsLemmas::stops, cop_table::proofs::RowsLemmas::ends))]
-/// The refusals of a text. Of its records the first that breaks a rule counts, and of its rules the least.
-pub fn read(alloc: Global, bytes: &[u8]) -> Result<Vec<Refusal>, CertFault>
-    ensures read { Gives (λ refusals. refusals.items) breach_of result (refusals_of bytes.now) }
+fn refusals_of(alloc: Global, bytes: &[u8]) -> Result<Vec<Refusal>, CertFault>
+    ensures { Gives (λ refusals. refusals.items) breach_of result (refusals_of bytes.now) }
 {
     let mut row = Record::new(alloc);
     let mut rows = rows_in(alloc, bytes, &mut row)?;
@@ -104,4 +106,15 @@ pub fn read(alloc: Global, bytes: &[u8]) -> Result<Vec<Refusal>, CertFault>
         Ok(refusals) => Ok(refusals),
         Err(fault) => Err(at(place, fault)),
     }
+}
+
+/// The refusals of a text. Of its records the first that breaks a rule counts, and of its rules the least.
+pub fn read(alloc: Global, bytes: &[u8]) -> Result<Vec<Refusal>, CertFault>
+    ensures read { Gives (λ refusals. refusals.items) breach_of result (refusals_of bytes.now) }
+
+    // What `write` wrote is read again.
+    ensures written { (refusals : List Refusal) → AreWritable refusals → bytes.now ≡ text_of refusals
+        → Gives (λ refusals. refusals.items) breach_of result (Ok refusals) }
+{
+    refusals_of(alloc, bytes)
 }

@@ -2,7 +2,7 @@ use Rattle.std.proofs.Common.{◌≡◌, ◌+◌, ◌<◌, ◌^◌, length}
 use Rattle.cop_table.specs.Reading.{◌>>=◌}
 use Rattle.cop_table.specs.Rows.{rows_from}
 use Rattle.cop_cert.specs.Reading.{taken, ended, refusals_of}
-use Rattle.cop_cert.proofs.reading.read.Given as goal
+use Rattle.cop_cert.proofs.reading.refusals_of.Given as goal
 
 abbrev pub invariant-rows : goal.invariant-rows
 invariant-rows l = record {
