@@ -5,3 +5,6 @@ pub mod Entries
 pub mod Steps
 pub mod Reading
 pub mod Writable
+pub mod Assignments
+pub mod Sets
+pub mod Evidence
