@@ -5,8 +5,8 @@ use Rattle.std.proofs.lemmas.Bool.{cases_lt, cases_eq, ltb-true, lt-ltb, le-ltb,
 use Rattle.std.proofs.lemmas.Option.{slice_get_cases}
 use Rattle.cop_frame.specs.declared.rates.Rate.{Rate}
 use Rattle.cop_rta.specs.declared.streams.Stream.{Stream}
-use Rattle.cop_rta.specs.Test.{Place, of_stream, is_above}
-use Rattle.cop_rta.specs.Witnesses.{HasMoreAbove, under}
+use Rattle.cop_rta.specs.Test.{Place, of_stream}
+use Rattle.cop_rta.specs.Witnesses.{HasMoreAbove}
 use Rattle.cop_cert.specs.Assignments.{least_id, greatest_id, AreFixedOutside, id_under, is_lower, place_under}
 use Rattle.cop_cert.specs.Sets.{is_in_trial, trial}
 

@@ -1,7 +1,7 @@
 -- A stream with evidence fails.
-use Rattle.std.proofs.Common.{◌≡◌, ℕ, ◌+◌, ◌-◌, ◌*◌, ◌<◌, ◌≤◌, List, [], ◌∷◌, Option, Some, None, refl, arith, le_trans, subst}
+use Rattle.std.proofs.Common.{ℕ, ◌+◌, ◌-◌, ◌*◌, ◌<◌, ◌≤◌, List, [], ◌∷◌, Option, Some, None, refl, arith, le_trans}
 use Rattle.std.specs.Option.{ForSome, IsSomeAnd}
-use Rattle.cop_rta.specs.Test.{Place, Passes, busy_at, queueing_at, blocking, cost_at, jitter_at, period_at, deadline_at, horizon}
+use Rattle.cop_rta.specs.Test.{Place, Passes, busy_at, queueing_at, blocking, cost_at, jitter_at, period_at, deadline_at}
 use Rattle.cop_rta.specs.TestLemmas.{busy_at-mono, queueing_at-mono}
 use Rattle.cop_rta.specs.Witnesses.{HasWitnesses}
 use Rattle.cop_rta.proofs.WitnessLemmas.{passes_has_witnesses}
@@ -38,8 +38,8 @@ evidence_shows p (Long busy) e shown = omega (arith, busy_below p busy e.list sh
 evidence_shows p (Late q busy queue) e shown =
     let w = shown.each q (omega (arith, e.reached, busy_below p busy e.list shown)) in
     on_time_or_late (deadline_at p) (jitter_at p) w.0 (cost_at p) (q * period_at p) (last_of queue)
-        (climb_below (queueing_at p q) (queueing_at-mono p q) w.0 w.1 queue (starts p q (first_of queue) w.0 e.waits.begins w.1) e.waits.climbs)
-        w.2 e.late
+    (climb_below (queueing_at p q) (queueing_at-mono p q) w.0 w.1 queue (starts p q (first_of queue) w.0 e.waits.begins w.1) e.waits.climbs)
+    w.2 e.late
 
 pub evidence_fails : (p : Place) (e : Evidence) → IsEvidence p e → Passes p → ⊥
 evidence_fails p e shows passes = evidence_shows p e shows (passes_has_witnesses p passes)

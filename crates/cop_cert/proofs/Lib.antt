@@ -6,3 +6,6 @@ pub mod RoundTrip
 pub mod AboveLemmas
 pub mod EvidenceLemmas
 pub mod SetLemmas
+pub mod ClimbLemmas
+pub mod MemberLemmas
+pub mod CheckLemmas

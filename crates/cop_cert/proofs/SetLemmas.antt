@@ -7,10 +7,9 @@ use Rattle.std.proofs.lemmas.List.Elements.{recursion_from_All}
 use borrow.Author.Count.{below_more}
 use Rattle.cop_frame.specs.declared.rates.Rate.{Rate}
 use Rattle.cop_rta.specs.declared.streams.Stream.{Stream}
-use Rattle.cop_rta.specs.Test.{Place, Passes}
 use Rattle.cop_rta.proofs.MoreAbove.{passes_under_fewer}
-use Rattle.cop_cert.specs.Assignments.{least_id, IsAssignment, is_lower, IsPassing, NoAssignmentPasses}
-use Rattle.cop_cert.specs.Sets.{is_in_trial, trial, IsRefusalSet}
+use Rattle.cop_cert.specs.Assignments.{least_id, is_lower, NoAssignmentPasses}
+use Rattle.cop_cert.specs.Sets.{trial, IsRefusalSet}
 use Rattle.cop_cert.specs.Evidence.{is_member, IsEvidence, IsRefusal}
 use Rattle.cop_cert.specs.declared.refusals.Member.{Member}
 use Rattle.cop_cert.specs.declared.refusals.Refusal.{Refusal}

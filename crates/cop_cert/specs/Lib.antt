@@ -8,3 +8,4 @@ pub mod Writable
 pub mod Assignments
 pub mod Sets
 pub mod Evidence
+pub mod Rising

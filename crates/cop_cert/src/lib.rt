@@ -1,6 +1,8 @@
 //! Refusals: evidence, which anyone can check, that no assignment of identifiers passes at a rate.
 #![tactic(auto)]
 
+mod checking;
+mod demands;
 mod drafts;
 mod entries;
 mod faults;
@@ -9,6 +11,7 @@ mod reading;
 mod refusals;
 mod writing;
 
+pub use checking::check;
 pub use faults::{Breach, CertFault, Rule};
 pub use items::Items;
 pub use reading::read;
