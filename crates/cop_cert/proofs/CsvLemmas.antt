@@ -1,0 +1,74 @@
+-- What is written as a table is read as its records.
+use Rattle.std.proofs.Common.{◌≡◌, ℕ, zero, suc, ◌+◌, ◌<◌, ◌≤◌, List, [], ◌∷◌, ◌++◌, length, refl, ap, arith, length-append, Some, codes, lit<, map}
+use Rattle.std.specs.List.{flat_map}
+use Rattle.csv.specs.Machine.{next_record}
+use Rattle.csv.specs.Reading.{records_from, default_config, strip_bom}
+use Rattle.csv.specs.Writing.{escaped, is_blank, fields_text}
+use Rattle.csv.specs.declared.parser.State.TheVariants as st
+use Rattle.csv.proofs.RoundTrip.{read-write-many}
+use Rattle.cop_table.specs.Records.{records_of}
+use Rattle.cop_frame.specs.declared.rates.Rate.{Rate}
+use Rattle.cop_cert.specs.Format.{Fields, line, lines, header, text_of, rows_of, refusal_rows, member_rows, evidence_rows, fields_of, version}
+use Rattle.cop_cert.specs.declared.refusals.Evidence.{Evidence}
+use Rattle.cop_cert.specs.declared.refusals.Evidence.TheVariants.{Long, Late}
+use Rattle.cop_cert.specs.declared.refusals.Member.{Member}
+use Rattle.cop_cert.specs.declared.refusals.Refusal.{Refusal}
+
+-- rows of two fields or more
+abbrev pub AreWide : List Fields → Type 0
+AreWide [] = Unit {0}
+AreWide (row ∷ rows) = (1 < length row) × AreWide rows
+
+line_read : (row : Fields) (tail : List ℕ) → 1 < length row → next_record default_config st.StartRecord [] [] (line row ++ tail) ≡ Some (row, st.StartRecord, tail)
+unfolding line
+line_read [] tail h = absurd (omega arith)
+line_read (x ∷ []) tail h = absurd (omega arith)
+line_read (x ∷ y ∷ ys) tail h = read-write-many x y ys tail
+
+lines_read : (rows : List Fields) (n : ℕ) → AreWide rows → length rows < n → records_from default_config n st.StartRecord (lines rows) ≡ rows
+unfolding records_from next_record
+lines_read rows zero wide h = absurd (omega arith)
+lines_read [] (suc n) wide h = refl
+lines_read (row ∷ rows) (suc n) wide h = rw (line_read row (lines rows) wide.0) (ap (λ t. row ∷ t) (lines_read rows n wide.1 (omega arith)))
+
+line_some : (row : Fields) → 0 < length (line row)
+unfolding line
+line_some row = simp length-append (omega arith)
+
+count_lines : (rows : List Fields) → length rows ≤ length (lines rows)
+count_lines [] = omega arith
+count_lines (row ∷ rows) = simp length-append (omega (arith, line_some row, count_lines rows))
+
+-- the header has no byte order mark
+starts_plain : (rest : List ℕ) → strip_bom (line header ++ rest) ≡ line header ++ rest
+unfolding strip_bom line escaped is_blank fields_text
+starts_plain rest = refl
+
+table_read : (rows : List Fields) → AreWide rows → records_of (lines (header ∷ rows)) ≡ header ∷ rows
+table_read rows wide =
+    rw (starts_plain (lines rows)) (lines_read (header ∷ rows) (length (lines (header ∷ rows)) + 1) (lit< tt, wide) (omega (arith, count_lines (header ∷ rows))))
+
+wide_append : (rows more : List Fields) → AreWide rows → AreWide more → AreWide (rows ++ more)
+wide_append [] more h k = k
+wide_append (row ∷ rows) more h k = (h.0, wide_append rows more h.1 k)
+
+wide_mapped : (rate : Rate) (pdo : ℕ) (what : List ℕ) (numbers : List ℕ) → AreWide (map (fields_of rate pdo what) numbers)
+wide_mapped rate pdo what [] = tt
+wide_mapped rate pdo what (n ∷ numbers) = (lit< tt, wide_mapped rate pdo what numbers)
+
+wide_evidence : (rate : Rate) (pdo : ℕ) (evidence : Evidence) → AreWide (evidence_rows rate pdo evidence)
+wide_evidence rate pdo (Long busy) = (lit< tt, wide_mapped rate pdo (codes "busy") busy)
+wide_evidence rate pdo (Late q busy queue) = (lit< tt, wide_append _ _ (wide_mapped rate pdo (codes "busy") busy) (wide_mapped rate pdo (codes "queue") queue))
+
+wide_members : (rate : Rate) (members : List Member) → AreWide (flat_map (member_rows rate) members)
+wide_members rate [] = tt
+wide_members rate (m ∷ members) = wide_append _ _ (wide_evidence rate m.pdo m.evidence) (wide_members rate members)
+
+wide_refusals : (refusals : List Refusal) → AreWide (flat_map refusal_rows refusals)
+wide_refusals [] = tt
+wide_refusals (r ∷ refusals) = wide_append _ _ (wide_members r.rate r.members) (wide_refusals refusals)
+
+-- the text of refusals has their records
+pub text_read : (refusals : List Refusal) → records_of (text_of refusals) ≡ rows_of refusals
+unfolding text_of
+text_read refusals = table_read (version ∷ flat_map refusal_rows refusals) (lit< tt, wide_refusals refusals)

@@ -1,0 +1,11 @@
+pub mod WriterLemmas
+pub mod ReadingLemmas
+pub mod RowLemmas
+pub mod CsvLemmas
+pub mod RoundTrip
+pub mod AboveLemmas
+pub mod EvidenceLemmas
+pub mod SetLemmas
+pub mod ClimbLemmas
+pub mod MemberLemmas
+pub mod CheckLemmas

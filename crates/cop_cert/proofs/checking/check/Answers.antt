@@ -1,0 +1,21 @@
+use Rattle.std.proofs.Common.{◌≡◌, ◌<◌, length, sym, ◌∙◌, arith, le_refl}
+use Rattle.std.proofs.lemmas.Bool.{eqb-false}
+use Rattle.cop_cert.specs.Assignments.{least_id}
+use Rattle.cop_cert.proofs.SetLemmas.{refusal_rules_out}
+use Rattle.cop_cert.proofs.CheckLemmas.{holds}
+use Rattle.cop_cert.proofs.checking.check.Goals as goal
+
+pub returns-clause-exact : goal.returns-clause-exact
+returns-clause-exact c =
+    let members = c.as_slice-members.ensures in
+    let empty : length c.as_slice-members.result.now ≡ 0 → ⊥ = eqb-false (length c.as_slice-members.result.now) 0 (sym c.is_empty.ensures ∙ c.if-is_empty.false) in
+    let some : 0 < length c.as_slice-members.result.now = omega arith in
+    holds least_id c.args.set.now c.args.pdos c.args.refusal.now c.flag_trial.new.out c.have_evidence.result
+    (λ k. rw (c.streams-streams.ensures.items, members) at (c.flag_trial.ensures k))
+    (rw members at some)
+    (rw members at (c.rise.ensures.0 c.if-not-rise.false))
+    (rw members at c.have_evidence.ensures)
+
+pub returns-clause-rules_out : goal.returns-clause-rules_out
+returns-clause-rules_out c t =
+    refusal_rules_out least_id c.args.set.now c.args.pdos c.args.refusal.now (le_refl least_id) c.requires ((returns-clause-exact c).0 t)

@@ -1,0 +1,11 @@
+pub mod Format
+pub mod Writer
+pub mod Faults
+pub mod Entries
+pub mod Steps
+pub mod Reading
+pub mod Writable
+pub mod Assignments
+pub mod Sets
+pub mod Evidence
+pub mod Rising

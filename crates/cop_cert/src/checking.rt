@@ -1,0 +1,193 @@
+//! Checking a refusal.
+
+ghost use Rattle.std.specs.Prelude.{◌≡◌, ◌↔◌, ℕ, ◌+◌, ◌-◌, ◌*◌, ◌<◌, ◌≤◌, ◌||◌, IsTrue, MatchOption, length, slice_get, Some, All, AllPairs, false};
+ghost use Rattle.std.specs.Option.{IsSomeAnd};
+ghost use Rattle.cop_rta.specs.Test.{place_of, flagged_place, is_flagged, blocking, cost_at, cost_of};
+ghost use Rattle.cop_cert.specs.Assignments.{least_id, NoAssignmentPasses};
+ghost use Rattle.cop_cert.specs.Sets.{is_in_trial};
+ghost use Rattle.cop_cert.specs.Evidence.{IsClimb, first_of, last_of, IsBusyList, IsQueueList, IsEvidence, is_member, IsRefusal};
+ghost use Rattle.cop_cert.specs.Rising.{RiseFrom};
+
+use crate::demands::{cost, start_of};
+use crate::refusals::{Evidence, Member, Refusal};
+use cop_frame::Rate;
+use cop_rta::{Busy, Demand, HORIZON, Stream, StreamSet};
+
+/// The least identifier of a PDO: fixed frames below it are above each PDO.
+const LEAST_ID: u16 = 0x181;
+
+/// The last of some numbers, if they climb by an equation.
+fn climb<D: Demand>(demand: &D, numbers: &[u64]) -> Option<u64>
+    ensures { MatchOption result (IsClimb (D.demand demand.now) numbers.now → ⊥) (λ last. IsClimb (D.demand demand.now) numbers.now × (last ≡ last_of numbers.now)) }
+{
+    let (first, rest) = numbers.split_first()?;
+    let mut last = *first;
+    for next in rest {
+        if *next <= last || *next > demand.at(last) {
+            return None;
+        }
+        last = *next;
+    }
+    Some(last)
+}
+
+/// The first number, or 0.
+fn first_of(numbers: &[u64]) -> u64
+    ensures { result ≡ first_of numbers.now }
+{
+    match numbers {
+        [] => 0,
+        [first, ..] => *first,
+    }
+}
+
+/// Where a busy list ends, if it is one.
+fn busy_end(busy: &Busy<'_>, numbers: &[u64]) -> Option<u64>
+    ensures { MatchOption result (IsBusyList (place_of busy.now) numbers.now → ⊥) (λ last. IsBusyList (place_of busy.now) numbers.now × (last ≡ last_of numbers.now)) }
+{
+    if first_of(numbers) != 1 {
+        return None;
+    }
+    climb(busy, numbers)
+}
+
+/// Where a queue list of instance `q` ends, if it is one. `start` is B + q C.
+fn queue_end(busy: &Busy<'_>, q: u64, start: u128, numbers: &[u64]) -> Option<u64>
+    requires { start ≡ blocking (place_of busy.now) + q * cost_at (place_of busy.now) }
+    ensures { MatchOption result (IsQueueList (place_of busy.now) q numbers.now → ⊥) (λ last. IsQueueList (place_of busy.now) q numbers.now × (last ≡ last_of numbers.now)) }
+{
+    if u128::from(first_of(numbers)) > start {
+        return None;
+    }
+    climb(&busy.queueing(q), numbers)
+}
+
+/// Whether the response of an instance that waits so long is past the deadline, if there is one.
+fn is_late(stream: &Stream, rate: Rate, q: u64, wait: u64) -> bool
+    ensures { IsTrue result ↔ IsSomeAnd stream.now.deadline (λ d. d < stream.now.jitter + wait + cost_of rate stream.now - q * stream.now.period) }
+{
+    match stream.deadline {
+        Some(deadline) => {
+            u128::from(stream.jitter) + u128::from(wait) + u128::from(cost(stream, rate))
+                > u128::from(deadline) + u128::from(q) * u128::from(stream.period)
+        }
+        None => false,
+    }
+}
+
+/// Whether instance `q` is queued within a busy time.
+fn is_queued_within(stream: &Stream, busy_time: u64, q: u64) -> bool
+    ensures { IsTrue result ↔ (q * stream.now.period < busy_time + stream.now.jitter) }
+{
+    u128::from(q) * u128::from(stream.period) < u128::from(busy_time) + u128::from(stream.jitter)
+}
+
+/// Whether the evidence shows that the stream of a place fails.
+fn is_evidence(set: &StreamSet, above: &[bool], pdo: usize, rate: Rate, evidence: &Evidence) -> bool
+    requires flags { length above.now ≡ length set.now }
+    requires index { pdo < length set.now }
+    ensures { IsTrue result ↔ IsEvidence (flagged_place set.now above.now pdo rate) evidence.now }
+{
+    let place = Busy::new(set, above, pdo, rate);
+    match evidence {
+        Evidence::Long { busy } => match busy_end(&place, busy.as_slice()) {
+            Some(last) => last > HORIZON,
+            None => false,
+        },
+        Evidence::Late { q, busy, queue } => {
+            let Some(last) = busy_end(&place, busy.as_slice()) else {
+                return false;
+            };
+            let start = start_of(set, above, pdo, rate, *q);
+            let Some(wait) = queue_end(&place, *q, start, queue.as_slice()) else {
+                return false;
+            };
+            let stream = &set.streams()[pdo];
+            is_queued_within(stream, last, *q) && is_late(stream, rate, *q, wait)
+        }
+    }
+}
+
+/// Whether the members rise, from a number on, and are PDOs.
+fn rise_from(members: &[Member], pdos: usize) -> bool
+    ensures { IsTrue result ↔ RiseFrom 0 pdos members.now }
+{
+    let mut low = 0;
+    for member in members {
+        if member.pdo < low || member.pdo >= pdos {
+            return false;
+        }
+        low = member.pdo + 1;
+    }
+    true
+}
+
+#[tactic(auto, using(crate::proofs::MemberLemmas::rises))]
+/// Whether the members rise and are PDOs.
+fn rise(members: &[Member], pdos: usize) -> bool
+    ensures { IsTrue result ↔ (AllPairs (λ m n. m.pdo < n.pdo) members.now × All (λ m. m.pdo < pdos) members.now) }
+{
+    rise_from(members, pdos)
+}
+
+/// Flags the fixed frames with an identifier below those of the PDOs.
+fn flag_fixed(streams: &[Stream], pdos: usize, out: &mut [bool])
+    requires { length out.old ≡ length streams.now }
+    ensures { (k : ℕ) → is_flagged out.new k ≡ is_in_trial least_id streams.now pdos (λ _. false) k }
+{
+    for (k, stream) in streams.iter().enumerate() {
+        out[k] = k >= pdos && stream.id < LEAST_ID;
+    }
+}
+
+#[tactic(auto, using(crate::proofs::MemberLemmas::flag_one))]
+/// Flags the members.
+fn flag_members(members: &[Member], out: &mut [bool])
+    requires { All (λ m. m.pdo < length out.old) members.now }
+    ensures { (k : ℕ) → is_flagged out.new k ≡ (is_flagged out.old k || is_member members.now k) }
+{
+    for member in members {
+        out[member.pdo] = true;
+    }
+}
+
+/// Flags what is above in the trial of the members.
+fn flag_trial(streams: &[Stream], pdos: usize, members: &[Member], out: &mut [bool])
+    requires size { length out.old ≡ length streams.now }
+    requires count { pdos ≤ length streams.now }
+    requires inside { All (λ m. m.pdo < pdos) members.now }
+    ensures { (k : ℕ) → is_flagged out.new k ≡ is_in_trial least_id streams.now pdos (is_member members.now) k }
+{
+    flag_fixed(streams, pdos, out);
+    flag_members(members, out);
+}
+
+/// Whether each member has evidence.
+fn have_evidence(set: &StreamSet, above: &[bool], rate: Rate, members: &[Member]) -> bool
+    requires flags { length above.now ≡ length set.now }
+    requires inside { All (λ m. m.pdo < length set.now) members.now }
+    ensures { IsTrue result ↔ All (λ m. IsEvidence (flagged_place set.now above.now m.pdo rate) m.evidence) members.now }
+{
+    members.iter().all(|member| is_evidence(set, above, member.pdo, rate, &member.evidence))
+}
+
+/// Whether a refusal holds: its members, one at least, rise and are PDOs, and each has evidence that it fails with
+/// the other members and the fixed frames below 181h above it and all others below. The first `pdos` streams are the
+/// PDOs, and the others are fixed frames. No memory is taken.
+///
+/// Where it holds, no assignment of identifiers passes at the refusal's rate.
+pub fn check(set: &StreamSet, pdos: usize, refusal: &Refusal) -> bool
+    requires { pdos ≤ length set.now }
+    ensures exact { IsTrue result ↔ IsRefusal least_id set.now pdos refusal.now }
+    ensures rules_out { IsTrue result → NoAssignmentPasses refusal.now.rate set.now pdos }
+{
+    let members = refusal.members.as_slice();
+    if members.is_empty() || !rise(members, pdos) {
+        return false;
+    }
+    let streams = set.streams();
+    let mut flags = [false; StreamSet::MOST];
+    let above = &mut flags[..streams.len()];
+    flag_trial(streams, pdos, members, above);
+    have_evidence(set, above, refusal.rate, members)
+}

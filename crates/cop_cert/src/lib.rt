@@ -1,0 +1,19 @@
+//! Refusals: evidence, which anyone can check, that no assignment of identifiers passes at a rate.
+#![tactic(auto)]
+
+mod checking;
+mod demands;
+mod drafts;
+mod entries;
+mod faults;
+mod items;
+mod reading;
+mod refusals;
+mod writing;
+
+pub use checking::check;
+pub use faults::{Breach, CertFault, Rule};
+pub use items::Items;
+pub use reading::read;
+pub use refusals::{Evidence, Member, Refusal};
+pub use writing::write;

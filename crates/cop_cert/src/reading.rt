@@ -1,0 +1,120 @@
+//! Reading refusals from a table.
+
+ghost use Rattle.std.specs.Prelude.{◌≡◌, ◌≤◌, ◌+◌, length, IfOk, OnOk, List, Ok};
+ghost use Rattle.cop_cert.specs.declared.refusals.Refusal.{Refusal};
+ghost use Rattle.cop_cert.specs.Format.{text_of};
+ghost use Rattle.cop_cert.specs.Writable.{AreWritable};
+ghost use Rattle.cop_table.specs.Reading.{Gives};
+ghost use Rattle.cop_cert.specs.Faults.{breach_of};
+ghost use Rattle.cop_cert.specs.Steps.{fault_at};
+ghost use Rattle.cop_cert.specs.Reading.{taken, rows_in, after_version, refusals_of};
+
+use crate::drafts::{self, Draft, StepFault};
+use crate::entries::{entry_in, is_version};
+use crate::faults::{Breach, CertFault, Rule};
+use crate::refusals::Refusal;
+use cop_table::{Record, Records, TableError, under_header};
+use std::alloc::Global;
+
+/// The fields of the header.
+const HEADER: [&[u8]; 4] = [b"rate", b"pdo", b"what", b"value"];
+
+/// The fault of a step at a record.
+fn at(place: u64, fault: StepFault) -> CertFault
+    ensures { result ≡ fault_at place fault }
+{
+    match fault {
+        StepFault::Broken(rule) => CertFault::Refused(Breach { rule, place }),
+        StepFault::OutOfMemory => CertFault::Memory,
+    }
+}
+
+/// The records under the header.
+fn rows_in<'a>(alloc: Global, bytes: &'a [u8], row: &mut Record) -> Result<Records<'a>, CertFault>
+    ensures rows { Gives (λ r. r) breach_of result (rows_in bytes.now) }
+    ensures count { IfOk result (λ r. length r ≤ length bytes.now) }
+{
+    match under_header(alloc, bytes, &HEADER, row) {
+        Ok(rows) => Ok(rows),
+        Err(TableError::Header) => Err(CertFault::Refused(Breach {
+            rule: Rule::Version,
+            place: 0,
+        })),
+        Err(TableError::Memory) => Err(CertFault::Memory),
+    }
+}
+
+/// Reads the record of the version.
+fn read_version(rows: &mut Records<'_>, row: &mut Record) -> Result<(), CertFault>
+    ensures rows { Gives (λ _. rows.new) breach_of result (after_version rows.old) }
+    ensures count { OnOk result (length rows.old ≡ length rows.new + 1) }
+{
+    if !rows.read(row)? {
+        return Err(CertFault::Refused(Breach {
+            rule: Rule::Version,
+            place: 1,
+        }));
+    }
+    if row.len() != 4 {
+        return Err(CertFault::Refused(Breach {
+            rule: Rule::Fields,
+            place: 1,
+        }));
+    }
+    if !is_version(row) {
+        return Err(CertFault::Refused(Breach {
+            rule: Rule::Version,
+            place: 1,
+        }));
+    }
+    Ok(())
+}
+
+/// What a record makes of the draft of those before it.
+fn take(
+    alloc: Global,
+    draft: Option<Draft>,
+    place: u64,
+    row: &Record,
+) -> Result<Option<Draft>, CertFault>
+    ensures { Gives (λ draft. draft) breach_of result (taken place draft row.now) }
+{
+    let entry = match entry_in(row) {
+        Ok(entry) => entry,
+        Err(rule) => return Err(CertFault::Refused(Breach { rule, place })),
+    };
+    match drafts::next(alloc, draft, entry) {
+        Ok(draft) => Ok(Some(draft)),
+        Err(fault) => Err(at(place, fault)),
+    }
+}
+
+#[tactic(auto, unfolding(crate::specs::Reading::refusals_of), using(cop_table::proofs::RowsLemmas::goes_on, cop_table::proofs::RowsLemmas::stops, cop_table::proofs::RowsLemmas::ends))]
+fn refusals_of(alloc: Global, bytes: &[u8]) -> Result<Vec<Refusal>, CertFault>
+    ensures { Gives (λ refusals. refusals.items) breach_of result (refusals_of bytes.now) }
+{
+    let mut row = Record::new(alloc);
+    let mut rows = rows_in(alloc, bytes, &mut row)?;
+    read_version(&mut rows, &mut row)?;
+    let mut draft = None;
+    let mut place = 1;
+    'rows: while rows.read(&mut row)? {
+        place += 1;
+        draft = take(alloc, draft, place, &row)?;
+    }
+    match drafts::finished(alloc, draft) {
+        Ok(refusals) => Ok(refusals),
+        Err(fault) => Err(at(place, fault)),
+    }
+}
+
+/// The refusals of a text. Of its records the first that breaks a rule counts, and of its rules the least.
+pub fn read(alloc: Global, bytes: &[u8]) -> Result<Vec<Refusal>, CertFault>
+    ensures read { Gives (λ refusals. refusals.items) breach_of result (refusals_of bytes.now) }
+
+    // What `write` wrote is read again.
+    ensures written { (refusals : List Refusal) → AreWritable refusals → bytes.now ≡ text_of refusals
+        → Gives (λ refusals. refusals.items) breach_of result (Ok refusals) }
+{
+    refusals_of(alloc, bytes)
+}
