@@ -5,3 +5,5 @@ pub mod DictLemmas
 pub mod LawLemmas
 pub mod Admitted
 pub mod Replaced
+pub mod OrderLemmas
+pub mod BuildLemmas

@@ -7,8 +7,9 @@ ghost use Rattle.cop_dict.specs.Number.{number};
 ghost use Rattle.cop_dict.specs.Rules.{first_broken, read_rules, value_rules, access_rules, number_rules};
 
 use crate::abort::Abort;
-use crate::data_type::{Access, DataType};
+use crate::data_type::{DataType, is_readable, is_writable};
 use crate::number::number;
+use cop_eds::Access;
 
 /// The description of an entry (CiA 301, "Entry description").
 #[derive(Clone, Copy, Debug, PartialEq, Eq)]
@@ -30,7 +31,7 @@ impl Description {
     {
         if self.data_type.is_opaque() {
             Some(Abort::OpaqueType)
-        } else if !self.access.is_readable() {
+        } else if !is_readable(self.access) {
             Some(Abort::WriteOnly)
         } else {
             None
@@ -44,7 +45,7 @@ impl Description {
         if self.data_type.is_opaque() {
             return Some(Abort::OpaqueType);
         }
-        if !self.access.is_writable() {
+        if !is_writable(self.access) {
             return Some(Abort::ReadOnly);
         }
         match (self.data_type.width(), size) {
@@ -62,7 +63,7 @@ impl Description {
         if self.data_type.is_opaque() {
             return Some(Abort::OpaqueType);
         }
-        if !self.access.is_writable() {
+        if !is_writable(self.access) {
             return Some(Abort::ReadOnly);
         }
         match self.data_type.width() {

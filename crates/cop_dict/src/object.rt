@@ -63,12 +63,39 @@ impl Object {
           value = initial.now;
         }) }
     {
+        Object::with_initial(
+            alloc,
+            index,
+            sub,
+            description,
+            Vec::from_slice(alloc, initial)?,
+        )
+    }
+
+    /// The same, without a copy of the initial value.
+    pub fn with_initial(
+        alloc: Global,
+        index: u16,
+        sub: u8,
+        description: Description,
+        initial: Vec<u8>,
+    ) -> Result<Object, AllocError>
+        requires { ForSome (width_of description.data_type) (λ width. length initial.items ≡ width) }
+        ensures { IfOk result (λ o. o ≡ record {
+          index = index;
+          sub = sub;
+          description = description;
+          initial = initial.items;
+          value = initial.items;
+        }) }
+    {
+        let value = Vec::from_slice(alloc, &initial)?;
         Ok(Object {
             index,
             sub,
             description,
-            initial: Vec::from_slice(alloc, initial)?,
-            value: Vec::from_slice(alloc, initial)?,
+            initial,
+            value,
         })
     }
 
