@@ -7,3 +7,4 @@ pub mod Admitted
 pub mod Replaced
 pub mod OrderLemmas
 pub mod BuildLemmas
+pub mod PatternLemmas

@@ -1,5 +1,5 @@
 -- The patterns of values and limits as texts write them (CiA 306).
-use Rattle.std.specs.Prelude.{ℕ, ◌+◌, ◌-◌, ◌*◌, ◌==◌, nat_le, if◌then◌else◌, Option, Some, None, List, Result, Ok, Err}
+use Rattle.std.specs.Prelude.{ℕ, ℤ, pos, neg_ℤ, ◌+◌, ◌-◌, ◌*◌, ◌==◌, nat_le, if◌then◌else◌, Option, Some, None, List, Result, Ok, Err}
 use Rattle.std.specs.Option.{option_map_or}
 use Rattle.cop_eds.specs.declared.fault.Rule.{Rule}
 use Rattle.cop_eds.specs.declared.fault.Refusal.{Refusal}
@@ -37,3 +37,10 @@ pattern_by data_type greatest node (Ok amount) = some_number (pattern_of data_ty
 -- the pattern of the value at a line, or the rule that it breaks there
 abbrev pub pattern_at : DataType → ℕ → ℕ → ℕ × List ℕ → Result ℕ Refusal
 pattern_at data_type greatest node entry = standing_at entry.0 (pattern_by data_type greatest node (amount_of entry.1))
+
+-- the number that an amount states for a node; hexadecimal digits that stand alone state a pattern, and no number
+abbrev pub number_written : ℕ → Amount → Option ℤ
+number_written node (Decimal n) = Some (pos n)
+number_written node (Negative n) = Some (neg_ℤ (pos n))
+number_written node (Hexadecimal n) = None
+number_written node (PlusNode n) = Some (pos (n + node))

@@ -82,7 +82,7 @@ impl DataType {
     }
 
     /// The first pattern that stands for a negative number, in a signed type.
-    pub fn half(self) -> Option<u64>
+    pub(crate) fn half(self) -> Option<u64>
         ensures value { result ≡ half_of self }
         ensures bound { IfSome result (λ half. (1 ≤ half) × (half ≤ 2 ^ 63)) }
     {
@@ -97,7 +97,7 @@ impl DataType {
 
     /// The greatest number, in a type that has numbers. Strings, DOMAIN, REAL and opaque types have
     /// none.
-    pub fn greatest(self) -> Option<u64>
+    pub(crate) fn greatest(self) -> Option<u64>
         ensures { result ≡ greatest_of self }
     {
         match self {
@@ -120,7 +120,7 @@ impl DataType {
     }
 
     /// The number that a pattern stands for.
-    pub fn value_of(self, pattern: u64) -> i128
+    pub(crate) fn value_of(self, pattern: u64) -> i128
         ensures { result ≡ value_of self pattern }
     {
         match self.half() {
@@ -129,20 +129,20 @@ impl DataType {
         }
     }
 
-    pub fn is_opaque(self) -> bool
+    pub(crate) fn is_opaque(self) -> bool
         ensures { result ≡ is_opaque self }
     {
         matches!(self, DataType::Opaque)
     }
 
     /// Whether a value is the bytes of a text.
-    pub fn is_text(self) -> bool
+    pub(crate) fn is_text(self) -> bool
         ensures { result ≡ is_text self }
     {
         matches!(self, DataType::VisibleString)
     }
 
-    pub fn is_boolean(self) -> bool
+    pub(crate) fn is_boolean(self) -> bool
         ensures { result ≡ is_boolean self }
     {
         matches!(self, DataType::Boolean)

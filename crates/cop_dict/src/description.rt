@@ -26,7 +26,7 @@ pub struct Description {
 
 impl Description {
     /// The first rule that a read breaks.
-    pub fn refused_read(&self) -> Option<Abort>
+    pub(crate) fn refused_read(&self) -> Option<Abort>
         ensures { result ≡ first_broken (read_rules self.now) }
     {
         if self.data_type.is_opaque() {
@@ -39,7 +39,7 @@ impl Description {
     }
 
     /// The first rule that a write of this size breaks, whatever its bytes are.
-    pub fn refused_size(&self, size: Option<usize>) -> Option<Abort>
+    pub(crate) fn refused_size(&self, size: Option<usize>) -> Option<Abort>
         ensures { result ≡ first_broken (access_rules self.now size) }
     {
         if self.data_type.is_opaque() {
@@ -56,7 +56,7 @@ impl Description {
     }
 
     /// The first rule that a write of these bytes breaks, whatever else is in the dictionary.
-    pub fn refused_write(&self, bytes: &[u8]) -> Option<Abort>
+    pub(crate) fn refused_write(&self, bytes: &[u8]) -> Option<Abort>
         ensures value { result ≡ first_broken (value_rules self.now bytes.now) }
         ensures fits { IfNone result (ForSome (width_of self.now.data_type) (λ width. length bytes.now ≡ width)) }
     {

@@ -43,7 +43,7 @@ impl Dictionary {
     }
 
     /// The dictionary of entries that rise by index and sub.
-    pub fn from_entries(objects: Vec<Object>) -> Dictionary
+    pub(crate) fn from_entries(objects: Vec<Object>) -> Dictionary
         requires { IsSorted objects.items }
         ensures { result ≡ objects.items }
     {

@@ -73,7 +73,7 @@ impl Object {
     }
 
     /// The same, without a copy of the initial value.
-    pub fn with_initial(
+    pub(crate) fn with_initial(
         alloc: Global,
         index: u16,
         sub: u8,
@@ -158,7 +158,7 @@ impl Object {
     }
 
     /// Goes back to the initial value.
-    pub fn reset(&mut self)
+    pub(crate) fn reset(&mut self)
         ensures { self.new ≡ as_built self.old }
     {
         self.value.clear();
@@ -166,7 +166,7 @@ impl Object {
     }
 
     /// Goes back to the initial value where the index is in the communication profile area.
-    pub fn reset_communication(&mut self)
+    pub(crate) fn reset_communication(&mut self)
         ensures { self.new ≡ reset_communication self.old }
     {
         if matches!(self.index, 0x1000..=0x1FFF) {
@@ -175,7 +175,7 @@ impl Object {
     }
 
     /// Replaces the value by bytes that are as many. It takes no memory.
-    pub fn replace(&mut self, bytes: &[u8])
+    pub(crate) fn replace(&mut self, bytes: &[u8])
         requires { width_of self.old.description.data_type ≡ Some (length bytes.now) }
         ensures { self.new ≡ valued bytes.now self.old }
     {
@@ -184,7 +184,7 @@ impl Object {
     }
 
     /// Replaces the value. Memory is taken only for more bytes than the initial value has.
-    pub fn set(&mut self, bytes: &[u8]) -> Result<(), Abort>
+    pub(crate) fn set(&mut self, bytes: &[u8]) -> Result<(), Abort>
         requires { ForSome (width_of self.old.description.data_type) (λ width. length bytes.now ≡ width) }
         ensures ok { OnOk result (self.new ≡ valued bytes.now self.old) }
         ensures err { OnErr result (self.new ≡ self.old) }
