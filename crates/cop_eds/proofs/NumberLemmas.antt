@@ -5,7 +5,7 @@ use Rattle.std.specs.Char.{is_digit, digit_value}
 use Rattle.std.specs.Str.Parse.{digits_value, digits_value_after}
 use Rattle.std.proofs.lemmas.Bool.Decides.{nat_tests}
 use Rattle.std.proofs.Math.Nat.{mul-le-mul_right, mul_assoc, pow-succ', pow-le-pow_right}
-use Rattle.cop_eds.specs.Number.{number_in, with_digit}
+use Rattle.cop_eds.specs.Number.{number_in, is_numeral, with_digit}
 
 scale : (n radix : ℕ) → 1 ≤ radix → n ≤ n * radix
 scale n zero h = absurd (omega arith)
@@ -59,9 +59,9 @@ and_right false b e = cc
 below_after : (ds : List ℕ) (n : ℕ) → list_all (λ c. is_digit c 16) ds ≡ true → digits_value_after 16 n ds < (n + 1) * 16 ^ length ds
 below_after [] n h = omega arith
 below_after (d ∷ ds) n h =
-    let first : is_digit d 16 ≡ true = and_left _ _ h in
+    let first : is_digit d 16 ≡ true = and_left (is_digit d 16) (list_all (λ c. is_digit c 16) ds) h in
     let digit : digit_value d < 16 = grind (arith, nat_tests) in
-    let later : digits_value_after 16 (n * 16 + digit_value d) ds < (n * 16 + digit_value d + 1) * 16 ^ length ds = below_after ds (n * 16 + digit_value d) (and_right _ _ h) in
+    let later : digits_value_after 16 (n * 16 + digit_value d) ds < (n * 16 + digit_value d + 1) * 16 ^ length ds = below_after ds (n * 16 + digit_value d) (and_right (is_digit d 16) (list_all (λ c. is_digit c 16) ds) h) in
     let grown : (n * 16 + digit_value d + 1) * 16 ^ length ds ≤ ((n + 1) * 16) * 16 ^ length ds = mul-le-mul_right (16 ^ length ds) (omega arith) in
     let power : ((n + 1) * 16) * 16 ^ length ds ≡ (n + 1) * (16 * 16 ^ length ds) = mul_assoc (n + 1) 16 (16 ^ length ds) in
     let whole : (n + 1) * 16 ^ suc (length ds) ≡ (n + 1) * (16 * 16 ^ length ds) = ap (λ p. (n + 1) * p) (pow-succ' 16 (length ds)) in
@@ -73,8 +73,9 @@ some_of false v n e = cc
 
 below : (ds : List ℕ) (n k : ℕ) → number_in 16 ds ≡ Some n → length ds ≤ k → n < 16 ^ k
 below ds n k e le =
-    let p = some_of _ _ _ e in
-    let digits : list_all (λ c. is_digit c 16) ds ≡ true = and_right _ _ (and_left _ _ p.0) in
+    let p : (is_numeral 16 ds && nat_lt (digits_value 16 ds) (2 ^ 64) ≡ true) × (digits_value 16 ds ≡ n) = some_of (is_numeral 16 ds && nat_lt (digits_value 16 ds) (2 ^ 64)) (digits_value 16 ds) n e in
+    let numeral : is_numeral 16 ds ≡ true = and_left (is_numeral 16 ds) (nat_lt (digits_value 16 ds) (2 ^ 64)) p.0 in
+    let digits : list_all (λ c. is_digit c 16) ds ≡ true = and_right (nat_lt 0 (length ds)) (list_all (λ c. is_digit c 16) ds) numeral in
     let value : digits_value_after 16 0 ds < (0 + 1) * 16 ^ length ds = below_after ds 0 digits in
     let grown : 16 ^ length ds ≤ 16 ^ k = pow-le-pow_right {n = 16} (lit≤ tt) le in
     omega arith

@@ -13,3 +13,4 @@ pub mod Lists
 pub mod Objects
 pub mod Reading
 pub mod Eds
+pub mod Laws

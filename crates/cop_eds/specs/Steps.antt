@@ -3,7 +3,9 @@ use Rattle.std.specs.Prelude.{ℕ, zero, suc, ◌+◌, List, [], ◌∷◌, ◌+
 use Rattle.cop_eds.specs.declared.fault.Rule.{Rule}
 use Rattle.cop_eds.specs.declared.fault.Rule.TheVariants as rules
 use Rattle.cop_eds.specs.declared.fault.Refusal.{Refusal}
+use Rattle.cop_eds.specs.declared.amount.Amount.{Amount}
 use Rattle.cop_eds.specs.Number.{number_of}
+use Rattle.cop_eds.specs.Amount.{amount_of}
 
 infixl 10 ◌>>=◌
 abbrev pub ◌>>=◌ : {A B : Type 0} → Result A Refusal → (A → Result B Refusal) → Result B Refusal
@@ -25,6 +27,15 @@ number_at entry = standing_at entry.0 (number_of entry.1)
 abbrev pub number_or : ℕ → Option (ℕ × List ℕ) → Result ℕ Refusal
 number_or default None = Ok default
 number_or default (Some entry) = number_at entry
+
+-- the amount of an entry, where there is one, beside its line
+abbrev pub with_line : ℕ → Result Amount Refusal → Result (Option (ℕ × Amount)) Refusal
+with_line line (Ok amount) = Ok (Some (line, amount))
+with_line line (Err refusal) = Err refusal
+
+abbrev pub amount_at : Option (ℕ × List ℕ) → Result (Option (ℕ × Amount)) Refusal
+amount_at None = Ok None
+amount_at (Some entry) = with_line entry.0 (standing_at entry.0 (amount_of entry.1))
 
 -- what must be there, or a missing object at this line
 abbrev pub needed : {A : Type 0} → ℕ → Option A → Result A Refusal

@@ -6,10 +6,12 @@ ghost use Rattle.std.specs.Option.{option_map};
 ghost use Rattle.cop_frame.specs.declared.rates.Rate.{Rate};
 ghost use Rattle.cop_eds.specs.Lines.{Gives, lines_of};
 ghost use Rattle.cop_eds.specs.Reading.{reading};
+ghost use Rattle.cop_eds.specs.Steps.{amount_at};
 ghost use Rattle.cop_eds.specs.Rates.{support_of};
 ghost use Rattle.cop_eds.specs.Objects.{objects_of, object_section};
 ghost use Rattle.cop_eds.specs.Sections.{place_of, section_of, key_line, entry_of, value_in};
 
+use crate::amount::{Amount, amount_of};
 use crate::description::Object;
 use crate::fault::{EdsFault, Refusal, Rule};
 use crate::line::{Line, Place};
@@ -139,5 +141,19 @@ impl<'a> Eds<'a> {
     {
         let (_, value) = self.sections.entry(section, key)?;
         Some(value)
+    }
+
+    /// The line of a key in a section, and the amount that its value is; the rule that the value breaks, 13 or 14,
+    /// at that line; `None` where there is no value.
+    pub fn amount(&self, section: usize, key: &[u8]) -> Result<Option<(usize, Amount)>, Refusal>
+        ensures { result ≡ amount_at (entry_of self.now section key.now) }
+    {
+        let Some((line, value)) = self.sections.entry(section, key) else {
+            return Ok(None);
+        };
+        match amount_of(value) {
+            Ok(amount) => Ok(Some((line, amount))),
+            Err(rule) => Err(Refusal { rule, line }),
+        }
     }
 }

@@ -21,6 +21,7 @@ pub use description::{Access, Description, Object, ObjectType};
 pub use eds::{Eds, parse};
 pub use fault::{EdsFault, Refusal, Rule};
 pub use line::{Kind, Line, Place};
+pub use number::number_of;
 
 #[cfg(test)]
 mod tests;
