@@ -5,3 +5,6 @@ pub mod DictLemmas
 pub mod LawLemmas
 pub mod Admitted
 pub mod Replaced
+pub mod OrderLemmas
+pub mod BuildLemmas
+pub mod PatternLemmas

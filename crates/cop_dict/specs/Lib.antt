@@ -6,3 +6,5 @@ pub mod Mapping
 pub mod Pdo
 pub mod Dict
 pub mod Codes
+pub mod Patterns
+pub mod Build

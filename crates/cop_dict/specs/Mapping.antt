@@ -1,7 +1,7 @@
 -- What PDO mappings mean (CiA 301, "PDO mapping"): which objects, in which order, and which may not be mapped.
 use Rattle.std.specs.Prelude.{ℕ, zero, suc, ◌+◌, ◌/◌, ◌%◌, ◌^◌, Bool, false, ◌&&◌, List, [], ◌∷◌, sum_by, ◌==◌, nat_lt, nat_le, if◌then◌else◌, Option, Some, None, option_and_then, Result, Ok, Err}
 use Rattle.std.specs.Option.{option_map_or}
-use Rattle.cop_dict.specs.declared.data_type.Access.{Access}
+use Rattle.cop_eds.specs.declared.description.Access.{Access}
 use Rattle.cop_dict.specs.declared.mapping.Direction.{Direction}
 use Rattle.cop_dict.specs.declared.mapping.Direction.TheVariants as directions
 use Rattle.cop_dict.specs.declared.mapping.Mapped.{Mapped}

@@ -1,9 +1,9 @@
 -- Data types and accesses of entries (CiA 301, "Data type entry usage"; CiA 306, AccessType).
-use Rattle.std.specs.Prelude.{ℕ, ◌*◌, ◌^◌, ◌==◌, Bool, true, false, Option, Some, None, option_map, if◌then◌else◌}
+use Rattle.std.specs.Prelude.{ℕ, ◌*◌, ◌-◌, ◌^◌, ◌==◌, Bool, true, false, Option, Some, None, option_map, if◌then◌else◌}
 use Rattle.cop_dict.specs.declared.data_type.DataType.{DataType}
 use Rattle.cop_dict.specs.declared.data_type.DataType.TheVariants as types
-use Rattle.cop_dict.specs.declared.data_type.Access.{Access}
-use Rattle.cop_dict.specs.declared.data_type.Access.TheVariants as accesses
+use Rattle.cop_eds.specs.declared.description.Access.{Access}
+use Rattle.cop_eds.specs.declared.description.Access.TheVariants as accesses
 
 -- how many bytes each value has, where all have as many
 abbrev pub width_of : DataType → Option ℕ
@@ -35,6 +35,29 @@ half_of types.Integer16 = Some (2 ^ 15)
 half_of types.Integer32 = Some (2 ^ 31)
 half_of types.Integer64 = Some (2 ^ 63)
 half_of _ = None
+
+-- the greatest number of a type that has numbers: strings, DOMAIN, REAL and opaque types have none
+abbrev pub greatest_of : DataType → Option ℕ
+greatest_of types.Boolean = Some 1
+greatest_of types.Integer8 = Some (2 ^ 7 - 1)
+greatest_of types.Integer16 = Some (2 ^ 15 - 1)
+greatest_of types.Integer32 = Some (2 ^ 31 - 1)
+greatest_of types.Integer64 = Some (2 ^ 63 - 1)
+greatest_of types.Unsigned8 = Some (2 ^ 8 - 1)
+greatest_of types.Unsigned16 = Some (2 ^ 16 - 1)
+greatest_of types.Unsigned32 = Some (2 ^ 32 - 1)
+greatest_of types.Unsigned64 = Some (2 ^ 64 - 1)
+greatest_of types.Real32 = None
+greatest_of types.Real64 = None
+greatest_of types.VisibleString = None
+greatest_of types.OctetString = None
+greatest_of types.Domain = None
+greatest_of types.Opaque = None
+
+-- a value is the bytes of a text
+abbrev pub is_text : DataType → Bool
+is_text types.VisibleString = true
+is_text _ = false
 
 abbrev pub is_boolean : DataType → Bool
 is_boolean types.Boolean = true

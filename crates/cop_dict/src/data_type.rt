@@ -1,8 +1,10 @@
-//! Data types and accesses of entries.
+//! Data types of entries, and who may read and write.
 
 ghost use Rattle.std.specs.Prelude.{◌≡◌, ◌≤◌, ◌<◌, ◌^◌, IfSome};
-ghost use Rattle.cop_dict.specs.Types.{width_of, bits_of, half_of, is_opaque, is_boolean, is_unsigned32, type_numbered, is_readable, is_writable};
+ghost use Rattle.cop_dict.specs.Types.{width_of, bits_of, half_of, greatest_of, is_text, is_opaque, is_boolean, is_unsigned32, type_numbered, is_readable, is_writable};
 ghost use Rattle.cop_dict.specs.Number.{value_of};
+
+use cop_eds::Access;
 
 /// The data type of a value. Numbers are little endian, signed ones in two's complement.
 #[derive(Clone, Copy, Debug, PartialEq, Eq)]
@@ -26,19 +28,6 @@ pub enum DataType {
     Domain,
     /// Any other: it holds no value, and can't be read, written or mapped.
     Opaque,
-}
-
-/// Who may read and write an entry.
-#[derive(Clone, Copy, Debug, PartialEq, Eq)]
-pub enum Access {
-    ReadOnly,
-    WriteOnly,
-    ReadWrite,
-    /// Read and write, of a process input.
-    ReadWriteInput,
-    /// Read and write, of a process output.
-    ReadWriteOutput,
-    Constant,
 }
 
 impl DataType {
@@ -93,9 +82,9 @@ impl DataType {
     }
 
     /// The first pattern that stands for a negative number, in a signed type.
-    pub fn half(self) -> Option<u64>
+    pub(crate) fn half(self) -> Option<u64>
         ensures value { result ≡ half_of self }
-        ensures bound { IfSome result (λ half. half ≤ 2 ^ 63) }
+        ensures bound { IfSome result (λ half. (1 ≤ half) × (half ≤ 2 ^ 63)) }
     {
         match self {
             DataType::Integer8 => Some(1 << 7),
@@ -106,8 +95,32 @@ impl DataType {
         }
     }
 
+    /// The greatest number, in a type that has numbers. Strings, DOMAIN, REAL and opaque types have
+    /// none.
+    pub(crate) fn greatest(self) -> Option<u64>
+        ensures { result ≡ greatest_of self }
+    {
+        match self {
+            DataType::Boolean => Some(1),
+            DataType::Integer8 => Some(0x7F),
+            DataType::Integer16 => Some(0x7FFF),
+            DataType::Integer32 => Some(0x7FFF_FFFF),
+            DataType::Integer64 => Some(0x7FFF_FFFF_FFFF_FFFF),
+            DataType::Unsigned8 => Some(0xFF),
+            DataType::Unsigned16 => Some(0xFFFF),
+            DataType::Unsigned32 => Some(0xFFFF_FFFF),
+            DataType::Unsigned64 => Some(u64::MAX),
+            DataType::Real32
+            | DataType::Real64
+            | DataType::VisibleString
+            | DataType::OctetString
+            | DataType::Domain
+            | DataType::Opaque => None,
+        }
+    }
+
     /// The number that a pattern stands for.
-    pub fn value_of(self, pattern: u64) -> i128
+    pub(crate) fn value_of(self, pattern: u64) -> i128
         ensures { result ≡ value_of self pattern }
     {
         match self.half() {
@@ -116,13 +129,20 @@ impl DataType {
         }
     }
 
-    pub fn is_opaque(self) -> bool
+    pub(crate) fn is_opaque(self) -> bool
         ensures { result ≡ is_opaque self }
     {
         matches!(self, DataType::Opaque)
     }
 
-    pub fn is_boolean(self) -> bool
+    /// Whether a value is the bytes of a text.
+    pub(crate) fn is_text(self) -> bool
+        ensures { result ≡ is_text self }
+    {
+        matches!(self, DataType::VisibleString)
+    }
+
+    pub(crate) fn is_boolean(self) -> bool
         ensures { result ≡ is_boolean self }
     {
         matches!(self, DataType::Boolean)
@@ -135,18 +155,16 @@ impl DataType {
     }
 }
 
-impl Access {
-    /// Whether SDO and TPDOs may read the value.
-    pub fn is_readable(self) -> bool
-        ensures { result ≡ is_readable self }
-    {
-        !matches!(self, Access::WriteOnly)
-    }
+/// Whether SDO and TPDOs may read a value of this access.
+pub fn is_readable(access: Access) -> bool
+    ensures { result ≡ is_readable access }
+{
+    !matches!(access, Access::WriteOnly)
+}
 
-    /// Whether SDO and RPDOs may write the value.
-    pub fn is_writable(self) -> bool
-        ensures { result ≡ is_writable self }
-    {
-        !matches!(self, Access::ReadOnly | Access::Constant)
-    }
+/// Whether SDO and RPDOs may write a value of this access.
+pub fn is_writable(access: Access) -> bool
+    ensures { result ≡ is_writable access }
+{
+    !matches!(access, Access::ReadOnly | Access::Constant)
 }

@@ -7,8 +7,9 @@ ghost use Rattle.cop_dict.specs.Number.{number};
 ghost use Rattle.cop_dict.specs.Rules.{first_broken, read_rules, value_rules, access_rules, number_rules};
 
 use crate::abort::Abort;
-use crate::data_type::{Access, DataType};
+use crate::data_type::{DataType, is_readable, is_writable};
 use crate::number::number;
+use cop_eds::Access;
 
 /// The description of an entry (CiA 301, "Entry description").
 #[derive(Clone, Copy, Debug, PartialEq, Eq)]
@@ -25,12 +26,12 @@ pub struct Description {
 
 impl Description {
     /// The first rule that a read breaks.
-    pub fn refused_read(&self) -> Option<Abort>
+    pub(crate) fn refused_read(&self) -> Option<Abort>
         ensures { result ≡ first_broken (read_rules self.now) }
     {
         if self.data_type.is_opaque() {
             Some(Abort::OpaqueType)
-        } else if !self.access.is_readable() {
+        } else if !is_readable(self.access) {
             Some(Abort::WriteOnly)
         } else {
             None
@@ -38,13 +39,13 @@ impl Description {
     }
 
     /// The first rule that a write of this size breaks, whatever its bytes are.
-    pub fn refused_size(&self, size: Option<usize>) -> Option<Abort>
+    pub(crate) fn refused_size(&self, size: Option<usize>) -> Option<Abort>
         ensures { result ≡ first_broken (access_rules self.now size) }
     {
         if self.data_type.is_opaque() {
             return Some(Abort::OpaqueType);
         }
-        if !self.access.is_writable() {
+        if !is_writable(self.access) {
             return Some(Abort::ReadOnly);
         }
         match (self.data_type.width(), size) {
@@ -55,14 +56,14 @@ impl Description {
     }
 
     /// The first rule that a write of these bytes breaks, whatever else is in the dictionary.
-    pub fn refused_write(&self, bytes: &[u8]) -> Option<Abort>
+    pub(crate) fn refused_write(&self, bytes: &[u8]) -> Option<Abort>
         ensures value { result ≡ first_broken (value_rules self.now bytes.now) }
         ensures fits { IfNone result (ForSome (width_of self.now.data_type) (λ width. length bytes.now ≡ width)) }
     {
         if self.data_type.is_opaque() {
             return Some(Abort::OpaqueType);
         }
-        if !self.access.is_writable() {
+        if !is_writable(self.access) {
             return Some(Abort::ReadOnly);
         }
         match self.data_type.width() {

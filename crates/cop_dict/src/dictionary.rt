@@ -42,6 +42,14 @@ impl Dictionary {
         }
     }
 
+    /// The dictionary of entries that rise by index and sub.
+    pub(crate) fn from_entries(objects: Vec<Object>) -> Dictionary
+        requires { IsSorted objects.items }
+        ensures { result ≡ objects.items }
+    {
+        Dictionary { objects }
+    }
+
     /// Adds an entry behind all others.
     pub fn push(&mut self, object: Object) -> Result<(), AllocError>
         requires { All (λ entry. is_before object.index object.sub entry ≡ true) self.old }

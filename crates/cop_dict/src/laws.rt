@@ -1,6 +1,13 @@
 //! Laws of the definitions that contracts cite.
 
-ghost use Rattle.std.specs.Prelude.{◌≡◌, ◌==◌, ◌&&◌, ℕ, List, length, false, Option, option_map, Some, IfSome, Ok, Err, Contains};
+ghost use Rattle.std.specs.Prelude.{◌≡◌, ◌==◌, ◌<◌, ◌^◌, ◌&&◌, ℕ, ℤ, List, All, length, false, Option, option_map, Some, IfSome, Ok, Err, Contains};
+ghost use Rattle.std.specs.Int.{bytes_low_first};
+ghost use Rattle.cop_eds.specs.declared.amount.Amount.{Amount};
+ghost use Rattle.cop_dict.specs.declared.data_type.DataType.{DataType};
+ghost use Rattle.cop_dict.specs.Types.{greatest_of};
+ghost use Rattle.cop_dict.specs.Number.{number, value_of};
+ghost use Rattle.cop_dict.specs.Patterns.{pattern_of, number_written};
+ghost use Rattle.cop_dict.specs.Build.{built};
 ghost use Rattle.cop_dict.specs.Find.{Entry, entry_at, IsSorted};
 ghost use Rattle.cop_dict.specs.Dict.{admitted, with_value, valued, as_built, reset_communication, initial, initial_communication, written, Replaces};
 ghost use Rattle.cop_dict.specs.declared.abort.Abort.{Abort};
@@ -44,4 +51,27 @@ pub fn entries_are_found()
 /// After an accepted write the entries rise by index and sub as before.
 pub fn accepted_stays_sorted()
     ensures { (dict new : List Entry) (index sub : ℕ) (bytes : List ℕ) → IsSorted dict → written dict index sub bytes ≡ Ok new → IsSorted new }
+{}
+
+/// What is built for a node rises by index and sub.
+pub fn built_is_sorted()
+    ensures { (text : List ℕ) (node : ℕ) (dict : List Entry) → built text node ≡ Ok dict → IsSorted dict }
+{}
+
+/// The pattern that a text's value has in a type stands for the number that is written: in decimal
+/// digits, with a minus, or as a sum with the node's number.
+pub fn patterns_stand_for_numbers()
+    ensures { (data_type : DataType) (greatest node pattern : ℕ) (amount : Amount) (number : ℤ)
+        → greatest_of data_type ≡ Some greatest → number_written node amount ≡ Some number
+        → pattern_of data_type greatest node amount ≡ Some pattern → value_of data_type pattern ≡ number }
+{}
+
+/// The bytes of a number that so many bytes hold are that number.
+pub fn bytes_are_their_number()
+    ensures { (width n : ℕ) → n < 256 ^ width → number (bytes_low_first 0 width n) ≡ n }
+{}
+
+/// Bytes are those of the number that they are.
+pub fn number_has_its_bytes()
+    ensures { (bytes : List ℕ) → All (λ byte. byte < 256) bytes → bytes_low_first 0 (length bytes) (number bytes) ≡ bytes }
 {}

@@ -2,6 +2,7 @@
 #![tactic(auto)]
 
 mod abort;
+mod building;
 mod data_type;
 mod description;
 mod dictionary;
@@ -9,12 +10,15 @@ pub mod laws;
 mod mapping;
 mod number;
 mod object;
+mod pattern;
 mod pdo;
 mod search;
 mod writing;
 
 pub use abort::Abort;
-pub use data_type::{Access, DataType};
+pub use building::build;
+pub use cop_eds::Access;
+pub use data_type::DataType;
 pub use description::Description;
 pub use dictionary::Dictionary;
 pub use mapping::{Direction, Mapped, MappingFault};

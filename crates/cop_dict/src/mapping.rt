@@ -5,9 +5,10 @@ ghost use Rattle.cop_dict.specs.Types.{bits_of, type_numbered};
 ghost use Rattle.cop_dict.specs.Find.{IsSorted};
 ghost use Rattle.cop_dict.specs.Mapping.{direction_of, fields_of, has_bits, is_dummy, can_move, can_map, mapped_by, mapped_at, layout_bits};
 
-use crate::data_type::{Access, DataType};
+use crate::data_type::{DataType, is_readable, is_writable};
 use crate::object::Object;
 use crate::search::object_at;
+use cop_eds::Access;
 use thiserror::Error;
 
 /// Which way a PDO goes, seen from its device.
@@ -61,8 +62,8 @@ impl Direction {
         ensures { result ≡ can_move self access }
     {
         match self {
-            Direction::Receive => access.is_writable(),
-            Direction::Transmit => access.is_readable(),
+            Direction::Receive => is_writable(access),
+            Direction::Transmit => is_readable(access),
         }
     }
 }

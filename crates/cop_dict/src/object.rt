@@ -63,12 +63,39 @@ impl Object {
           value = initial.now;
         }) }
     {
+        Object::with_initial(
+            alloc,
+            index,
+            sub,
+            description,
+            Vec::from_slice(alloc, initial)?,
+        )
+    }
+
+    /// The same, without a copy of the initial value.
+    pub(crate) fn with_initial(
+        alloc: Global,
+        index: u16,
+        sub: u8,
+        description: Description,
+        initial: Vec<u8>,
+    ) -> Result<Object, AllocError>
+        requires { ForSome (width_of description.data_type) (λ width. length initial.items ≡ width) }
+        ensures { IfOk result (λ o. o ≡ record {
+          index = index;
+          sub = sub;
+          description = description;
+          initial = initial.items;
+          value = initial.items;
+        }) }
+    {
+        let value = Vec::from_slice(alloc, &initial)?;
         Ok(Object {
             index,
             sub,
             description,
-            initial: Vec::from_slice(alloc, initial)?,
-            value: Vec::from_slice(alloc, initial)?,
+            initial,
+            value,
         })
     }
 
@@ -131,7 +158,7 @@ impl Object {
     }
 
     /// Goes back to the initial value.
-    pub fn reset(&mut self)
+    pub(crate) fn reset(&mut self)
         ensures { self.new ≡ as_built self.old }
     {
         self.value.clear();
@@ -139,7 +166,7 @@ impl Object {
     }
 
     /// Goes back to the initial value where the index is in the communication profile area.
-    pub fn reset_communication(&mut self)
+    pub(crate) fn reset_communication(&mut self)
         ensures { self.new ≡ reset_communication self.old }
     {
         if matches!(self.index, 0x1000..=0x1FFF) {
@@ -148,7 +175,7 @@ impl Object {
     }
 
     /// Replaces the value by bytes that are as many. It takes no memory.
-    pub fn replace(&mut self, bytes: &[u8])
+    pub(crate) fn replace(&mut self, bytes: &[u8])
         requires { width_of self.old.description.data_type ≡ Some (length bytes.now) }
         ensures { self.new ≡ valued bytes.now self.old }
     {
@@ -157,7 +184,7 @@ impl Object {
     }
 
     /// Replaces the value. Memory is taken only for more bytes than the initial value has.
-    pub fn set(&mut self, bytes: &[u8]) -> Result<(), Abort>
+    pub(crate) fn set(&mut self, bytes: &[u8]) -> Result<(), Abort>
         requires { ForSome (width_of self.old.description.data_type) (λ width. length bytes.now ≡ width) }
         ensures ok { OnOk result (self.new ≡ valued bytes.now self.old) }
         ensures err { OnErr result (self.new ≡ self.old) }
