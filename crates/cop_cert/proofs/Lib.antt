@@ -9,3 +9,6 @@ pub mod SetLemmas
 pub mod ClimbLemmas
 pub mod MemberLemmas
 pub mod CheckLemmas
+pub mod ChainLemmas
+pub mod BoundLemmas
+pub mod MakeLemmas

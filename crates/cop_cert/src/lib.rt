@@ -7,6 +7,7 @@ mod drafts;
 mod entries;
 mod faults;
 mod items;
+mod making;
 mod reading;
 mod refusals;
 mod writing;

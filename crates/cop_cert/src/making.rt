@@ -1,0 +1,89 @@
+//! Making a refusal.
+
+ghost use Rattle.std.specs.Prelude.{◌≡◌, ℕ, ◌+◌, ◌*◌, ◌^◌, ◌<◌, ◌≤◌, ◌||◌, ◌⊎◌, IfOk, length, All, AllPairs};
+ghost use Rattle.cop_rta.specs.Test.{place_of, flagged_place, is_flagged, busy_at, queueing_at, blocking, cost_at, horizon, IsBusyTime, Passes};
+ghost use Rattle.cop_rta.specs.Verdict.{IsLong, IsFirstLate};
+ghost use Rattle.cop_cert.specs.Assignments.{least_id};
+ghost use Rattle.cop_cert.specs.Sets.{trial};
+ghost use Rattle.cop_cert.specs.Evidence.{last_of, is_listed, IsRefusal};
+ghost use Rattle.cop_cert.specs.Chains.{IsChain, EndsAbove, EndsSolved, IsQueueOf, IsWholeEvidence, IsMade};
+
+use crate::demands::start_of;
+use crate::items::Items;
+use crate::refusals::Evidence;
+use cop_frame::Rate;
+use cop_rta::{Busy, Demand, HORIZON, StreamSet, Verdict, verdict};
+use std::alloc::{AllocError, Global};
+
+/// An equation's values from a number on, up to its solution or to the first number above a limit.
+fn chain<D: Demand>(
+    alloc: Global,
+    demand: &D,
+    from: u64,
+    limit: u64,
+) -> Result<Items<u64>, AllocError>
+    requires { from ≤ D.demand demand.now from }
+    ensures chain { IfOk result (λ numbers. IsChain (D.demand demand.now) from limit numbers) }
+    ensures end { IfOk result (λ numbers. (limit < last_of numbers) ⊎ (last_of numbers ≡ D.demand demand.now (last_of numbers))) }
+{
+    let mut numbers = Items::new(alloc);
+    numbers.push(from)?;
+    let mut last = from;
+    while last <= limit {
+        let next = demand.at(last);
+        if next == last {
+            return Ok(numbers);
+        }
+        numbers.push(next)?;
+        last = next;
+    }
+    Ok(numbers)
+}
+
+/// The chain of the busy equation.
+fn busy_list(alloc: Global, busy: &Busy<'_>) -> Result<Items<u64>, AllocError>
+    requires count { length busy.now.streams ≤ 1100 }
+    requires index { busy.now.index < length busy.now.streams }
+    ensures long { IfOk result (λ numbers. IsLong (place_of busy.now) → EndsAbove (busy_at (place_of busy.now)) 1 horizon numbers) }
+    ensures late { IfOk result (λ numbers. (t : ℕ) → IsBusyTime (place_of busy.now) t → t ≤ horizon → EndsSolved (busy_at (place_of busy.now)) 1 horizon numbers) }
+{
+    chain(alloc, busy, 1, HORIZON)
+}
+
+/// The chain of the queueing equation of an instance that is late, from `start`, B + q C.
+fn queue_list(alloc: Global, busy: &Busy<'_>, q: u64, start: u64) -> Result<Items<u64>, AllocError>
+    requires count { length busy.now.streams ≤ 1100 }
+    requires index { busy.now.index < length busy.now.streams }
+    requires start { start ≡ blocking (place_of busy.now) + q * cost_at (place_of busy.now) }
+    requires late { (r : ℕ) × IsFirstLate (place_of busy.now) q r }
+    ensures { IfOk result (IsQueueOf (place_of busy.now) q) }
+{
+    chain(alloc, &busy.queueing(q), start, HORIZON)
+}
+
+/// The evidence that a stream fails, with the whole chains.
+fn evidence_of(
+    alloc: Global,
+    set: &StreamSet,
+    above: &[bool],
+    pdo: usize,
+    rate: Rate,
+) -> Result<Evidence, AllocError>
+    requires count { length set.now ≤ 1100 }
+    requires flags { length above.now ≡ length set.now }
+    requires index { pdo < length set.now }
+    requires fails { Passes (flagged_place set.now above.now pdo rate) → ⊥ }
+    ensures { IfOk result (IsWholeEvidence (flagged_place set.now above.now pdo rate)) }
+{
+    let place = Busy::new(set, above, pdo, rate);
+    let busy = busy_list(alloc, &place)?;
+    match verdict(set, above, pdo, rate) {
+        Verdict::Pass { .. } => unreachable!(),
+        Verdict::Long => Ok(Evidence::Long { busy }),
+        Verdict::Late { q, .. } => {
+            let start = start_of(set, above, pdo, rate, q) as u64;
+            let queue = queue_list(alloc, &place, q, start)?;
+            Ok(Evidence::Late { q, busy, queue })
+        }
+    }
+}
