@@ -12,3 +12,4 @@ pub mod CheckLemmas
 pub mod ChainLemmas
 pub mod BoundLemmas
 pub mod MakeLemmas
+pub mod MadeLemmas

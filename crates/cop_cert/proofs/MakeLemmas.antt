@@ -61,19 +61,20 @@ end_solves f cap limit last fits (inr e) h = solved f limit cap fits last h e
 abbrev pub cap : ℕ
 cap = 2 ^ 64 - 1
 
+-- where the chain of the busy equation ends at a solution, that is the busy time
+pub is_busy_time : (p : Place) (numbers : List ℕ) → IsChain (busy_at p) 1 horizon numbers → last_of numbers ≡ busy_at p (last_of numbers) → IsBusyTime p (last_of numbers)
+is_busy_time p numbers c solves = record {
+  within = omega (arith, c.begins, first_least (busy_at p) horizon numbers c.follows);
+  solves = solves;
+  least = λ y start e. climb_below (busy_at p) (busy_at-mono p) y (le_of_eq (sym e)) numbers (omega (arith, c.begins, start)) (run_climbs (busy_at p) horizon numbers c.follows);
+}
+
 module _ (p : Place) (count : length p.streams ≤ 1100) where
   pub busy_solved : (numbers : List ℕ) (t : ℕ) → IsChain (λ t. min (busy_at p t) cap) 1 horizon numbers → (horizon < last_of numbers) ⊎ (last_of numbers ≡ min (busy_at p (last_of numbers)) cap)
       → IsBusyTime p t → t ≤ horizon → EndsSolved (busy_at p) 1 horizon numbers
   busy_solved numbers t c ends busy within =
       to_solution (busy_at p) horizon 1 numbers t (busy_at-mono p) (chain_uncapped (busy_at p) horizon cap (λ x h. busy_fits p x count h) 1 numbers c)
       busy.within (le_of_eq (sym busy.solves)) within (end_solves (busy_at p) cap horizon (last_of numbers) (λ x h. busy_fits p x count h) ends)
-
-  is_busy_time : (numbers : List ℕ) → IsChain (busy_at p) 1 horizon numbers → last_of numbers ≡ busy_at p (last_of numbers) → IsBusyTime p (last_of numbers)
-  is_busy_time numbers c solves = record {
-    within = omega (arith, c.begins, first_least (busy_at p) horizon numbers c.follows);
-    solves = solves;
-    least = λ y start e. climb_below (busy_at p) (busy_at-mono p) y (le_of_eq (sym e)) numbers (omega (arith, c.begins, start)) (run_climbs (busy_at p) horizon numbers c.follows);
-  }
 
   pub busy_above : (numbers : List ℕ) → IsChain (λ t. min (busy_at p t) cap) 1 horizon numbers → (horizon < last_of numbers) ⊎ (last_of numbers ≡ min (busy_at p (last_of numbers)) cap)
       → IsLong p → EndsAbove (busy_at p) 1 horizon numbers
@@ -83,7 +84,7 @@ module _ (p : Place) (count : length p.streams ≤ 1100) where
         chain = whole;
         above = ⊎_elim
             (λ (above : horizon < last_of numbers). above)
-            (λ (within : last_of numbers ≤ horizon). long (last_of numbers) (is_busy_time numbers whole (end_solves (busy_at p) cap horizon (last_of numbers) (λ x h. busy_fits p x count h) ends within)))
+            (λ (within : last_of numbers ≤ horizon). long (last_of numbers) (is_busy_time p numbers whole (end_solves (busy_at p) cap horizon (last_of numbers) (λ x h. busy_fits p x count h) ends within)))
             (cases_lt horizon (last_of numbers));
       }
 

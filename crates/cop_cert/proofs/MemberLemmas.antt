@@ -7,7 +7,7 @@ use Rattle.cop_rta.specs.declared.streams.Stream.{Stream}
 use Rattle.std.proofs.lemmas.List.Elements.{All-nil, All-cons, All-head, All-tail}
 use Rattle.cop_cert.specs.declared.refusals.Member.{Member}
 use Rattle.cop_cert.specs.Sets.{is_in_trial}
-use Rattle.cop_cert.specs.Evidence.{is_member}
+use Rattle.cop_cert.specs.Evidence.{is_member, is_listed}
 use Rattle.cop_cert.proofs.AboveLemmas.{trial_of_pdo, trial_of_fixed}
 use Rattle.cop_cert.specs.Rising.{RiseFrom}
 
@@ -103,3 +103,29 @@ pub flag_one : (out : List Bool) (ms : List Member) (i k : ℕ) (m : Member) →
 flag_one out ms i k m below is inside =
     let next : is_member (drop i ms) k ≡ ((m.pdo == k) || is_member (drop (i + 1) ms) k) = member_next ms i k m below ∙ rw (← is) refl in
     rw (flag_set out m.pdo k inside, next) (swap_or (m.pdo == k) (is_flagged out k) (is_member (drop (i + 1) ms) k))
+
+-- the same for numbers in place of members
+none_listed : (k : ℕ) (ps : List ℕ) → All (λ p. p ≢ k) ps → is_listed ps k ≡ false
+none_listed k [] a = refl
+none_listed k (p ∷ ps) a = rw (ne_eqb p k (All-head (λ p. p ≢ k) p ps a)) (none_listed k ps (All-tail (λ p. p ≢ k) p ps a))
+
+pub flags_listed : (bound : ℕ) (streams : List Stream) (pdos : ℕ) (ps : List ℕ) (k : ℕ) → All (λ p. p < pdos) ps
+    → (is_in_trial bound streams pdos (λ _. false) k || is_listed ps k) ≡ is_in_trial bound streams pdos (is_listed ps) k
+flags_listed bound streams pdos ps k inside = go (cases_lt k pdos)
+  where
+    or_false : (b : Bool) → (b || false) ≡ b
+    or_false true = refl
+    or_false false = refl
+
+    go : (k < pdos) ⊎ (pdos ≤ k) → (is_in_trial bound streams pdos (λ _. false) k || is_listed ps k) ≡ is_in_trial bound streams pdos (is_listed ps) k
+    go (inl pdo) = rw (trial_of_pdo streams pdos bound (λ _. false) k pdo, trial_of_pdo streams pdos bound (is_listed ps) k pdo) refl
+    go (inr fixed) = rw (trial_of_fixed streams pdos bound (λ _. false) k fixed, trial_of_fixed streams pdos bound (is_listed ps) k fixed, none_listed k ps (λ i d h e. omega (arith, inside i d h, e))) (or_false _)
+
+drop_next : (ps : List ℕ) (i : ℕ) → i < length ps → drop i ps ≡ get_or ps i 0 ∷ drop (i + 1) ps
+drop_next ps i h = rw add-one (drop-cons ps i 0 h)
+
+pub flag_number : (out : List Bool) (ps : List ℕ) (i k : ℕ) → i < length ps → get_or ps i 0 < length out
+    → (is_flagged (set out (get_or ps i 0) true) k || is_listed (drop (i + 1) ps) k) ≡ (is_flagged out k || is_listed (drop i ps) k)
+flag_number out ps i k below inside =
+    let next : is_listed (drop i ps) k ≡ ((get_or ps i 0 == k) || is_listed (drop (i + 1) ps) k) = ap (λ l. is_listed l k) (drop_next ps i below) in
+    rw (flag_set out (get_or ps i 0) k inside, next) (swap_or (get_or ps i 0 == k) (is_flagged out k) (is_listed (drop (i + 1) ps) k))

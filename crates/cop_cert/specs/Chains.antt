@@ -1,13 +1,14 @@
 -- The lists that are made: whole chains of an equation's values.
-use Rattle.std.specs.Prelude.{◌≡◌, ℕ, ◌+◌, ◌-◌, ◌*◌, ◌<◌, ◌≤◌, List, [], ◌∷◌, All}
+use Rattle.std.specs.Prelude.{◌≡◌, ℕ, ◌+◌, ◌-◌, ◌*◌, ◌<◌, ◌≤◌, Bool, List, [], ◌∷◌, All}
 use Rattle.cop_frame.specs.declared.rates.Rate.{Rate}
 use Rattle.cop_rta.specs.declared.streams.Stream.{Stream}
 use Rattle.cop_rta.specs.Test.{Place, busy_at, queueing_at, blocking, cost_at, jitter_at, period_at, horizon}
 use Rattle.cop_rta.specs.Verdict.{IsFirstLate}
 use Rattle.cop_cert.specs.declared.refusals.Evidence.{Evidence}
 use Rattle.cop_cert.specs.declared.refusals.Evidence.TheVariants.{Long, Late}
+use Rattle.cop_cert.specs.declared.refusals.Member.{Member}
 use Rattle.cop_cert.specs.declared.refusals.Refusal.{Refusal}
-use Rattle.cop_cert.specs.Sets.{trial}
+use Rattle.cop_cert.specs.Sets.{is_in_trial}
 use Rattle.cop_cert.specs.Evidence.{first_of, last_of, is_listed, pdos_of}
 
 -- after a number within the limit comes the equation's value at it, which is greater
@@ -50,8 +51,12 @@ abbrev pub IsWholeEvidence : Place → Evidence → Type 0
 IsWholeEvidence p (Long busy) = EndsAbove (busy_at p) 1 horizon busy
 IsWholeEvidence p (Late q busy queue) = IsWholeLate p q busy queue
 
+-- members for some PDOs, with the whole chains of each where a test says what is above
+pub record AreMade (streams : List Stream) (above : ℕ → Bool) (rate : Rate) (pdos : List ℕ) (members : List Member) : Type 0 where
+  pub pdos_are : pdos_of members ≡ pdos
+  pub whole : All (λ m. IsWholeEvidence (record { streams = streams; above = above; index = m.pdo; rate = rate }) m.evidence) members
+
 -- the refusal of some PDOs at a rate
 pub record IsMade (bound : ℕ) (streams : List Stream) (pdos : ℕ) (rate : Rate) (members : List ℕ) (r : Refusal) : Type 0 where
   pub rate_is : r.rate ≡ rate
-  pub members_are : pdos_of r.members ≡ members
-  pub whole : All (λ m. IsWholeEvidence (trial bound rate streams pdos (is_listed members) m.pdo) m.evidence) r.members
+  pub members_are : AreMade streams (is_in_trial bound streams pdos (is_listed members)) rate members r.members

@@ -10,11 +10,9 @@ ghost use Rattle.cop_cert.specs.Rising.{RiseFrom};
 
 use crate::demands::{cost, start_of};
 use crate::refusals::{Evidence, Member, Refusal};
+use crate::trials::flag_fixed;
 use cop_frame::Rate;
 use cop_rta::{Busy, Demand, HORIZON, Stream, StreamSet};
-
-/// The least identifier of a PDO: fixed frames below it are above each PDO.
-const LEAST_ID: u16 = 0x181;
 
 /// The last of some numbers, if they climb by an equation.
 fn climb<D: Demand>(demand: &D, numbers: &[u64]) -> Option<u64>
@@ -128,16 +126,6 @@ fn rise(members: &[Member], pdos: usize) -> bool
     ensures { IsTrue result ↔ (AllPairs (λ m n. m.pdo < n.pdo) members.now × All (λ m. m.pdo < pdos) members.now) }
 {
     rise_from(members, pdos)
-}
-
-/// Flags the fixed frames with an identifier below those of the PDOs.
-fn flag_fixed(streams: &[Stream], pdos: usize, out: &mut [bool])
-    requires { length out.old ≡ length streams.now }
-    ensures { (k : ℕ) → is_flagged out.new k ≡ is_in_trial least_id streams.now pdos (λ _. false) k }
-{
-    for (k, stream) in streams.iter().enumerate() {
-        out[k] = k >= pdos && stream.id < LEAST_ID;
-    }
 }
 
 #[tactic(auto, using(crate::proofs::MemberLemmas::flag_one))]

@@ -10,11 +10,13 @@ mod items;
 mod making;
 mod reading;
 mod refusals;
+mod trials;
 mod writing;
 
 pub use checking::check;
 pub use faults::{Breach, CertFault, Rule};
 pub use items::Items;
+pub use making::make;
 pub use reading::read;
 pub use refusals::{Evidence, Member, Refusal};
 pub use writing::write;

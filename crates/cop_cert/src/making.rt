@@ -6,11 +6,12 @@ ghost use Rattle.cop_rta.specs.Verdict.{IsLong, IsFirstLate};
 ghost use Rattle.cop_cert.specs.Assignments.{least_id};
 ghost use Rattle.cop_cert.specs.Sets.{trial};
 ghost use Rattle.cop_cert.specs.Evidence.{last_of, is_listed, IsRefusal};
-ghost use Rattle.cop_cert.specs.Chains.{IsChain, EndsAbove, EndsSolved, IsQueueOf, IsWholeEvidence, IsMade};
+ghost use Rattle.cop_cert.specs.Chains.{IsChain, EndsAbove, EndsSolved, IsQueueOf, IsWholeEvidence, AreMade, IsMade};
 
 use crate::demands::start_of;
 use crate::items::Items;
-use crate::refusals::Evidence;
+use crate::refusals::{Evidence, Member, Refusal};
+use crate::trials::flag_fixed;
 use cop_frame::Rate;
 use cop_rta::{Busy, Demand, HORIZON, StreamSet, Verdict, verdict};
 use std::alloc::{AllocError, Global};
@@ -86,4 +87,68 @@ fn evidence_of(
             Ok(Evidence::Late { q, busy, queue })
         }
     }
+}
+
+/// The members with the evidence of each.
+fn members_of(
+    alloc: Global,
+    set: &StreamSet,
+    above: &[bool],
+    rate: Rate,
+    pdos: &[usize],
+) -> Result<Items<Member>, AllocError>
+    requires count { length set.now ≤ 1100 }
+    requires flags { length above.now ≡ length set.now }
+    requires inside { All (λ p. p < length set.now) pdos.now }
+    requires fails { All (λ p. Passes (flagged_place set.now above.now p rate) → ⊥) pdos.now }
+    ensures { IfOk result (AreMade set.now (is_flagged above.now) rate pdos.now) }
+{
+    let mut members = Items::new(alloc);
+    for pdo in pdos {
+        let evidence = evidence_of(alloc, set, above, *pdo, rate)?;
+        members.push(Member {
+            pdo: *pdo,
+            evidence,
+        })?;
+    }
+    Ok(members)
+}
+
+#[tactic(auto, using(crate::proofs::MemberLemmas::flag_number))]
+/// Flags the PDOs.
+fn flag_listed(pdos: &[usize], out: &mut [bool])
+    requires { All (λ p. p < length out.old) pdos.now }
+    ensures { (k : ℕ) → is_flagged out.new k ≡ (is_flagged out.old k || is_listed pdos.now k) }
+{
+    for pdo in pdos {
+        out[*pdo] = true;
+    }
+}
+
+/// The refusal of some PDOs at a rate, each of which fails with the others and the fixed frames below 181h above it
+/// and all others below. `Err` is want of memory.
+///
+/// The evidence has the whole chains: the busy list from 1 by the equation's values to its solution or to the first
+/// number above the horizon, the queue list from B + q C to its solution, for the first instance that is late.
+pub fn make(
+    alloc: Global,
+    set: &StreamSet,
+    pdos: usize,
+    rate: Rate,
+    members: &[usize],
+) -> Result<Refusal, AllocError>
+    requires count { pdos ≤ length set.now }
+    requires rise { AllPairs (λ m n. m < n) members.now }
+    requires inside { All (λ m. m < pdos) members.now }
+    requires fails { All (λ m. Passes (trial least_id rate set.now pdos (is_listed members.now) m) → ⊥) members.now }
+    ensures made { IfOk result (IsMade least_id set.now pdos rate members.now) }
+    ensures checks { 0 < length members.now → IfOk result (IsRefusal least_id set.now pdos) }
+{
+    let streams = set.streams();
+    let mut flags = [false; StreamSet::MOST];
+    let above = &mut flags[..streams.len()];
+    flag_fixed(streams, pdos, above);
+    flag_listed(members, above);
+    let members = members_of(alloc, set, above, rate, members)?;
+    Ok(Refusal { rate, members })
 }
