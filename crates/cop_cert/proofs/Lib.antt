@@ -7,6 +7,7 @@ pub mod AboveLemmas
 pub mod EvidenceLemmas
 pub mod SetLemmas
 pub mod ClimbLemmas
+pub mod RisingLemmas
 pub mod MemberLemmas
 pub mod CheckLemmas
 pub mod ChainLemmas

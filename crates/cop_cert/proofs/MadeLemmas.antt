@@ -1,9 +1,9 @@
 -- What is made holds.
-use Rattle.std.proofs.Common.{◌≡◌, ℕ, zero, suc, ◌<◌, Bool, List, [], ◌∷◌, length, get_or, All, AllPairs, refl, subst, arith, ap, le_of_eq}
+use Rattle.std.proofs.Common.{◌≡◌, ℕ, ◌<◌, Bool, List, length, get_or, All, AllPairs, refl, sym, subst, arith, ap, le_of_eq, IsTrue, ◌↔◌}
 use Rattle.std.proofs.lemmas.List.{length-map}
 use Rattle.cop_frame.specs.declared.rates.Rate.{Rate}
 use Rattle.cop_rta.specs.declared.streams.Stream.{Stream}
-use Rattle.cop_rta.specs.Test.{Place, Passes, busy_at, queueing_at, horizon}
+use Rattle.cop_rta.specs.Test.{Place, busy_at, queueing_at, horizon}
 use Rattle.cop_rta.proofs.LeastLemmas.{same_least}
 use Rattle.cop_cert.specs.declared.refusals.Evidence.{Evidence}
 use Rattle.cop_cert.specs.declared.refusals.Evidence.TheVariants.{Long, Late}
@@ -11,11 +11,8 @@ use Rattle.cop_cert.specs.declared.refusals.Member.{Member}
 use Rattle.cop_cert.specs.declared.refusals.Refusal.{Refusal}
 use Rattle.cop_cert.specs.Sets.{is_in_trial}
 use Rattle.cop_cert.specs.Evidence.{IsEvidence, is_listed, pdos_of, IsRefusal, last_of}
-use Rattle.cop_cert.specs.Chains.{IsWholeEvidence, AreMade, IsMade}
+use Rattle.cop_cert.specs.Chains.{AllFail, FailTogether, IsWholeEvidence, AreMade, IsMade}
 use Rattle.cop_cert.proofs.MakeLemmas.{run_climbs, is_busy_time}
-
-abbrev pub AllFail : List Stream → Rate → List ℕ → (ℕ → Bool) → Type 0
-AllFail streams rate members above = All (λ m. Passes (record { streams = streams; above = above; index = m; rate = rate }) → ⊥) members
 
 -- tests that answer alike are one
 pub fails_under : (streams : List Stream) (rate : Rate) (members : List ℕ) (here there : ℕ → Bool) → ((k : ℕ) → here k ≡ there k)
@@ -23,6 +20,15 @@ pub fails_under : (streams : List Stream) (rate : Rate) (members : List ℕ) (he
 fails_under streams rate members here there same fails =
     let e : here ≡ there = λ i k. same k i in
     subst (AllFail streams rate members) e fails
+
+pub fail_iff : (bound : ℕ) (streams : List Stream) (pdos : ℕ) (rate : Rate) (members : List ℕ) (above : ℕ → Bool) (b : Bool)
+    → ((k : ℕ) → above k ≡ is_in_trial bound streams pdos (is_listed members) k)
+    → AllPairs (λ m n. m < n) members × All (λ m. m < pdos) members
+    → (IsTrue b ↔ AllFail streams rate members above) → IsTrue b ↔ FailTogether bound streams pdos rate members
+fail_iff bound streams pdos rate members above b same rise fail = (
+  λ t. record { rise = rise.0; inside = rise.1; fail = fails_under streams rate members above (is_in_trial bound streams pdos (is_listed members)) same (fail.0 t) },
+  λ h. fail.1 (fails_under streams rate members (is_in_trial bound streams pdos (is_listed members)) above (λ k. sym (same k)) h.fail),
+)
 
 pub made_under : (streams : List Stream) (rate : Rate) (members : List ℕ) (found : List Member) (bound pdos : ℕ) (above : ℕ → Bool)
     → ((k : ℕ) → above k ≡ is_in_trial bound streams pdos (is_listed members) k)
@@ -47,12 +53,6 @@ whole_shows p (Late q busy queue) h =
       late = h.queue_of.first.late;
     }
 
--- a number of a member is that of the list
-at_member : (ms : List Member) (k : ℕ) (d : Member) → k < length ms → (get_or ms k d).pdo ≡ get_or (pdos_of ms) k d.pdo
-at_member [] k d h = absurd (omega arith)
-at_member (m ∷ ms) zero d h = refl
-at_member (m ∷ ms) (suc k) d h = at_member ms k d (omega arith)
-
 pub made_is_refusal : (bound : ℕ) (streams : List Stream) (pdos : ℕ) (rate : Rate) (members : List ℕ) (r : Refusal) → 0 < length members
     → AllPairs (λ m n. m < n) members → All (λ m. m < pdos) members → IsMade bound streams pdos rate members r → IsRefusal bound streams pdos r
 made_is_refusal bound streams pdos rate members r some rise inside made =
@@ -61,9 +61,8 @@ made_is_refusal bound streams pdos rate members r some rise inside made =
     let size : length r.members ≡ length members = omega (arith, count, ap length are) in
     record {
       some = omega (arith, size);
-      rise = λ i j d lt below.
-          rw (at_member r.members i d (omega (arith, lt, below)), at_member r.members j d below, are) (rise i j d.pdo lt (omega (arith, size)));
-      inside = λ k d below. rw (at_member r.members k d below, are) (inside k d.pdo (omega (arith, size)));
+      rise = rw are rise;
+      inside = rw are inside;
       evidence = λ k d below.
           rw (are, made.rate_is) (whole_shows _ (get_or r.members k d).evidence (made.members_are.whole k d below));
     }

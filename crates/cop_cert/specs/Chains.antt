@@ -1,8 +1,8 @@
 -- The lists that are made: whole chains of an equation's values.
-use Rattle.std.specs.Prelude.{◌≡◌, ℕ, ◌+◌, ◌-◌, ◌*◌, ◌<◌, ◌≤◌, Bool, List, [], ◌∷◌, All}
+use Rattle.std.specs.Prelude.{◌≡◌, ℕ, ◌+◌, ◌-◌, ◌*◌, ◌<◌, ◌≤◌, Bool, List, [], ◌∷◌, All, AllPairs}
 use Rattle.cop_frame.specs.declared.rates.Rate.{Rate}
 use Rattle.cop_rta.specs.declared.streams.Stream.{Stream}
-use Rattle.cop_rta.specs.Test.{Place, busy_at, queueing_at, blocking, cost_at, jitter_at, period_at, horizon}
+use Rattle.cop_rta.specs.Test.{Place, Passes, busy_at, queueing_at, blocking, cost_at, jitter_at, period_at, horizon}
 use Rattle.cop_rta.specs.Verdict.{IsFirstLate}
 use Rattle.cop_cert.specs.declared.refusals.Evidence.{Evidence}
 use Rattle.cop_cert.specs.declared.refusals.Evidence.TheVariants.{Long, Late}
@@ -50,6 +50,16 @@ pub record IsWholeLate (p : Place) (q : ℕ) (busy queue : List ℕ) : Type 0 wh
 abbrev pub IsWholeEvidence : Place → Evidence → Type 0
 IsWholeEvidence p (Long busy) = EndsAbove (busy_at p) 1 horizon busy
 IsWholeEvidence p (Late q busy queue) = IsWholeLate p q busy queue
+
+-- each of some streams fails where a test says what is above
+abbrev pub AllFail : List Stream → Rate → List ℕ → (ℕ → Bool) → Type 0
+AllFail streams rate members above = All (λ m. Passes (record { streams = streams; above = above; index = m; rate = rate }) → ⊥) members
+
+-- PDOs that rise, each of which fails in their trial
+pub record FailTogether (bound : ℕ) (streams : List Stream) (pdos : ℕ) (rate : Rate) (members : List ℕ) : Type 0 where
+  pub rise : AllPairs (λ m n. m < n) members
+  pub inside : All (λ m. m < pdos) members
+  pub fail : AllFail streams rate members (is_in_trial bound streams pdos (is_listed members))
 
 -- members for some PDOs, with the whole chains of each where a test says what is above
 pub record AreMade (streams : List Stream) (above : ℕ → Bool) (rate : Rate) (pdos : List ℕ) (members : List Member) : Type 0 where

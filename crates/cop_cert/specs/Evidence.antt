@@ -73,6 +73,6 @@ is_member members = is_listed (pdos_of members)
 -- members, one at least, that rise, are PDOs, and have evidence in the trial of the members
 pub record IsRefusal (bound : ℕ) (streams : List Stream) (pdos : ℕ) (r : Refusal) : Type 0 where
   pub some : 0 < length r.members
-  pub rise : AllPairs (λ m n. m.pdo < n.pdo) r.members
-  pub inside : All (λ m. m.pdo < pdos) r.members
+  pub rise : AllPairs (λ m n. m < n) (pdos_of r.members)
+  pub inside : All (λ m. m < pdos) (pdos_of r.members)
   pub evidence : All (λ m. IsEvidence (trial bound r.rate streams pdos (is_member r.members) m.pdo) m.evidence) r.members

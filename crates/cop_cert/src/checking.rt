@@ -5,7 +5,7 @@ ghost use Rattle.std.specs.Option.{IsSomeAnd};
 ghost use Rattle.cop_rta.specs.Test.{place_of, flagged_place, is_flagged, blocking, cost_at, cost_of};
 ghost use Rattle.cop_cert.specs.Assignments.{least_id, NoAssignmentPasses};
 ghost use Rattle.cop_cert.specs.Sets.{is_in_trial};
-ghost use Rattle.cop_cert.specs.Evidence.{IsClimb, first_of, last_of, IsBusyList, IsQueueList, IsEvidence, is_member, IsRefusal};
+ghost use Rattle.cop_cert.specs.Evidence.{IsClimb, first_of, last_of, IsBusyList, IsQueueList, IsEvidence, is_member, pdos_of, IsRefusal};
 ghost use Rattle.cop_cert.specs.Rising.{RiseFrom};
 
 use crate::demands::{cost, start_of};
@@ -108,7 +108,7 @@ fn is_evidence(set: &StreamSet, above: &[bool], pdo: usize, rate: Rate, evidence
 
 /// Whether the members rise, from a number on, and are PDOs.
 fn rise_from(members: &[Member], pdos: usize) -> bool
-    ensures { IsTrue result ↔ RiseFrom 0 pdos members.now }
+    ensures { IsTrue result ↔ RiseFrom 0 pdos (pdos_of members.now) }
 {
     let mut low = 0;
     for member in members {
@@ -120,10 +120,10 @@ fn rise_from(members: &[Member], pdos: usize) -> bool
     true
 }
 
-#[tactic(auto, using(crate::proofs::MemberLemmas::rises))]
+#[tactic(auto, using(crate::proofs::RisingLemmas::rises))]
 /// Whether the members rise and are PDOs.
 fn rise(members: &[Member], pdos: usize) -> bool
-    ensures { IsTrue result ↔ (AllPairs (λ m n. m.pdo < n.pdo) members.now × All (λ m. m.pdo < pdos) members.now) }
+    ensures { IsTrue result ↔ (AllPairs (λ m n. m < n) (pdos_of members.now) × All (λ m. m < pdos) (pdos_of members.now)) }
 {
     rise_from(members, pdos)
 }
@@ -170,7 +170,10 @@ pub fn check(set: &StreamSet, pdos: usize, refusal: &Refusal) -> bool
     ensures rules_out { IsTrue result → NoAssignmentPasses refusal.now.rate set.now pdos }
 {
     let members = refusal.members.as_slice();
-    if members.is_empty() || !rise(members, pdos) {
+    if members.is_empty() {
+        return false;
+    }
+    if !rise(members, pdos) {
         return false;
     }
     let streams = set.streams();

@@ -16,7 +16,10 @@ mod writing;
 pub use checking::check;
 pub use faults::{Breach, CertFault, Rule};
 pub use items::Items;
-pub use making::make;
+pub use making::{fail_together, make};
 pub use reading::read;
 pub use refusals::{Evidence, Member, Refusal};
 pub use writing::write;
+
+#[cfg(test)]
+mod tests;

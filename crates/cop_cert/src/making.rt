@@ -1,19 +1,20 @@
 //! Making a refusal.
 
-ghost use Rattle.std.specs.Prelude.{◌≡◌, ℕ, ◌+◌, ◌*◌, ◌^◌, ◌<◌, ◌≤◌, ◌||◌, ◌⊎◌, IfOk, length, All, AllPairs};
+ghost use Rattle.std.specs.Prelude.{◌≡◌, ℕ, ◌+◌, ◌*◌, ◌^◌, ◌<◌, ◌≤◌, ◌||◌, ◌⊎◌, ◌↔◌, IsTrue, IfOk, length, All, AllPairs};
 ghost use Rattle.cop_rta.specs.Test.{place_of, flagged_place, is_flagged, busy_at, queueing_at, blocking, cost_at, horizon, IsBusyTime, Passes};
 ghost use Rattle.cop_rta.specs.Verdict.{IsLong, IsFirstLate};
 ghost use Rattle.cop_cert.specs.Assignments.{least_id};
-ghost use Rattle.cop_cert.specs.Sets.{trial};
+ghost use Rattle.cop_cert.specs.Sets.{is_in_trial};
+ghost use Rattle.cop_cert.specs.Rising.{RiseFrom};
 ghost use Rattle.cop_cert.specs.Evidence.{last_of, is_listed, IsRefusal};
-ghost use Rattle.cop_cert.specs.Chains.{IsChain, EndsAbove, EndsSolved, IsQueueOf, IsWholeEvidence, AreMade, IsMade};
+ghost use Rattle.cop_cert.specs.Chains.{AllFail, FailTogether, IsChain, EndsAbove, EndsSolved, IsQueueOf, IsWholeEvidence, AreMade, IsMade};
 
 use crate::demands::start_of;
 use crate::items::Items;
 use crate::refusals::{Evidence, Member, Refusal};
 use crate::trials::flag_fixed;
 use cop_frame::Rate;
-use cop_rta::{Busy, Demand, HORIZON, StreamSet, Verdict, verdict};
+use cop_rta::{Busy, Demand, HORIZON, Stream, StreamSet, Verdict, verdict};
 use std::alloc::{AllocError, Global};
 
 /// An equation's values from a number on, up to its solution or to the first number above a limit.
@@ -125,6 +126,73 @@ fn flag_listed(pdos: &[usize], out: &mut [bool])
     }
 }
 
+/// Flags what is above in the trial of the PDOs.
+fn flag_trial_of(streams: &[Stream], pdos: usize, members: &[usize], out: &mut [bool])
+    requires size { length out.old ≡ length streams.now }
+    requires count { pdos ≤ length streams.now }
+    requires inside { All (λ m. m < pdos) members.now }
+    ensures { (k : ℕ) → is_flagged out.new k ≡ is_in_trial least_id streams.now pdos (is_listed members.now) k }
+{
+    flag_fixed(streams, pdos, out);
+    flag_listed(members, out);
+}
+
+/// Whether the numbers rise, from a number on, and are PDOs.
+fn rise_from(members: &[usize], pdos: usize) -> bool
+    ensures { IsTrue result ↔ RiseFrom 0 pdos members.now }
+{
+    let mut low = 0;
+    for member in members {
+        if *member < low || *member >= pdos {
+            return false;
+        }
+        low = *member + 1;
+    }
+    true
+}
+
+#[tactic(auto, using(crate::proofs::RisingLemmas::rises))]
+/// Whether the numbers rise and are PDOs.
+fn rise(members: &[usize], pdos: usize) -> bool
+    ensures { IsTrue result ↔ (AllPairs (λ m n. m < n) members.now × All (λ m. m < pdos) members.now) }
+{
+    rise_from(members, pdos)
+}
+
+/// Whether a stream fails the test.
+fn fails(set: &StreamSet, above: &[bool], pdo: usize, rate: Rate) -> bool
+    requires flags { length above.now ≡ length set.now }
+    requires index { pdo < length set.now }
+    ensures { IsTrue result ↔ (Passes (flagged_place set.now above.now pdo rate) → ⊥) }
+{
+    !matches!(verdict(set, above, pdo, rate), Verdict::Pass { .. })
+}
+
+/// Whether each of some streams fails the test.
+fn all_fail(set: &StreamSet, above: &[bool], members: &[usize], rate: Rate) -> bool
+    requires flags { length above.now ≡ length set.now }
+    requires inside { All (λ m. m < length set.now) members.now }
+    ensures { IsTrue result ↔ AllFail set.now rate members.now (is_flagged above.now) }
+{
+    members.iter().all(|pdo| fails(set, above, *pdo, rate))
+}
+
+/// Whether some PDOs, in rising order, each fail with the others and the fixed frames below 181h above it and all
+/// others below. Then `make` gives their refusal. No memory is taken.
+pub fn fail_together(set: &StreamSet, pdos: usize, rate: Rate, members: &[usize]) -> bool
+    requires { pdos ≤ length set.now }
+    ensures { IsTrue result ↔ FailTogether least_id set.now pdos rate members.now }
+{
+    if !rise(members, pdos) {
+        return false;
+    }
+    let streams = set.streams();
+    let mut flags = [false; StreamSet::MOST];
+    let above = &mut flags[..streams.len()];
+    flag_trial_of(streams, pdos, members, above);
+    all_fail(set, above, members, rate)
+}
+
 /// The refusal of some PDOs at a rate, each of which fails with the others and the fixed frames below 181h above it
 /// and all others below. `Err` is want of memory.
 ///
@@ -138,17 +206,14 @@ pub fn make(
     members: &[usize],
 ) -> Result<Refusal, AllocError>
     requires count { pdos ≤ length set.now }
-    requires rise { AllPairs (λ m n. m < n) members.now }
-    requires inside { All (λ m. m < pdos) members.now }
-    requires fails { All (λ m. Passes (trial least_id rate set.now pdos (is_listed members.now) m) → ⊥) members.now }
+    requires fail { FailTogether least_id set.now pdos rate members.now }
     ensures made { IfOk result (IsMade least_id set.now pdos rate members.now) }
     ensures checks { 0 < length members.now → IfOk result (IsRefusal least_id set.now pdos) }
 {
     let streams = set.streams();
     let mut flags = [false; StreamSet::MOST];
     let above = &mut flags[..streams.len()];
-    flag_fixed(streams, pdos, above);
-    flag_listed(members, above);
+    flag_trial_of(streams, pdos, members, above);
     let members = members_of(alloc, set, above, rate, members)?;
     Ok(Refusal { rate, members })
 }
