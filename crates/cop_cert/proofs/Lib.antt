@@ -13,4 +13,5 @@ pub mod CheckLemmas
 pub mod ChainLemmas
 pub mod BoundLemmas
 pub mod MakeLemmas
+pub mod GapLemmas
 pub mod MadeLemmas

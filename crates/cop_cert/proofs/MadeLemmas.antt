@@ -1,5 +1,5 @@
 -- What is made holds.
-use Rattle.std.proofs.Common.{◌≡◌, ℕ, ◌<◌, Bool, List, length, get_or, All, AllPairs, refl, sym, subst, arith, ap, le_of_eq, IsTrue, ◌↔◌}
+use Rattle.std.proofs.Common.{◌≡◌, ℕ, ◌<◌, ◌≤◌, Bool, List, length, get_or, All, AllPairs, refl, sym, subst, arith, ap, le_of_eq, IsTrue, ◌↔◌}
 use Rattle.std.proofs.lemmas.List.{length-map}
 use Rattle.cop_frame.specs.declared.rates.Rate.{Rate}
 use Rattle.cop_rta.specs.declared.streams.Stream.{Stream}
@@ -11,7 +11,9 @@ use Rattle.cop_cert.specs.declared.refusals.Member.{Member}
 use Rattle.cop_cert.specs.declared.refusals.Refusal.{Refusal}
 use Rattle.cop_cert.specs.Sets.{is_in_trial}
 use Rattle.cop_cert.specs.Evidence.{IsEvidence, is_listed, pdos_of, IsRefusal, last_of}
-use Rattle.cop_cert.specs.Chains.{AllFail, FailTogether, IsWholeEvidence, AreMade, IsMade}
+use Rattle.cop_cert.specs.Chains.{AllFail, FailTogether, IsWholeEvidence, AreMade, IsMade, HasAtMost}
+use Rattle.cop_cert.proofs.RisingLemmas.{all_of}
+use Rattle.cop_cert.proofs.GapLemmas.{whole_is_short}
 use Rattle.cop_cert.proofs.MakeLemmas.{run_climbs, is_busy_time}
 
 -- tests that answer alike are one
@@ -66,3 +68,11 @@ made_is_refusal bound streams pdos rate members r some rise inside made =
       evidence = λ k d below.
           rw (are, made.rate_is) (whole_shows _ (get_or r.members k d).evidence (made.members_are.whole k d below));
     }
+
+-- and none of its lists is long
+pub made_is_short : (bound : ℕ) (streams : List Stream) (pdos : ℕ) (rate : Rate) (members : List ℕ) (r : Refusal) → pdos ≤ length streams
+    → All (λ m. m < pdos) members → IsMade bound streams pdos rate members r → All (λ m. HasAtMost 181820 m.evidence) r.members
+made_is_short bound streams pdos rate members r count inside made =
+    let found = all_of pdos r.members (rw made.members_are.pdos_are inside) in
+    λ k d below.
+    whole_is_short _ (get_or r.members k d).evidence (omega (arith, count, found k d below)) (made.members_are.whole k d below)

@@ -1,5 +1,5 @@
 -- The lists that are made: whole chains of an equation's values.
-use Rattle.std.specs.Prelude.{◌≡◌, ℕ, ◌+◌, ◌-◌, ◌*◌, ◌<◌, ◌≤◌, Bool, List, [], ◌∷◌, All, AllPairs}
+use Rattle.std.specs.Prelude.{◌≡◌, ℕ, ◌+◌, ◌-◌, ◌*◌, ◌<◌, ◌≤◌, Bool, List, [], ◌∷◌, All, AllPairs, length}
 use Rattle.cop_frame.specs.declared.rates.Rate.{Rate}
 use Rattle.cop_rta.specs.declared.streams.Stream.{Stream}
 use Rattle.cop_rta.specs.Test.{Place, Passes, busy_at, queueing_at, blocking, cost_at, jitter_at, period_at, horizon}
@@ -50,6 +50,11 @@ pub record IsWholeLate (p : Place) (q : ℕ) (busy queue : List ℕ) : Type 0 wh
 abbrev pub IsWholeEvidence : Place → Evidence → Type 0
 IsWholeEvidence p (Long busy) = EndsAbove (busy_at p) 1 horizon busy
 IsWholeEvidence p (Late q busy queue) = IsWholeLate p q busy queue
+
+-- no list of the evidence has more numbers
+abbrev pub HasAtMost : ℕ → Evidence → Type 0
+HasAtMost count (Long busy) = length busy ≤ count
+HasAtMost count (Late q busy queue) = (length busy ≤ count) × (length queue ≤ count)
 
 -- each of some streams fails where a test says what is above
 abbrev pub AllFail : List Stream → Rate → List ℕ → (ℕ → Bool) → Type 0

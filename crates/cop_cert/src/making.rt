@@ -7,7 +7,7 @@ ghost use Rattle.cop_cert.specs.Assignments.{least_id};
 ghost use Rattle.cop_cert.specs.Sets.{is_in_trial};
 ghost use Rattle.cop_cert.specs.Rising.{RiseFrom};
 ghost use Rattle.cop_cert.specs.Evidence.{last_of, is_listed, IsRefusal};
-ghost use Rattle.cop_cert.specs.Chains.{AllFail, FailTogether, IsChain, EndsAbove, EndsSolved, IsQueueOf, IsWholeEvidence, AreMade, IsMade};
+ghost use Rattle.cop_cert.specs.Chains.{AllFail, FailTogether, IsChain, EndsAbove, EndsSolved, IsQueueOf, IsWholeEvidence, AreMade, IsMade, HasAtMost};
 
 use crate::demands::start_of;
 use crate::items::Items;
@@ -208,6 +208,7 @@ pub fn make(
     requires count { pdos ≤ length set.now }
     requires fail { FailTogether least_id set.now pdos rate members.now }
     ensures made { IfOk result (IsMade least_id set.now pdos rate members.now) }
+    ensures short { IfOk result (λ refusal. All (λ m. HasAtMost 181820 m.evidence) refusal.members) }
     ensures checks { 0 < length members.now → IfOk result (IsRefusal least_id set.now pdos) }
 {
     let streams = set.streams();
