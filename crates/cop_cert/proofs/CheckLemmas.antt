@@ -6,7 +6,7 @@ use Rattle.cop_rta.specs.Test.{is_flagged, flagged_place}
 use Rattle.cop_cert.specs.declared.refusals.Member.{Member}
 use Rattle.cop_cert.specs.declared.refusals.Refusal.{Refusal}
 use Rattle.cop_cert.specs.Sets.{is_in_trial}
-use Rattle.cop_cert.specs.Evidence.{IsEvidence, is_member, IsRefusal}
+use Rattle.cop_cert.specs.Evidence.{IsEvidence, is_member, pdos_of, IsRefusal}
 
 -- each member has evidence where a test says what is above
 abbrev pub AllShown : Rate → List Stream → List Member → (ℕ → Bool) → Type 0
@@ -14,7 +14,7 @@ AllShown rate streams members above = All (λ m. IsEvidence (record { streams = 
 
 pub holds : (bound : ℕ) (streams : List Stream) (pdos : ℕ) (r : Refusal) (flags : List Bool) (b : Bool)
     → ((k : ℕ) → is_flagged flags k ≡ is_in_trial bound streams pdos (is_member r.members) k)
-    → 0 < length r.members → AllPairs (λ m n. m.pdo < n.pdo) r.members × All (λ m. m.pdo < pdos) r.members
+    → 0 < length r.members → AllPairs (λ m n. m < n) (pdos_of r.members) × All (λ m. m < pdos) (pdos_of r.members)
     → (IsTrue b ↔ All (λ m. IsEvidence (flagged_place streams flags m.pdo r.rate) m.evidence) r.members)
     → IsTrue b ↔ IsRefusal bound streams pdos r
 holds bound streams pdos r flags b same some rise shown =

@@ -7,5 +7,11 @@ pub mod AboveLemmas
 pub mod EvidenceLemmas
 pub mod SetLemmas
 pub mod ClimbLemmas
+pub mod RisingLemmas
 pub mod MemberLemmas
 pub mod CheckLemmas
+pub mod ChainLemmas
+pub mod BoundLemmas
+pub mod MakeLemmas
+pub mod GapLemmas
+pub mod MadeLemmas

@@ -1,56 +1,17 @@
 -- Lists of members: that they rise, one of them, and which are marked.
-use Rattle.std.proofs.Common.{◌≡◌, ◌≢◌, ◌↔◌, ◌⊎◌, inl, inr, ℕ, zero, suc, ◌+◌, ◌<◌, ◌≤◌, Bool, true, false, ◌||◌, ◌==◌, List, [], ◌∷◌, length, get_or, drop, All, AllPairs, refl, ap, arith, add-one, drop-cons, drop_of_length-le, ne_eqb, set, sym, ◌∙◌, eq-eqb}
+use Rattle.std.proofs.Common.{◌≡◌, ◌≢◌, ◌⊎◌, inl, inr, ℕ, zero, suc, ◌+◌, ◌<◌, ◌≤◌, Bool, true, false, ◌||◌, ◌==◌, List, [], ◌∷◌, length, get_or, drop, All, refl, ap, arith, add-one, drop-cons, drop_of_length-le, ne_eqb, set, sym, ◌∙◌, eq-eqb}
 use Rattle.std.proofs.lemmas.List.{get_or-set_same, get_or-set_other}
 use Rattle.cop_rta.specs.Test.{is_flagged}
 use Rattle.std.proofs.lemmas.Bool.{cases_lt, cases_eq}
 use Rattle.cop_rta.specs.declared.streams.Stream.{Stream}
-use Rattle.std.proofs.lemmas.List.Elements.{All-nil, All-cons, All-head, All-tail}
+use Rattle.std.proofs.lemmas.List.Elements.{All-head, All-tail}
 use Rattle.cop_cert.specs.declared.refusals.Member.{Member}
 use Rattle.cop_cert.specs.Sets.{is_in_trial}
-use Rattle.cop_cert.specs.Evidence.{is_member}
+use Rattle.cop_cert.specs.Evidence.{is_member, is_listed}
 use Rattle.cop_cert.proofs.AboveLemmas.{trial_of_pdo, trial_of_fixed}
-use Rattle.cop_cert.specs.Rising.{RiseFrom}
 
 split_at : (xs : List Member) (i : ℕ) (d : Member) → i < length xs → drop i xs ≡ get_or xs i d ∷ drop (i + 1) xs
 split_at xs i d h = rw add-one (drop-cons xs i d h)
-
-module _ (pdos : ℕ) where
-  rise_all : (low : ℕ) (ms : List Member) → RiseFrom low pdos ms → All (λ m. m.pdo < pdos) ms
-  rise_all low [] r = All-nil (λ m. m.pdo < pdos)
-  rise_all low (m ∷ ms) r = All-cons (λ m. m.pdo < pdos) m ms r.1 (rise_all (suc m.pdo) ms r.2)
-
-  rise_low : (low : ℕ) (ms : List Member) → RiseFrom low pdos ms → All (λ m. low ≤ m.pdo) ms
-  rise_low low [] r = All-nil (λ m. low ≤ m.pdo)
-  rise_low low (m ∷ ms) r = All-cons (λ m. low ≤ m.pdo) m ms r.0 (λ k d h. omega (arith, rise_low (suc m.pdo) ms r.2 k d h, r.0))
-
-  pairs_cons : (m : Member) (ms : List Member) → All (λ n. m.pdo < n.pdo) ms → AllPairs (λ a b. a.pdo < b.pdo) ms → AllPairs (λ a b. a.pdo < b.pdo) (m ∷ ms)
-  pairs_cons m ms first rest zero zero d lt h = absurd (omega arith)
-  pairs_cons m ms first rest zero (suc j) d lt h = first j d (omega arith)
-  pairs_cons m ms first rest (suc i) zero d lt h = absurd (omega arith)
-  pairs_cons m ms first rest (suc i) (suc j) d lt h = rest i j d (omega arith) (omega arith)
-
-  rise_pairs : (low : ℕ) (ms : List Member) → RiseFrom low pdos ms → AllPairs (λ a b. a.pdo < b.pdo) ms
-  rise_pairs low [] r = λ i j d lt h. absurd (omega arith)
-  rise_pairs low (m ∷ ms) r = pairs_cons m ms (rise_low (suc m.pdo) ms r.2) (rise_pairs (suc m.pdo) ms r.2)
-
-  rise_from : (low : ℕ) (ms : List Member) → All (λ m. low ≤ m.pdo) ms → All (λ m. m.pdo < pdos) ms → AllPairs (λ a b. a.pdo < b.pdo) ms → RiseFrom low pdos ms
-  rise_from low [] above inside pairs = tt
-  rise_from low (m ∷ ms) above inside pairs = (
-    All-head (λ m. low ≤ m.pdo) m ms above,
-    All-head (λ m. m.pdo < pdos) m ms inside,
-    rise_from (suc m.pdo) ms (λ k d h. pairs 0 (suc k) d (omega arith) (omega arith)) (All-tail (λ m. m.pdo < pdos) m ms inside)
-        (λ i j d lt h. pairs (suc i) (suc j) d (omega arith) (omega arith)),
-  )
-
-  pub rises : (ms : List Member) → RiseFrom 0 pdos ms ↔ (AllPairs (λ a b. a.pdo < b.pdo) ms × All (λ m. m.pdo < pdos) ms)
-  rises ms = (λ r. (rise_pairs 0 ms r, rise_all 0 ms r), λ h. rise_from 0 ms (λ k d l. omega arith) h.1 h.0)
-
-  pub rise_next : (ms : List Member) (i low : ℕ) (d : Member) → i < length ms →
-      RiseFrom low pdos (drop i ms) ↔ ((low ≤ (get_or ms i d).pdo) × ((get_or ms i d).pdo < pdos) × RiseFrom (suc ((get_or ms i d).pdo)) pdos (drop (i + 1) ms))
-  rise_next ms i low d h = rw (split_at ms i d h) (λ r. r, λ r. r)
-
-  pub rise_end : (ms : List Member) (i low : ℕ) → length ms ≤ i → RiseFrom low pdos (drop i ms)
-  rise_end ms i low h = rw (drop_of_length-le ms h) tt
 
 pub member_next : (ms : List Member) (i k : ℕ) (d : Member) → i < length ms → is_member (drop i ms) k ≡ (((get_or ms i d).pdo == k) || is_member (drop (i + 1) ms) k)
 member_next ms i k d h = ap (λ l. is_member l k) (split_at ms i d h)
@@ -103,3 +64,29 @@ pub flag_one : (out : List Bool) (ms : List Member) (i k : ℕ) (m : Member) →
 flag_one out ms i k m below is inside =
     let next : is_member (drop i ms) k ≡ ((m.pdo == k) || is_member (drop (i + 1) ms) k) = member_next ms i k m below ∙ rw (← is) refl in
     rw (flag_set out m.pdo k inside, next) (swap_or (m.pdo == k) (is_flagged out k) (is_member (drop (i + 1) ms) k))
+
+-- the same for numbers in place of members
+none_listed : (k : ℕ) (ps : List ℕ) → All (λ p. p ≢ k) ps → is_listed ps k ≡ false
+none_listed k [] a = refl
+none_listed k (p ∷ ps) a = rw (ne_eqb p k (All-head (λ p. p ≢ k) p ps a)) (none_listed k ps (All-tail (λ p. p ≢ k) p ps a))
+
+pub flags_listed : (bound : ℕ) (streams : List Stream) (pdos : ℕ) (ps : List ℕ) (k : ℕ) → All (λ p. p < pdos) ps
+    → (is_in_trial bound streams pdos (λ _. false) k || is_listed ps k) ≡ is_in_trial bound streams pdos (is_listed ps) k
+flags_listed bound streams pdos ps k inside = go (cases_lt k pdos)
+  where
+    or_false : (b : Bool) → (b || false) ≡ b
+    or_false true = refl
+    or_false false = refl
+
+    go : (k < pdos) ⊎ (pdos ≤ k) → (is_in_trial bound streams pdos (λ _. false) k || is_listed ps k) ≡ is_in_trial bound streams pdos (is_listed ps) k
+    go (inl pdo) = rw (trial_of_pdo streams pdos bound (λ _. false) k pdo, trial_of_pdo streams pdos bound (is_listed ps) k pdo) refl
+    go (inr fixed) = rw (trial_of_fixed streams pdos bound (λ _. false) k fixed, trial_of_fixed streams pdos bound (is_listed ps) k fixed, none_listed k ps (λ i d h e. omega (arith, inside i d h, e))) (or_false _)
+
+drop_next : (ps : List ℕ) (i : ℕ) → i < length ps → drop i ps ≡ get_or ps i 0 ∷ drop (i + 1) ps
+drop_next ps i h = rw add-one (drop-cons ps i 0 h)
+
+pub flag_number : (out : List Bool) (ps : List ℕ) (i k : ℕ) → i < length ps → get_or ps i 0 < length out
+    → (is_flagged (set out (get_or ps i 0) true) k || is_listed (drop (i + 1) ps) k) ≡ (is_flagged out k || is_listed (drop i ps) k)
+flag_number out ps i k below inside =
+    let next : is_listed (drop i ps) k ≡ ((get_or ps i 0 == k) || is_listed (drop (i + 1) ps) k) = ap (λ l. is_listed l k) (drop_next ps i below) in
+    rw (flag_set out (get_or ps i 0) k inside, next) (swap_or (get_or ps i 0 == k) (is_flagged out k) (is_listed (drop (i + 1) ps) k))

@@ -193,11 +193,13 @@ refusals_reach d (r ∷ rs) complete rise fine =
     let first = refusal_ends (Some d) (d.done ++ refusal_of d ∷ []) r.rate r.members (All-head IsWritableRefusal r rs fine) (λ pdo. next_rate_begins d r.rate pdo complete rises) in
     let on = rates_on (refusal_of d) (r ∷ rs) rise in
     let then = refusals_reach first.draft rs first.complete (rw first.refusal_is on) (All-tail IsWritableRefusal r rs fine) in
+    let same : first.draft.done ++ refusal_of first.draft ∷ rs ≡ d.done ++ refusal_of d ∷ (r ∷ rs) =
+    rw (first.refusal_is, first.done_is, append_assoc d.done (refusal_of d ∷ []) (r ∷ rs)) refl in
     record {
       draft = then.draft;
       leads = leads_append (Some d) (Some first.draft) (Some then.draft) (refusal_rows r) (flat_map refusal_rows rs) first.leads then.leads;
       complete = then.complete;
-      found_is = then.found_is ∙ rw (first.refusal_is, first.done_is, append_assoc d.done (refusal_of d ∷ []) (r ∷ rs)) refl;
+      found_is = then.found_is ∙ same;
     }
 
 first_begins : (rate : Rate) (pdo : ℕ) → Begins None [] rate [] pdo

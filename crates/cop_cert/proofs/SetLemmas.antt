@@ -14,6 +14,7 @@ use Rattle.cop_cert.specs.Evidence.{is_member, IsEvidence, IsRefusal}
 use Rattle.cop_cert.specs.declared.refusals.Member.{Member}
 use Rattle.cop_cert.specs.declared.refusals.Refusal.{Refusal}
 use Rattle.cop_cert.proofs.AboveLemmas.{set_within_ids}
+use Rattle.cop_cert.proofs.RisingLemmas.{all_of}
 use Rattle.cop_cert.proofs.EvidenceLemmas.{evidence_fails}
 
 -- p is the member below n with the greatest identifier
@@ -66,7 +67,7 @@ some_member P (m ∷ ms) all h = (m, or_left (m.pdo == m.pdo) (is_member ms m.pd
 -- the members of a refusal are a refusal set
 pub refusal_is_set : (bound : ℕ) (streams : List Stream) (pdos : ℕ) (r : Refusal) → IsRefusal bound streams pdos r → IsRefusalSet bound r.rate streams pdos (is_member r.members)
 refusal_is_set bound streams pdos r h =
-    let first = some_member (λ (m : Member). m.pdo < pdos) r.members (recursion_from_All (λ m. m.pdo < pdos) r.members h.inside) h.some in
+    let first = some_member (λ (m : Member). m.pdo < pdos) r.members (recursion_from_All (λ m. m.pdo < pdos) r.members (all_of pdos r.members h.inside)) h.some in
     record {
       some = (first.0.pdo, first.2, first.1);
       each = λ p below e passes.

@@ -1,5 +1,5 @@
 -- Lists of numbers that show that a stream fails.
-use Rattle.std.specs.Prelude.{◌≡◌, ℕ, ◌+◌, ◌-◌, ◌*◌, ◌<◌, ◌≤◌, ◌==◌, ◌||◌, Bool, false, List, [], ◌∷◌, length, All, AllPairs}
+use Rattle.std.specs.Prelude.{◌≡◌, ℕ, ◌+◌, ◌-◌, ◌*◌, ◌<◌, ◌≤◌, ◌==◌, ◌||◌, Bool, false, List, [], ◌∷◌, length, map, All, AllPairs}
 use Rattle.cop_rta.specs.declared.streams.Stream.{Stream}
 use Rattle.cop_rta.specs.Test.{Place, busy_at, queueing_at, blocking, cost_at, jitter_at, period_at, horizon, IsQueuedWithin, IsLate}
 use Rattle.cop_cert.specs.declared.refusals.Evidence.{Evidence}
@@ -58,14 +58,21 @@ abbrev pub IsEvidence : Place → Evidence → Type 0
 IsEvidence p (Long busy) = ShowsLong p busy
 IsEvidence p (Late q busy queue) = ShowsLate p q busy queue
 
--- members as a test
+-- a list of numbers as a test
+abbrev pub is_listed : List ℕ → ℕ → Bool
+is_listed [] k = false
+is_listed (p ∷ ps) k = (p == k) || is_listed ps k
+
+abbrev pub pdos_of : List Member → List ℕ
+pdos_of members = map (λ m. m.pdo) members
+
+-- the PDOs of members as a test
 abbrev pub is_member : List Member → ℕ → Bool
-is_member [] k = false
-is_member (m ∷ ms) k = (m.pdo == k) || is_member ms k
+is_member members = is_listed (pdos_of members)
 
 -- members, one at least, that rise, are PDOs, and have evidence in the trial of the members
 pub record IsRefusal (bound : ℕ) (streams : List Stream) (pdos : ℕ) (r : Refusal) : Type 0 where
   pub some : 0 < length r.members
-  pub rise : AllPairs (λ m n. m.pdo < n.pdo) r.members
-  pub inside : All (λ m. m.pdo < pdos) r.members
+  pub rise : AllPairs (λ m n. m < n) (pdos_of r.members)
+  pub inside : All (λ m. m < pdos) (pdos_of r.members)
   pub evidence : All (λ m. IsEvidence (trial bound r.rate streams pdos (is_member r.members) m.pdo) m.evidence) r.members

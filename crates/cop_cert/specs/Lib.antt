@@ -9,3 +9,4 @@ pub mod Assignments
 pub mod Sets
 pub mod Evidence
 pub mod Rising
+pub mod Chains

@@ -1,7 +1,6 @@
--- Members that rise, by recursion, as the check goes through them.
+-- Numbers that rise, by recursion, as the check goes through them.
 use Rattle.std.specs.Prelude.{ℕ, suc, ◌<◌, ◌≤◌, List, [], ◌∷◌}
-use Rattle.cop_cert.specs.declared.refusals.Member.{Member}
 
-abbrev pub RiseFrom : ℕ → ℕ → List Member → Type 0
+abbrev pub RiseFrom : ℕ → ℕ → List ℕ → Type 0
 RiseFrom low pdos [] = Unit {0}
-RiseFrom low pdos (m ∷ ms) = (low ≤ m.pdo) × (m.pdo < pdos) × RiseFrom (suc m.pdo) pdos ms
+RiseFrom low pdos (p ∷ ps) = (low ≤ p) × (p < pdos) × RiseFrom (suc p) pdos ps

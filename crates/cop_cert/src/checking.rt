@@ -5,16 +5,14 @@ ghost use Rattle.std.specs.Option.{IsSomeAnd};
 ghost use Rattle.cop_rta.specs.Test.{place_of, flagged_place, is_flagged, blocking, cost_at, cost_of};
 ghost use Rattle.cop_cert.specs.Assignments.{least_id, NoAssignmentPasses};
 ghost use Rattle.cop_cert.specs.Sets.{is_in_trial};
-ghost use Rattle.cop_cert.specs.Evidence.{IsClimb, first_of, last_of, IsBusyList, IsQueueList, IsEvidence, is_member, IsRefusal};
+ghost use Rattle.cop_cert.specs.Evidence.{IsClimb, first_of, last_of, IsBusyList, IsQueueList, IsEvidence, is_member, pdos_of, IsRefusal};
 ghost use Rattle.cop_cert.specs.Rising.{RiseFrom};
 
 use crate::demands::{cost, start_of};
 use crate::refusals::{Evidence, Member, Refusal};
+use crate::trials::flag_fixed;
 use cop_frame::Rate;
 use cop_rta::{Busy, Demand, HORIZON, Stream, StreamSet};
-
-/// The least identifier of a PDO: fixed frames below it are above each PDO.
-const LEAST_ID: u16 = 0x181;
 
 /// The last of some numbers, if they climb by an equation.
 fn climb<D: Demand>(demand: &D, numbers: &[u64]) -> Option<u64>
@@ -110,7 +108,7 @@ fn is_evidence(set: &StreamSet, above: &[bool], pdo: usize, rate: Rate, evidence
 
 /// Whether the members rise, from a number on, and are PDOs.
 fn rise_from(members: &[Member], pdos: usize) -> bool
-    ensures { IsTrue result ↔ RiseFrom 0 pdos members.now }
+    ensures { IsTrue result ↔ RiseFrom 0 pdos (pdos_of members.now) }
 {
     let mut low = 0;
     for member in members {
@@ -122,22 +120,12 @@ fn rise_from(members: &[Member], pdos: usize) -> bool
     true
 }
 
-#[tactic(auto, using(crate::proofs::MemberLemmas::rises))]
+#[tactic(auto, using(crate::proofs::RisingLemmas::rises))]
 /// Whether the members rise and are PDOs.
 fn rise(members: &[Member], pdos: usize) -> bool
-    ensures { IsTrue result ↔ (AllPairs (λ m n. m.pdo < n.pdo) members.now × All (λ m. m.pdo < pdos) members.now) }
+    ensures { IsTrue result ↔ (AllPairs (λ m n. m < n) (pdos_of members.now) × All (λ m. m < pdos) (pdos_of members.now)) }
 {
     rise_from(members, pdos)
-}
-
-/// Flags the fixed frames with an identifier below those of the PDOs.
-fn flag_fixed(streams: &[Stream], pdos: usize, out: &mut [bool])
-    requires { length out.old ≡ length streams.now }
-    ensures { (k : ℕ) → is_flagged out.new k ≡ is_in_trial least_id streams.now pdos (λ _. false) k }
-{
-    for (k, stream) in streams.iter().enumerate() {
-        out[k] = k >= pdos && stream.id < LEAST_ID;
-    }
 }
 
 #[tactic(auto, using(crate::proofs::MemberLemmas::flag_one))]
@@ -182,7 +170,10 @@ pub fn check(set: &StreamSet, pdos: usize, refusal: &Refusal) -> bool
     ensures rules_out { IsTrue result → NoAssignmentPasses refusal.now.rate set.now pdos }
 {
     let members = refusal.members.as_slice();
-    if members.is_empty() || !rise(members, pdos) {
+    if members.is_empty() {
+        return false;
+    }
+    if !rise(members, pdos) {
         return false;
     }
     let streams = set.streams();

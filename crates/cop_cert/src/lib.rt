@@ -7,13 +7,21 @@ mod drafts;
 mod entries;
 mod faults;
 mod items;
+mod laws;
+mod making;
 mod reading;
 mod refusals;
+mod trials;
 mod writing;
 
 pub use checking::check;
 pub use faults::{Breach, CertFault, Rule};
 pub use items::Items;
+pub use laws::{more_above_asks_no_less, refusal_sets_rule_out};
+pub use making::{fail_together, make};
 pub use reading::read;
 pub use refusals::{Evidence, Member, Refusal};
 pub use writing::write;
+
+#[cfg(test)]
+mod tests;

@@ -1,9 +1,17 @@
-use Rattle.std.proofs.Common.{◌≡◌, ◌<◌, length, sym, ◌∙◌, arith, le_refl}
-use Rattle.std.proofs.lemmas.Bool.{eqb-false}
+use Rattle.std.proofs.Common.{◌≡◌, ◌<◌, length, sym, ◌∙◌, arith, le_refl, false, refl}
+use Rattle.std.proofs.lemmas.Bool.{eqb-false, both_ways}
 use Rattle.cop_cert.specs.Assignments.{least_id}
 use Rattle.cop_cert.proofs.SetLemmas.{refusal_rules_out}
 use Rattle.cop_cert.proofs.CheckLemmas.{holds}
+use Rattle.cop_cert.proofs.RisingLemmas.{all_of}
 use Rattle.cop_cert.proofs.checking.check.Goals as goal
+
+pub flag_trial-requires-clause-inside : goal.flag_trial-requires-clause-inside
+flag_trial-requires-clause-inside c = all_of c.args.pdos c.as_slice-members.result.now (c.rise.ensures.0 c.if-not-rise.false).1
+
+pub have_evidence-requires-clause-inside : goal.have_evidence-requires-clause-inside
+have_evidence-requires-clause-inside c k d below =
+    omega (arith, all_of c.args.pdos c.as_slice-members.result.now (c.rise.ensures.0 c.if-not-rise.false).1 k d below, c.requires)
 
 pub returns-clause-exact : goal.returns-clause-exact
 returns-clause-exact c =
@@ -15,6 +23,12 @@ returns-clause-exact c =
     (rw members at some)
     (rw members at (c.rise.ensures.0 c.if-not-rise.false))
     (rw members at c.have_evidence.ensures)
+
+pub returns-then-not-rise-clause-exact : goal.returns-then-not-rise-clause-exact
+returns-then-not-rise-clause-exact c = (
+  λ t. absurd (both_ways false refl t),
+  λ r. absurd (both_ways c.rise.result c.if-not-rise.true (c.rise.ensures.1 (rw c.as_slice-members.ensures (r.rise, r.inside)))),
+)
 
 pub returns-clause-rules_out : goal.returns-clause-rules_out
 returns-clause-rules_out c t =

@@ -1,7 +1,8 @@
 use Rattle.std.proofs.Common.{◌↔◌, drop}
+use Rattle.cop_cert.specs.Evidence.{pdos_of}
 use Rattle.cop_cert.specs.Rising.{RiseFrom}
 use Rattle.cop_cert.proofs.checking.rise_from.Given as goal
 
 -- all rise where what is left rises from low on
 abbrev pub invariant-loop-member : goal.invariant-loop-member
-invariant-loop-member l = RiseFrom 0 l.pdos l.members ↔ RiseFrom l.low l.pdos (drop l.member-index l.members)
+invariant-loop-member l = RiseFrom 0 l.pdos (pdos_of l.members) ↔ RiseFrom l.low l.pdos (pdos_of (drop l.member-index l.members))

@@ -2,7 +2,7 @@ use Rattle.std.proofs.Common.{◌≡◌, ℕ, ◌<◌, length, false}
 use Rattle.cop_rta.specs.Test.{is_flagged}
 use Rattle.cop_cert.specs.Assignments.{least_id}
 use Rattle.cop_cert.specs.Sets.{is_in_trial}
-use Rattle.cop_cert.proofs.checking.flag_fixed.Given as goal
+use Rattle.cop_cert.proofs.trials.flag_fixed.Given as goal
 
 abbrev pub invariant-loop-k : goal.invariant-loop-k
 invariant-loop-k l = record {

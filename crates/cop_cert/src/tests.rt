@@ -1,0 +1,282 @@
+ghost use Rattle.std.specs.Prelude.{◌≤◌, length};
+ghost use Rattle.std.specs.Option.{ForSome};
+
+use crate::{
+    Breach, CertFault, Evidence, Items, Member, Refusal, Rule, check, fail_together, make, read,
+    write,
+};
+use cop_frame::Rate;
+use cop_rta::{Stream, StreamSet};
+use std::process::Abort;
+use std::test::Fail;
+
+/// One PDO of 8 bytes without jitter.
+fn one_pdo(
+    rt: &HostRuntime,
+    period: u64,
+    deadline: Option<u64>,
+) -> Result<StreamSet, cop_rta::SetFault>
+    requires period_least { 400 ≤ period }
+    requires period_most { period ≤ 240000000 }
+    requires deadline_least { ForSome deadline (λ d. 1 ≤ d) }
+    requires deadline_most { ForSome deadline (λ d. d ≤ 240000000) }
+{
+    let mut set = StreamSet::new(rt.alloc());
+    set.push(Stream {
+        id: 0x181,
+        bytes: 8,
+        period,
+        jitter: 0,
+        deadline,
+    })?;
+    Ok(set)
+}
+
+/// A PDO of 8 bytes every 10 ms within 670 us, an emergency frame and a heartbeat every 100 ms.
+fn valve(rt: &HostRuntime) -> Result<StreamSet, cop_rta::SetFault> {
+    let mut set = StreamSet::new(rt.alloc());
+    for (id, bytes, period, deadline) in [
+        (0x181, 8, 40_000, Some(2_680)),
+        (0x085, 8, 400_000, None),
+        (0x705, 1, 400_000, None),
+    ] {
+        set.push(Stream {
+            id,
+            bytes,
+            period,
+            jitter: 0,
+            deadline,
+        })?;
+    }
+    Ok(set)
+}
+
+fn late(
+    rt: &HostRuntime,
+    rate: Rate,
+    busy: &[u64],
+    queue: &[u64],
+) -> Result<Refusal, std::alloc::AllocError> {
+    let evidence = Evidence::Late {
+        q: 0,
+        busy: Items::from(Vec::from_slice(rt.alloc(), busy)?),
+        queue: Items::from(Vec::from_slice(rt.alloc(), queue)?),
+    };
+    let mut members = Items::new(rt.alloc());
+    members.push(Member { pdo: 0, evidence })?;
+    Ok(Refusal { rate, members })
+}
+
+fn holds(rt: &impl Abort, set: &StreamSet, pdos: usize, refusal: &Refusal) -> bool {
+    assert!(rt; pdos <= set.len());
+    check(set, pdos, refusal)
+}
+
+#[test]
+fn valve_at_250(rt: HostRuntime) -> Result<(), Fail> {
+    let set = valve(&rt)?;
+    for (busy, wait, want) in [
+        (5_360, 3_200, true),
+        (5_360, 3_201, false),
+        (5_361, 3_200, false),
+    ] {
+        let refusal = late(&rt, Rate::Kbit250, &[1, busy], &[1_040, wait])?;
+        assert_eq!(rt; holds(&rt, &set, 1, &refusal), want, "{busy} {wait}");
+    }
+    let empty = Refusal {
+        rate: Rate::Kbit250,
+        members: Items::new(rt.alloc()),
+    };
+    assert!(rt; !holds(&rt, &set, 1, &empty));
+    Ok(())
+}
+
+#[test]
+fn one_pdo_past_the_deadline(rt: HostRuntime) -> Result<(), Fail> {
+    let refusal = late(&rt, Rate::Kbit125, &[1, 4_320], &[0])?;
+    let set = one_pdo(&rt, 4_320, Some(4_316))?;
+    assert!(rt; holds(&rt, &set, 1, &refusal));
+    let set = one_pdo(&rt, 4_320, Some(4_320))?;
+    assert!(rt; !holds(&rt, &set, 1, &refusal));
+    Ok(())
+}
+
+/// The refusal of all PDOs, where they fail together.
+fn made(
+    rt: &HostRuntime,
+    set: &StreamSet,
+    pdos: usize,
+    rate: Rate,
+    members: &[usize],
+) -> Result<Option<Refusal>, std::alloc::AllocError>
+    requires { pdos ≤ length set.now }
+{
+    if !fail_together(set, pdos, rate, members) {
+        return Ok(None);
+    }
+    Ok(Some(make(rt.alloc(), set, pdos, rate, members)?))
+}
+
+/// Whether the first member is late at instance 0 with these lists.
+fn is_late(refusal: &Refusal, busy: &[u64], queue: &[u64]) -> bool {
+    match refusal.members.as_slice() {
+        [member] => match &member.evidence {
+            Evidence::Late {
+                q: 0,
+                busy: first,
+                queue: second,
+            } => member.pdo == 0 && first.as_slice() == busy && second.as_slice() == queue,
+            _ => false,
+        },
+        _ => false,
+    }
+}
+
+#[test]
+fn chains_are_made(rt: HostRuntime) -> Result<(), Fail> {
+    let set = valve(&rt)?;
+    assert!(rt; set.len() > 0);
+    let refusal = made(&rt, &set, 1, Rate::Kbit250, &[0])?.ok_or("passes")?;
+    assert!(rt; is_late(&refusal, &[1, 5_360], &[1_040, 3_200]));
+    assert!(rt; holds(&rt, &set, 1, &refusal));
+    assert!(rt; made(&rt, &set, 1, Rate::Kbit500, &[0])?.is_none());
+
+    let set = one_pdo(&rt, 4_320, Some(4_316))?;
+    assert!(rt; set.len() > 0);
+    let refusal = made(&rt, &set, 1, Rate::Kbit125, &[0])?.ok_or("passes")?;
+    assert!(rt; is_late(&refusal, &[1, 4_320], &[0]));
+    Ok(())
+}
+
+/// The busy list of the first member, where it is long.
+fn long_list(refusal: &Refusal) -> &[u64] {
+    match refusal.members.as_slice() {
+        [member] => match &member.evidence {
+            Evidence::Long { busy } => busy.as_slice(),
+            Evidence::Late { .. } => &[],
+        },
+        _ => &[],
+    }
+}
+
+#[test]
+fn busy_for_ten_seconds(rt: HostRuntime) -> Result<(), Fail> {
+    let set = one_pdo(&rt, 53_996, Some(54_000))?;
+    assert!(rt; set.len() > 0);
+    let refusal = made(&rt, &set, 1, Rate::Kbit10, &[0])?.ok_or("passes")?;
+    assert!(rt; holds(&rt, &set, 1, &refusal));
+    let busy = long_list(&refusal);
+    assert_eq!(rt; busy.len(), 742);
+    assert_eq!(rt; busy.first(), Some(&1));
+    assert_eq!(rt; busy.last(), Some(&40_014_000));
+    for (k, number) in busy.iter().enumerate().skip(1) {
+        assert_eq!(rt; Some(*number), (k as u64).checked_mul(54_000));
+    }
+    let set = one_pdo(&rt, 54_000, Some(54_000))?;
+    assert!(rt; set.len() > 0);
+    assert!(rt; made(&rt, &set, 1, Rate::Kbit10, &[0])?.is_none());
+    Ok(())
+}
+
+/// The header and the version.
+const BEGIN: &[u8] = b"rate,pdo,what,value\n0,0,version,1\n";
+
+#[test]
+fn refusals_are_written_and_read(rt: HostRuntime) -> Result<(), Fail> {
+    let set = valve(&rt)?;
+    assert!(rt; set.len() > 0);
+    let refusal = made(&rt, &set, 1, Rate::Kbit250, &[0])?.ok_or("passes")?;
+    let text = write(rt.alloc(), &[refusal])?;
+    let want =
+        b"rate,pdo,what,value\n0,0,version,1\n250,1,late,0\n250,1,busy,1\n250,1,busy,5360\n250,1,queue,1040\n250,1,queue,3200\n";
+    assert_eq!(rt; text.as_slice(), want.as_slice());
+    let read_back = read(rt.alloc(), &text)?;
+    assert_eq!(rt; write(rt.alloc(), &read_back)?.as_slice(), want.as_slice());
+    for refusal in &read_back {
+        assert!(rt; holds(&rt, &set, 1, refusal));
+    }
+    assert_eq!(rt; write(rt.alloc(), &[])?.as_slice(), BEGIN);
+    assert!(rt; read(rt.alloc(), BEGIN)?.is_empty());
+    Ok(())
+}
+
+#[test]
+fn broken_files_are_refused(rt: HostRuntime) -> Result<(), Fail> {
+    let cases: [(&[u8], &[u8], Rule, u64); 20] = [
+        (b"", b"", Rule::Version, 0),
+        (b"rate,pdo,what\n0,0,version,1\n", b"", Rule::Version, 0),
+        (b"rate,pdo,what,value\n", b"", Rule::Version, 1),
+        (b"rate,pdo,what,value\n0,0,version\n", b"", Rule::Fields, 1),
+        (
+            b"rate,pdo,what,value\n0,0,version,2\n",
+            b"",
+            Rule::Version,
+            1,
+        ),
+        (BEGIN, b"250,1,late\n", Rule::Fields, 2),
+        (BEGIN, b"251,1,late,0\n", Rule::Number, 2),
+        (BEGIN, b"250,0,late,0\n", Rule::Number, 2),
+        (BEGIN, b"250,513,late,0\n", Rule::Number, 2),
+        (BEGIN, b"250,1,late,18446744073709551616\n", Rule::Number, 2),
+        (BEGIN, b"250,1,long,1\n", Rule::Number, 2),
+        (
+            BEGIN,
+            b"250,1,long,0\n250,1,busy,1\n125,1,long,0\n",
+            Rule::Rates,
+            4,
+        ),
+        (
+            BEGIN,
+            b"250,1,long,0\n250,1,busy,1\n250,1,long,0\n",
+            Rule::Members,
+            4,
+        ),
+        (BEGIN, b"250,1,wide,0\n", Rule::Misplaced, 2),
+        (BEGIN, b"250,1,busy,1\n", Rule::Misplaced, 2),
+        (BEGIN, b"250,1,long,0\n250,2,busy,1\n", Rule::Misplaced, 3),
+        (BEGIN, b"250,1,late,0\n250,1,queue,1\n", Rule::Misplaced, 3),
+        (BEGIN, b"250,1,long,0\n250,2,long,0\n", Rule::Misplaced, 3),
+        (BEGIN, b"250,1,late,0\n250,1,busy,1\n", Rule::Misplaced, 3),
+        (
+            BEGIN,
+            b"250,1,late,0\n250,1,busy,1\n250,1,queue,0\n250,1,busy,9\n",
+            Rule::Misplaced,
+            5,
+        ),
+    ];
+    for (begin, end, rule, place) in cases {
+        let mut text = Vec::from_slice(rt.alloc(), begin)?;
+        text.extend_from_slice(end)?;
+        match read(rt.alloc(), &text) {
+            Err(CertFault::Refused(breach)) => {
+                assert_eq!(rt; breach, Breach { rule, place });
+            }
+            _ => assert!(rt; false),
+        }
+    }
+    Ok(())
+}
+
+#[test]
+fn long_lists_are_refused(rt: HostRuntime) -> Result<(), Fail> {
+    let mut text = Vec::from_slice(rt.alloc(), BEGIN)?;
+    text.extend_from_slice(b"10,1,long,0\n")?;
+    for _ in 0..200_000 {
+        text.extend_from_slice(b"10,1,busy,7\n")?;
+    }
+    assert!(rt; read(rt.alloc(), &text).is_ok());
+    text.extend_from_slice(b"10,1,busy,7\n")?;
+    match read(rt.alloc(), &text) {
+        Err(CertFault::Refused(breach)) => {
+            assert_eq!(rt;
+                breach,
+                Breach {
+                    rule: Rule::TooLong,
+                    place: 200_003
+                }
+            );
+        }
+        _ => assert!(rt; false),
+    }
+    Ok(())
+}
