@@ -8,7 +8,7 @@ ghost use Rattle.cop_dict.specs.Rules.{first_broken, read_rules, value_rules, ac
 
 use crate::abort::Abort;
 use crate::data_type::{Access, DataType};
-use crate::number::number;
+use crate::numbers::number;
 
 /// The description of an entry (CiA 301, "Entry description").
 #[derive(Clone, Copy, Debug, PartialEq, Eq)]

@@ -7,7 +7,7 @@ mod description;
 mod dictionary;
 pub mod laws;
 mod mapping;
-mod number;
+mod numbers;
 mod object;
 mod pdo;
 mod search;
@@ -18,6 +18,7 @@ pub use data_type::{Access, DataType};
 pub use description::Description;
 pub use dictionary::Dictionary;
 pub use mapping::{Direction, Mapped, MappingFault};
+pub use numbers::number;
 pub use object::Object;
 
 #[cfg(test)]
