@@ -118,15 +118,15 @@ all_usable dict at sub zero entries h =
 all_usable dict at sub (suc count) entries h =
     split (mapped_at dict at sub) refl (mapped_from dict at (sub + 1) count) (λ rest e. all_usable dict at (sub + 1) count rest e) h
   where
-  split : (r : Result Mapped MappingFault) → mapped_at dict at sub ≡ r → (rs : Result (List Mapped) MappingFault)
-      → ((rest : List Mapped) → rs ≡ Ok rest → All (IsUsable dict (direction_of at)) rest × (length rest ≡ count))
-      → (r >>= λ first. rs >>= λ rest. Ok (first ∷ rest)) ≡ Ok entries → All (IsUsable dict (direction_of at)) entries × (length entries ≡ suc count)
-  split (Err e) is rs below h = let no : ◌≡◌ {A = Result (List Mapped) MappingFault} (Err e) (Ok entries) = h in cc
-  split (Ok first) is (Err e) below h = let no : ◌≡◌ {A = Result (List Mapped) MappingFault} (Err e) (Ok entries) = h in cc
-  split (Ok first) is (Ok rest) below h =
-      let same : first ∷ rest ≡ entries = let e : ◌≡◌ {A = Result (List Mapped) MappingFault} (Ok (first ∷ rest)) (Ok entries) = h in cc in
-      let b = below rest refl in
-      rw (← same) (All-cons (IsUsable dict (direction_of at)) first rest (mapped_usable dict at sub first is) b.0, ap (λ (n : ℕ). suc n) b.1)
+    split : (r : Result Mapped MappingFault) → mapped_at dict at sub ≡ r → (rs : Result (List Mapped) MappingFault)
+        → ((rest : List Mapped) → rs ≡ Ok rest → All (IsUsable dict (direction_of at)) rest × (length rest ≡ count))
+        → (r >>= λ first. rs >>= λ rest. Ok (first ∷ rest)) ≡ Ok entries → All (IsUsable dict (direction_of at)) entries × (length entries ≡ suc count)
+    split (Err e) is rs below h = let no : ◌≡◌ {A = Result (List Mapped) MappingFault} (Err e) (Ok entries) = h in cc
+    split (Ok first) is (Err e) below h = let no : ◌≡◌ {A = Result (List Mapped) MappingFault} (Err e) (Ok entries) = h in cc
+    split (Ok first) is (Ok rest) below h =
+        let same : first ∷ rest ≡ entries = let e : ◌≡◌ {A = Result (List Mapped) MappingFault} (Ok (first ∷ rest)) (Ok entries) = h in cc in
+        let b = below rest refl in
+        rw (← same) (All-cons (IsUsable dict (direction_of at)) first rest (mapped_usable dict at sub first is) b.0, ap (λ (n : ℕ). suc n) b.1)
 
 few : (count : ℕ) (entries : List Mapped) (r : Result (List Mapped) MappingFault) (b : Bool) → nat_lt 64 count ≡ b
     → (if b then Err faults.TooLong else (r >>= λ mapped. if nat_lt 64 (total_bits mapped) then Err faults.TooLong else Ok mapped)) ≡ Ok entries
@@ -152,7 +152,7 @@ unfolding layout
 layout_is dict at count entries h =
     let facts = few count entries (mapped_from dict at 1 count) (nat_lt 64 count) refl h in
     let all = all_usable dict at 1 count entries facts.1 in
-    record { count = omega (arith, facts.0, all.1); bits = facts.2; usable = all.0; }
+    record { count = omega (arith, facts.0, all.1); bits = facts.2; usable = all.0 }
 
 not_below : (n m : ℕ) → m ≤ n → nat_lt n m ≡ false
 not_below n m h = by (nat_lt n m) refl where

@@ -5,6 +5,7 @@ mod cob_id;
 mod faults;
 mod layout;
 mod mapping;
+mod moving;
 mod reading;
 
 pub use cob_id::{exists, off, on};
@@ -12,4 +13,5 @@ pub use cop_dict::{Direction, Mapped, MappingFault};
 pub use faults::refusal_number;
 pub use layout::same_layout;
 pub use mapping::Mapping;
+pub use moving::{Short, pack, unpack};
 pub use reading::payload;
