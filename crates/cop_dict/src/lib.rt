@@ -8,7 +8,7 @@ mod description;
 mod dictionary;
 pub mod laws;
 mod mapping;
-mod number;
+mod numbers;
 mod object;
 mod pattern;
 mod pdo;
@@ -22,6 +22,7 @@ pub use data_type::DataType;
 pub use description::Description;
 pub use dictionary::Dictionary;
 pub use mapping::{Direction, Mapped, MappingFault};
+pub use numbers::number;
 pub use object::Object;
 
 #[cfg(test)]

@@ -21,7 +21,7 @@ pub enum Direction {
 }
 
 /// What one entry of a mapping record says: an object and its length in bits.
-#[derive(Clone, Copy, Debug, PartialEq, Eq)]
+#[derive(Clone, Copy, Debug, Default, PartialEq, Eq)]
 pub struct Mapped {
     pub index: u16,
     pub sub: u8,

@@ -10,7 +10,7 @@ ghost use Rattle.cop_dict.specs.Dict.{valued, as_built, reset_communication, IsS
 use crate::abort::Abort;
 use crate::data_type::DataType;
 use crate::description::Description;
-use crate::number::number;
+use crate::numbers::number;
 use std::alloc::{AllocError, Global};
 use std::marker::Model;
 

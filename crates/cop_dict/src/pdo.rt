@@ -11,7 +11,7 @@ ghost use Rattle.cop_dict.specs.Pdo.{is_communication, is_mapping, is_restricted
 
 use crate::abort::Abort;
 use crate::mapping::{MappingFault, layout_bits};
-use crate::number::{is_zero, number, small_number};
+use crate::numbers::{is_zero, number, small_number};
 use crate::object::Object;
 use crate::search::object_at;
 

@@ -11,7 +11,7 @@ use cop_frame::Frame;
 pub fn heartbeat(node: u8, state: NodeState) -> Frame
     requires { node < 128 }
     ensures id { result.id ≡ 0x700 + node }
-    ensures data { data_of result ≡ state_byte state ∷ [] }
+    ensures body { data_of result ≡ state_byte state ∷ [] }
 {
     let byte = match state {
         NodeState::Stopped => 4,
@@ -25,7 +25,7 @@ pub fn heartbeat(node: u8, state: NodeState) -> Frame
 pub fn boot_up(node: u8) -> Frame
     requires { node < 128 }
     ensures id { result.id ≡ 0x700 + node }
-    ensures data { data_of result ≡ 0 ∷ [] }
+    ensures body { data_of result ≡ 0 ∷ [] }
 {
     Frame::new(0x700 + u16::from(node), &[0])
 }
@@ -33,7 +33,7 @@ pub fn boot_up(node: u8) -> Frame
 /// The frame that keeps synchronous PDOs in step.
 pub fn sync() -> Frame
     ensures id { result.id ≡ 0x80 }
-    ensures data { data_of result ≡ [] }
+    ensures body { data_of result ≡ [] }
 {
     Frame::new(0x80, &[])
 }
@@ -43,7 +43,7 @@ pub fn sync() -> Frame
 pub fn emcy(node: u8, code: u16, register: u8, details: [u8; 5]) -> Frame
     requires { node < 128 }
     ensures id { result.id ≡ 0x80 + node }
-    ensures data { data_of result ≡ code % 256 ∷ code / 256 ∷ register ∷ details }
+    ensures body { data_of result ≡ code % 256 ∷ code / 256 ∷ register ∷ details }
 {
     let [low, high] = code.to_le_bytes();
     let [a, b, c, d, e] = details;

@@ -1,0 +1,5 @@
+pub mod ReadingLemmas
+pub mod PayloadLemmas
+pub mod BitLemmas
+pub mod MovingLemmas
+pub mod UnpackLemmas

@@ -1,0 +1,20 @@
+//! PDOs of a device: which objects they move, as which bits, and their COB-IDs.
+#![tactic(auto)]
+
+mod cob_id;
+mod faults;
+mod layout;
+mod mapping;
+mod moving;
+mod reading;
+
+pub use cob_id::{exists, off, on};
+pub use cop_dict::{Direction, Mapped, MappingFault};
+pub use faults::refusal_number;
+pub use layout::same_layout;
+pub use mapping::Mapping;
+pub use moving::{Short, pack, unpack};
+pub use reading::payload;
+
+#[cfg(test)]
+mod tests;
