@@ -7,14 +7,9 @@ ghost use Rattle.cop_dict.specs.Number.{number};
 ghost use Rattle.cop_dict.specs.Rules.{first_broken, read_rules, value_rules, access_rules, number_rules};
 
 use crate::abort::Abort;
-<<<<<<< HEAD
 use crate::data_type::{DataType, is_readable, is_writable};
-use crate::number::number;
-use cop_eds::Access;
-=======
-use crate::data_type::{Access, DataType};
 use crate::numbers::number;
->>>>>>> 493f68e3ea9d2d86ca2c1d1d87a88069b3b02f14
+use cop_eds::Access;
 
 /// The description of an entry (CiA 301, "Entry description").
 #[derive(Clone, Copy, Debug, PartialEq, Eq)]
