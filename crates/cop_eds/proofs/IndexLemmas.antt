@@ -1,6 +1,6 @@
 -- Lines that are found by an index are the first that a walk over all lines finds.
 use Rattle.std.proofs.Common.{◌≡◌, ℕ, zero, suc, ◌+◌, ◌-◌, ◌<◌, ◌≤◌, Bool, true, false, cond, ◌&&◌, List, [], ◌∷◌, length, take, get_or, slice_get, Contains, Option, Some, None, IsSome, refl, sym, ap, subst, ◌∙◌, arith, ◌==◌, nat_lt, nat_le, ◌++◌, ◌⊎◌, inl, inr, ⊎_elim, is_some}
-use Rattle.std.specs.List.{All, list_any}
+use Rattle.std.specs.List.{All, AllAdjacentBelow, list_any}
 use Rattle.std.specs.List.Sorted.{IsSorted, IsSortedByKey, IsNonDecreasingBy, IsPartitionedBy, IsPartitionPoint}
 use Rattle.std.specs.Ordering.{nat_cmp, is_lt, is_eq, ordering_index, ordering_then}
 use Rattle.std.specs.declared.cmp.Ordering.{Ordering}
@@ -12,13 +12,19 @@ use Rattle.std.proofs.lemmas.Map.Text.{is_eq-slice_cmp}
 use Rattle.std.proofs.lemmas.Slice.Eq.{bytes_eq-Decides}
 use Rattle.std.proofs.lemmas.Cmp.{tied_itself}
 use Rattle.std.proofs.lemmas.Option.{get_or_from_slice_get, slice_get-get_or}
-use Rattle.std.proofs.lemmas.List.Sorted.{sorted_far, searchable_from_sorted, ranks_by}
+use Rattle.std.proofs.lemmas.List.Sorted.{sorted_far, searchable_from_sorted, ranks_by, all_adjacent_more}
 use Rattle.std.proofs.lemmas.List.Elements.{All-append, Contains-append_left, Contains-append_right}
 use Rattle.std.proofs.lemmas.Bool.Decides.{nat_tests}
+use Rattle.cop_eds.specs.declared.fault.Rule.{Rule}
+use Rattle.cop_eds.specs.declared.fault.Rule.TheVariants as rules
+use Rattle.cop_eds.specs.declared.line.Kind.{Kind}
+use Rattle.cop_eds.specs.declared.line.Kind.TheVariants.{Other, Header, Pair}
 use Rattle.cop_eds.specs.declared.line.Line.{Line}
 use Rattle.cop_eds.specs.declared.entry.Entry.{Entry}
-use Rattle.cop_eds.specs.Lines.{first_from}
-use Rattle.cop_eds.specs.Index.{line_key, has_key, is_found_by, sort_key, is_below, entry_cmp, IsEntry, IsIndex}
+use Rattle.cop_eds.specs.Text.{name_of, key_of}
+use Rattle.cop_eds.specs.Lines.{first_from, text_of, is_named, is_keyed, broken, broken_by_kind}
+use Rattle.cop_eds.proofs.KeyLemmas.{any_named, any_keyed}
+use Rattle.cop_eds.specs.Index.{line_key, header_key, pair_key, of_kind, has_key, is_found_by, sort_key, is_below, entry_cmp, IsEntry, IsIndex}
 
 -- a walk over the lines
 
@@ -342,3 +348,83 @@ found_at text lines entries key i e d index parts lt same =
     let number : (get_or entries i e).line - 1 < length lines = omega (arith, within.0, within.1) in
     found text lines entries key i e (get_or lines ((get_or entries i e).line - 1) d) index parts lt
     ((bytes_eq-Decides (sort_key (get_or entries i e)) key).0 same) (slice_get-get_or lines ((get_or entries i e).line - 1) d number)
+
+-- an index without neighbours of one key
+
+abbrev pub Apart : List Entry → Type 0
+Apart entries = AllAdjacentBelow (λ x y. bytes_eq (sort_key x) (sort_key y) ≡ false) entries (length entries)
+
+pub apart_more : (entries : List Entry) (i : ℕ) (e : Entry) → 1 ≤ i → i < length entries
+    → bytes_eq (sort_key (get_or entries (i - 1) e)) (sort_key (get_or entries i e)) ≡ false
+    → AllAdjacentBelow (λ x y. bytes_eq (sort_key x) (sort_key y) ≡ false) entries i
+    → AllAdjacentBelow (λ x y. bytes_eq (sort_key x) (sort_key y) ≡ false) entries (i + 1)
+apart_more entries i e pos lt differ so_far =
+    all_adjacent_more entries (λ x y. bytes_eq (sort_key x) (sort_key y) ≡ false) i pos so_far (λ d.
+        let one : get_or entries (i - 1) d ≡ get_or entries (i - 1) e = get_or_same entries (i - 1) e d (omega arith) in
+        let two : get_or entries i d ≡ get_or entries i e = get_or_same entries i e d lt in
+        rw (one, two) differ)
+
+-- then no two entries have one key
+never_both : (entries : List Entry) (key : List ℕ) (m n : ℕ) → IsSorted entry_cmp entries → Apart entries
+    → (a : Match entries key m) → (b : Match entries key n) → a.at < b.at → ⊥
+never_both entries key m n sorted apart a b lt =
+    let d = a.entry in
+    let here : get_or entries a.at d ≡ a.entry = a.stands in
+    let there : get_or entries b.at d ≡ b.entry = get_or_same entries b.at b.entry d b.below ∙ b.stands in
+    let first : rank key (get_or entries a.at d) ≡ 1 = ap (rank key) here ∙ rank_key key a.entry a.same in
+    let last : rank key (get_or entries b.at d) ≡ 1 = ap (rank key) there ∙ rank_key key b.entry b.same in
+    let up : rank key (get_or entries a.at d) ≤ rank key (get_or entries (a.at + 1) d) = rises key entries sorted a.at (a.at + 1) d (omega arith) (omega (arith, b.below)) in
+    let down : rank key (get_or entries (a.at + 1) d) ≤ rank key (get_or entries b.at d) = rises key entries sorted (a.at + 1) b.at d (omega arith) b.below in
+    let next : sort_key (get_or entries (a.at + 1) d) ≡ key = same_key (sort_key (get_or entries (a.at + 1) d)) key (rank_same (slice_cmp nat_cmp (sort_key (get_or entries (a.at + 1) d)) key) (omega arith)) in
+    let own : sort_key (get_or entries a.at d) ≡ key = ap sort_key here ∙ a.same in
+    let differ : bytes_eq (sort_key (get_or entries a.at d)) (sort_key (get_or entries (a.at + 1) d)) ≡ false = apart a.at d (omega (arith, b.below)) in
+    let equal : bytes_eq (sort_key (get_or entries a.at d)) (sort_key (get_or entries (a.at + 1) d)) ≡ true = (bytes_eq-Decides _ _).1 (own ∙ sym next) in
+    let none : false ≡ true = sym differ ∙ equal in
+    cc
+
+one_place : (entries : List Entry) (key : List ℕ) (m n : ℕ) → IsSorted entry_cmp entries → Apart entries
+    → (a : Match entries key m) → (b : Match entries key n) → m ≡ n
+one_place entries key m n sorted apart a b =
+    let le : b.at ≤ a.at = not_less a.at b.at (never_both entries key m n sorted apart a b) in
+    let ge : a.at ≤ b.at = not_less b.at a.at (never_both entries key n m sorted apart b a) in
+    let same : a.at ≡ b.at = omega arith in
+    let entry : a.entry ≡ b.entry = sym a.stands ∙ ap (λ i. get_or entries i a.entry) same ∙ get_or_same entries b.at b.entry a.entry b.below ∙ b.stands in
+    sym a.line ∙ ap (λ (x : Entry). x.line) entry ∙ b.line
+
+none_before : (text : List ℕ) (lines : List Line) (entries : List Entry) (key : List ℕ) (p : ℕ) (x : Line) → IsIndex text lines entries → Apart entries
+    → slice_get lines p ≡ Some x → is_found_by text key x ≡ true → list_any (is_found_by text key) (take p lines) ≡ false
+none_before text lines entries key p x index apart at passes =
+    let b = entry_match text lines entries key index p x at passes in
+    let earlier : (q : ℕ) (y : Line) → q < p → slice_get lines q ≡ Some y → is_found_by text key y ≡ false =
+    λ q y less at_q. by_test (is_found_by text key y) (λ h.
+        let a = entry_match text lines entries key index q y at_q h in
+        let same : q + 1 ≡ p + 1 = one_place entries key (q + 1) (p + 1) index.sorted apart a b in
+        absurd (omega arith)) in
+    let first : first_from 1 (is_found_by text key) lines ≡ Some (1 + p, x) = first_some 1 (is_found_by text key) lines p x at passes earlier in
+    let late : nat_lt (1 + p) (1 + p) ≡ false = grind (arith, nat_tests) in
+    first_earlier 1 p (1 + p) (is_found_by text key) lines x first ∙ late
+
+if_false : {A : Type 0} (b : Bool) (x y : A) → b ≡ false → cond b x y ≡ y
+if_false true x y e = cc
+if_false false x y e = refl
+
+alone_by : (kind : Kind) (text : List ℕ) (lines : List Line) (entries : List Entry) (p : ℕ) (x : Line) → IsIndex text lines entries → Apart entries
+    → slice_get lines p ≡ Some x → x.kind ≡ kind → broken_by_kind kind text (take p lines) x ≡ broken_by_kind kind text [] x
+alone_by Other text lines entries p x index apart at kind = refl
+alone_by Header text lines entries p x index apart at kind =
+    let name = name_of (text_of text x) in
+    let key : line_key text x ≡ Some (header_key name) = ap (λ k. of_kind k (header_key name) (pair_key x.section (key_of (text_of text x)))) kind in
+    let passes : is_found_by text (header_key name) x ≡ true = ap (λ o. has_key o (header_key name)) key ∙ (bytes_eq-Decides (header_key name) (header_key name)).1 refl in
+    let none : list_any (is_named text name) (take p lines) ≡ false = any_named text name (take p lines) ∙ none_before text lines entries (header_key name) p x index apart at passes in
+    if_false (list_any (is_named text name) (take p lines)) _ _ none
+alone_by Pair text lines entries p x index apart at kind =
+    let name = key_of (text_of text x) in
+    let key : line_key text x ≡ Some (pair_key x.section name) = ap (λ k. of_kind k (header_key (name_of (text_of text x))) (pair_key x.section name)) kind in
+    let passes : is_found_by text (pair_key x.section name) x ≡ true = ap (λ o. has_key o (pair_key x.section name)) key ∙ (bytes_eq-Decides (pair_key x.section name) (pair_key x.section name)).1 refl in
+    let none : list_any (is_keyed text x.section name) (take p lines) ≡ false = any_keyed text x.section name (take p lines) ∙ none_before text lines entries (pair_key x.section name) p x index apart at passes in
+    ap (λ (o : Option Rule). cond (x.section == 0) (Some rules.Line) o) (if_false (list_any (is_keyed text x.section name) (take p lines)) _ _ none)
+
+-- then each line breaks a rule after the earlier ones exactly where it does alone
+pub alone : (text : List ℕ) (lines : List Line) (entries : List Entry) (p : ℕ) (x : Line) → IsIndex text lines entries → Apart entries
+    → slice_get lines p ≡ Some x → broken text (take p lines) x ≡ broken text [] x
+alone text lines entries p x index apart at = alone_by x.kind text lines entries p x index apart at refl

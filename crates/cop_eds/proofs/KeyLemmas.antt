@@ -1,7 +1,7 @@
 -- What a name, an object or a key finds is what its index key finds.
 use Rattle.std.proofs.Common.{◌≡◌, ℕ, suc, ◌+◌, ◌<◌, Bool, true, false, IfSome, length, arith, ◌&&◌, List, [], ◌∷◌, Option, Some, None, refl, sym, ap, ◌==◌}
 use Rattle.std.specs.Str.{str_to_ascii_lowercase, bytes_eq}
-use Rattle.std.specs.List.{All}
+use Rattle.std.specs.List.{All, list_any}
 use Rattle.std.proofs.Math.Bool.{and-true}
 use Rattle.cop_eds.specs.declared.line.Kind.{Kind}
 use Rattle.cop_eds.specs.declared.line.Kind.TheVariants.{Other, Header, Pair}
@@ -66,3 +66,13 @@ first_within size n test [] all = tt
 first_within size n test (x ∷ xs) all =
     within_by (test x) size n test x xs refl (all 0 x (omega arith))
     (first_within size (n + 1) test xs (λ k d lt. all (suc k) d (omega arith)))
+
+pub any_named : (text name : List ℕ) (lines : List Line) → list_any (is_named text name) lines ≡ list_any (is_found_by text (header_key name)) lines
+unfolding same_section
+any_named text name lines = ap (λ test. list_any test lines)
+    (λ i line. named_by line.kind (code_of (name_of (text_of text line))) (code_of name) (name_of (text_of text line)) name (key_of (text_of text line)) line.section i)
+
+pub any_keyed : (text : List ℕ) (section : ℕ) (key : List ℕ) (lines : List Line)
+    → list_any (is_keyed text section key) lines ≡ list_any (is_found_by text (pair_key section key)) lines
+any_keyed text section key lines = ap (λ test. list_any test lines)
+    (λ i line. keyed_by line.kind (code_of (name_of (text_of text line))) line.section section (name_of (text_of text line)) (key_of (text_of text line)) key i)

@@ -1,7 +1,7 @@
 //! The index of a text's names: what its headers and pairs are looked up by.
 
 ghost use Rattle.std.specs.Prelude.{◌≡◌, ◌^◌, ◌<◌, ◌≤◌, ◌+◌, ◌∷◌, [], ℕ, List, length, true, false, IfOk, IsSome, MatchOption, Some, None, slice_get, Contains};
-ghost use Rattle.std.specs.List.{All};
+ghost use Rattle.std.specs.List.{All, AllAdjacentBelow};
 ghost use Rattle.std.specs.List.Sorted.{IsSorted, IsPartitionPoint};
 ghost use Rattle.std.specs.Ordering.{is_eq};
 ghost use Rattle.std.specs.Str.{bytes_eq};
@@ -129,6 +129,18 @@ fn has_key(entry: &Entry<'_>, key: &Entry<'_>) -> bool
     ensures { result ≡ bytes_eq (sort_key entry.now) (sort_key key.now) }
 {
     entry.group == key.group && entry.code == key.code && entry.name.eq_ignore_ascii_case(key.name)
+}
+
+/// Whether no two neighbours are found by the same.
+pub fn are_apart(entries: &[Entry<'_>]) -> bool
+    ensures { result ≡ true → AllAdjacentBelow (λ x y. bytes_eq (sort_key x) (sort_key y) ≡ false) entries.now (length entries.now) }
+{
+    for i in 1..entries.len() {
+        if has_key(&entries[i - 1], &entries[i]) {
+            return false;
+        }
+    }
+    true
 }
 
 /// The first line that a key finds, and its number.

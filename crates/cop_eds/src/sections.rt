@@ -1,15 +1,16 @@
 //! A text as sections of pairs.
 
-ghost use Rattle.std.specs.Prelude.{◌≡◌, ◌^◌, ◌<◌, ◌≤◌, ◌+◌, ◌∷◌, [], length, take, IfOk, IfSome};
+ghost use Rattle.std.specs.Prelude.{◌≡◌, ◌^◌, ◌<◌, ◌≤◌, ◌+◌, ◌∷◌, [], length, take, IfOk, IfSome, ℕ, slice_get, Some};
 ghost use Rattle.std.specs.List.{All, list_any};
 ghost use Rattle.std.specs.Option.{option_map, option_and_then};
+ghost use Rattle.cop_eds.specs.declared.line.Line.{Line};
 ghost use Rattle.cop_eds.specs.Lines.{IsWithin, lines_of, first_from, is_named, is_keyed, broken, first_refusal};
 ghost use Rattle.cop_eds.specs.Sections.{place_at, place_of, is_coded, coded_place, keyed_line, key_line, some_value, entry_of};
 ghost use Rattle.cop_eds.specs.Index.{sort_key, is_found_by};
 
 use crate::entry::Entry;
 use crate::fault::{Refusal, Rule};
-use crate::index::{coded_entry, find_in, header_entry, index_of, pair_entry};
+use crate::index::{are_apart, coded_entry, find_in, header_entry, index_of, pair_entry};
 use crate::line::{Kind, Line, Place};
 use crate::lines::{lines_of, text_of};
 use crate::text::{is_comment, key_of, name_of, value_of};
@@ -42,6 +43,36 @@ fn place_at(found: (usize, Line)) -> Place
         line: found.0,
         section: found.1.section,
     }
+}
+
+/// The rule that a line breaks whatever stands before it.
+fn broken_alone(source: &[u8], line: &Line) -> Option<Rule>
+    requires { IsWithin (length source.now) line.now }
+    ensures { result ≡ broken source.now [] line.now }
+{
+    match line.kind {
+        Kind::Other if is_comment(text_of(source, line)) => None,
+        Kind::Other => Some(Rule::Line),
+        Kind::Pair if line.section == 0 => Some(Rule::Line),
+        Kind::Header | Kind::Pair => None,
+    }
+}
+
+/// The refusal of the first line that breaks a rule, where none repeats a name.
+fn first_alone(source: &[u8], lines: &[Line]) -> Option<Refusal>
+    requires within { All (IsWithin (length source.now)) lines.now }
+    requires alone { (place : ℕ) (line : Line) → slice_get lines.now place ≡ Some line → broken source.now (take place lines.now) line ≡ broken source.now [] line }
+    ensures { result ≡ first_refusal source.now [] lines.now }
+{
+    for (place, line) in lines.iter().enumerate() {
+        if let Some(rule) = broken_alone(source, line) {
+            return Some(Refusal {
+                rule,
+                line: place + 1,
+            });
+        }
+    }
+    None
 }
 
 impl<'a> Sections<'a> {
@@ -137,9 +168,9 @@ impl<'a> Sections<'a> {
         }
     }
 
-    /// The refusal of the first line that breaks a rule.
+    /// The refusal of the first line that breaks a rule, each looked up among the earlier ones.
     #[tactic(auto, using(crate::proofs::RefusalLemmas::goes_on, crate::proofs::RefusalLemmas::stops, crate::proofs::RefusalLemmas::ends))]
-    pub fn refusal(&self) -> Option<Refusal>
+    fn first_refusal(&self) -> Option<Refusal>
         ensures { result ≡ first_refusal self.now [] (lines_of self.now) }
     {
         for (place, line) in self.lines.iter().enumerate() {
@@ -151,6 +182,17 @@ impl<'a> Sections<'a> {
             }
         }
         None
+    }
+
+    /// The refusal of the first line that breaks a rule.
+    pub fn refusal(&self) -> Option<Refusal>
+        ensures { result ≡ first_refusal self.now [] (lines_of self.now) }
+    {
+        if are_apart(&self.entries) {
+            first_alone(self.source, &self.lines)
+        } else {
+            self.first_refusal()
+        }
     }
 
     /// Where the section of this name begins.

@@ -1,6 +1,6 @@
 use Rattle.std.proofs.Common.{◌≡◌, [], take, drop}
 use Rattle.cop_eds.specs.Lines.{first_refusal, lines_of}
-use Rattle.cop_eds.proofs.sections.Sections.refusal.Given as goal
+use Rattle.cop_eds.proofs.sections.Sections.first_refusal.Given as goal
 
 abbrev pub invariant-loop-place : goal.invariant-loop-place
 invariant-loop-place l =
