@@ -5,3 +5,6 @@ pub mod StepsLemmas
 pub mod SubsLemmas
 pub mod RateLemmas
 pub mod ObjectLemmas
+pub mod IndexLemmas
+pub mod KeyLemmas
+pub mod RefusalLemmas

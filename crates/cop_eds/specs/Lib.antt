@@ -3,6 +3,7 @@ pub mod Text
 pub mod Number
 pub mod Names
 pub mod Lines
+pub mod Index
 pub mod Sections
 pub mod Amount
 pub mod Steps

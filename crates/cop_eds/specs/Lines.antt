@@ -99,9 +99,14 @@ Gives view (Err e) read = Fails e read
 
 -- the line lies in a text of this length
 abbrev pub IsWithin : ℕ → Line → Type 0
-IsWithin size line = (line.from ≤ line.to) × (line.to ≤ size)
+IsWithin size line = (line.from ≤ line.to) × (line.to ≤ size) × (line.section ≤ size)
 
 -- the same of a function that takes no memory
 abbrev pub Sees : {X Y : Type 0} → (X → Y) → Result X Refusal → Result Y Refusal → Type 0
 Sees view (Ok x) read = read ≡ Ok (view x)
 Sees view (Err e) read = read ≡ Err e
+
+-- the first line that passes, and its number where the first has this one
+abbrev pub first_from : ℕ → (Line → Bool) → List Line → Option (ℕ × Line)
+first_from number test [] = None
+first_from number test (line ∷ lines) = if test line then Some (number, line) else first_from (number + 1) test lines

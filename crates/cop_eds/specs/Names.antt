@@ -35,7 +35,7 @@ same_names (Some m) None a b = false
 same_names None (Some n) a b = false
 same_names None None a b = same_name a b
 
-abbrev pub same_section : List ℕ → List ℕ → Bool
+unfoldable pub same_section : List ℕ → List ℕ → Bool
 same_section a b = same_names (code_of a) (code_of b) a b
 
 abbrev pub has_code : Option ℕ → ℕ → Bool

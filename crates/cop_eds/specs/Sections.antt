@@ -1,25 +1,12 @@
 -- A text that is read as sections of pairs.
-use Rattle.std.specs.Prelude.{ℕ, ◌+◌, ◌≡◌, ◌<◌, ◌^◌, Bool, ◌&&◌, List, [], ◌∷◌, length, ◌==◌, if◌then◌else◌, Option, Some, None}
-use Rattle.std.specs.List.{All}
+use Rattle.std.specs.Prelude.{ℕ, Bool, ◌&&◌, List, length, ◌==◌, if◌then◌else◌, Option, Some, None}
 use Rattle.std.specs.Option.{option_map, option_and_then}
 use Rattle.cop_eds.specs.declared.line.Kind.TheVariants.{Header}
 use Rattle.cop_eds.specs.declared.line.Line.{Line}
 use Rattle.cop_eds.specs.declared.line.Place.{Place}
 use Rattle.cop_eds.specs.Text.{name_of, value_of}
 use Rattle.cop_eds.specs.Names.{code_of, has_code}
-use Rattle.cop_eds.specs.Lines.{lines_of, text_of, is_kind, is_named, is_keyed, first_refusal, IsWithin}
-
--- these are the lines of a text in which none breaks a rule
-pub record AreLines (text : List ℕ) (lines : List Line) : Type 0 where
-  pub all : lines ≡ lines_of text
-  pub lawful : first_refusal text [] (lines_of text) ≡ None
-  pub within : All (IsWithin (length text)) lines
-  pub size : length text < 2 ^ 62
-
--- the first line that passes, and its number where the first has this one
-abbrev pub first_from : ℕ → (Line → Bool) → List Line → Option (ℕ × Line)
-first_from number test [] = None
-first_from number test (line ∷ lines) = if test line then Some (number, line) else first_from (number + 1) test lines
+use Rattle.cop_eds.specs.Lines.{lines_of, text_of, is_kind, is_named, is_keyed, first_from}
 
 abbrev pub place_at : ℕ × Line → Place
 place_at found = record { line = found.0; section = found.1.section }

@@ -58,6 +58,9 @@ pub fn parse<'a>(alloc: Global, source: &'a [u8]) -> Result<Eds<'a>, EdsFault>
         }));
     }
     let sections = Sections::read(alloc, source)?;
+    if let Some(refusal) = sections.refusal() {
+        return Err(EdsFault::Refused(refusal));
+    }
     let rates = rates(&sections)?;
     let indexes = listed(alloc, &sections)?;
     let objects = objects(alloc, &sections, &indexes)?;

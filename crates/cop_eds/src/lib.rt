@@ -4,7 +4,9 @@
 mod amount;
 mod description;
 mod eds;
+mod entry;
 mod fault;
+mod index;
 pub mod laws;
 mod line;
 mod lines;

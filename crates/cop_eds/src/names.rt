@@ -73,6 +73,7 @@ pub fn code_of(name: &[u8]) -> Option<u64>
 }
 
 /// Whether both are names of one section.
+#[tactic(auto, unfolding(crate::specs::Names::same_section))]
 pub fn same_section(left: &[u8], right: &[u8]) -> bool
     ensures { result ≡ same_section left.now right.now }
 {

@@ -1,82 +1,39 @@
 //! A text as sections of pairs.
 
-ghost use Rattle.std.specs.Prelude.{◌≡◌, ◌^◌, ◌<◌, ◌≤◌, ◌+◌, ◌-◌, ◌∷◌, [], length, IfOk, IfSome, MatchOption};
-ghost use Rattle.std.specs.List.{All};
+ghost use Rattle.std.specs.Prelude.{◌≡◌, ◌^◌, ◌<◌, ◌≤◌, ◌+◌, ◌∷◌, [], length, take, IfOk, IfSome, ℕ, slice_get, Some};
+ghost use Rattle.std.specs.List.{All, list_any};
 ghost use Rattle.std.specs.Option.{option_map, option_and_then};
-ghost use Rattle.cop_eds.specs.Lines.{IsWithin, Gives, lines_of, is_named, is_keyed, checked_lines, first_refusal};
-ghost use Rattle.cop_eds.specs.Sections.{place_at, place_of, is_coded, coded_place, first_from, keyed_line, key_line, some_value, entry_of};
+ghost use Rattle.cop_eds.specs.declared.line.Line.{Line};
+ghost use Rattle.cop_eds.specs.Lines.{IsWithin, lines_of, first_from, is_named, is_keyed, broken, first_refusal};
+ghost use Rattle.cop_eds.specs.Sections.{place_at, place_of, is_coded, coded_place, keyed_line, key_line, some_value, entry_of};
+ghost use Rattle.cop_eds.specs.Index.{sort_key, is_found_by};
 
-use crate::fault::EdsFault;
+use crate::entry::Entry;
+use crate::fault::{Refusal, Rule};
+use crate::index::{are_apart, coded_entry, find_in, header_entry, index_of, pair_entry};
 use crate::line::{Kind, Line, Place};
-use crate::lines::{checked_lines, is_keyed, is_named, text_of};
-use crate::names::code_of;
-use crate::text::{name_of, value_of};
-use std::alloc::Global;
+use crate::lines::{lines_of, text_of};
+use crate::text::{is_comment, key_of, name_of, value_of};
+use std::alloc::{AllocError, Global};
 use std::marker::Model;
 
-/// A text in which each line keeps the rules of lines.
+/// The lines of a text and their index. Contracts see the text.
 #[derive(Drop)]
 pub struct Sections<'a> {
     source: &'a [u8],
     lines: Vec<Line>,
+    entries: Vec<Entry<'a>>,
 }
 
 impl<'a> Model for Sections<'a> {
     ghost use Rattle.std.specs.Prelude.{ℕ, List};
-    ghost use Rattle.cop_eds.specs.Sections.{AreLines};
+    ghost use Rattle.cop_eds.specs.Index.{IsIndexed};
 
     ghost Value = { List ℕ };
 
     ghost view = { λ s. s.source.now };
 
-    ghost invariant = { λ s. AreLines s.source.now s.lines.items };
-}
-
-/// The first line of the key in the section, and its number.
-fn line_keyed(source: &[u8], lines: &[Line], section: usize, key: &[u8]) -> Option<(usize, Line)>
-    requires { All (IsWithin (length source.now)) lines.now }
-    ensures value { result ≡ first_from 1 (is_keyed source.now section key.now) lines.now }
-    ensures within { IfSome result (λ found. IsWithin (length source.now) found.1) }
-{
-    for (i, line) in lines.iter().enumerate() {
-        if is_keyed(source, section, key, line) {
-            return Some((i + 1, *line));
-        }
-    }
-    None
-}
-
-/// The header of this name, and its number.
-fn line_named(source: &[u8], lines: &[Line], name: &[u8]) -> Option<(usize, Line)>
-    requires { All (IsWithin (length source.now)) lines.now }
-    ensures { result ≡ first_from 1 (is_named source.now name.now) lines.now }
-{
-    for (i, line) in lines.iter().enumerate() {
-        if is_named(source, name, line) {
-            return Some((i + 1, *line));
-        }
-    }
-    None
-}
-
-fn is_coded(source: &[u8], code: u64, line: &Line) -> bool
-    requires { IsWithin (length source.now) line.now }
-    ensures { result ≡ is_coded source.now code line.now }
-{
-    matches!(line.kind, Kind::Header) && code_of(name_of(text_of(source, line))) == Some(code)
-}
-
-/// The header of the object's section with this number, and its number.
-fn line_coded(source: &[u8], lines: &[Line], code: u64) -> Option<(usize, Line)>
-    requires { All (IsWithin (length source.now)) lines.now }
-    ensures { result ≡ first_from 1 (is_coded source.now code) lines.now }
-{
-    for (i, line) in lines.iter().enumerate() {
-        if is_coded(source, code, line) {
-            return Some((i + 1, *line));
-        }
-    }
-    None
+    ghost invariant = { λ s. IsIndexed s.source.now s.lines.items s.entries.items };
 }
 
 fn place_at(found: (usize, Line)) -> Place
@@ -88,14 +45,48 @@ fn place_at(found: (usize, Line)) -> Place
     }
 }
 
+/// The rule that a line breaks whatever stands before it.
+fn broken_alone(source: &[u8], line: &Line) -> Option<Rule>
+    requires { IsWithin (length source.now) line.now }
+    ensures { result ≡ broken source.now [] line.now }
+{
+    match line.kind {
+        Kind::Other if is_comment(text_of(source, line)) => None,
+        Kind::Other => Some(Rule::Line),
+        Kind::Pair if line.section == 0 => Some(Rule::Line),
+        Kind::Header | Kind::Pair => None,
+    }
+}
+
+/// The refusal of the first line that breaks a rule, where none repeats a name.
+fn first_alone(source: &[u8], lines: &[Line]) -> Option<Refusal>
+    requires within { All (IsWithin (length source.now)) lines.now }
+    requires alone { (place : ℕ) (line : Line) → slice_get lines.now place ≡ Some line → broken source.now (take place lines.now) line ≡ broken source.now [] line }
+    ensures { result ≡ first_refusal source.now [] lines.now }
+{
+    for (place, line) in lines.iter().enumerate() {
+        if let Some(rule) = broken_alone(source, line) {
+            return Some(Refusal {
+                rule,
+                line: place + 1,
+            });
+        }
+    }
+    None
+}
+
 impl<'a> Sections<'a> {
-    pub fn read(alloc: Global, source: &'a [u8]) -> Result<Sections<'a>, EdsFault>
+    pub fn read(alloc: Global, source: &'a [u8]) -> Result<Sections<'a>, AllocError>
         requires { length source.now < 2 ^ 62 }
-        ensures exact { Gives (λ s. lines_of s) result (checked_lines source.now) }
-        ensures source { IfOk result (λ s. s ≡ source.now) }
+        ensures { IfOk result (λ s. s ≡ source.now) }
     {
-        let lines = checked_lines(alloc, source)?;
-        Ok(Sections { source, lines })
+        let lines = lines_of(alloc, source)?;
+        let entries = index_of(alloc, source, &lines)?;
+        Ok(Sections {
+            source,
+            lines,
+            entries,
+        })
     }
 
     pub fn source(&self) -> &'a [u8]
@@ -110,32 +101,127 @@ impl<'a> Sections<'a> {
         &self.lines
     }
 
+    /// The first line that a key finds, and its number.
+    #[tactic(auto, using(crate::proofs::KeyLemmas::first_within))]
+    fn find(&self, key: &Entry<'_>) -> Option<(usize, Line)>
+        ensures value { result ≡ first_from 1 (is_found_by self.now (sort_key key.now)) (lines_of self.now) }
+        ensures within { IfSome result (λ found. IsWithin (length self.now) found.1) }
+    {
+        find_in(&self.lines, &self.entries, key)
+    }
+
+    /// The header of this name, and its number.
+    #[tactic(auto, using(crate::proofs::KeyLemmas::first_named))]
+    fn header(&self, name: &[u8]) -> Option<(usize, Line)>
+        ensures { result ≡ first_from 1 (is_named self.now name.now) (lines_of self.now) }
+    {
+        self.find(&header_entry(name))
+    }
+
+    /// The line of a key in a section, and its number.
+    #[tactic(auto, using(crate::proofs::KeyLemmas::first_keyed))]
+    fn keyed(&self, section: usize, key: &[u8]) -> Option<(usize, Line)>
+        ensures value { result ≡ keyed_line self.now section key.now }
+        ensures within { IfSome result (λ found. IsWithin (length self.now) found.1) }
+    {
+        self.find(&pair_entry(section, key))
+    }
+
+    /// Whether one of the first so many lines is a header of this name.
+    #[tactic(auto, using(crate::proofs::IndexLemmas::earlier_found, crate::proofs::IndexLemmas::none_found))]
+    fn has_header(&self, count: usize, name: &[u8]) -> bool
+        ensures { result ≡ list_any (is_named self.now name.now) (take count (lines_of self.now)) }
+    {
+        match self.header(name) {
+            Some((number, _)) => number <= count,
+            None => false,
+        }
+    }
+
+    /// Whether one of the first so many lines has the key in the section.
+    #[tactic(auto, using(crate::proofs::IndexLemmas::earlier_found, crate::proofs::IndexLemmas::none_found))]
+    fn has_key(&self, count: usize, section: usize, key: &[u8]) -> bool
+        ensures { result ≡ list_any (is_keyed self.now section key.now) (take count (lines_of self.now)) }
+    {
+        match self.keyed(section, key) {
+            Some((number, _)) => number <= count,
+            None => false,
+        }
+    }
+
+    /// The rule that a line breaks after the first so many.
+    fn broken(&self, count: usize, line: &Line) -> Option<Rule>
+        requires { IsWithin (length self.now) line.now }
+        ensures { result ≡ broken self.now (take count (lines_of self.now)) line.now }
+    {
+        let text = text_of(self.source(), line);
+        match line.kind {
+            Kind::Other if is_comment(text) => None,
+            Kind::Other => Some(Rule::Line),
+            Kind::Header if self.has_header(count, name_of(text)) => Some(Rule::SectionRepeated),
+            Kind::Header => None,
+            Kind::Pair if line.section == 0 => Some(Rule::Line),
+            Kind::Pair if self.has_key(count, line.section, key_of(text)) => Some(
+                Rule::KeyRepeated,
+            ),
+            Kind::Pair => None,
+        }
+    }
+
+    /// The refusal of the first line that breaks a rule, each looked up among the earlier ones.
+    #[tactic(auto, using(crate::proofs::RefusalLemmas::goes_on, crate::proofs::RefusalLemmas::stops, crate::proofs::RefusalLemmas::ends))]
+    fn first_refusal(&self) -> Option<Refusal>
+        ensures { result ≡ first_refusal self.now [] (lines_of self.now) }
+    {
+        for (place, line) in self.lines.iter().enumerate() {
+            if let Some(rule) = self.broken(place, line) {
+                return Some(Refusal {
+                    rule,
+                    line: place + 1,
+                });
+            }
+        }
+        None
+    }
+
+    /// The refusal of the first line that breaks a rule.
+    pub fn refusal(&self) -> Option<Refusal>
+        ensures { result ≡ first_refusal self.now [] (lines_of self.now) }
+    {
+        if are_apart(&self.entries) {
+            first_alone(self.source, &self.lines)
+        } else {
+            self.first_refusal()
+        }
+    }
+
     /// Where the section of this name begins.
     pub fn named(&self, name: &[u8]) -> Option<Place>
         ensures { result ≡ place_of self.now name.now }
     {
-        line_named(self.source, &self.lines, name).map(place_at)
+        self.header(name).map(place_at)
     }
 
     /// Where the object's section with this number begins.
+    #[tactic(auto, using(crate::proofs::KeyLemmas::first_coded))]
     pub fn coded(&self, code: u64) -> Option<Place>
         ensures { result ≡ coded_place self.now code }
     {
-        line_coded(self.source, &self.lines, code).map(place_at)
+        self.find(&coded_entry(code)).map(place_at)
     }
 
     /// The number of a key's line.
     pub fn key_line(&self, section: usize, key: &[u8]) -> Option<usize>
         ensures { result ≡ key_line self.now section key.now }
     {
-        line_keyed(self.source, &self.lines, section, key).map(|(number, _)| number)
+        self.keyed(section, key).map(|(number, _)| number)
     }
 
     /// The line and the value of a key in a section.
     pub fn entry(&self, section: usize, key: &[u8]) -> Option<(usize, &'a [u8])>
         ensures { option_map (λ p. (p.0, p.1.now)) result ≡ entry_of self.now section key.now }
     {
-        let (number, line) = line_keyed(self.source, &self.lines, section, key)?;
+        let (number, line) = self.keyed(section, key)?;
         let value = value_of(text_of(self.source, &line));
         if value.is_empty() {
             return None;

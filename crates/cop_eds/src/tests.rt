@@ -106,9 +106,150 @@ fn the_sample_is_read(rt: HostRuntime) -> Result<(), Fail> {
 #[test]
 fn every_prefix_returns(rt: HostRuntime) {
     let alloc = rt.alloc();
-    for end in 0..10 {
-        let _ = parse(alloc, &UNIT[..end * 90]);
+    for end in 0..UNIT.len() {
+        let _ = parse(alloc, &UNIT[..end]);
     }
     assert_eq!(rt; refused(alloc, b""), (0, 0));
     assert_eq!(rt; refused(alloc, b"[FileInfo"), (10, 1));
+    assert_eq!(rt; refused(alloc, b"[FileInfo]\nFileName=a\n[Devi"), (10, 3));
+}
+
+#[test]
+fn the_first_broken_rule_is_named(rt: HostRuntime) {
+    let rows: [(&[u8], u8, usize); 26] = [
+        (b"a=1\n", 10, 1),
+        (b" [a]\n", 10, 1),
+        (b"[a]\nb\n[A]\n", 10, 2),
+        (b"[a]\n=1\n", 10, 2),
+        (b"[a]\n\n[A] ; x", 11, 3),
+        (b"[1800sub1]\n[1800SUB01]\n", 11, 2),
+        (b"[a]\n b=\nB = 2\n[A]", 12, 3),
+        (b"[DeviceInfo]\nBaudRate_20=010\nBaudRate_10=x\n", 13, 3),
+        (b"[DeviceInfo]\nBaudRate_20=010\nBaudRate_10=08\n", 14, 2),
+        (b"[DeviceInfo]\nBaudRate_20=0x10000000000000000\n", 13, 2),
+        (b"[OptionalObjects]\n", 15, 1),
+        (b"[OptionalObjects]\nSupportedObjects=1\n1=0x1000\n", 15, 3),
+        (
+            b"[OptionalObjects]\nSupportedObjects=2\n1=0x1000\n[1000]\nDataType=7\nAccessType=ro\n",
+            15,
+            1,
+        ),
+        (
+            b"[OptionalObjects]\nSupportedObjects=1\n1=0x11000\n[1000]\n",
+            15,
+            3,
+        ),
+        (
+            b"[OptionalObjects]\nSupportedObjects=1\n1=0x1000\n[1000]\nAccessType=ro\n",
+            16,
+            4,
+        ),
+        (
+            b"[OptionalObjects]\nSupportedObjects=1\n1=0x1000\n[1000]\nDataType=7\n",
+            16,
+            4,
+        ),
+        (
+            b"[OptionalObjects]\nSupportedObjects=1\n1=0x1000\n[1000]\nDataType=7\nAccessType=r\n",
+            16,
+            6,
+        ),
+        (
+            b"[OptionalObjects]\nSupportedObjects=1\n1=0x1000\n[1000]\nObjectType=3\n",
+            16,
+            5,
+        ),
+        (
+            b"[OptionalObjects]\nSupportedObjects=1\n1=0x1000\n[1000]\nObjectType=8\nCompactSubObj=3\n",
+            17,
+            6,
+        ),
+        (
+            b"[OptionalObjects]\nSupportedObjects=1\n1=0x1000\n[1000]\nObjectType=8\nSubNumber=010\n",
+            14,
+            6,
+        ),
+        (
+            b"[OptionalObjects]\nSupportedObjects=1\n1=0x1000\n[1000]\nObjectType=8\nSubNumber=08\n",
+            0,
+            0,
+        ),
+        (
+            b"[OptionalObjects]\nSupportedObjects=1\n1=0x1000\n[1000]\nObjectType=9\n[1000subA]\nDataType=7\n",
+            16,
+            6,
+        ),
+        (
+            b"[OptionalObjects]\nSupportedObjects=1\n1=0x1000\n[1000]\nDataType=7\nAccessType=RW\n[1000sub1]\nPDOMapping=x\nDataType=5\nAccessType=wo\n",
+            13,
+            8,
+        ),
+        (
+            b"[OptionalObjects]\nSupportedObjects=1\n1=0x1000\n[1000]\nObjectType=2\nAccessType=const\n",
+            0,
+            0,
+        ),
+        (b"[1000]\nObjectType=x\n", 0, 0),
+        (
+            b"[ManufacturerObjects]\nSupportedObjects=x\n[MandatoryObjects]\n",
+            15,
+            3,
+        ),
+    ];
+    for (text, number, line) in rows {
+        assert_eq!(rt; refused(rt.alloc(), text), (number, line));
+    }
+}
+
+#[test]
+fn a_messy_text_is_read(rt: HostRuntime) -> Result<(), Fail> {
+    let text =
+        b"\xEF\xBB\xBF; device\r\n[deviceinfo] ; rates\r\n\tBAUDRATE_125 = 1\t\r\n\r\n[optionalobjects]\r\nsupportedobjects=1\r\n1=0x2abC\r\n[2ABC]\r\nobjecttype=0x8\r\n[2abcsub01]\r\nParameterName= a;b \r\ndatatype=5\r\nAccessType=Rww\r\nDefaultValue=0x180 + $nodeid\r\nLowLimit=\r\n[2abcSub0a]\r\nDataType=7\r\nAccessType=const";
+    let eds = parse(rt.alloc(), text)?;
+    let rates = eds.rates();
+    assert!(rt; rates.contains(Rate::Kbit125) && !rates.contains(Rate::Kbit250));
+    let section = eds.object(0x2ABC, 1).ok_or("no object")?;
+    assert_eq!(rt; eds.section(b"2ABCSUB1"), Some(section));
+    assert_eq!(rt; eds.object(0x2ABC, 0), None);
+    assert_eq!(rt; eds.object(0x2ABC, 10), eds.section(b"2abcsubA"));
+    let name = eds.value(section, b"parametername").ok_or("no name")?;
+    assert_eq!(rt; name, b"a;b".as_slice());
+    assert_eq!(rt;
+        eds.amount(section, b"DefaultValue"),
+        Ok(Some((14, Amount::PlusNode(0x180))))
+    );
+    assert_eq!(rt; eds.amount(section, b"LowLimit"), Ok(None));
+    assert_eq!(rt; eds.key_line(section, b"LowLimit"), Some(15));
+    assert!(rt; eds.entry(section, b"LowLimit").is_none());
+    let place = eds.place(b"2abcsub1").ok_or("no place")?;
+    assert_eq!(rt; place.line, 10);
+    let object = *eds.objects().first().ok_or("no objects")?;
+    assert_eq!(rt;
+        (object.index, object.sub, object.data_type),
+        (0x2ABC, 1, 5)
+    );
+    assert_eq!(rt; object.access, Access::ReadWriteOutput);
+    Ok(())
+}
+
+#[test]
+fn amounts_are_read(rt: HostRuntime) {
+    let rows: [(&[u8], Result<Amount, Rule>); 10] = [
+        (b"12", Ok(Amount::Decimal(12))),
+        (b"-12", Ok(Amount::Negative(12))),
+        (b"0XfF", Ok(Amount::Hexadecimal(255))),
+        (b"$nodeid", Ok(Amount::PlusNode(0))),
+        (b"$NODEID + 3", Ok(Amount::PlusNode(3))),
+        (b"0x180+$NODEID", Ok(Amount::PlusNode(0x180))),
+        (b"-010", Err(Rule::AmbiguousNumber)),
+        (b"$NODEID+010", Err(Rule::AmbiguousNumber)),
+        (b"$NODEID+-5", Err(Rule::Number)),
+        (b"-0x5", Err(Rule::Number)),
+    ];
+    for (text, amount) in rows {
+        assert_eq!(rt; amount_of(text), amount);
+    }
+    assert_eq!(rt; number_of(b"08"), Ok(8));
+    assert_eq!(rt; number_of(b"010"), Err(Rule::AmbiguousNumber));
+    assert_eq!(rt; number_of(b"007"), Ok(7));
 }
