@@ -1,5 +1,9 @@
 -- Numbers of few bytes.
-use Rattle.std.proofs.Common.{◌≡◌, ◌≤◌, ◌<◌, ◌^◌, ℕ, true, false, List, [], ◌∷◌, length, take, drop, ◌-◌, slice_index_or, refl, sym, arith, length-drop}
+use Rattle.std.proofs.Common.{◌≡◌, ◌≤◌, ◌<◌, ◌^◌, ℕ, true, false, List, [], ◌∷◌, length, take, drop, ◌-◌, slice_index_or, refl, sym, arith, length-drop, Some}
+use Rattle.std.specs.Option.{ForSome}
+use Rattle.cop_dict.specs.declared.data_type.DataType.{DataType}
+use Rattle.cop_dict.specs.declared.data_type.DataType.TheVariants as types
+use Rattle.cop_dict.specs.Types.{width_of, greatest_of}
 use Rattle.std.proofs.Math.Seq.{take-length}
 use Rattle.std.proofs.Math.Nat.{pow-le-pow_right}
 use Rattle.std.proofs.lemmas.Bool.Decides.{nat_tests}
@@ -29,3 +33,21 @@ first_alone (b ∷ bs) le h = let none : number bs ≡ 0 = zeros bs (rw (rest_of
 pub first_not_alone : (bytes : List ℕ) → 1 ≤ length bytes → is_zero (take (length bytes - 1) (drop 1 bytes)) ≡ false → 256 ≤ number bytes
 first_not_alone [] le h = absurd (omega arith)
 first_not_alone (b ∷ bs) le h = let some : 1 ≤ number bs = not_zeros bs (rw (rest_of (b ∷ bs)) at h) in omega arith
+
+-- a value of a type that has numbers has at most 8 bytes
+pub short : (t : DataType) (greatest m n : ℕ) → greatest_of t ≡ Some greatest → ForSome (width_of t) (λ width. (m ≡ width) × (n ≡ width)) → n ≤ 8
+short types.Boolean greatest m n h fits = let width : n ≡ 1 = (fits 1 refl).1 in omega arith
+short types.Integer8 greatest m n h fits = let width : n ≡ 1 = (fits 1 refl).1 in omega arith
+short types.Integer16 greatest m n h fits = let width : n ≡ 2 = (fits 2 refl).1 in omega arith
+short types.Integer32 greatest m n h fits = let width : n ≡ 4 = (fits 4 refl).1 in omega arith
+short types.Integer64 greatest m n h fits = let width : n ≡ 8 = (fits 8 refl).1 in omega arith
+short types.Unsigned8 greatest m n h fits = let width : n ≡ 1 = (fits 1 refl).1 in omega arith
+short types.Unsigned16 greatest m n h fits = let width : n ≡ 2 = (fits 2 refl).1 in omega arith
+short types.Unsigned32 greatest m n h fits = let width : n ≡ 4 = (fits 4 refl).1 in omega arith
+short types.Unsigned64 greatest m n h fits = let width : n ≡ 8 = (fits 8 refl).1 in omega arith
+short types.Real32 greatest m n h fits = cc
+short types.Real64 greatest m n h fits = cc
+short types.VisibleString greatest m n h fits = cc
+short types.OctetString greatest m n h fits = cc
+short types.Domain greatest m n h fits = cc
+short types.Opaque greatest m n h fits = cc

@@ -1,6 +1,5 @@
 -- Patterns and bytes stand for the numbers that are written.
-use Rattle.std.proofs.Common.{◌≡◌, ◌≤◌, ◌<◌, ◌+◌, ◌-◌, ◌*◌, ◌/◌, ◌%◌, ◌^◌, ◌==◌, ℕ, zero, suc, ℤ, pos, neg_ℤ, ◌-ℤ◌, Bool, true, false, cond, nat_lt, nat_le, List, [], ◌∷◌, length, Option, Some, None, refl, ap, sym, ◌∙◌, arith, pow-suc}
-use Rattle.std.specs.Option.{option_map_or}
+use Rattle.std.proofs.Common.{◌≡◌, ◌≤◌, ◌<◌, ◌+◌, ◌-◌, ◌*◌, ◌/◌, ◌%◌, ◌^◌, ◌==◌, ℕ, zero, suc, ℤ, pos, neg_ℤ, Bool, true, false, cond, nat_lt, nat_le, List, [], ◌∷◌, length, Some, None, refl, ap, sym, ◌∙◌, arith, pow-suc}
 use Rattle.std.specs.Int.{bytes_low_first, byte_at}
 use Rattle.std.specs.List.{All}
 use Rattle.std.proofs.Math.Nat.{div-div-eq-div-mul}

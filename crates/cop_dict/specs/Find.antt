@@ -1,9 +1,9 @@
 -- A dictionary as contracts see it: a finite map from index and sub to an entry, as a list that rises by index and sub.
-use Rattle.std.specs.Prelude.{◌≡◌, ℕ, Bool, true, ◌&&◌, ◌||◌, List, ◌==◌, nat_lt, if◌then◌else◌, Option, Some, None, find}
+use Rattle.std.specs.Prelude.{◌≡◌, ℕ, Bool, true, ◌&&◌, ◌||◌, List, ◌==◌, nat_lt, if◌then◌else◌, ℤ, Option, Some, None, option_map, find}
 use Rattle.std.specs.List.{AllPairs}
 use Rattle.cop_dict.specs.declared.description.Description.{Description}
-use Rattle.cop_dict.specs.Types.{is_unsigned32}
-use Rattle.cop_dict.specs.Number.{number}
+use Rattle.cop_dict.specs.Types.{is_unsigned32, greatest_of}
+use Rattle.cop_dict.specs.Number.{number, value_of}
 
 -- what stands at an index and a sub
 pub record Entry : Type 0 where
@@ -16,6 +16,10 @@ pub record Entry : Type 0 where
 -- the number that an UNSIGNED32 holds
 abbrev pub unsigned32_of : Entry → Option ℕ
 unsigned32_of entry = if is_unsigned32 entry.description.data_type then Some (number entry.value) else None
+
+-- the number that a value stands for, in a type that has numbers
+abbrev pub integer_of : Entry → Option ℤ
+integer_of entry = option_map (λ _. value_of entry.description.data_type (number entry.value)) (greatest_of entry.description.data_type)
 
 abbrev pub is_at : ℕ → ℕ → Entry → Bool
 is_at index sub entry = (entry.index == index) && (entry.sub == sub)

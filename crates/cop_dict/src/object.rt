@@ -4,7 +4,7 @@ ghost use Rattle.std.specs.Prelude.{◌≡◌, ◌<◌, ◌^◌, length, IfSome,
 ghost use Rattle.std.specs.Option.{ForSome};
 ghost use Rattle.cop_dict.specs.declared.abort.Abort.TheVariants.{NoMemory};
 ghost use Rattle.cop_dict.specs.Types.{width_of};
-ghost use Rattle.cop_dict.specs.Find.{unsigned32_of, is_at, is_before};
+ghost use Rattle.cop_dict.specs.Find.{integer_of, unsigned32_of, is_at, is_before};
 ghost use Rattle.cop_dict.specs.Dict.{valued, as_built, reset_communication, IsSized};
 
 use crate::abort::Abort;
@@ -131,6 +131,17 @@ impl Object {
         ensures sized { IsSized self.now }
     {
         &self.initial
+    }
+
+    /// The number that the value stands for, in a type that has numbers.
+    pub fn integer(&self) -> Option<i128>
+        ensures { result ≡ integer_of self.now }
+    {
+        let data_type = self.description.data_type;
+        match data_type.greatest() {
+            Some(_) => Some(data_type.value_of(number(&self.value))),
+            None => None,
+        }
     }
 
     /// The number that an UNSIGNED32 holds.

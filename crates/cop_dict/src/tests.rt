@@ -209,6 +209,8 @@ fn types(rt: HostRuntime) -> Result<(), Fail> {
     assert_eq!(rt; dict.read(0x1800, 1)?, [0x85, 0x01, 0x00, 0x00].as_slice());
     assert_eq!(rt; dict.read(0x2000, 2)?, [1].as_slice());
     assert_eq!(rt; dict.read(0x2001, 0)?, [0xFE, 0xFF].as_slice());
+    let limited = dict.entry(0x2001, 0);
+    assert_eq!(rt; limited.and_then(|entry| entry.integer()), Some(-2));
     assert_eq!(rt; dict.read(0x2002, 0)?, b"n+$NODEID".as_slice());
     assert_eq!(rt; dict.read(0x2003, 0), Err(Abort::OpaqueType));
     assert_eq!(rt; dict.read(0x2004, 0), Err(Abort::WriteOnly));
