@@ -1,9 +1,8 @@
 -- Bits and the numbers that they are.
-use Rattle.std.proofs.Common.{◌≡◌, ◌<◌, ◌≤◌, ◌+◌, ◌-◌, ◌*◌, ◌/◌, ◌%◌, ◌^◌, ℕ, zero, suc, Bool, true, false, List, [], ◌∷◌, ◌++◌, take, drop, length, All, ◌==◌, if◌then◌else◌, refl, ap, sym, arith, ◌∙◌, add-one, lit<, mul_comm}
+use Rattle.std.proofs.Common.{◌≡◌, ◌<◌, ◌+◌, ◌*◌, ◌/◌, ◌%◌, ◌^◌, ℕ, zero, suc, Bool, true, false, List, [], ◌∷◌, ◌++◌, take, drop, length, ◌==◌, if◌then◌else◌, refl, ap, sym, arith, ◌∙◌, add-one, lit<, mul_comm}
 use Rattle.std.proofs.Math.Nat.{div-div-eq-div-mul, pow-succ', zero-mod, zero-div}
-use Rattle.std.proofs.lemmas.Nat.{mod-pow-add, pow-add, div-add-mod'}
+use Rattle.std.proofs.lemmas.Nat.{mod-pow-add}
 use Rattle.std.specs.Int.{bytes_low_first, byte_at}
-use Rattle.cop_dict.specs.Number.{number}
 use Rattle.cop_pdo.specs.Bits.{bits_of_number, number_of_bits, bytes_of_bits}
 
 -- a bit in front of a number

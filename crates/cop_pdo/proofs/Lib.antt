@@ -3,3 +3,4 @@ pub mod PayloadLemmas
 pub mod BitLemmas
 pub mod MovingLemmas
 pub mod UnpackLemmas
+pub mod LawLemmas

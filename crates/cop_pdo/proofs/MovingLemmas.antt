@@ -1,5 +1,5 @@
 -- Payloads, one entry more.
-use Rattle.std.proofs.Common.{◌≡◌, ◌<◌, ◌≤◌, ◌+◌, ◌*◌, ◌^◌, ◌%◌, ℕ, zero, suc, Bool, true, false, List, [], ◌∷◌, ◌++◌, length, refl, ap, sym, arith, ◌∙◌, mul_comm, length-append, take, drop, get_or, All, ◌-◌, lit<, ⊎_elim, mul-le-mul_right}
+use Rattle.std.proofs.Common.{◌≡◌, ◌<◌, ◌≤◌, ◌+◌, ◌*◌, ◌^◌, ◌%◌, ℕ, zero, suc, Bool, true, List, [], ◌∷◌, ◌++◌, length, refl, ap, sym, arith, ◌∙◌, mul_comm, length-append, take, drop, get_or, All, ◌-◌, lit<, ⊎_elim, mul-le-mul_right}
 use Rattle.std.proofs.Math.Nat.{mul-lt-mul_of_pos_right, pow-le-pow_right, mod-eq_of_lt}
 use Rattle.std.proofs.lemmas.Bool.{cases_lt}
 use Rattle.std.proofs.lemmas.Nat.{pow-add, pow_pos}
@@ -12,7 +12,7 @@ use Rattle.cop_dict.specs.Find.{Entry}
 use Rattle.cop_dict.specs.Mapping.{total_bits}
 use Rattle.cop_pdo.specs.Payload.{is_there}
 use Rattle.cop_pdo.specs.Bits.{bits_of_number, number_of_bits, bits_of_entries, mapped_number}
-use Rattle.cop_pdo.proofs.BitLemmas.{number_appended, length_lowest, number_small, number_lowest}
+use Rattle.cop_pdo.proofs.BitLemmas.{number_appended, length_lowest, number_small}
 
 -- the number of an entry's bits and those after them
 pub one_more : (n value : ℕ) (bits : List Bool) → number_of_bits (bits_of_number n value ++ bits) ≡ number_of_bits (bits_of_number n value) + number_of_bits bits * 2 ^ n

@@ -1,7 +1,7 @@
 -- The layout of a mapping record, and what holds of it.
-use Rattle.std.proofs.Common.{◌≡◌, ◌<◌, ◌≤◌, ◌+◌, ◌*◌, ◌^◌, ℕ, zero, suc, Bool, true, false, List, [], ◌∷◌, length, All, nat_lt, Option, Some, None, Result, Ok, Err, refl, ap, sym, subst, arith, ◌∙◌, option_and_then, if◌then◌else◌, ◌==◌, ◌&&◌, true≢false}
+use Rattle.std.proofs.Common.{◌≡◌, ◌<◌, ◌≤◌, ◌+◌, ℕ, zero, suc, Bool, true, false, List, [], ◌∷◌, length, All, nat_lt, Option, Some, None, Result, Ok, Err, refl, ap, sym, subst, arith, ◌∙◌, option_and_then, if◌then◌else◌, ◌&&◌, true≢false}
 use Rattle.std.specs.Option.{option_map_or}
-use Rattle.std.proofs.lemmas.Bool.{ltb-true, ltb-false, eqb-true, lt-ltb}
+use Rattle.std.proofs.lemmas.Bool.{ltb-true, ltb-false, lt-ltb}
 use Rattle.std.proofs.lemmas.List.Elements.{All-cons, All-nil}
 use Rattle.cop_dict.specs.declared.mapping.Mapped.{Mapped}
 use Rattle.cop_dict.specs.declared.mapping.Direction.{Direction}
@@ -13,7 +13,7 @@ use Rattle.cop_dict.specs.declared.data_type.DataType.TheVariants as types
 use Rattle.cop_dict.specs.Types.{bits_of, type_numbered}
 use Rattle.cop_dict.specs.Find.{Entry, entry_at, unsigned32_of}
 use Rattle.cop_dict.specs.Mapping.{mapped_at, mapped_from, mapped_by, mapped_number, mapped_object, can_map, has_bits, is_dummy, direction_of, fields_of, layout, total_bits, ◌>>=◌}
-use Rattle.cop_pdo.specs.Payload.{is_there, mapping_of, IsPayload, HasObjects, Layout}
+use Rattle.cop_pdo.specs.Payload.{is_there, mapping_of}
 
 pub too_many : (dict : List Entry) (at count : ℕ) → 64 < count → layout dict at count ≡ Err faults.TooLong
 unfolding layout

@@ -1,5 +1,5 @@
 -- Values that a payload gives.
-use Rattle.std.proofs.Common.{◌≡◌, ◌<◌, ◌≤◌, ◌+◌, ◌-◌, ◌*◌, ◌/◌, ◌%◌, ◌^◌, ℕ, zero, suc, Bool, true, false, not, List, [], ◌∷◌, ◌++◌, take, drop, map, length, All, get_or, Option, Some, None, option_map, refl, ap, sym, arith, ◌∙◌, true≢false, if◌then◌else◌, ◌==◌, ◌||◌, lit<}
+use Rattle.std.proofs.Common.{◌≡◌, ◌<◌, ◌≤◌, ◌+◌, ◌-◌, ◌*◌, ◌/◌, ◌%◌, ◌^◌, ℕ, zero, suc, Bool, true, false, List, [], ◌∷◌, take, drop, length, All, get_or, Option, Some, None, option_map, refl, ap, sym, arith, ◌∙◌, true≢false, if◌then◌else◌, ◌||◌, lit<}
 use Rattle.std.specs.Option.{option_map_or}
 use Rattle.std.specs.Int.{bytes_low_first, div_ceil}
 use Rattle.std.proofs.Math.Nat.{mod-eq_of_lt, pow-le-pow_right, pow-succ', div-eq_of_lt}
@@ -19,7 +19,7 @@ use Rattle.cop_dict.proofs.Replaced.{found_map}
 use Rattle.cop_dict.proofs.DictLemmas.{valued_kept}
 use Rattle.cop_pdo.specs.Payload.{is_there}
 use Rattle.cop_pdo.specs.Bits.{bits_of_number, number_of_bits, bytes_of_bits, bits_of_bytes, bytes_for, received, unpacked}
-use Rattle.cop_pdo.proofs.BitLemmas.{low_bytes, bytes_are_low, std_bytes_are_low, number_lowest, number_taken, number_dropped}
+use Rattle.cop_pdo.proofs.BitLemmas.{low_bytes, bytes_are_low, std_bytes_are_low, number_lowest}
 use Rattle.cop_pdo.proofs.MovingLemmas.{none, rest_of}
 
 pub lowered_away : (n b : ℕ) → n < 2 ^ 64 → 64 ≤ b → 0 ≡ n / 2 ^ b

@@ -1,6 +1,6 @@
 -- Payloads as lists of bits (CiA 301, "PDO mapping parameter record"): each mapped object's bits in the order of the
 -- entries, the least significant first.
-use Rattle.std.specs.Prelude.{ℕ, zero, suc, ◌+◌, ◌*◌, ◌/◌, ◌%◌, Bool, true, List, [], ◌∷◌, ◌++◌, take, drop, length, ◌==◌, if◌then◌else◌, Option}
+use Rattle.std.specs.Prelude.{◌≡◌, ℕ, zero, suc, ◌+◌, ◌*◌, ◌/◌, ◌%◌, ◌^◌, ◌<◌, Bool, false, not, ◌&&◌, ◌||◌, All, IfSome, option_map, List, [], ◌∷◌, ◌++◌, take, drop, length, ◌==◌, if◌then◌else◌, Option}
 use Rattle.std.specs.Option.{option_map_or}
 use Rattle.cop_dict.specs.declared.mapping.Direction.{Direction}
 use Rattle.cop_dict.specs.declared.mapping.Mapped.{Mapped}
@@ -57,3 +57,24 @@ abbrev pub unpacked : List Entry → Direction → List Mapped → List Bool →
 unpacked dict direction [] bits = dict
 unpacked dict direction (mapped ∷ rest) bits =
     unpacked (received dict direction mapped (take mapped.bits bits)) direction rest (drop mapped.bits bits)
+
+-- an object is one of those mapped, other than as bits that go nowhere
+abbrev pub is_mapped : Direction → List Mapped → ℕ → ℕ → Bool
+is_mapped direction [] index sub = false
+is_mapped direction (mapped ∷ rest) index sub =
+    (not (is_dummy direction mapped) && ((mapped.index == index) && (mapped.sub == sub))) || is_mapped direction rest index sub
+
+-- the value of an object, if it is there
+abbrev pub value_at : List Entry → ℕ → ℕ → Option (List ℕ)
+value_at dict index sub = option_map (λ entry. entry.value) (entry_at dict index sub)
+
+-- a value is as many bytes as hold its bits, and its number has no more bits
+pub record IsProper (bits : ℕ) (value : List ℕ) : Type 0 where
+  pub width : length value ≡ bytes_for bits
+  pub bytes : All (λ byte. byte < 256) value
+  pub small : number value < 2 ^ bits
+
+-- each mapped object has such a value
+abbrev pub HasProperValues : List Entry → Layout → Type 0
+HasProperValues dict layout =
+    All (λ mapped. is_dummy layout.direction mapped ≡ false → IfSome (value_at dict mapped.index mapped.sub) (IsProper mapped.bits)) layout.entries

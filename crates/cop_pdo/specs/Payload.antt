@@ -1,7 +1,6 @@
 -- What a PDO moves (CiA 301, "PDO mapping parameter record").
-use Rattle.std.specs.Prelude.{◌≡◌, ℕ, ◌+◌, ◌-◌, ◌≤◌, Bool, true, false, not, ◌&&◌, ◌||◌, List, [], ◌∷◌, length, All, ◌==◌, nat_lt, if◌then◌else◌, Option, Some, None, option_and_then, is_some, Result, Ok, Err, IfSome}
+use Rattle.std.specs.Prelude.{◌≡◌, ℕ, ◌+◌, ◌≤◌, Bool, true, false, not, ◌&&◌, ◌||◌, List, [], ◌∷◌, length, All, ◌==◌, nat_lt, if◌then◌else◌, Option, Some, None, option_and_then, is_some, Result, Ok, Err}
 use Rattle.std.specs.Option.{option_map_or}
-use Rattle.std.specs.List.{list_all, list_any}
 use Rattle.cop_dict.specs.declared.data_type.DataType.{DataType}
 use Rattle.cop_dict.specs.declared.data_type.DataType.TheVariants as types
 use Rattle.cop_dict.specs.declared.mapping.Direction.{Direction}

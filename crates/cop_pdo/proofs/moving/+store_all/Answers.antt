@@ -1,4 +1,4 @@
-use Rattle.std.proofs.Common.{◌≡◌, ◌∙◌, ℕ, take, drop, get_or, sym}
+use Rattle.std.proofs.Common.{◌∙◌, ℕ, take, drop, get_or, sym}
 use Rattle.cop_pdo.proofs.MovingLemmas.{none}
 use Rattle.cop_pdo.proofs.BitLemmas.{number_taken, number_dropped}
 use Rattle.cop_pdo.proofs.UnpackLemmas.{rest_unpacked}

@@ -1,4 +1,4 @@
-use Rattle.std.proofs.Common.{◌∙◌, rules}
+use Rattle.std.proofs.Common.{◌∙◌}
 use Rattle.cop_pdo.proofs.BitLemmas.{word_bytes}
 use Rattle.cop_pdo.specs.Bits.{payload_bits}
 use Rattle.cop_pdo.proofs.moving.pack.Goals as goal

@@ -1,6 +1,6 @@
-use Rattle.std.proofs.Common.{◌≡◌, ◌∙◌, ℕ, List, take, sym}
+use Rattle.std.proofs.Common.{◌≡◌, ◌∙◌, take, sym}
 use Rattle.cop_dict.specs.Mapping.{total_bits}
-use Rattle.cop_pdo.specs.Bits.{bits_of_bytes, bytes_for, unpacked}
+use Rattle.cop_pdo.specs.Bits.{bits_of_bytes, bytes_for}
 use Rattle.cop_pdo.proofs.UnpackLemmas.{bytes_number}
 use Rattle.cop_pdo.proofs.moving.unpack.Goals as goal
 

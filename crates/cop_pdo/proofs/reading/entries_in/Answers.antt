@@ -1,5 +1,5 @@
 use Rattle.std.proofs.Common.{◌∙◌, sym, arith, length-append}
-use Rattle.cop_pdo.proofs.ReadingLemmas.{goes_on, finishes, fails}
+use Rattle.cop_pdo.proofs.ReadingLemmas.{goes_on}
 use Rattle.cop_pdo.proofs.reading.entries_in.Goals as goal
 
 pub loop-done-preserved : goal.loop-done-preserved

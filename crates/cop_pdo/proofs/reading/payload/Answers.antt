@@ -1,5 +1,4 @@
-use Rattle.std.proofs.Common.{ℕ, ◌≡◌, ◌+◌, ap}
-use Rattle.cop_pdo.specs.Payload.{mapping_of}
+use Rattle.std.proofs.Common.{ℕ, ◌+◌, ap}
 use Rattle.cop_pdo.proofs.PayloadLemmas.{pdo_layout}
 use Rattle.cop_pdo.proofs.reading.payload.Goals as goal
 
