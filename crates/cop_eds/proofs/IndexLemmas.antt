@@ -360,9 +360,9 @@ pub apart_more : (entries : List Entry) (i : ℕ) (e : Entry) → 1 ≤ i → i 
     → AllAdjacentBelow (λ x y. bytes_eq (sort_key x) (sort_key y) ≡ false) entries (i + 1)
 apart_more entries i e pos lt differ so_far =
     all_adjacent_more entries (λ x y. bytes_eq (sort_key x) (sort_key y) ≡ false) i pos so_far (λ d.
-        let one : get_or entries (i - 1) d ≡ get_or entries (i - 1) e = get_or_same entries (i - 1) e d (omega arith) in
-        let two : get_or entries i d ≡ get_or entries i e = get_or_same entries i e d lt in
-        rw (one, two) differ)
+    let one : get_or entries (i - 1) d ≡ get_or entries (i - 1) e = get_or_same entries (i - 1) e d (omega arith) in
+    let two : get_or entries i d ≡ get_or entries i e = get_or_same entries i e d lt in
+    rw (one, two) differ)
 
 -- then no two entries have one key
 never_both : (entries : List Entry) (key : List ℕ) (m n : ℕ) → IsSorted entry_cmp entries → Apart entries
@@ -397,9 +397,9 @@ none_before text lines entries key p x index apart at passes =
     let b = entry_match text lines entries key index p x at passes in
     let earlier : (q : ℕ) (y : Line) → q < p → slice_get lines q ≡ Some y → is_found_by text key y ≡ false =
     λ q y less at_q. by_test (is_found_by text key y) (λ h.
-        let a = entry_match text lines entries key index q y at_q h in
-        let same : q + 1 ≡ p + 1 = one_place entries key (q + 1) (p + 1) index.sorted apart a b in
-        absurd (omega arith)) in
+    let a = entry_match text lines entries key index q y at_q h in
+    let same : q + 1 ≡ p + 1 = one_place entries key (q + 1) (p + 1) index.sorted apart a b in
+    absurd (omega arith)) in
     let first : first_from 1 (is_found_by text key) lines ≡ Some (1 + p, x) = first_some 1 (is_found_by text key) lines p x at passes earlier in
     let late : nat_lt (1 + p) (1 + p) ≡ false = grind (arith, nat_tests) in
     first_earlier 1 p (1 + p) (is_found_by text key) lines x first ∙ late
