@@ -14,6 +14,7 @@ use Rattle.std.proofs.lemmas.Cmp.{tied_itself}
 use Rattle.std.proofs.lemmas.Option.{get_or_from_slice_get, slice_get-get_or}
 use Rattle.std.proofs.lemmas.List.Sorted.{sorted_far, searchable_from_sorted, ranks_by, all_adjacent_more}
 use Rattle.std.proofs.lemmas.List.Elements.{All-append, Contains-append_left, Contains-append_right}
+use Rattle.std.proofs.Math.Bool.{and-false}
 use Rattle.std.proofs.lemmas.Bool.Decides.{nat_tests}
 use Rattle.cop_eds.specs.declared.fault.Rule.{Rule}
 use Rattle.cop_eds.specs.declared.fault.Rule.TheVariants as rules
@@ -22,7 +23,7 @@ use Rattle.cop_eds.specs.declared.line.Kind.TheVariants.{Other, Header, Pair}
 use Rattle.cop_eds.specs.declared.line.Line.{Line}
 use Rattle.cop_eds.specs.declared.entry.Entry.{Entry}
 use Rattle.cop_eds.specs.Text.{name_of, key_of}
-use Rattle.cop_eds.specs.Lines.{first_from, text_of, is_named, is_keyed, broken, broken_by_kind}
+use Rattle.cop_eds.specs.Lines.{first_from, text_of, is_kind, is_named, is_keyed, broken, broken_by_kind}
 use Rattle.cop_eds.proofs.KeyLemmas.{any_named, any_keyed}
 use Rattle.cop_eds.specs.Index.{line_key, header_key, pair_key, of_kind, has_key, is_found_by, sort_key, is_below, entry_cmp, IsEntry, IsIndex}
 
@@ -287,19 +288,20 @@ line_within text lines entries i d index lt =
 
 -- the entries of the lines so far
 
-abbrev AreComplete : List ℕ → List Line → List Entry → ℕ → Type 0
-AreComplete text lines entries n =
-    (place : ℕ) (line : Line) → place < n → slice_get lines place ≡ Some line → IsSome (line_key text line)
+-- the lines of a kind that are found by a name
+abbrev is_wanted : List ℕ → Kind → Line → Bool
+is_wanted text kind line = is_kind line.kind kind && is_some (line_key text line)
+
+abbrev AreComplete : List ℕ → Kind → List Line → List Entry → ℕ → Type 0
+AreComplete text kind lines entries n =
+    (place : ℕ) (line : Line) → place < n → slice_get lines place ≡ Some line → is_wanted text kind line ≡ true
     → (entry : Entry) × Contains entries entry × (entry.line ≡ place + 1)
 
-no_key : (o : Option (List ℕ)) → o ≡ None → IsSome o → ⊥
-no_key o e some = let none : false ≡ true = sym (ap is_some e) ∙ some in cc
+false_true : false ≡ true → ⊥
+false_true e = cc
 
-skip_by : (text : List ℕ) (lines : List Line) (i : ℕ) (d line : Line) → line_key text (get_or lines i d) ≡ None
-    → slice_get lines i ≡ Some line → IsSome (line_key text line) → ⊥
-skip_by text lines i d line none at some =
-    let same : get_or lines i d ≡ line = get_or_from_slice_get lines i line d at in
-    no_key (line_key text line) (ap (line_key text) (sym same) ∙ none) some
+no_key : (o : Option (List ℕ)) → o ≡ None → IsSome o → ⊥
+no_key o e some = false_true (sym (ap is_some e) ∙ some)
 
 by_last : (b : Bool) (place i : ℕ) → nat_lt place i ≡ b → place < i + 1 → (place < i) ⊎ (place ≡ i)
 by_last true place i e lt = inl (grind (arith, nat_tests))
@@ -312,17 +314,55 @@ all_one_by P e h (suc k) d lt = absurd (omega arith)
 at_last : (place i : ℕ) → place < i + 1 → (place < i) ⊎ (place ≡ i)
 at_last place i lt = by_last (nat_lt place i) place i refl lt
 
-pub complete_skip : (text : List ℕ) (lines : List Line) (entries : List Entry) (i : ℕ) (d : Line) → line_key text (get_or lines i d) ≡ None
-    → AreComplete text lines entries i → AreComplete text lines entries (i + 1)
-complete_skip text lines entries i d none so_far place line lt at some =
+pub complete_skip : (text : List ℕ) (kind : Kind) (lines : List Line) (entries : List Entry) (i : ℕ) (d : Line) → is_wanted text kind (get_or lines i d) ≡ false
+    → AreComplete text kind lines entries i → AreComplete text kind lines entries (i + 1)
+complete_skip text kind lines entries i d none so_far place line lt at some =
     ⊎_elim (λ before. so_far place line before at some)
-    (λ same. absurd (skip_by text lines i d line none (ap (slice_get lines) (sym same) ∙ at) some)) (at_last place i lt)
+    (λ same.
+        let its : get_or lines i d ≡ line = get_or_from_slice_get lines i line d (ap (slice_get lines) (sym same) ∙ at) in
+        let never : false ≡ true = sym none ∙ ap (is_wanted text kind) its ∙ some in
+        absurd (false_true never)) (at_last place i lt)
 
-pub complete_push : (text : List ℕ) (lines : List Line) (entries : List Entry) (i : ℕ) (e : Entry) → e.line ≡ i + 1
-    → AreComplete text lines entries i → AreComplete text lines (entries ++ e ∷ []) (i + 1)
-complete_push text lines entries i e number so_far place line lt at some =
+pub complete_push : (text : List ℕ) (kind : Kind) (lines : List Line) (entries : List Entry) (i : ℕ) (e : Entry) → e.line ≡ i + 1
+    → AreComplete text kind lines entries i → AreComplete text kind lines (entries ++ e ∷ []) (i + 1)
+complete_push text kind lines entries i e number so_far place line lt at some =
     ⊎_elim (λ before. let x = so_far place line before at some in (x.0, Contains-append_left entries (e ∷ []) x.0 x.1, x.2))
     (λ same. (e, Contains-append_right entries (e ∷ []) e (0, omega arith, refl), number ∙ ap (λ n. n + 1) (sym same))) (at_last place i lt)
+
+pub kept_push : (old entries : List Entry) (e : Entry) → ((x : Entry) → Contains old x → Contains entries x)
+    → (x : Entry) → Contains old x → Contains (entries ++ e ∷ []) x
+kept_push old entries e so_far x c = Contains-append_left entries (e ∷ []) x (so_far x c)
+
+pub other_kind : (text : List ℕ) (kind : Kind) (line : Line) → is_kind line.kind kind ≡ false → is_wanted text kind line ≡ false
+other_kind text kind line e = ap (λ b. b && is_some (line_key text line)) e
+
+pub nameless : (text : List ℕ) (kind : Kind) (line : Line) → line_key text line ≡ None → is_wanted text kind line ≡ false
+nameless text kind line e = ap (λ o. is_kind line.kind kind && is_some o) e ∙ and-false (is_kind line.kind kind)
+
+wanted_by : (kind : Kind) (b : Bool) → b ≡ true → ((is_kind kind Header && b) ≡ true) ⊎ (((is_kind kind Pair && b) ≡ true) ⊎ (kind ≡ Other))
+wanted_by Other b e = inr (inr refl)
+wanted_by Header b e = inl e
+wanted_by Pair b e = inr (inl e)
+
+-- headers and pairs are all that is found by a name
+pub complete_both : (text : List ℕ) (lines : List Line) (entries : List Entry)
+    → AreComplete text Header lines entries (length lines) → AreComplete text Pair lines entries (length lines)
+    → (place : ℕ) (line : Line) → slice_get lines place ≡ Some line → IsSome (line_key text line)
+    → (entry : Entry) × Contains entries entry × (entry.line ≡ place + 1)
+complete_both text lines entries headers pairs place line at some =
+    let lt : place < length lines = slice_get_below lines place line at in
+    ⊎_elim (λ h. headers place line lt at h)
+    (λ rest. ⊎_elim (λ p. pairs place line lt at p)
+        (λ other.
+            let none : line_key text line ≡ None = ap (λ k. of_kind k (header_key (name_of (text_of text line))) (pair_key line.section (key_of (text_of text line)))) other in
+            absurd (no_key (line_key text line) none some)) rest)
+    (wanted_by line.kind (is_some (line_key text line)) some)
+
+pub complete_kept : (text : List ℕ) (kind : Kind) (lines : List Line) (old entries : List Entry) (n : ℕ)
+    → ((x : Entry) → Contains old x → Contains entries x) → AreComplete text kind lines old n → AreComplete text kind lines entries n
+complete_kept text kind lines old entries n kept complete place line lt at some =
+    let x = complete place line lt at some in
+    (x.0, kept x.0 x.1, x.2)
 
 pub sound_push : (text : List ℕ) (lines : List Line) (entries : List Entry) (i : ℕ) (d : Line) (e : Entry) → i < length lines → e.line ≡ i + 1
     → line_key text (get_or lines i d) ≡ Some (sort_key e) → All (IsEntry text lines) entries → All (IsEntry text lines) (entries ++ e ∷ [])
