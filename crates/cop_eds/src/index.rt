@@ -174,3 +174,21 @@ pub fn find_in(lines: &[Line], entries: &[Entry<'_>], key: &Entry<'_>) -> Option
     }
     Some((number, lines[number - 1]))
 }
+
+/// The number of the first object's section from a number on.
+pub fn next_code(entries: &[Entry<'_>], code: u64) -> Option<u64>
+    ensures { (text : List ℕ) (lines : List Line) → IsIndex text lines entries.now → MatchOption result
+        ((c : ℕ) → code ≤ c → first_from 1 (is_found_by text (0 ∷ c ∷ [])) lines ≡ None)
+        (λ next. (code ≤ next) × (is_some (first_from 1 (is_found_by text (0 ∷ next ∷ [])) lines) ≡ true)
+            × ((c : ℕ) → code ≤ c → c < next → first_from 1 (is_found_by text (0 ∷ c ∷ [])) lines ≡ None)) }
+{
+    let place = lower_bound(entries, &coded_entry(code));
+    if place >= entries.len() {
+        return None;
+    }
+    let entry = entries[place];
+    if entry.group != 0 {
+        return None;
+    }
+    Some(entry.code)
+}
