@@ -1,7 +1,7 @@
 -- Lines that are found by an index are the first that a walk over all lines finds.
 use Rattle.std.proofs.Common.{◌≡◌, ℕ, zero, suc, ◌+◌, ◌-◌, ◌<◌, ◌≤◌, Bool, true, false, cond, ◌&&◌, List, [], ◌∷◌, length, take, get_or, slice_get, slice_index, Contains, Option, Some, None, IsSome, refl, sym, ap, subst, ◌∙◌, arith, ◌==◌, nat_lt, nat_le, ◌++◌, ◌⊎◌, inl, inr, ⊎_elim, is_some}
 use Rattle.std.specs.List.{All, AllAdjacentBelow, list_any}
-use Rattle.std.specs.List.Sorted.{IsSorted, IsSortedByKey, IsNonDecreasingBy, IsPartitionedBy, IsPartitionPoint}
+use Rattle.std.specs.List.Sorted.{IsSorted, IsNonDecreasingBy, IsPartitionedBy, IsPartitionPoint}
 use Rattle.std.specs.Ordering.{MatchOrdering, nat_cmp, is_lt, is_eq, ordering_index, ordering_then}
 use Rattle.std.specs.declared.cmp.Ordering.{Ordering}
 use Rattle.std.specs.declared.cmp.Ordering.TheVariants.{Less, Equal, Greater}
@@ -14,7 +14,6 @@ use Rattle.std.proofs.lemmas.Cmp.{tied_itself}
 use Rattle.std.proofs.lemmas.Option.{get_or_from_slice_get, slice_get-get_or}
 use Rattle.std.proofs.lemmas.List.Sorted.{sorted_far, searchable_from_sorted, ranks_by, all_adjacent_more}
 use Rattle.std.proofs.lemmas.List.Elements.{All-append, Contains-append_left, Contains-append_right}
-use Rattle.std.proofs.Math.Bool.{and-false}
 use Rattle.std.proofs.lemmas.Bool.Decides.{nat_tests}
 use Rattle.cop_eds.specs.declared.fault.Rule.{Rule}
 use Rattle.cop_eds.specs.declared.fault.Rule.TheVariants as rules
@@ -329,15 +328,6 @@ all_one_by P e h (suc k) d lt = absurd (omega arith)
 at_last : (place i : ℕ) → place < i + 1 → (place < i) ⊎ (place ≡ i)
 at_last place i lt = by_last (nat_lt place i) place i refl lt
 
-pub complete_skip : (text : List ℕ) (kind : Kind) (lines : List Line) (entries : List Entry) (i : ℕ) (d : Line) → is_wanted text kind (get_or lines i d) ≡ false
-    → AreComplete text kind lines entries i → AreComplete text kind lines entries (i + 1)
-complete_skip text kind lines entries i d none so_far place line lt at some =
-    ⊎_elim (λ before. so_far place line before at some)
-    (λ same.
-        let its : get_or lines i d ≡ line = get_or_from_slice_get lines i line d (ap (slice_get lines) (sym same) ∙ at) in
-        let never : false ≡ true = sym none ∙ ap (is_wanted text kind) its ∙ some in
-        absurd (false_true never)) (at_last place i lt)
-
 pub complete_push : (text : List ℕ) (kind : Kind) (lines : List Line) (entries : List Entry) (i : ℕ) (e : Entry) → e.line ≡ i + 1
     → AreComplete text kind lines entries i → AreComplete text kind lines (entries ++ e ∷ []) (i + 1)
 complete_push text kind lines entries i e number so_far place line lt at some =
@@ -347,12 +337,6 @@ complete_push text kind lines entries i e number so_far place line lt at some =
 pub kept_push : (old entries : List Entry) (e : Entry) → ((x : Entry) → Contains old x → Contains entries x)
     → (x : Entry) → Contains old x → Contains (entries ++ e ∷ []) x
 kept_push old entries e so_far x c = Contains-append_left entries (e ∷ []) x (so_far x c)
-
-pub other_kind : (text : List ℕ) (kind : Kind) (line : Line) → is_kind line.kind kind ≡ false → is_wanted text kind line ≡ false
-other_kind text kind line e = ap (λ b. b && is_some (line_key text line)) e
-
-pub nameless : (text : List ℕ) (kind : Kind) (line : Line) → line_key text line ≡ None → is_wanted text kind line ≡ false
-nameless text kind line e = ap (λ o. is_kind line.kind kind && is_some o) e ∙ and-false (is_kind line.kind kind)
 
 wanted_by : (kind : Kind) (b : Bool) → b ≡ true → ((is_kind kind Header && b) ≡ true) ⊎ (((is_kind kind Pair && b) ≡ true) ⊎ (kind ≡ Other))
 wanted_by Other b e = inr (inr refl)
@@ -368,9 +352,9 @@ complete_both text lines entries headers pairs place line at some =
     let lt : place < length lines = slice_get_below lines place line at in
     ⊎_elim (λ h. headers place line lt at h)
     (λ rest. ⊎_elim (λ p. pairs place line lt at p)
-        (λ other.
-            let none : line_key text line ≡ None = ap (λ k. of_kind k (header_key (name_of (text_of text line))) (pair_key line.section (key_of (text_of text line)))) other in
-            absurd (no_key (line_key text line) none some)) rest)
+    (λ other.
+    let none : line_key text line ≡ None = ap (λ k. of_kind k (header_key (name_of (text_of text line))) (pair_key line.section (key_of (text_of text line)))) other in
+    absurd (no_key (line_key text line) none some)) rest)
     (wanted_by line.kind (is_some (line_key text line)) some)
 
 pub complete_kept : (text : List ℕ) (kind : Kind) (lines : List Line) (old entries : List Entry) (n : ℕ)
@@ -415,9 +399,9 @@ pub apart_more : (entries : List Entry) (i : ℕ) (e : Entry) → 1 ≤ i → i 
     → AllAdjacentBelow (λ x y. bytes_eq (sort_key x) (sort_key y) ≡ false) entries (i + 1)
 apart_more entries i e pos lt differ so_far =
     all_adjacent_more entries (λ x y. bytes_eq (sort_key x) (sort_key y) ≡ false) i pos so_far (λ d.
-        let one : get_or entries (i - 1) d ≡ get_or entries (i - 1) e = get_or_same entries (i - 1) e d (omega arith) in
-        let two : get_or entries i d ≡ get_or entries i e = get_or_same entries i e d lt in
-        rw (one, two) differ)
+    let one : get_or entries (i - 1) d ≡ get_or entries (i - 1) e = get_or_same entries (i - 1) e d (omega arith) in
+    let two : get_or entries i d ≡ get_or entries i e = get_or_same entries i e d lt in
+    rw (one, two) differ)
 
 -- then no two entries have one key
 never_both : (entries : List Entry) (key : List ℕ) (m n : ℕ) → IsSorted entry_cmp entries → Apart entries
@@ -452,9 +436,9 @@ none_before text lines entries key p x index apart at passes =
     let b = entry_match text lines entries key index p x at passes in
     let earlier : (q : ℕ) (y : Line) → q < p → slice_get lines q ≡ Some y → is_found_by text key y ≡ false =
     λ q y less at_q. by_test (is_found_by text key y) (λ h.
-        let a = entry_match text lines entries key index q y at_q h in
-        let same : q + 1 ≡ p + 1 = one_place entries key (q + 1) (p + 1) index.sorted apart a b in
-        absurd (omega arith)) in
+    let a = entry_match text lines entries key index q y at_q h in
+    let same : q + 1 ≡ p + 1 = one_place entries key (q + 1) (p + 1) index.sorted apart a b in
+    absurd (omega arith)) in
     let first : first_from 1 (is_found_by text key) lines ≡ Some (1 + p, x) = first_some 1 (is_found_by text key) lines p x at passes earlier in
     let late : nat_lt (1 + p) (1 + p) ≡ false = grind (arith, nat_tests) in
     first_earlier 1 p (1 + p) (is_found_by text key) lines x first ∙ late
@@ -543,19 +527,19 @@ pub gap : (text : List ℕ) (lines : List Line) (entries : List Entry) (code c i
     → first_from 1 (is_found_by text (coded_key c)) lines ≡ None
 gap text lines entries code c i index parts le beyond =
     first_none 1 (is_found_by text (coded_key c)) lines (λ q y at_q. by_test (is_found_by text (coded_key c) y) (λ h.
-        let m = entry_match text lines entries (coded_key c) index q y at_q h in
-        let its_code : m.entry.code ≡ c = ap (λ xs. slice_index xs 1) m.same in
-        let after : i ≤ m.at = not_less m.at i (λ before.
-            let low : is_below (coded_key code) (get_or entries m.at m.entry) ≡ true = parts.0 m.at m.entry (omega arith) before in
-            let less : (get_or entries m.at m.entry).code < code = below_code code (get_or entries m.at m.entry) low in
-            let same : (get_or entries m.at m.entry).code ≡ m.entry.code = ap (λ (x : Entry). x.code) m.stands in
-            absurd (omega arith)) in
-        let here : i < length entries = omega (arith, m.below) in
-        let up : rank (coded_key c) (get_or entries i m.entry) ≤ rank (coded_key c) (get_or entries m.at m.entry) = rises (coded_key c) entries index.sorted i m.at m.entry after m.below in
-        let one : rank (coded_key c) (get_or entries m.at m.entry) ≡ 1 = ap (rank (coded_key c)) m.stands ∙ rank_key (coded_key c) m.entry m.same in
-        let low = low_rank c (get_or entries i m.entry) (omega arith) in
-        let less : c < (get_or entries i m.entry).code = beyond m.entry here low.0 in
-        absurd (omega (arith, low.1))))
+    let m = entry_match text lines entries (coded_key c) index q y at_q h in
+    let its_code : m.entry.code ≡ c = ap (λ xs. slice_index xs 1) m.same in
+    let after : i ≤ m.at = not_less m.at i (λ before.
+    let low : is_below (coded_key code) (get_or entries m.at m.entry) ≡ true = parts.0 m.at m.entry (omega arith) before in
+    let less : (get_or entries m.at m.entry).code < code = below_code code (get_or entries m.at m.entry) low in
+    let same : (get_or entries m.at m.entry).code ≡ m.entry.code = ap (λ (x : Entry). x.code) m.stands in
+    absurd (omega arith)) in
+    let here : i < length entries = omega (arith, m.below) in
+    let up : rank (coded_key c) (get_or entries i m.entry) ≤ rank (coded_key c) (get_or entries m.at m.entry) = rises (coded_key c) entries index.sorted i m.at m.entry after m.below in
+    let one : rank (coded_key c) (get_or entries m.at m.entry) ≡ 1 = ap (rank (coded_key c)) m.stands ∙ rank_key (coded_key c) m.entry m.same in
+    let low = low_rank c (get_or entries i m.entry) (omega arith) in
+    let less : c < (get_or entries i m.entry).code = beyond m.entry here low.0 in
+    absurd (omega (arith, low.1))))
 
 zero_key : (kind : Kind) (m : Option ℕ) (a k : List ℕ) (s e : ℕ) (n : List ℕ) → of_kind kind (named_key m a) (pair_key s k) ≡ Some (0 ∷ e ∷ n) → n ≡ []
 zero_key Other m a k s e n h = cc
@@ -585,7 +569,7 @@ pub gap_at : (text : List ℕ) (lines : List Line) (entries : List Entry) (code 
     → first_from 1 (is_found_by text (coded_key c)) lines ≡ None
 gap_at text lines entries code c i e index parts le beyond =
     gap text lines entries code c i index parts le (λ d lt own.
-        let same : get_or entries i d ≡ get_or entries i e = get_or_same entries i e d lt in
-        let less : c < (get_or entries i e).code = beyond (sym (ap (λ (x : Entry). x.group) same) ∙ own) in
-        let code : (get_or entries i d).code ≡ (get_or entries i e).code = ap (λ (x : Entry). x.code) same in
-        omega arith)
+    let same : get_or entries i d ≡ get_or entries i e = get_or_same entries i e d lt in
+    let less : c < (get_or entries i e).code = beyond (sym (ap (λ (x : Entry). x.group) same) ∙ own) in
+    let code : (get_or entries i d).code ≡ (get_or entries i e).code = ap (λ (x : Entry). x.code) same in
+    omega arith)

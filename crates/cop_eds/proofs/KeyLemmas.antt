@@ -1,6 +1,5 @@
 -- What a name, an object or a key finds is what its index key finds.
-use Rattle.std.proofs.Common.{◌≡◌, ℕ, suc, ◌+◌, ◌<◌, Bool, true, false, IfSome, MatchOption, is_some, ◌≤◌, length, arith, ◌&&◌, List, [], ◌∷◌, Option, Some, None, refl, sym, ap, ◌∙◌, ◌==◌}
-use Rattle.std.specs.Str.{str_to_ascii_lowercase, bytes_eq}
+use Rattle.std.proofs.Common.{◌≡◌, ℕ, suc, ◌+◌, ◌<◌, Bool, true, false, IfSome, MatchOption, is_some, ◌≤◌, arith, ◌&&◌, List, [], ◌∷◌, Option, Some, None, refl, sym, ap, ◌∙◌, ◌==◌}
 use Rattle.std.specs.List.{All, list_any}
 use Rattle.std.proofs.Math.Bool.{and-true}
 use Rattle.cop_eds.specs.declared.line.Kind.{Kind}
@@ -91,9 +90,9 @@ coded_some text c e = some_map (first_from 1 (is_coded text c) (lines_of text)) 
 -- the next number of an object's section, among the lines and as a place
 pub next_coded : (text : List ℕ) (code : ℕ) (o : Option ℕ)
     → MatchOption o ((c : ℕ) → code ≤ c → first_from 1 (is_found_by text (0 ∷ c ∷ [])) (lines_of text) ≡ None)
-        (λ next. (code ≤ next) × (is_some (first_from 1 (is_found_by text (0 ∷ next ∷ [])) (lines_of text)) ≡ true)
-            × ((c : ℕ) → code ≤ c → c < next → first_from 1 (is_found_by text (0 ∷ c ∷ [])) (lines_of text) ≡ None))
+    (λ next. (code ≤ next) × (is_some (first_from 1 (is_found_by text (0 ∷ next ∷ [])) (lines_of text)) ≡ true)
+    × ((c : ℕ) → code ≤ c → c < next → first_from 1 (is_found_by text (0 ∷ c ∷ [])) (lines_of text) ≡ None))
     → MatchOption o ((c : ℕ) → code ≤ c → coded_place text c ≡ None)
-        (λ next. (code ≤ next) × (is_some (coded_place text next) ≡ true) × ((c : ℕ) → code ≤ c → c < next → coded_place text c ≡ None))
+    (λ next. (code ≤ next) × (is_some (coded_place text next) ≡ true) × ((c : ℕ) → code ≤ c → c < next → coded_place text c ≡ None))
 next_coded text code None h = λ c le. coded_none text c (h c le)
 next_coded text code (Some next) h = (h.0, coded_some text next h.1, λ c le lt. coded_none text c (h.2 c le lt))

@@ -1,5 +1,5 @@
 -- The sub sections of an index, one after the other.
-use Rattle.std.proofs.Common.{◌≡◌, ℕ, suc, ◌+◌, ◌-◌, ◌≤◌, ◌<◌, List, [], ◌∷◌, Result, Ok, Err, Option, Some, None, Bool, true, false, is_some, zero, refl, sym, ap, ◌∙◌, arith, lit≤}
+use Rattle.std.proofs.Common.{◌≡◌, ℕ, suc, ◌+◌, ◌-◌, ◌≤◌, ◌<◌, List, [], ◌∷◌, Ok, Err, Some, None, zero, refl, sym, ap, ◌∙◌, arith, lit≤}
 use Rattle.cop_eds.specs.declared.fault.Refusal.{Refusal}
 use Rattle.cop_eds.specs.declared.line.Place.{Place}
 use Rattle.cop_eds.specs.declared.description.Description.{Description}
@@ -58,13 +58,6 @@ pub skip : (text : List ℕ) (index from sub : ℕ) → from ≤ sub → sub ≤
     → ((c : ℕ) → sub_code index from ≤ c → c < sub_code index sub → coded_place text c ≡ None)
     → subs_from text index from (256 - from) ≡ subs_from text index sub (256 - sub)
 skip text index from sub le high none = skip_by (sub - from) text index from sub (omega arith) high none
-
-some_not_none : {A : Type 0} (o : Option A) → is_some o ≡ true → o ≡ None → ⊥
-some_not_none None some none = let e : false ≡ true = some in cc
-some_not_none (Some x) some none = cc
-
-pub never_none : (text : List ℕ) (c code : ℕ) → c ≡ code → is_some (coded_place text code) ≡ true → coded_place text c ≡ None → ⊥
-never_none text c code e some none = some_not_none (coded_place text code) some (ap (coded_place text) (sym e) ∙ none)
 
 pub none_left : (text : List ℕ) (index from : ℕ) → from ≤ 256
     → ((c : ℕ) → sub_code index from ≤ c → c < sub_code index 256 → coded_place text c ≡ None) → subs_from text index from (256 - from) ≡ []

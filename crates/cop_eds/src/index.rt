@@ -114,7 +114,11 @@ fn push_entries<'a>(
 }
 
 /// The index of the lines. Headers come first, so that a text whose names rise gives entries in order.
-pub fn index_of<'a>(alloc: Global, source: &'a [u8], lines: &[Line]) -> Result<Vec<Entry<'a>>, AllocError>
+pub fn index_of<'a>(
+    alloc: Global,
+    source: &'a [u8],
+    lines: &[Line],
+) -> Result<Vec<Entry<'a>>, AllocError>
     requires { All (IsWithin (length source.now)) lines.now }
     ensures { IfOk result (λ entries. IsIndex source.now lines.now entries.items) }
 {
@@ -180,7 +184,7 @@ pub fn next_code(entries: &[Entry<'_>], code: u64) -> Option<u64>
     ensures { (text : List ℕ) (lines : List Line) → IsIndex text lines entries.now → MatchOption result
         ((c : ℕ) → code ≤ c → first_from 1 (is_found_by text (0 ∷ c ∷ [])) lines ≡ None)
         (λ next. (code ≤ next) × (is_some (first_from 1 (is_found_by text (0 ∷ next ∷ [])) lines) ≡ true)
-            × ((c : ℕ) → code ≤ c → c < next → first_from 1 (is_found_by text (0 ∷ c ∷ [])) lines ≡ None)) }
+        × ((c : ℕ) → code ≤ c → c < next → first_from 1 (is_found_by text (0 ∷ c ∷ [])) lines ≡ None)) }
 {
     let place = lower_bound(entries, &coded_entry(code));
     if place >= entries.len() {

@@ -10,7 +10,9 @@ ghost use Rattle.cop_eds.specs.Index.{sort_key, is_found_by};
 
 use crate::entry::Entry;
 use crate::fault::{Refusal, Rule};
-use crate::index::{are_apart, coded_entry, find_in, header_entry, index_of, next_code, pair_entry};
+use crate::index::{
+    are_apart, coded_entry, find_in, header_entry, index_of, next_code, pair_entry,
+};
 use crate::line::{Kind, Line, Place};
 use crate::lines::{lines_of, text_of};
 use crate::text::{is_comment, key_of, name_of, value_of};

@@ -10,8 +10,8 @@ returns c = record {
   sorted = c.in_ok-sort.ensures.sorted;
   sound = All-permutation (IsEntry c.args.source.now c.args.lines.now) _ _ c.in_ok-sort.ensures.permutation c.in_ok-push_entries-2.ensures.sound;
   complete = λ place line at some.
-    let x = complete_both c.args.source.now c.args.lines.now _
+      let x = complete_both c.args.source.now c.args.lines.now _
       (complete_kept c.args.source.now Header c.args.lines.now _ _ (length c.args.lines.now) c.in_ok-push_entries-2.ensures.kept c.in_ok-push_entries.ensures.complete)
       c.in_ok-push_entries-2.ensures.complete place line at some in
-    (x.0, Contains-permutation _ _ x.0 c.in_ok-sort.ensures.permutation x.1, x.2);
+      (x.0, Contains-permutation _ _ x.0 c.in_ok-sort.ensures.permutation x.1, x.2);
 }

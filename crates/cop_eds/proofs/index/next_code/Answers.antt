@@ -1,4 +1,4 @@
-use Rattle.std.proofs.Common.{◌≡◌, ◌∷◌, [], arith, subst}
+use Rattle.std.proofs.Common.{◌∷◌, [], arith, subst}
 use Rattle.cop_eds.proofs.IndexLemmas.{Parts, gap_at, gap, found_code}
 use Rattle.cop_eds.proofs.index.next_code.Goals as goal
 

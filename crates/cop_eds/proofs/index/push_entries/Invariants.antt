@@ -10,7 +10,7 @@ abbrev pub invariant-loop-place : goal.invariant-loop-place
 invariant-loop-place l = record {
   sound : All (IsEntry l.source l.lines) l.entries.items;
   complete : (place : ℕ) (line : Line) → place < l.place → slice_get l.lines place ≡ Some line
-    → (is_kind line.kind l.kind && is_some (line_key l.source line)) ≡ true
-    → (entry : Entry) × Contains l.entries.items entry × (entry.line ≡ place + 1);
+      → (is_kind line.kind l.kind && is_some (line_key l.source line)) ≡ true
+      → (entry : Entry) × Contains l.entries.items entry × (entry.line ≡ place + 1);
   kept : (entry : Entry) → Contains l.initial.entries.items entry → Contains l.entries.items entry;
 }
