@@ -1,13 +1,13 @@
 -- Lines that are found by an index are the first that a walk over all lines finds.
-use Rattle.std.proofs.Common.{◌≡◌, ℕ, zero, suc, ◌+◌, ◌-◌, ◌<◌, ◌≤◌, Bool, true, false, cond, ◌&&◌, List, [], ◌∷◌, length, take, get_or, slice_get, Contains, Option, Some, None, IsSome, refl, sym, ap, subst, ◌∙◌, arith, ◌==◌, nat_lt, nat_le, ◌++◌, ◌⊎◌, inl, inr, ⊎_elim, is_some}
+use Rattle.std.proofs.Common.{◌≡◌, ℕ, zero, suc, ◌+◌, ◌-◌, ◌<◌, ◌≤◌, Bool, true, false, cond, ◌&&◌, List, [], ◌∷◌, length, take, get_or, slice_get, slice_index, Contains, Option, Some, None, IsSome, refl, sym, ap, subst, ◌∙◌, arith, ◌==◌, nat_lt, nat_le, ◌++◌, ◌⊎◌, inl, inr, ⊎_elim, is_some}
 use Rattle.std.specs.List.{All, AllAdjacentBelow, list_any}
-use Rattle.std.specs.List.Sorted.{IsSorted, IsSortedByKey, IsNonDecreasingBy, IsPartitionedBy, IsPartitionPoint}
-use Rattle.std.specs.Ordering.{nat_cmp, is_lt, is_eq, ordering_index, ordering_then}
+use Rattle.std.specs.List.Sorted.{IsSorted, IsNonDecreasingBy, IsPartitionedBy, IsPartitionPoint}
+use Rattle.std.specs.Ordering.{MatchOrdering, nat_cmp, is_lt, is_eq, ordering_index, ordering_then}
 use Rattle.std.specs.declared.cmp.Ordering.{Ordering}
 use Rattle.std.specs.declared.cmp.Ordering.TheVariants.{Less, Equal, Greater}
-use Rattle.std.specs.Cmp.{nat_cmp_total, then_total, on_total, IsTotalOrder}
+use Rattle.std.specs.Cmp.{ranks, nat_cmp_total, then_total, on_total, IsTotalOrder}
 use Rattle.std.specs.Cmp.Lexicographic.{slice_cmp, lists_total}
-use Rattle.std.specs.Str.{bytes_eq}
+use Rattle.std.specs.Str.{str_to_ascii_lowercase, bytes_eq}
 use Rattle.std.proofs.lemmas.Map.Text.{is_eq-slice_cmp}
 use Rattle.std.proofs.lemmas.Slice.Eq.{bytes_eq-Decides}
 use Rattle.std.proofs.lemmas.Cmp.{tied_itself}
@@ -22,9 +22,10 @@ use Rattle.cop_eds.specs.declared.line.Kind.TheVariants.{Other, Header, Pair}
 use Rattle.cop_eds.specs.declared.line.Line.{Line}
 use Rattle.cop_eds.specs.declared.entry.Entry.{Entry}
 use Rattle.cop_eds.specs.Text.{name_of, key_of}
-use Rattle.cop_eds.specs.Lines.{first_from, text_of, is_named, is_keyed, broken, broken_by_kind}
+use Rattle.cop_eds.specs.Names.{code_of}
+use Rattle.cop_eds.specs.Lines.{first_from, text_of, is_kind, is_named, is_keyed, broken, broken_by_kind}
 use Rattle.cop_eds.proofs.KeyLemmas.{any_named, any_keyed}
-use Rattle.cop_eds.specs.Index.{line_key, header_key, pair_key, of_kind, has_key, is_found_by, sort_key, is_below, entry_cmp, IsEntry, IsIndex}
+use Rattle.cop_eds.specs.Index.{line_key, named_key, header_key, pair_key, of_kind, has_key, is_found_by, sort_key, is_below, entry_cmp, IsEntry, IsIndex}
 
 -- a walk over the lines
 
@@ -109,6 +110,20 @@ none_earlier n (suc p) test (y ∷ ys) e = none_by (test y) n p test y ys refl e
 
 pub none_found : (p : ℕ) (test : Line → Bool) (xs : List Line) → None ≡ first_from 1 test xs → list_any test (take p xs) ≡ false
 none_found p test xs e = none_earlier 1 p test xs (sym e)
+
+some_by : (b : Bool) (n : ℕ) (test : Line → Bool) (y : Line) (ys : List Line) → test y ≡ b
+    → (b ≡ false → is_some (first_from (n + 1) test ys) ≡ true) → is_some (first_from n test (y ∷ ys)) ≡ true
+some_by true n test y ys here later = rw here refl
+some_by false n test y ys here later = rw here (later refl)
+
+-- where a line passes there is a first
+some_first : (n : ℕ) (test : Line → Bool) (xs : List Line) (p : ℕ) (x : Line) → slice_get xs p ≡ Some x → test x ≡ true → is_some (first_from n test xs) ≡ true
+some_first n test [] p x e t = cc
+some_first n test (y ∷ ys) zero x e t =
+    let same : y ≡ x = cc in
+    let here : test y ≡ true = ap test same ∙ t in
+    rw here refl
+some_first n test (y ∷ ys) (suc p) x e t = some_by (test y) n test y ys refl (λ h. some_first (n + 1) test ys p x e t)
 
 -- the order of the entries
 
@@ -287,19 +302,20 @@ line_within text lines entries i d index lt =
 
 -- the entries of the lines so far
 
-abbrev AreComplete : List ℕ → List Line → List Entry → ℕ → Type 0
-AreComplete text lines entries n =
-    (place : ℕ) (line : Line) → place < n → slice_get lines place ≡ Some line → IsSome (line_key text line)
+-- the lines of a kind that are found by a name
+abbrev is_wanted : List ℕ → Kind → Line → Bool
+is_wanted text kind line = is_kind line.kind kind && is_some (line_key text line)
+
+abbrev AreComplete : List ℕ → Kind → List Line → List Entry → ℕ → Type 0
+AreComplete text kind lines entries n =
+    (place : ℕ) (line : Line) → place < n → slice_get lines place ≡ Some line → is_wanted text kind line ≡ true
     → (entry : Entry) × Contains entries entry × (entry.line ≡ place + 1)
 
-no_key : (o : Option (List ℕ)) → o ≡ None → IsSome o → ⊥
-no_key o e some = let none : false ≡ true = sym (ap is_some e) ∙ some in cc
+false_true : false ≡ true → ⊥
+false_true e = cc
 
-skip_by : (text : List ℕ) (lines : List Line) (i : ℕ) (d line : Line) → line_key text (get_or lines i d) ≡ None
-    → slice_get lines i ≡ Some line → IsSome (line_key text line) → ⊥
-skip_by text lines i d line none at some =
-    let same : get_or lines i d ≡ line = get_or_from_slice_get lines i line d at in
-    no_key (line_key text line) (ap (line_key text) (sym same) ∙ none) some
+no_key : (o : Option (List ℕ)) → o ≡ None → IsSome o → ⊥
+no_key o e some = false_true (sym (ap is_some e) ∙ some)
 
 by_last : (b : Bool) (place i : ℕ) → nat_lt place i ≡ b → place < i + 1 → (place < i) ⊎ (place ≡ i)
 by_last true place i e lt = inl (grind (arith, nat_tests))
@@ -312,17 +328,40 @@ all_one_by P e h (suc k) d lt = absurd (omega arith)
 at_last : (place i : ℕ) → place < i + 1 → (place < i) ⊎ (place ≡ i)
 at_last place i lt = by_last (nat_lt place i) place i refl lt
 
-pub complete_skip : (text : List ℕ) (lines : List Line) (entries : List Entry) (i : ℕ) (d : Line) → line_key text (get_or lines i d) ≡ None
-    → AreComplete text lines entries i → AreComplete text lines entries (i + 1)
-complete_skip text lines entries i d none so_far place line lt at some =
-    ⊎_elim (λ before. so_far place line before at some)
-    (λ same. absurd (skip_by text lines i d line none (ap (slice_get lines) (sym same) ∙ at) some)) (at_last place i lt)
-
-pub complete_push : (text : List ℕ) (lines : List Line) (entries : List Entry) (i : ℕ) (e : Entry) → e.line ≡ i + 1
-    → AreComplete text lines entries i → AreComplete text lines (entries ++ e ∷ []) (i + 1)
-complete_push text lines entries i e number so_far place line lt at some =
+pub complete_push : (text : List ℕ) (kind : Kind) (lines : List Line) (entries : List Entry) (i : ℕ) (e : Entry) → e.line ≡ i + 1
+    → AreComplete text kind lines entries i → AreComplete text kind lines (entries ++ e ∷ []) (i + 1)
+complete_push text kind lines entries i e number so_far place line lt at some =
     ⊎_elim (λ before. let x = so_far place line before at some in (x.0, Contains-append_left entries (e ∷ []) x.0 x.1, x.2))
     (λ same. (e, Contains-append_right entries (e ∷ []) e (0, omega arith, refl), number ∙ ap (λ n. n + 1) (sym same))) (at_last place i lt)
+
+pub kept_push : (old entries : List Entry) (e : Entry) → ((x : Entry) → Contains old x → Contains entries x)
+    → (x : Entry) → Contains old x → Contains (entries ++ e ∷ []) x
+kept_push old entries e so_far x c = Contains-append_left entries (e ∷ []) x (so_far x c)
+
+wanted_by : (kind : Kind) (b : Bool) → b ≡ true → ((is_kind kind Header && b) ≡ true) ⊎ (((is_kind kind Pair && b) ≡ true) ⊎ (kind ≡ Other))
+wanted_by Other b e = inr (inr refl)
+wanted_by Header b e = inl e
+wanted_by Pair b e = inr (inl e)
+
+-- headers and pairs are all that is found by a name
+pub complete_both : (text : List ℕ) (lines : List Line) (entries : List Entry)
+    → AreComplete text Header lines entries (length lines) → AreComplete text Pair lines entries (length lines)
+    → (place : ℕ) (line : Line) → slice_get lines place ≡ Some line → IsSome (line_key text line)
+    → (entry : Entry) × Contains entries entry × (entry.line ≡ place + 1)
+complete_both text lines entries headers pairs place line at some =
+    let lt : place < length lines = slice_get_below lines place line at in
+    ⊎_elim (λ h. headers place line lt at h)
+    (λ rest. ⊎_elim (λ p. pairs place line lt at p)
+    (λ other.
+    let none : line_key text line ≡ None = ap (λ k. of_kind k (header_key (name_of (text_of text line))) (pair_key line.section (key_of (text_of text line)))) other in
+    absurd (no_key (line_key text line) none some)) rest)
+    (wanted_by line.kind (is_some (line_key text line)) some)
+
+pub complete_kept : (text : List ℕ) (kind : Kind) (lines : List Line) (old entries : List Entry) (n : ℕ)
+    → ((x : Entry) → Contains old x → Contains entries x) → AreComplete text kind lines old n → AreComplete text kind lines entries n
+complete_kept text kind lines old entries n kept complete place line lt at some =
+    let x = complete place line lt at some in
+    (x.0, kept x.0 x.1, x.2)
 
 pub sound_push : (text : List ℕ) (lines : List Line) (entries : List Entry) (i : ℕ) (d : Line) (e : Entry) → i < length lines → e.line ≡ i + 1
     → line_key text (get_or lines i d) ≡ Some (sort_key e) → All (IsEntry text lines) entries → All (IsEntry text lines) (entries ++ e ∷ [])
@@ -428,3 +467,109 @@ alone_by Pair text lines entries p x index apart at kind =
 pub alone : (text : List ℕ) (lines : List Line) (entries : List Entry) (p : ℕ) (x : Line) → IsIndex text lines entries → Apart entries
     → slice_get lines p ≡ Some x → broken text (take p lines) x ≡ broken text [] x
 alone text lines entries p x index apart at = alone_by x.kind text lines entries p x index apart at refl
+
+-- the objects' sections, by rising numbers
+
+abbrev pub coded_key : ℕ → List ℕ
+coded_key code = 0 ∷ code ∷ []
+
+not_lt_empty : (xs : List ℕ) → is_lt (slice_cmp nat_cmp xs []) ≡ false
+not_lt_empty [] = refl
+not_lt_empty (x ∷ xs) = refl
+
+-- numbers that lead in an order
+leads_by : (r : Ordering) (g : ℕ) (rest : Ordering) → MatchOrdering r (g < 0) (g ≡ 0) (0 < g) → ordering_index (ordering_then r rest) ≤ 1
+    → (g ≡ 0) × (ordering_index rest ≤ 1)
+leads_by Less g rest m h = absurd (omega arith)
+leads_by Equal g rest m h = (m, h)
+leads_by Greater g rest m h = absurd (omega arith)
+
+leads_next : (r : Ordering) (e c : ℕ) (rest : Ordering) → MatchOrdering r (e < c) (e ≡ c) (c < e) → ordering_index (ordering_then r rest) ≤ 1 → e ≤ c
+leads_next Less e c rest m h = omega arith
+leads_next Equal e c rest m h = omega arith
+leads_next Greater e c rest m h = absurd (omega arith)
+
+low_rank : (code : ℕ) (entry : Entry) → rank (coded_key code) entry ≤ 1 → (entry.group ≡ 0) × (entry.code ≤ code)
+low_rank code entry h =
+    let first = leads_by (nat_cmp entry.group 0) entry.group _ (ranks entry.group 0) h in
+    (first.0, leads_next (nat_cmp entry.code code) entry.code code _ (ranks entry.code code) first.1)
+
+below_by : (r : Ordering) (g : ℕ) (rest : Ordering) → MatchOrdering r (g < 0) (g ≡ 0) (0 < g) → is_lt (ordering_then r rest) ≡ true → is_lt rest ≡ true
+below_by Less g rest m h = absurd (omega arith)
+below_by Equal g rest m h = h
+below_by Greater g rest m h = cc
+
+below_next : (r : Ordering) (e c : ℕ) (rest : Ordering) → MatchOrdering r (e < c) (e ≡ c) (c < e) → is_lt rest ≡ false → is_lt (ordering_then r rest) ≡ true → e < c
+below_next Less e c rest m none h = m
+below_next Equal e c rest m none h = absurd (false_true (sym none ∙ h))
+below_next Greater e c rest m none h = cc
+
+below_code : (code : ℕ) (entry : Entry) → is_below (coded_key code) entry ≡ true → entry.code < code
+below_code code entry h =
+    let rest : is_lt (ordering_then (nat_cmp entry.code code) (slice_cmp nat_cmp (str_to_ascii_lowercase entry.name.now) [])) ≡ true =
+    below_by (nat_cmp entry.group 0) entry.group _ (ranks entry.group 0) h in
+    below_next (nat_cmp entry.code code) entry.code code _ (ranks entry.code code) (not_lt_empty (str_to_ascii_lowercase entry.name.now)) rest
+
+above_by : (r : Ordering) (e c : ℕ) (rest : Ordering) → MatchOrdering r (e < c) (e ≡ c) (c < e) → is_lt (ordering_then r rest) ≡ false → c ≤ e
+above_by Less e c rest m h = cc
+above_by Equal e c rest m h = omega arith
+above_by Greater e c rest m h = omega arith
+
+not_below_code : (code : ℕ) (entry : Entry) → entry.group ≡ 0 → is_below (coded_key code) entry ≡ false → code ≤ entry.code
+not_below_code code entry own h =
+    let first : nat_cmp entry.group 0 ≡ Equal = ap (λ g. nat_cmp g 0) own in
+    let rest : is_lt (ordering_then (nat_cmp entry.code code) (slice_cmp nat_cmp (str_to_ascii_lowercase entry.name.now) [])) ≡ false = rw first at h in
+    above_by (nat_cmp entry.code code) entry.code code _ (ranks entry.code code) rest
+
+-- between the partition's place and the code of the entry that stands there no object has a section
+pub gap : (text : List ℕ) (lines : List Line) (entries : List Entry) (code c i : ℕ) → IsIndex text lines entries → Parts (coded_key code) entries i
+    → code ≤ c → ((d : Entry) → i < length entries → (get_or entries i d).group ≡ 0 → c < (get_or entries i d).code)
+    → first_from 1 (is_found_by text (coded_key c)) lines ≡ None
+gap text lines entries code c i index parts le beyond =
+    first_none 1 (is_found_by text (coded_key c)) lines (λ q y at_q. by_test (is_found_by text (coded_key c) y) (λ h.
+    let m = entry_match text lines entries (coded_key c) index q y at_q h in
+    let its_code : m.entry.code ≡ c = ap (λ xs. slice_index xs 1) m.same in
+    let after : i ≤ m.at = not_less m.at i (λ before.
+    let low : is_below (coded_key code) (get_or entries m.at m.entry) ≡ true = parts.0 m.at m.entry (omega arith) before in
+    let less : (get_or entries m.at m.entry).code < code = below_code code (get_or entries m.at m.entry) low in
+    let same : (get_or entries m.at m.entry).code ≡ m.entry.code = ap (λ (x : Entry). x.code) m.stands in
+    absurd (omega arith)) in
+    let here : i < length entries = omega (arith, m.below) in
+    let up : rank (coded_key c) (get_or entries i m.entry) ≤ rank (coded_key c) (get_or entries m.at m.entry) = rises (coded_key c) entries index.sorted i m.at m.entry after m.below in
+    let one : rank (coded_key c) (get_or entries m.at m.entry) ≡ 1 = ap (rank (coded_key c)) m.stands ∙ rank_key (coded_key c) m.entry m.same in
+    let low = low_rank c (get_or entries i m.entry) (omega arith) in
+    let less : c < (get_or entries i m.entry).code = beyond m.entry here low.0 in
+    absurd (omega (arith, low.1))))
+
+zero_key : (kind : Kind) (m : Option ℕ) (a k : List ℕ) (s e : ℕ) (n : List ℕ) → of_kind kind (named_key m a) (pair_key s k) ≡ Some (0 ∷ e ∷ n) → n ≡ []
+zero_key Other m a k s e n h = cc
+zero_key Header (Some c) a k s e n h = cc
+zero_key Header None a k s e n h = cc
+zero_key Pair m a k s e n h = cc
+
+-- an entry of an object's section is found by its code
+pub found_code : (text : List ℕ) (lines : List Line) (entries : List Entry) (code i : ℕ) (d : Entry) → IsIndex text lines entries → Parts (coded_key code) entries i
+    → i < length entries → (get_or entries i d).group ≡ 0
+    → (code ≤ (get_or entries i d).code) × (is_some (first_from 1 (is_found_by text (coded_key (get_or entries i d).code)) lines) ≡ true)
+found_code text lines entries code i d index parts lt own_group =
+    let e = get_or entries i d in
+    let not_below : is_below (coded_key code) e ≡ false = parts.1 i d (omega arith) lt in
+    let le : code ≤ e.code = not_below_code code e own_group not_below in
+    let own : IsEntry text lines e = index.sound i d lt in
+    let line = own.1.0 in
+    let name = str_to_ascii_lowercase e.name.now in
+    let key : line_key text line ≡ Some (0 ∷ e.code ∷ name) = own.1.2 ∙ ap (λ g. Some (g ∷ e.code ∷ name)) own_group in
+    let none : name ≡ [] = zero_key line.kind (code_of (name_of (text_of text line))) (name_of (text_of text line)) (key_of (text_of text line)) line.section e.code name key in
+    let passes : is_found_by text (coded_key e.code) line ≡ true =
+    ap (λ o. has_key o (coded_key e.code)) (key ∙ ap (λ n. Some (0 ∷ e.code ∷ n)) none) ∙ (bytes_eq-Decides (coded_key e.code) (coded_key e.code)).1 refl in
+    (le, some_first 1 (is_found_by text (coded_key e.code)) lines (e.line - 1) line own.1.1 passes)
+
+pub gap_at : (text : List ℕ) (lines : List Line) (entries : List Entry) (code c i : ℕ) (e : Entry) → IsIndex text lines entries → Parts (coded_key code) entries i
+    → code ≤ c → ((get_or entries i e).group ≡ 0 → c < (get_or entries i e).code)
+    → first_from 1 (is_found_by text (coded_key c)) lines ≡ None
+gap_at text lines entries code c i e index parts le beyond =
+    gap text lines entries code c i index parts le (λ d lt own.
+    let same : get_or entries i d ≡ get_or entries i e = get_or_same entries i e d lt in
+    let less : c < (get_or entries i e).code = beyond (sym (ap (λ (x : Entry). x.group) same) ∙ own) in
+    let code : (get_or entries i d).code ≡ (get_or entries i e).code = ap (λ (x : Entry). x.code) same in
+    omega arith)

@@ -1,6 +1,5 @@
 -- What a name, an object or a key finds is what its index key finds.
-use Rattle.std.proofs.Common.{◌≡◌, ℕ, suc, ◌+◌, ◌<◌, Bool, true, false, IfSome, length, arith, ◌&&◌, List, [], ◌∷◌, Option, Some, None, refl, sym, ap, ◌==◌}
-use Rattle.std.specs.Str.{str_to_ascii_lowercase, bytes_eq}
+use Rattle.std.proofs.Common.{◌≡◌, ℕ, suc, ◌+◌, ◌<◌, Bool, true, false, IfSome, MatchOption, is_some, ◌≤◌, arith, ◌&&◌, List, [], ◌∷◌, Option, Some, None, refl, sym, ap, ◌∙◌, ◌==◌}
 use Rattle.std.specs.List.{All, list_any}
 use Rattle.std.proofs.Math.Bool.{and-true}
 use Rattle.cop_eds.specs.declared.line.Kind.{Kind}
@@ -8,8 +7,9 @@ use Rattle.cop_eds.specs.declared.line.Kind.TheVariants.{Other, Header, Pair}
 use Rattle.cop_eds.specs.declared.line.Line.{Line}
 use Rattle.cop_eds.specs.Text.{same_name, name_of, key_of}
 use Rattle.cop_eds.specs.Names.{code_of, same_names, same_section, has_code}
-use Rattle.cop_eds.specs.Lines.{is_kind, text_of, is_named, is_keyed, first_from, IsWithin}
-use Rattle.cop_eds.specs.Sections.{is_coded}
+use Rattle.cop_eds.specs.Lines.{is_kind, text_of, lines_of, is_named, is_keyed, first_from, IsWithin}
+use Rattle.std.specs.Option.{option_map}
+use Rattle.cop_eds.specs.Sections.{is_coded, place_at, coded_place}
 use Rattle.cop_eds.specs.Index.{named_key, header_key, pair_key, of_kind, has_key, is_found_by}
 
 flipped : (m n : ℕ) → (m == n) ≡ ((m == n) && true)
@@ -76,3 +76,23 @@ pub any_keyed : (text : List ℕ) (section : ℕ) (key : List ℕ) (lines : List
     → list_any (is_keyed text section key) lines ≡ list_any (is_found_by text (pair_key section key)) lines
 any_keyed text section key lines = ap (λ test. list_any test lines)
     (λ i line. keyed_by line.kind (code_of (name_of (text_of text line))) line.section section (name_of (text_of text line)) (key_of (text_of text line)) key i)
+
+coded_none : (text : List ℕ) (c : ℕ) → first_from 1 (is_found_by text (0 ∷ c ∷ [])) (lines_of text) ≡ None → coded_place text c ≡ None
+coded_none text c e = ap (option_map place_at) (sym (first_coded text c (lines_of text)) ∙ e)
+
+some_map : (o : Option (ℕ × Line)) → is_some (option_map place_at o) ≡ is_some o
+some_map None = refl
+some_map (Some found) = refl
+
+coded_some : (text : List ℕ) (c : ℕ) → is_some (first_from 1 (is_found_by text (0 ∷ c ∷ [])) (lines_of text)) ≡ true → is_some (coded_place text c) ≡ true
+coded_some text c e = some_map (first_from 1 (is_coded text c) (lines_of text)) ∙ sym (ap is_some (first_coded text c (lines_of text))) ∙ e
+
+-- the next number of an object's section, among the lines and as a place
+pub next_coded : (text : List ℕ) (code : ℕ) (o : Option ℕ)
+    → MatchOption o ((c : ℕ) → code ≤ c → first_from 1 (is_found_by text (0 ∷ c ∷ [])) (lines_of text) ≡ None)
+    (λ next. (code ≤ next) × (is_some (first_from 1 (is_found_by text (0 ∷ next ∷ [])) (lines_of text)) ≡ true)
+    × ((c : ℕ) → code ≤ c → c < next → first_from 1 (is_found_by text (0 ∷ c ∷ [])) (lines_of text) ≡ None))
+    → MatchOption o ((c : ℕ) → code ≤ c → coded_place text c ≡ None)
+    (λ next. (code ≤ next) × (is_some (coded_place text next) ≡ true) × ((c : ℕ) → code ≤ c → c < next → coded_place text c ≡ None))
+next_coded text code None h = λ c le. coded_none text c (h c le)
+next_coded text code (Some next) h = (h.0, coded_some text next h.1, λ c le lt. coded_none text c (h.2 c le lt))

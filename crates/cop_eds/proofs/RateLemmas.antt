@@ -1,5 +1,5 @@
 -- The rates found so far, and one more.
-use Rattle.std.proofs.Common.{◌≡◌, ◌↔◌, ◌⊎◌, ◌≤◌, inl, inr, ⊎_elim, ℕ, zero, suc, ◌+◌, ◌<◌, Bool, true, false, List, [], ◌∷◌, ◌++◌, take, get_or, length, Contains, Result, Ok, Err, Some, refl, sym, ap, subst, ◌∙◌, arith, lit<, zero-lt-suc}
+use Rattle.std.proofs.Common.{◌≡◌, ◌↔◌, ◌⊎◌, ◌≤◌, inl, inr, ⊎_elim, ℕ, zero, suc, ◌+◌, ◌<◌, Bool, true, List, [], ◌∷◌, ◌++◌, take, get_or, length, Contains, Result, Ok, refl, sym, ap, subst, ◌∙◌, arith, lit<, zero-lt-suc}
 use Rattle.std.proofs.lemmas.List.{take_more, take_all}
 use Rattle.std.proofs.lemmas.List.Elements.{Contains-append_cases, Contains-append_left, Contains-append_right}
 use Rattle.cop_frame.specs.declared.rates.Rate.{Rate}

@@ -1,5 +1,5 @@
 -- The sub sections of an index, one after the other.
-use Rattle.std.proofs.Common.{◌≡◌, ℕ, suc, ◌+◌, ◌-◌, ◌≤◌, ◌<◌, List, [], ◌∷◌, Result, Ok, Err, Some, None, refl, arith}
+use Rattle.std.proofs.Common.{◌≡◌, ℕ, suc, ◌+◌, ◌-◌, ◌≤◌, ◌<◌, List, [], ◌∷◌, Ok, Err, Some, None, zero, refl, sym, ap, ◌∙◌, arith, lit≤}
 use Rattle.cop_eds.specs.declared.fault.Refusal.{Refusal}
 use Rattle.cop_eds.specs.declared.line.Place.{Place}
 use Rattle.cop_eds.specs.declared.description.Description.{Description}
@@ -42,3 +42,23 @@ sub_stops text sub place xs r e = rw e refl
 pub no_subs : (text : List ℕ) → each (described_sub text) [] ≡ Ok tt
 unfolding each
 no_subs text = refl
+
+-- subs without a section are passed over
+skip_by : (n : ℕ) (text : List ℕ) (index from sub : ℕ) → sub ≡ from + n → sub ≤ 256
+    → ((c : ℕ) → sub_code index from ≤ c → c < sub_code index sub → coded_place text c ≡ None)
+    → subs_from text index from (256 - from) ≡ subs_from text index sub (256 - sub)
+skip_by zero text index from sub e le none =
+    let same : from ≡ sub = omega arith in
+    ap (λ s. subs_from text index s (256 - s)) same
+skip_by (suc n) text index from sub e le none =
+    sub_absent text index from (omega arith) (none (sub_code index from) (omega arith) (omega arith))
+    ∙ skip_by n text index (from + 1) sub (omega arith) le (λ c low high. none c (omega arith) high)
+
+pub skip : (text : List ℕ) (index from sub : ℕ) → from ≤ sub → sub ≤ 256
+    → ((c : ℕ) → sub_code index from ≤ c → c < sub_code index sub → coded_place text c ≡ None)
+    → subs_from text index from (256 - from) ≡ subs_from text index sub (256 - sub)
+skip text index from sub le high none = skip_by (sub - from) text index from sub (omega arith) high none
+
+pub none_left : (text : List ℕ) (index from : ℕ) → from ≤ 256
+    → ((c : ℕ) → sub_code index from ≤ c → c < sub_code index 256 → coded_place text c ≡ None) → subs_from text index from (256 - from) ≡ []
+none_left text index from le none = skip text index from 256 le (lit≤ tt) none ∙ subs_end text index 256 (lit≤ tt)

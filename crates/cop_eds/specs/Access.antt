@@ -1,5 +1,5 @@
 -- How an object may be read and written.
-use Rattle.std.specs.Prelude.{ℕ, Bool, List, codes, if◌then◌else◌, Option, Some, None}
+use Rattle.std.specs.Prelude.{ℕ, List, codes, if◌then◌else◌, Option, Some, None}
 use Rattle.cop_eds.specs.declared.description.Access.{Access}
 use Rattle.cop_eds.specs.declared.description.Access.TheVariants.{ReadOnly, WriteOnly, ReadWrite, ReadWriteInput, ReadWriteOutput, Constant}
 use Rattle.cop_eds.specs.Text.{same_name}

@@ -1,6 +1,5 @@
 -- What the keys of an object's section say.
-use Rattle.std.specs.Prelude.{ℕ, ◌+◌, ◌*◌, Bool, true, false, not, ◌&&◌, List, length, codes, ◌==◌, if◌then◌else◌, Option, Some, None, Result, Ok, Err}
-use Rattle.cop_eds.specs.declared.fault.Rule.{Rule}
+use Rattle.std.specs.Prelude.{ℕ, Bool, true, false, not, List, codes, ◌==◌, if◌then◌else◌, Option, Some, None, Result, Ok}
 use Rattle.cop_eds.specs.declared.fault.Rule.TheVariants as rules
 use Rattle.cop_eds.specs.declared.fault.Refusal.{Refusal}
 use Rattle.cop_eds.specs.declared.line.Place.{Place}

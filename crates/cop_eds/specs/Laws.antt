@@ -1,5 +1,5 @@
 -- What the definitions say of whole texts.
-use Rattle.std.specs.Prelude.{ℕ, ◌+◌, ◌≡◌, Bool, true, false, List, [], ◌∷◌, ◌++◌, length, Some, None}
+use Rattle.std.specs.Prelude.{ℕ, ◌+◌, ◌≡◌, false, List, [], ◌∷◌, ◌++◌, length, Some, None}
 use Rattle.cop_eds.specs.declared.fault.Refusal.{Refusal}
 use Rattle.cop_eds.specs.declared.line.Kind.TheVariants.{Header, Pair}
 use Rattle.cop_eds.specs.declared.line.Line.{Line}

@@ -1,12 +1,10 @@
 -- The lists of objects, and the sections of the objects that they name.
-use Rattle.std.specs.Prelude.{ℕ, zero, suc, ◌+◌, Bool, List, [], ◌∷◌, ◌++◌, length, ◌==◌, nat_lt, if◌then◌else◌, Option, Some, None, Result, Ok, Err, codes, decimal}
-use Rattle.std.specs.Option.{option_map}
-use Rattle.cop_eds.specs.declared.fault.Rule.TheVariants as rules
+use Rattle.std.specs.Prelude.{ℕ, zero, suc, ◌+◌, List, [], ◌∷◌, ◌++◌, length, nat_lt, if◌then◌else◌, Option, Some, None, Result, Ok, codes, decimal}
 use Rattle.cop_eds.specs.declared.fault.Refusal.{Refusal}
 use Rattle.cop_eds.specs.declared.line.Place.{Place}
 use Rattle.cop_eds.specs.Names.{object_code, sub_code}
 use Rattle.cop_eds.specs.Sections.{place_of, coded_place, entry_of}
-use Rattle.cop_eds.specs.Steps.{◌>>=◌, number_at, needed, each, items_from, refuse}
+use Rattle.cop_eds.specs.Steps.{◌>>=◌, number_at, needed, each, items_from}
 use Rattle.cop_eds.specs.Description.{described}
 
 -- where the sub section begins, where there is one, beside its sub

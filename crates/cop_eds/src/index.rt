@@ -1,13 +1,13 @@
 //! The index of a text's names: what its headers and pairs are looked up by.
 
-ghost use Rattle.std.specs.Prelude.{◌≡◌, ◌^◌, ◌<◌, ◌≤◌, ◌+◌, ◌∷◌, [], ℕ, List, length, true, false, IfOk, IsSome, MatchOption, Some, None, slice_get, Contains};
+ghost use Rattle.std.specs.Prelude.{◌≡◌, ◌^◌, ◌<◌, ◌≤◌, ◌+◌, ◌∷◌, [], ℕ, List, length, true, false, IfOk, OnOk, is_some, ◌&&◌, MatchOption, Some, None, slice_get, Contains};
 ghost use Rattle.std.specs.List.{All, AllAdjacentBelow};
 ghost use Rattle.std.specs.List.Sorted.{IsSorted, IsPartitionPoint};
 ghost use Rattle.std.specs.Ordering.{is_eq};
 ghost use Rattle.std.specs.Str.{bytes_eq};
 ghost use Rattle.cop_eds.specs.declared.line.Line.{Line};
 ghost use Rattle.cop_eds.specs.declared.entry.Entry.{Entry};
-ghost use Rattle.cop_eds.specs.Lines.{IsWithin};
+ghost use Rattle.cop_eds.specs.Lines.{IsWithin, is_kind};
 ghost use Rattle.cop_eds.specs.Index.{line_key, header_key, pair_key, sort_key, entry_cmp, is_below, is_found_by, IsEntry, IsIndex};
 ghost use Rattle.cop_eds.specs.Lines.{first_from};
 
@@ -74,19 +74,34 @@ pub fn line_entry<'a>(source: &'a [u8], line: &Line) -> Option<Entry<'a>>
     }
 }
 
-/// The entries of the lines, in their order.
-fn entries_of<'a>(
-    alloc: Global,
+fn is_kind(left: Kind, right: Kind) -> bool
+    ensures { result ≡ is_kind left right }
+{
+    matches!(
+        (left, right),
+        (Kind::Other, Kind::Other) | (Kind::Header, Kind::Header) | (Kind::Pair, Kind::Pair)
+    )
+}
+
+/// Adds the entries of the lines of a kind, in their order.
+fn push_entries<'a>(
+    entries: &mut Vec<Entry<'a>>,
     source: &'a [u8],
     lines: &[Line],
-) -> Result<Vec<Entry<'a>>, AllocError>
-    requires { All (IsWithin (length source.now)) lines.now }
-    ensures sound { IfOk result (λ entries. All (IsEntry source.now lines.now) entries.items) }
-    ensures complete { IfOk result (λ entries. (place : ℕ) (line : Line) → slice_get lines.now place ≡ Some line
-        → IsSome (line_key source.now line) → (entry : Entry) × Contains entries.items entry × (entry.line ≡ place + 1)) }
+    kind: Kind,
+) -> Result<(), AllocError>
+    requires within { All (IsWithin (length source.now)) lines.now }
+    requires sound { All (IsEntry source.now lines.now) entries.old.items }
+    ensures sound { OnOk result (All (IsEntry source.now lines.now) entries.new.items) }
+    ensures complete { OnOk result ((place : ℕ) (line : Line) → place < length lines.now → slice_get lines.now place ≡ Some line
+        → (is_kind line.kind kind && is_some (line_key source.now line)) ≡ true
+        → (entry : Entry) × Contains entries.new.items entry × (entry.line ≡ place + 1)) }
+    ensures kept { OnOk result ((entry : Entry) → Contains entries.old.items entry → Contains entries.new.items entry) }
 {
-    let mut entries = Vec::new(alloc);
     for (place, line) in lines.iter().enumerate() {
+        if !is_kind(line.kind, kind) {
+            continue;
+        }
         let Some(entry) = line_entry(source, line) else {
             continue;
         };
@@ -95,10 +110,10 @@ fn entries_of<'a>(
             ..entry
         })?;
     }
-    Ok(entries)
+    Ok(())
 }
 
-/// The index of the lines.
+/// The index of the lines. Headers come first, so that a text whose names rise gives entries in order.
 pub fn index_of<'a>(
     alloc: Global,
     source: &'a [u8],
@@ -107,7 +122,9 @@ pub fn index_of<'a>(
     requires { All (IsWithin (length source.now)) lines.now }
     ensures { IfOk result (λ entries. IsIndex source.now lines.now entries.items) }
 {
-    let mut entries = entries_of(alloc, source, lines)?;
+    let mut entries = Vec::new(alloc);
+    push_entries(&mut entries, source, lines, Kind::Header)?;
+    push_entries(&mut entries, source, lines, Kind::Pair)?;
     entries.sort()?;
     Ok(entries)
 }
@@ -160,4 +177,22 @@ pub fn find_in(lines: &[Line], entries: &[Entry<'_>], key: &Entry<'_>) -> Option
         return None;
     }
     Some((number, lines[number - 1]))
+}
+
+/// The number of the first object's section from a number on.
+pub fn next_code(entries: &[Entry<'_>], code: u64) -> Option<u64>
+    ensures { (text : List ℕ) (lines : List Line) → IsIndex text lines entries.now → MatchOption result
+        ((c : ℕ) → code ≤ c → first_from 1 (is_found_by text (0 ∷ c ∷ [])) lines ≡ None)
+        (λ next. (code ≤ next) × (is_some (first_from 1 (is_found_by text (0 ∷ next ∷ [])) lines) ≡ true)
+        × ((c : ℕ) → code ≤ c → c < next → first_from 1 (is_found_by text (0 ∷ c ∷ [])) lines ≡ None)) }
+{
+    let place = lower_bound(entries, &coded_entry(code));
+    if place >= entries.len() {
+        return None;
+    }
+    let entry = entries[place];
+    if entry.group != 0 {
+        return None;
+    }
+    Some(entry.code)
 }

@@ -32,12 +32,21 @@ pub fn next_sub(text: &Sections<'_>, index: u64, from: u64) -> Option<(u64, Plac
     ensures { MatchOption result (subs_from text.now index from (256 - from) ≡ [])
         (λ sub. (from ≤ sub.0) × (sub.0 ≤ 255) × (subs_from text.now index from (256 - from) ≡ sub ∷ subs_from text.now index (sub.0 + 1) (256 - (sub.0 + 1)))) }
 {
-    for sub in from..256 {
-        if let Some(place) = sub_place(text, index, sub) {
-            return Some((sub, place));
-        }
+    if from > 255 {
+        return None;
     }
-    None
+    let first = sub_code(index, from);
+    let Some(code) = text.next_code(first) else {
+        return None;
+    };
+    if code - first > 255 - from {
+        return None;
+    }
+    let sub = from + (code - first);
+    let Some(place) = sub_place(text, index, sub) else {
+        return None;
+    };
+    Some((sub, place))
 }
 
 /// The sub sections of an index keep their rules.

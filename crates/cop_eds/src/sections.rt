@@ -1,6 +1,6 @@
 //! A text as sections of pairs.
 
-ghost use Rattle.std.specs.Prelude.{◌≡◌, ◌^◌, ◌<◌, ◌≤◌, ◌+◌, ◌∷◌, [], length, take, IfOk, IfSome, ℕ, slice_get, Some};
+ghost use Rattle.std.specs.Prelude.{◌≡◌, ◌^◌, ◌<◌, ◌≤◌, ◌+◌, ◌∷◌, [], length, take, IfOk, IfSome, MatchOption, ℕ, slice_get, is_some, true, Some, None};
 ghost use Rattle.std.specs.List.{All, list_any};
 ghost use Rattle.std.specs.Option.{option_map, option_and_then};
 ghost use Rattle.cop_eds.specs.declared.line.Line.{Line};
@@ -10,7 +10,9 @@ ghost use Rattle.cop_eds.specs.Index.{sort_key, is_found_by};
 
 use crate::entry::Entry;
 use crate::fault::{Refusal, Rule};
-use crate::index::{are_apart, coded_entry, find_in, header_entry, index_of, pair_entry};
+use crate::index::{
+    are_apart, coded_entry, find_in, header_entry, index_of, next_code, pair_entry,
+};
 use crate::line::{Kind, Line, Place};
 use crate::lines::{lines_of, text_of};
 use crate::text::{is_comment, key_of, name_of, value_of};
@@ -208,6 +210,14 @@ impl<'a> Sections<'a> {
         ensures { result ≡ coded_place self.now code }
     {
         self.find(&coded_entry(code)).map(place_at)
+    }
+
+    /// The number of the first object's section from a number on.
+    pub fn next_code(&self, code: u64) -> Option<u64>
+        ensures { MatchOption result ((c : ℕ) → code ≤ c → coded_place self.now c ≡ None)
+            (λ next. (code ≤ next) × (is_some (coded_place self.now next) ≡ true) × ((c : ℕ) → code ≤ c → c < next → coded_place self.now c ≡ None)) }
+    {
+        next_code(&self.entries, code)
     }
 
     /// The number of a key's line.

@@ -1,5 +1,5 @@
-use Rattle.std.proofs.Common.{◌≡◌, arith, sym, ◌∙◌, false, true}
-use Rattle.cop_eds.proofs.IndexLemmas.{found_at, not_found, line_within, key_differs}
+use Rattle.std.proofs.Common.{arith, sym, ◌∙◌}
+use Rattle.cop_eds.proofs.IndexLemmas.{found_at, not_found, key_differs}
 use Rattle.cop_eds.proofs.index.find_in.Goals as goal
 
 pub returns-then-place-entries : goal.returns-then-place-entries

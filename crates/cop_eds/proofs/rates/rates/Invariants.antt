@@ -1,6 +1,5 @@
 use Rattle.std.proofs.Common.{◌≡◌, ◌↔◌, drop, take, Contains, Ok, true}
 use Rattle.cop_frame.specs.declared.rates.Rate.{Rate}
-use Rattle.cop_frame.specs.RateSet.{all_rates}
 use Rattle.cop_eds.specs.Steps.{each}
 use Rattle.cop_eds.specs.Rates.{rate_in}
 use Rattle.cop_eds.proofs.rates.rates.Given as goal

@@ -1,4 +1,4 @@
-use Rattle.std.proofs.Common.{◌≡◌, sym, ◌∙◌, get_or}
+use Rattle.std.proofs.Common.{sym, ◌∙◌}
 use Rattle.std.proofs.lemmas.Option.{slice_get-get_or}
 use Rattle.cop_eds.proofs.RefusalLemmas.{goes_on}
 use Rattle.cop_eds.proofs.sections.first_alone.Goals as goal

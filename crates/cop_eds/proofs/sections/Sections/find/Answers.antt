@@ -1,4 +1,4 @@
-use Rattle.std.proofs.Common.{◌≡◌, length}
+use Rattle.std.proofs.Common.{length}
 use Rattle.std.specs.List.{All}
 use Rattle.cop_eds.specs.Lines.{IsWithin}
 use Rattle.cop_eds.specs.Index.{IsIndex}

@@ -1,4 +1,3 @@
-use Rattle.std.proofs.Common.{◌≡◌}
 use Rattle.cop_eds.specs.Index.{IsIndex}
 use Rattle.cop_eds.proofs.IndexLemmas.{alone}
 use Rattle.cop_eds.proofs.sections.Sections.refusal.Goals as goal
