@@ -1,0 +1,2 @@
+pub mod FillingLemmas
+pub mod UniqueLemmas
