@@ -4,7 +4,9 @@ use Rattle.cop_frame.specs.declared.rates.Rate.{Rate}
 use Rattle.cop_rta.specs.declared.streams.Stream.{Stream}
 use Rattle.cop_rta.specs.Test.{Passes}
 use Rattle.cop_cert.specs.Assignments.{least_id}
-use Rattle.cop_cert.specs.Sets.{trial}
+use Rattle.cop_cert.specs.Sets.{trial, IsGreatestRefusalSet}
+use Rattle.cop_plan.specs.declared.filling.Filling.{Filling}
+use Rattle.cop_plan.specs.declared.filling.Filling.TheVariants as fillings
 
 -- k is in the list
 abbrev pub is_among : List ℕ → ℕ → Bool
@@ -39,3 +41,8 @@ rank (p ∷ rest) k = if p == k then length rest else rank rest k
 -- the identifiers that a list gives
 abbrev pub ids_of : List ℕ → ℕ → ℕ
 ids_of fill k = least_id + rank fill k
+
+-- what a filling says: each PDO has its place, or some PDOs are the greatest refusal set
+abbrev pub IsFound : Rate → List Stream → ℕ → Filling → Type 0
+IsFound rate streams pdos (fillings.Whole fill) = IsWhole pdos fill.items × IsFilling rate streams pdos fill.items
+IsFound rate streams pdos (fillings.Stuck members) = IsGreatestRefusalSet least_id rate streams pdos (is_among members.items)
