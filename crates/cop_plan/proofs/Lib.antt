@@ -1,0 +1,3 @@
+pub mod FillingLemmas
+pub mod UniqueLemmas
+pub mod GreedyLemmas

@@ -1,0 +1,97 @@
+//! Places filled from the lowest on.
+
+ghost use Rattle.std.specs.Prelude.{◌≡◌, ◌↔◌, ◌<◌, ◌≤◌, ◌+◌, ℕ, true, length, IsTrue, IfSome, IfNone, IfOk, nat_lt, ◌&&◌};
+ghost use Rattle.cop_rta.specs.Test.{Passes, flagged_place, is_flagged};
+ghost use Rattle.cop_cert.specs.Assignments.{least_id};
+ghost use Rattle.cop_cert.specs.Sets.{is_in_trial};
+ghost use Rattle.cop_plan.specs.Fillings.{is_among, IsFound};
+
+use cop_frame::Rate;
+use cop_rta::{StreamSet, Verdict, verdict};
+use std::alloc::{AllocError, Global};
+
+/// The least identifier of a PDO: fixed frames below it are above each PDO.
+const LEAST_ID: u16 = 0x181;
+
+/// What the filling of the places at one rate gives.
+#[derive(Drop)]
+pub enum Filling {
+    /// Each PDO has a place; the PDO of the lowest place comes first.
+    Whole(Vec<usize>),
+    /// None of these PDOs passes with the others above it, and no other PDO is in any such set.
+    Stuck(Vec<usize>),
+}
+
+/// Whether a PDO passes with the flagged streams above it.
+fn passes(set: &StreamSet, above: &[bool], pdo: usize, rate: Rate) -> bool
+    requires flags { length above.now ≡ length set.now }
+    requires index { pdo < length set.now }
+    ensures { IsTrue result ↔ Passes (flagged_place set.now above.now pdo rate) }
+{
+    matches!(verdict(set, above, pdo, rate), Verdict::Pass { .. })
+}
+
+/// The last of the flagged PDOs that passes with the other flagged streams above it.
+fn last_passing(set: &StreamSet, above: &[bool], pdos: usize, rate: Rate) -> Option<usize>
+    requires flags { length above.now ≡ length set.now }
+    requires pdos { pdos ≤ length set.now }
+    ensures inside { IfSome result (λ p. p < pdos) }
+    ensures flagged { IfSome result (λ p. is_flagged above.now p ≡ true) }
+    ensures passes { IfSome result (λ p. Passes (flagged_place set.now above.now p rate)) }
+    ensures last { IfSome result (λ p. (r : ℕ) → r < pdos → p < r → is_flagged above.now r ≡ true → Passes (flagged_place set.now above.now r rate) → ⊥) }
+    ensures none { IfNone result ((r : ℕ) → r < pdos → is_flagged above.now r ≡ true → Passes (flagged_place set.now above.now r rate) → ⊥) }
+{
+    for done in 0..pdos {
+        let pdo = pdos - 1 - done;
+        if above[pdo] && passes(set, above, pdo, rate) {
+            return Some(pdo);
+        }
+    }
+    None
+}
+
+/// Flags all PDOs, and the fixed frames that are above each PDO.
+fn flag_all(set: &StreamSet, pdos: usize, out: &mut [bool])
+    requires flags { length out.old ≡ length set.now }
+    requires pdos { pdos ≤ length set.now }
+    ensures { (k : ℕ) → is_flagged out.new k ≡ is_in_trial least_id set.now pdos (λ p. nat_lt p pdos) k }
+{
+    for (k, stream) in set.streams().iter().enumerate() {
+        out[k] = k < pdos || stream.id < LEAST_ID;
+    }
+}
+
+/// The PDOs that are flagged.
+fn flagged(alloc: Global, above: &[bool], pdos: usize) -> Result<Vec<usize>, AllocError>
+    requires { pdos ≤ length above.now }
+    ensures { IfOk result (λ pdo. (k : ℕ) → is_among pdo.items k ≡ (nat_lt k pdos && is_flagged above.now k)) }
+{
+    let mut found = Vec::new(alloc);
+    for pdo in 0..pdos {
+        if above[pdo] {
+            found.push(pdo)?;
+        }
+    }
+    Ok(found)
+}
+
+/// The filling of the places at one rate, from the lowest on: at each the last PDO that passes there with the PDOs that
+/// have no place yet and the fixed frames below 181h above it, and all others below.
+pub fn fill(alloc: Global, set: &StreamSet, pdos: usize, rate: Rate) -> Result<Filling, AllocError>
+    requires { pdos ≤ length set.now }
+    ensures { IfOk result (IsFound rate set.now pdos) }
+{
+    let mut flags = [false; StreamSet::MOST];
+    let streams = set.streams();
+    let above = &mut flags[..streams.len()];
+    flag_all(set, pdos, above);
+    let mut fill = Vec::new(alloc);
+    for _placed in 0..pdos {
+        let Some(pdo) = last_passing(set, above, pdos, rate) else {
+            return Ok(Filling::Stuck(flagged(alloc, above, pdos)?));
+        };
+        fill.push(pdo)?;
+        above[pdo] = false;
+    }
+    Ok(Filling::Whole(fill))
+}
