@@ -6,13 +6,14 @@ use Rattle.cop_frame.specs.Rate.{ticks_of}
 use Rattle.cop_rta.specs.declared.streams.Stream.{Stream}
 use Rattle.cop_rta.specs.Test.{Passes, place_by_id}
 
--- An instance of a stream: its event, the moment at which it is queued, its length in bits, and the
--- moment at which its transfer starts, if it does.
+-- An instance of a stream: its event, the moment at which it is queued, its frame's length in bits and number of
+-- data bytes, and the moment at which its transfer starts, if it does.
 pub record Instance : Type 0 where
   pub id : ℕ
   pub event : ℕ
   pub queued : ℕ
   pub bits : ℕ
+  pub len : ℕ
   pub start : Option ℕ
 
 -- its transfer runs at the moment x
@@ -23,10 +24,18 @@ Runs tau y x = (s : ℕ) × (y.start ≡ Some s) × (s ≤ x) × (x < s + y.bits
 abbrev pub Waits : Instance → ℕ → Type 0
 Waits y x = (y.queued ≤ x) × ForSome y.start (λ s. x ≤ s)
 
--- its length is one that a frame of the stream can have, from no stuff bit to the most
+-- the least and the greatest number of bits of a frame of so many bytes, with no stuff bit and with the most
+abbrev pub least_bits : ℕ → ℕ
+least_bits bytes = 47 + 8 * bytes
+
+abbrev pub worst_bits : ℕ → ℕ
+worst_bits bytes = 55 + 10 * bytes
+
+-- its length is one that a frame of the stream can have
 pub record HasLengthOf (k : Stream) (y : Instance) : Type 0 where
-  pub not_shorter : 47 + 8 * k.bytes ≤ y.bits
-  pub not_longer : y.bits ≤ 55 + 10 * k.bytes
+  pub not_shorter : least_bits k.bytes ≤ y.bits
+  pub not_longer : y.bits ≤ worst_bits k.bytes
+  pub same_bytes : y.len ≡ k.bytes
 
 -- it is of a stream of the set
 pub record IsKnown (streams : List Stream) (y : Instance) : Type 0 where

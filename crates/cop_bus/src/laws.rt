@@ -1,6 +1,6 @@
 //! What holds of each legal run of the bus.
 
-ghost use Rattle.std.specs.Prelude.{◌≡◌, ℕ, ◌+◌, ◌*◌, ◌≤◌, ◌<◌, All, Any, Contains, List, Some, ◌∷◌, ◌++◌};
+ghost use Rattle.std.specs.Prelude.{◌≡◌, ℕ, ◌+◌, ◌*◌, ◌≤◌, ◌<◌, All, Any, Contains, List, Some, None, ◌∷◌, ◌++◌, ◌↔◌};
 ghost use Rattle.std.specs.Int.{div_ceil};
 ghost use Rattle.std.specs.Option.{ForSome};
 ghost use Rattle.cop_frame.specs.declared.rates.Rate.{Rate};
@@ -9,6 +9,10 @@ ghost use Rattle.cop_rta.specs.declared.streams.Stream.{Stream};
 ghost use Rattle.cop_rta.specs.Test.{place_by_id, queueing_at};
 ghost use Rattle.cop_bus.specs.Run.{Instance, IsRunAbove, PassesById, IsOnTime, Runs, waiting};
 ghost use Rattle.cop_bus.specs.Period.{IsPeriodOf, starts_of, queued_since};
+ghost use Rattle.cop_rta.specs.Streams.{AreDistinct};
+ghost use Rattle.cop_bus.specs.declared.steps.Step.{Step};
+ghost use Rattle.cop_bus.specs.Judge.{first_broken};
+ghost use Rattle.cop_bus.specs.Trace.{IsLegalTrace};
 
 /// The response-time test is sound: in each legal run in which the stream and those above it obey, each
 /// instance of a stream that passes is on time.
@@ -55,4 +59,11 @@ pub fn busy_period()
         → IsPeriodOf rate streams until pre x post index m t
         → (w : ℕ) → queueing_at (place_by_id streams index rate) (queued_since m.id t pre) w ≤ w → t + w < until
         → (s : ℕ) × (x.start ≡ Some s) × (s ≤ t + w) }
+{}
+
+/// A trace breaks no rule, step by step, exactly where it is that of a legal run in which all streams obey.
+pub fn clean_is_legal()
+    ensures { (rate : Rate) (streams : List Stream) (until : ℕ) (steps : List Step)
+        → AreDistinct streams
+        → (first_broken (ticks_of rate) streams until steps ≡ None ↔ IsLegalTrace (ticks_of rate) streams until steps) }
 {}

@@ -1,6 +1,17 @@
-//! Runs of the bus, and what the response-time test says of them.
+//! Runs of the bus and their traces, and what the response-time test says of them.
 #![tactic(auto)]
 
+mod faults;
+mod judging;
 mod laws;
+mod rules;
+mod runs;
+mod steps;
 
-pub use laws::{busy_period, passing_is_on_time, passing_waits_bounded, started_is_on_time};
+pub use faults::BusFault;
+pub use judging::judge;
+pub use laws::{
+    busy_period, clean_is_legal, passing_is_on_time, passing_waits_bounded, started_is_on_time,
+};
+pub use runs::{Run, Trace};
+pub use steps::{Content, Step};
