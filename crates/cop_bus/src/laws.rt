@@ -12,7 +12,8 @@ ghost use Rattle.cop_bus.specs.Period.{IsPeriodOf, starts_of, queued_since};
 ghost use Rattle.cop_rta.specs.Streams.{AreDistinct};
 ghost use Rattle.cop_bus.specs.declared.steps.Step.{Step};
 ghost use Rattle.cop_bus.specs.Judge.{first_broken};
-ghost use Rattle.cop_bus.specs.Trace.{IsLegalTrace};
+ghost use Rattle.cop_bus.specs.Trace.{IsLegalTrace, instances};
+ghost use Rattle.cop_bus.specs.Late.{first_late};
 
 /// The response-time test is sound: in each legal run in which the stream and those above it obey, each
 /// instance of a stream that passes is on time.
@@ -66,4 +67,12 @@ pub fn clean_is_legal()
     ensures { (rate : Rate) (streams : List Stream) (until : ℕ) (steps : List Step)
         → AreDistinct streams
         → (first_broken (ticks_of rate) streams until steps ≡ None ↔ IsLegalTrace (ticks_of rate) streams until steps) }
+{}
+
+/// A trace has no late instance exactly where each instance of each stream is on time.
+pub fn none_late_is_on_time()
+    ensures { (rate : Rate) (streams : List Stream) (until : ℕ) (steps : List Step)
+        → AreDistinct streams
+        → (first_late (ticks_of rate) streams until steps ≡ None
+        ↔ All (λ k. All (λ y. y.id ≡ k.id → IsOnTime (ticks_of rate) until k.deadline y) (instances steps)) streams) }
 {}

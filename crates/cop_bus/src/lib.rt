@@ -3,6 +3,7 @@
 
 mod faults;
 mod judging;
+mod lateness;
 mod laws;
 mod rules;
 mod runs;
@@ -10,8 +11,10 @@ mod steps;
 
 pub use faults::BusFault;
 pub use judging::judge;
+pub use lateness::first_late;
 pub use laws::{
-    busy_period, clean_is_legal, passing_is_on_time, passing_waits_bounded, started_is_on_time,
+    busy_period, clean_is_legal, none_late_is_on_time, passing_is_on_time, passing_waits_bounded,
+    started_is_on_time,
 };
 pub use runs::{Run, Trace};
 pub use steps::{Content, Step};
