@@ -18,3 +18,6 @@ pub use laws::{
 };
 pub use runs::{Run, Trace};
 pub use steps::{Content, Step};
+
+#[cfg(test)]
+mod tests;
