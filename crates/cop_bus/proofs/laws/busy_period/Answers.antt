@@ -1,0 +1,14 @@
+use Rattle.cop_bus.proofs.PeriodLemmas.{no-gap, lower-before, few, starts}
+use Rattle.cop_bus.proofs.laws.busy_period.Goals as goal
+
+pub returns-clause-no_gap : goal.returns-clause-no_gap
+returns-clause-no_gap c = no-gap
+
+pub returns-clause-lower_before : goal.returns-clause-lower_before
+returns-clause-lower_before c = lower-before
+
+pub returns-clause-few : goal.returns-clause-few
+returns-clause-few c = few
+
+pub returns-clause-starts : goal.returns-clause-starts
+returns-clause-starts c = starts

@@ -1,0 +1,5 @@
+use Rattle.cop_bus.proofs.Sound.{started_sound}
+use Rattle.cop_bus.proofs.laws.started_is_on_time.Goals as goal
+
+pub returns : goal.returns
+returns c = started_sound

@@ -1,0 +1,37 @@
+-- Instances that are late.
+use Rattle.std.specs.Prelude.{ℕ, ◌+◌, ◌*◌, List, [], ◌∷◌, Option, None, Some, Bool, false, suc, not, ◌&&◌, nat_le, if◌then◌else◌}
+use Rattle.cop_rta.specs.declared.streams.Stream.{Stream}
+use Rattle.cop_bus.specs.declared.steps.Step.{Step}
+use Rattle.cop_bus.specs.declared.steps.Step.TheVariants.{Queue, Start, End}
+use Rattle.cop_bus.specs.Trace.{is_queue, is_start, count_to, nth_that, moment_of}
+use Rattle.cop_bus.specs.Judge.{id_of, stream_of}
+
+-- a transfer of so many bits that starts there, if it does, has ended by a moment
+abbrev pub has_ended : ℕ → ℕ → ℕ → Option ℕ → Bool
+has_ended tau bits by None = false
+has_ended tau bits by (Some s) = nat_le (s + bits * tau) by
+
+-- it has not, by a deadline that is not after the run
+abbrev pub misses : ℕ → ℕ → ℕ → ℕ → Option ℕ → Option ℕ → Bool
+misses tau until event bits None start = false
+misses tau until event bits (Some d) start = nat_le (event + d) until && not (has_ended tau bits (event + d) start)
+
+-- the step queues an instance that is late
+abbrev pub is_late : ℕ → ℕ → Option Stream → Option ℕ → Step → Bool
+is_late tau until (Some k) start (Queue at id event frame) = misses tau until event frame.bits k.deadline start
+is_late tau until (Some k) start (Start at id) = false
+is_late tau until (Some k) start (End at id) = false
+is_late tau until None start x = false
+
+-- the moment at which the instance that is queued after the first i steps is sent
+abbrev pub sent_at : List Step → ℕ → ℕ → Option ℕ
+sent_at steps i id = moment_of (nth_that (is_start id) (count_to (is_queue id) steps i) steps)
+
+-- the number, from 1, of the first step, from number i on, that queues an instance that is late
+abbrev pub first_late_from : ℕ → List Stream → ℕ → List Step → ℕ → List Step → Option ℕ
+first_late_from tau streams until steps i [] = None
+first_late_from tau streams until steps i (x ∷ rest) =
+    if is_late tau until (stream_of streams (id_of x)) (sent_at steps i (id_of x)) x then Some (suc i) else first_late_from tau streams until steps (suc i) rest
+
+abbrev pub first_late : ℕ → List Stream → ℕ → List Step → Option ℕ
+first_late tau streams until steps = first_late_from tau streams until steps 0 steps

@@ -1,0 +1,414 @@
+//! The judge of a trace.
+
+ghost use Rattle.std.specs.Prelude.{◌≡◌, ◌<◌, ◌≤◌, ℕ, List, Some, None, length, slice_index, nat_lt, ◌&&◌, OnOk, IfOk, IfErr};
+ghost use Rattle.cop_frame.specs.Rate.{ticks_of};
+ghost use Rattle.cop_bus.specs.declared.steps.Step.{Step};
+ghost use Rattle.cop_bus.specs.Judge.{IsFaultOf, first_broken, stream_of, id_of, any_waits, lower_waits, waits_after, is_in_order, has_one_to_send, is_lowest, is_not_idle, broken_by, broken_at_end};
+ghost use Rattle.cop_bus.specs.Trace.{running as running_spec, after, step_at, nth_that, is_queue, is_start, count_to};
+ghost use Rattle.cop_bus.specs.Tables.{IsUnsent, IsNext, IsLast, ahead_after, next_after, unsent_after, last_after};
+
+use crate::faults::BusFault;
+use crate::rules::{
+    at_of, bits, fits_transfer, id_of, is_of_length, is_period_later, is_queued_in_time,
+    is_soon_queued, is_unfinished, not_before,
+};
+use crate::runs::{Run, Trace};
+use crate::steps::Step;
+use cop_frame::Rate;
+use cop_rta::{Stream, StreamSet};
+use std::alloc::{AllocError, Global};
+
+// How many identifiers a trace can name.
+const IDS: usize = 65536;
+
+/// Takes a trace that breaks none of the rules of legal runs. Its steps stand by moment; of one moment ends come
+/// first, then queues, then starts. The rules:
+///
+/// - 60: moments don't fall, none is after the end, and the order of one moment
+/// - 61: the identifier is in the set
+/// - 62: each event of a stream is a period at least after the one before
+/// - 63: an instance is queued from its event to the jitter after it
+/// - 64: its frame has a length, and the number of data bytes, of a frame of the stream
+/// - 65: no start while a transfer runs; each end is of the transfer that runs and at its moment; none is missing
+/// - 66: at a start some instance waits, and the stream has one to send, queued less than a bit time after it
+/// - 67: at a start none with a lower identifier waits
+/// - 68: none waits at an earlier tick at which no transfer runs
+pub fn judge<'a>(
+    alloc: Global,
+    streams: &'a StreamSet,
+    rate: Rate,
+    trace: &'a Trace,
+) -> Result<Run<'a>, BusFault>
+    ensures ok { IfOk result (λ run. (run.streams.now ≡ streams.now) × (run.trace.now ≡ trace.now) × (run.rate ≡ rate)) }
+    ensures legal { OnOk result (first_broken (ticks_of rate) streams.now trace.now.until trace.now.steps.items ≡ None) }
+    ensures err { IfErr result (λ fault. IsFaultOf (first_broken (ticks_of rate) streams.now trace.now.until trace.now.steps.items) fault) }
+{
+    check_steps(
+        alloc,
+        streams,
+        rate.ticks_per_bit(),
+        trace.until,
+        &trace.steps,
+    )?;
+    Ok(Run {
+        streams,
+        trace,
+        rate,
+    })
+}
+
+// Whether the trace breaks no rule; else the first step that breaks one, and the least rule that it breaks.
+fn check_steps(
+    alloc: Global,
+    streams: &StreamSet,
+    ticks: u32,
+    until: u64,
+    steps: &[Step],
+) -> Result<(), BusFault>
+    ensures ok { OnOk result (first_broken ticks streams.now until steps.now ≡ None) }
+    ensures err { IfErr result (λ fault. IsFaultOf (first_broken ticks streams.now until steps.now) fault) }
+{
+    let Ok(links) = link_all(alloc, steps) else {
+        return Err(BusFault::Memory);
+    };
+    let Ok(mut last) = no_events(alloc) else {
+        return Err(BusFault::Memory);
+    };
+    let next = links.next;
+    let mut unsent = links.first;
+    let mut running = None;
+    for i in 0..steps.len() {
+        match broken_by(streams, ticks, until, steps, i, running, &last, &unsent) {
+            Some(number) => return Err(BusFault::Refused {
+                place: i + 1,
+                number,
+            }),
+            None => {}
+        }
+        running = running_after(steps, i, ticks, running, &unsent);
+        note_event(&steps[i], &mut last);
+        send(&steps[i], &next, &mut unsent);
+    }
+    match broken_at_end(streams, ticks, until, steps, running, &unsent) {
+        Some(number) => Err(BusFault::Refused {
+            place: steps.len() + 1,
+            number,
+        }),
+        None => Ok(()),
+    }
+}
+
+// For each identifier the place of its first queue step, and for each queue step that of the stream's next;
+// the number of steps where there is none.
+#[derive(Drop)]
+struct Links {
+    first: Vec<usize>,
+    next: Vec<usize>,
+}
+
+fn link_all(alloc: Global, steps: &[Step]) -> Result<Links, AllocError>
+    ensures first { IfOk result (λ links. IsUnsent steps.now 0 links.first.items) }
+    ensures next { IfOk result (λ links. IsNext steps.now 0 links.next.items) }
+{
+    let mut first = vec![in alloc; steps.len(); IDS]?;
+    let mut next = vec![in alloc; steps.len(); steps.len()]?;
+    let mut i = steps.len();
+    while i > 0 {
+        i -= 1;
+        link(&steps[i], i, &mut first, &mut next);
+    }
+    Ok(Links { first, next })
+}
+
+// Takes a queue step, which stands before those that are taken, into the tables.
+fn link(step: &Step, i: usize, ahead: &mut Vec<usize>, next: &mut Vec<usize>)
+    requires ids { length ahead.old.items ≡ 65536 }
+    requires i { i < length next.old.items }
+    ensures ahead { ahead.new.items ≡ ahead_after step.now i ahead.old.items }
+    ensures next { next.new.items ≡ next_after step.now i ahead.old.items next.old.items }
+    ensures fits { id_of step.now < 65536 }
+{
+    let id = usize::from(id_of(step));
+    match step {
+        Step::Queue { .. } => {
+            next[i] = ahead[id];
+            ahead[id] = i;
+        }
+        Step::Start { .. } => {}
+        Step::End { .. } => {}
+    }
+}
+
+fn no_events(alloc: Global) -> Result<Vec<Option<u64>>, AllocError>
+    ensures { (steps : List _) → IfOk result (λ last. IsLast steps 0 last.items) }
+{
+    let mut last = Vec::new(alloc);
+    for _id in 0..IDS {
+        last.push(None)?;
+    }
+    Ok(last)
+}
+
+// Notes the event of what the step queues.
+fn note_event(step: &Step, last: &mut Vec<Option<u64>>)
+    requires { length last.old.items ≡ 65536 }
+    ensures { last.new.items ≡ last_after step.now last.old.items }
+{
+    match step {
+        Step::Queue { id, event, .. } => last[usize::from(*id)] = Some(*event),
+        Step::Start { .. } => {}
+        Step::End { .. } => {}
+    }
+}
+
+// Notes that a start sends its stream's first unsent instance.
+fn send(step: &Step, next: &[usize], unsent: &mut Vec<usize>)
+    requires ids { length unsent.old.items ≡ 65536 }
+    requires some { (at id : ℕ) → step.now ≡ Step.Start at id → slice_index unsent.old.items id < length next.now }
+    ensures { unsent.new.items ≡ unsent_after step.now next.now unsent.old.items }
+{
+    match step {
+        Step::Queue { .. } => {}
+        Step::Start { id, .. } => {
+            let id = usize::from(*id);
+            unsent[id] = next[unsent[id]];
+        }
+        Step::End { .. } => {}
+    }
+}
+
+// The stream's first unsent instance in the whole trace.
+fn unsent_of(steps: &[Step], unsent: &[usize], id: u16) -> Option<Step>
+    requires { length unsent.now ≡ 65536 }
+    ensures { (i : ℕ) → IsUnsent steps.now i unsent.now → result ≡ nth_that (is_queue id) (count_to (is_start id) steps.now i) steps.now }
+{
+    let place = unsent[usize::from(id)];
+    if place < steps.len() {
+        Some(steps[place])
+    } else {
+        None
+    }
+}
+
+// The transfer that runs after step number `i`, by that which ran before it.
+fn running_after(
+    steps: &[Step],
+    i: usize,
+    ticks: u32,
+    running: Option<(u16, u128)>,
+    unsent: &[usize],
+) -> Option<(u16, u128)>
+    requires i { i < length steps.now }
+    requires unsent { IsUnsent steps.now i unsent.now }
+    ensures { result ≡ after ticks steps.now i (step_at steps.now i) running }
+{
+    match steps[i] {
+        Step::Queue { .. } => running,
+        Step::Start { at, id } => {
+            let bits = bits(unsent_of(steps, unsent, id));
+            Some((id, u128::from(at) + u128::from(bits) * u128::from(ticks)))
+        }
+        Step::End { .. } => None,
+    }
+}
+
+// Whether an instance of the stream waits after the first `i` steps.
+fn waits(unsent: &[usize], i: usize, id: u16) -> bool
+    requires { length unsent.now ≡ 65536 }
+    ensures { (steps : List Step) → i ≤ length steps → IsUnsent steps i unsent.now → result ≡ waits_after steps i id }
+{
+    unsent[usize::from(id)] < i
+}
+
+// Whether an instance of some stream does.
+fn any_waits_among(streams: &[Stream], unsent: &[usize], i: usize) -> bool
+    requires { length unsent.now ≡ 65536 }
+    ensures { (steps : List Step) → i ≤ length steps → IsUnsent steps i unsent.now → result ≡ any_waits steps i streams.now }
+{
+    for stream in streams {
+        if waits(unsent, i, stream.id) {
+            return true;
+        }
+    }
+    false
+}
+
+// Whether an instance of a stream with a lower identifier does.
+fn lower_waits_among(streams: &[Stream], unsent: &[usize], i: usize, id: u16) -> bool
+    requires { length unsent.now ≡ 65536 }
+    ensures { (steps : List Step) → i ≤ length steps → IsUnsent steps i unsent.now → result ≡ lower_waits steps i id streams.now }
+{
+    for stream in streams {
+        if waits_below(stream, unsent, i, id) {
+            return true;
+        }
+    }
+    false
+}
+
+fn is_in_order(steps: &[Step], i: usize, until: u64) -> bool
+    requires { i < length steps.now }
+    ensures { result ≡ is_in_order until steps.now i (step_at steps.now i) }
+{
+    let step = &steps[i];
+    if i == 0 {
+        at_of(step) <= until
+    } else {
+        at_of(step) <= until && not_before(&steps[i - 1], step)
+    }
+}
+
+fn has_one_to_send(
+    streams: &StreamSet,
+    ticks: u32,
+    steps: &[Step],
+    i: usize,
+    unsent: &[usize],
+) -> bool
+    requires i { i < length steps.now }
+    requires unsent { IsUnsent steps.now i unsent.now }
+    ensures { result ≡ has_one_to_send ticks streams.now steps.now i (step_at steps.now i) }
+{
+    match steps[i] {
+        Step::Queue { .. } => true,
+        Step::Start { at, id } => {
+            any_waits(streams, unsent, i) && is_soon_queued(ticks, at, unsent_of(steps, unsent, id))
+        }
+        Step::End { .. } => true,
+    }
+}
+
+fn is_lowest(streams: &StreamSet, steps: &[Step], i: usize, unsent: &[usize]) -> bool
+    requires i { i < length steps.now }
+    requires unsent { IsUnsent steps.now i unsent.now }
+    ensures { result ≡ is_lowest streams.now steps.now i (step_at steps.now i) }
+{
+    match steps[i] {
+        Step::Queue { .. } => true,
+        Step::Start { id, .. } => !lower_waits(streams, unsent, i, id),
+        Step::End { .. } => true,
+    }
+}
+
+fn is_not_idle(
+    streams: &StreamSet,
+    steps: &[Step],
+    i: usize,
+    running: Option<(u16, u128)>,
+    moment: u64,
+    unsent: &[usize],
+) -> bool
+    requires i { i ≤ length steps.now }
+    requires unsent { IsUnsent steps.now i unsent.now }
+    ensures { result ≡ is_not_idle streams.now steps.now i running moment }
+{
+    if i == 0 {
+        return true;
+    }
+    match running {
+        None => moment <= at_of(&steps[i - 1]) || !any_waits(streams, unsent, i),
+        Some(_) => true,
+    }
+}
+
+// The least rule that step number `i` breaks.
+fn broken_by(
+    streams: &StreamSet,
+    ticks: u32,
+    until: u64,
+    steps: &[Step],
+    i: usize,
+    running: Option<(u16, u128)>,
+    last: &[Option<u64>],
+    unsent: &[usize],
+) -> Option<u8>
+    requires i { i < length steps.now }
+    requires running { running ≡ running_spec ticks steps.now i }
+    requires last { IsLast steps.now i last.now }
+    requires unsent { IsUnsent steps.now i unsent.now }
+    ensures least { result ≡ broken_by ticks streams.now until steps.now i (step_at steps.now i) }
+    ensures fits { id_of (step_at steps.now i) < 65536 }
+{
+    let step = &steps[i];
+    let id = id_of(step);
+    let stream = stream_of(streams, id);
+    if !is_in_order(steps, i, until) {
+        Some(60)
+    } else if stream.is_none() {
+        Some(61)
+    } else if !is_period_later(stream, last[usize::from(id)], step) {
+        Some(62)
+    } else if !is_queued_in_time(stream, step) {
+        Some(63)
+    } else if !is_of_length(stream, step) {
+        Some(64)
+    } else if !fits_transfer(running, step) {
+        Some(65)
+    } else if !has_one_to_send(streams, ticks, steps, i, unsent) {
+        Some(66)
+    } else if !is_lowest(streams, steps, i, unsent) {
+        Some(67)
+    } else if !is_not_idle(streams, steps, i, running, at_of(step), unsent) {
+        Some(68)
+    } else {
+        None
+    }
+}
+
+// The least rule that is broken at the trace's end.
+fn broken_at_end(
+    streams: &StreamSet,
+    ticks: u32,
+    until: u64,
+    steps: &[Step],
+    running: Option<(u16, u128)>,
+    unsent: &[usize],
+) -> Option<u8>
+    requires running { running ≡ running_spec ticks steps.now (length steps.now) }
+    requires unsent { IsUnsent steps.now (length steps.now) unsent.now }
+    ensures { result ≡ broken_at_end ticks streams.now until steps.now }
+{
+    if !is_unfinished(until, running) {
+        Some(65)
+    } else if !is_not_idle(streams, steps, steps.len(), running, until, unsent) {
+        Some(68)
+    } else {
+        None
+    }
+}
+
+// The stream of the set that has the identifier.
+pub(crate) fn stream_of(streams: &StreamSet, id: u16) -> Option<Stream>
+    ensures { result ≡ stream_of streams.now id }
+{
+    match streams.place_of(id) {
+        Some(place) => Some(streams.streams()[place]),
+        None => None,
+    }
+}
+
+// Whether an instance of some stream of the set waits after the first `i` steps.
+fn any_waits(streams: &StreamSet, unsent: &[usize], i: usize) -> bool
+    requires { length unsent.now ≡ 65536 }
+    ensures { (steps : List Step) → i ≤ length steps → IsUnsent steps i unsent.now → result ≡ any_waits steps i streams.now }
+{
+    any_waits_among(streams.streams(), unsent, i)
+}
+
+// Whether one of a stream with a lower identifier does.
+fn lower_waits(streams: &StreamSet, unsent: &[usize], i: usize, id: u16) -> bool
+    requires { length unsent.now ≡ 65536 }
+    ensures { (steps : List Step) → i ≤ length steps → IsUnsent steps i unsent.now → result ≡ lower_waits steps i id streams.now }
+{
+    lower_waits_among(streams.streams(), unsent, i, id)
+}
+
+// Whether the stream's identifier is lower and an instance of it waits after the first `i` steps.
+fn waits_below(stream: &Stream, unsent: &[usize], i: usize, id: u16) -> bool
+    requires { length unsent.now ≡ 65536 }
+    ensures { (steps : List Step) → i ≤ length steps → IsUnsent steps i unsent.now → result ≡ (nat_lt stream.now.id id && waits_after steps i stream.now.id) }
+{
+    let lower = stream.id < id;
+    let waits = waits(unsent, i, stream.id);
+    lower && waits
+}

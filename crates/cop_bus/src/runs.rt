@@ -1,0 +1,26 @@
+//! Traces of the bus, and runs that were judged.
+
+ghost use Rattle.cop_frame.specs.Rate.{ticks_of};
+ghost use Rattle.std.specs.Prelude.{◌≡◌, None};
+ghost use Rattle.cop_bus.specs.Judge.{first_broken};
+
+use crate::steps::Step;
+use cop_frame::Rate;
+use cop_rta::StreamSet;
+
+/// The steps of a run, up to a moment.
+#[derive(Drop)]
+pub struct Trace {
+    pub until: u64,
+    pub steps: Vec<Step>,
+}
+
+/// A trace that was judged: it breaks no rule, and so is that of a legal run at the rate in which each stream of the
+/// set obeys ([`clean_is_legal`](crate::clean_is_legal)).
+#[derive(Clone, Copy)]
+pub struct Run<'a> {
+    pub streams: &'a StreamSet,
+    pub trace: &'a Trace,
+    pub rate: Rate,
+    ghost clean: { first_broken (ticks_of rate) streams.now trace.now.until trace.now.steps.items ≡ None },
+}
