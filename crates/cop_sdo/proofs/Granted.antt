@@ -105,11 +105,11 @@ module _ (dict : List Entry) where
       by_toggle true e = rw e (by_place (nat_le (length bytes) (sent + 7)) refl)
 
 -- every request but the client's abort
-abbrev IsCancel : Request → Type 0
+abbrev pub IsCancel : Request → Type 0
 IsCancel Cancel = Unit {0}
 IsCancel _ = ⊥
 
-answered : (state : State) (dict : List Entry) (r : Request) → (IsCancel r → ⊥) → IsAnswered (step state dict r) dict
+pub answered : (state : State) (dict : List Entry) (r : Request) → (IsCancel r → ⊥) → IsAnswered (step state dict r) dict
 answered state dict (Give at bytes) out = stores (written dict at.index at.sub bytes) dict at (download_answer at) refl
 answered state dict (GiveUnsized at four) out = unsized dict (admitted dict at.index at.sub None) at four
 answered state dict (Begin at size) out = begins dict (admitted dict at.index at.sub size) (option_map_or (λ stated. nat_lt 65535 stated) size false) at size

@@ -1,6 +1,6 @@
 //! Laws of the definitions that contracts cite.
 
-ghost use Rattle.std.specs.Prelude.{◌≡◌, ℕ, List, All, true, false, Some, Ok, ◌++◌};
+ghost use Rattle.std.specs.Prelude.{◌≡◌, ℕ, List, All, true, false, Some, Ok, ◌++◌, slice_index};
 ghost use Rattle.cop_dict.specs.Dict.{HasWidth, Replaces, written};
 ghost use Rattle.cop_sdo.specs.Boot.{Exchanges};
 ghost use Rattle.cop_sdo.specs.Calls.{is_short};
@@ -12,7 +12,7 @@ ghost use Rattle.cop_dict.specs.Find.{Entry};
 ghost use Rattle.cop_sdo.specs.Request.{Request, requests};
 ghost use Rattle.cop_sdo.specs.Service.{Download, IsDownload, after, completed, downloads};
 ghost use Rattle.cop_sdo.specs.Server.{idle};
-ghost use Rattle.cop_sdo.specs.Serve.{Serving, Serves, ran_out};
+ghost use Rattle.cop_sdo.specs.Serve.{MayServe, Serving, Serves, ran_out};
 ghost use Rattle.cop_sdo.specs.Message.{Message};
 
 /// From an idle server on, unless memory is refused, the dictionary after a list of frames is the
@@ -22,6 +22,13 @@ pub fn downloads_are_written()
     ensures { (server : Serving) (frames answers : List Message) (dict new : List Entry) (server' : Serving) → server.state ≡ idle
         → Serves server dict frames answers server' new → All (λ answer. ran_out answer ≡ false) answers
         → new ≡ after dict (downloads (requests server.node frames)) }
+{}
+
+/// What is answered by an abort leaves the server idle and every value as before.
+pub fn aborts_change_nothing()
+    ensures { (server : Serving) (dict : List Entry) (frame : Message) (next : Served) (answer : Message) → MayServe server dict frame next
+        → next.answer ≡ Some answer → slice_index answer.body 0 ≡ 0x80
+        → (next.server ≡ record { node = server.node; state = idle }) × (next.dict ≡ dict) }
 {}
 
 /// From an idle client and an idle server of one node, a download of 1 to 4 bytes that ends Done

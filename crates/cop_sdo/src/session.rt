@@ -176,12 +176,12 @@ impl Session {
         let Transfer::Upload {
             at,
             sent,
-            toggle: due,
+            toggle: next,
         } = self.transfer
         else {
             return Err(Abort::Command);
         };
-        if toggle != due {
+        if toggle != next {
             return Err(Abort::Toggle);
         }
         let rest = &self.bytes[sent..];
