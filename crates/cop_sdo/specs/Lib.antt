@@ -1,0 +1,16 @@
+pub mod Message
+pub mod Outcome
+pub mod Request
+pub mod Service
+pub mod Answers
+pub mod Server
+pub mod Place
+pub mod Seen
+pub mod Session
+pub mod Serve
+pub mod Reply
+pub mod ReplySeen
+pub mod Client
+pub mod Exchange
+pub mod Calls
+pub mod Boot
