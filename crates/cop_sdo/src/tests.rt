@@ -290,6 +290,7 @@ fn client_against_server(rt: HostRuntime) -> Result<(), Fail> {
     let mut value = Vec::new(rt.alloc());
     value.resize(65_536, 0x5A)?;
     for len in (0..21usize).chain(65_535..65_536) {
+        assert!(rt; len <= value.len());
         let first = client.download(0x2000, 0, &value[..len])?;
         assert_eq!(rt; client.upload(0x2000, 0), Err(ClientFault::Busy));
         let end = play(&mut client, &mut server, &mut dict, first);
