@@ -1,6 +1,6 @@
 -- Places filled one after the other: what holds on the way.
-use Rattle.std.proofs.Common.{◌≡◌, ◌≢◌, ℕ, zero, suc, ◌+◌, ◌<◌, ◌≤◌, ◌⊎◌, inl, inr, Bool, true, false, not, ◌==◌, ◌||◌, ◌&&◌, nat_lt, if◌then◌else◌, List, [], ◌∷◌, ◌++◌, length, get_or, set, refl, sym, ap, ◌∙◌, subst, arith, add-one, true≢false, length-append, ⊎_elim}
-use Rattle.std.proofs.lemmas.Bool.{cases_eq, cases_lt, cases_Bool, eq-eqb, ne_eqb, eqb-true, lt-ltb, ltb-true, le-ltb, false_from_ne_true}
+use Rattle.std.proofs.Common.{◌≡◌, ◌≢◌, ℕ, zero, suc, ◌+◌, ◌-◌, ◌*◌, mul-le-mul, ◌<◌, ◌≤◌, ◌⊎◌, inl, inr, Bool, true, false, ◌==◌, ◌||◌, ◌&&◌, nat_lt, if◌then◌else◌, List, [], ◌∷◌, ◌++◌, length, set, refl, sym, ap, ◌∙◌, subst, arith, true≢false, length-append}
+use Rattle.std.proofs.lemmas.Bool.{cases_eq, cases_lt, cases_Bool, eq-eqb, ne_eqb, lt-ltb, ltb-true, le-ltb}
 use Rattle.std.proofs.lemmas.List.{append_assoc, append-nil, get_or-set_same, get_or-set_other}
 use Rattle.std.proofs.lemmas.Option.{unwrap_or-slice_get}
 use Rattle.cop_frame.specs.declared.rates.Rate.{Rate}
@@ -11,17 +11,18 @@ use Rattle.cop_rta.proofs.MoreAbove.{passes_under_fewer}
 use Rattle.cop_cert.specs.Assignments.{least_id}
 use Rattle.cop_cert.specs.Sets.{trial, is_in_trial, IsRefusalSet, IsGreatestRefusalSet}
 use Rattle.cop_cert.proofs.AboveLemmas.{set_within_set, trial_of_pdo, trial_of_fixed}
-use Rattle.cop_plan.specs.Fillings.{is_among, IsFilling, AreDistinct, IsWhole}
-use Rattle.cop_plan.proofs.FillingLemmas.{among_head, among_tail, among_cases, no_bit}
+use Rattle.cop_cert.specs.Evidence.{is_listed}
+use Rattle.cop_plan.specs.Fillings.{IsFilling, AreDistinct, IsWhole}
+use Rattle.cop_plan.proofs.FillingLemmas.{among_tail}
 
 -- ---- a list with one more at its end
 
-among_push : (xs : List ℕ) (p k : ℕ) → is_among (xs ++ p ∷ []) k ≡ (is_among xs k || (p == k))
+among_push : (xs : List ℕ) (p k : ℕ) → is_listed (xs ++ p ∷ []) k ≡ (is_listed xs k || (p == k))
 among_push [] p k = by (p == k) where
   by : (b : Bool) → (b || false) ≡ (false || b)
   by true = refl
   by false = refl
-among_push (x ∷ xs) p k = rw (among_push xs p k) (by (x == k) (is_among xs k) (p == k)) where
+among_push (x ∷ xs) p k = rw (among_push xs p k) (by (x == k) (is_listed xs k) (p == k)) where
   by : (a b c : Bool) → (a || (b || c)) ≡ ((a || b) || c)
   by true b c = refl
   by false b c = refl
@@ -33,8 +34,8 @@ below_next k n = go (cases_lt k n) (cases_eq n k) where
   go (inr le) (inl e) = rw (le-ltb k n le, eq-eqb n k e, lt-ltb k (n + 1) (omega arith)) refl
   go (inr le) (inr apart) = rw (le-ltb k n le, ne_eqb n k apart, le-ltb k (n + 1) (omega arith)) refl
 
-pub found_more : (found : List ℕ) (n : ℕ) (flag : ℕ → Bool) → ((k : ℕ) → is_among found k ≡ (nat_lt k n && flag k)) → flag n ≡ true
-    → (k : ℕ) → is_among (found ++ n ∷ []) k ≡ (nat_lt k (n + 1) && flag k)
+pub found_more : (found : List ℕ) (n : ℕ) (flag : ℕ → Bool) → ((k : ℕ) → is_listed found k ≡ (nat_lt k n && flag k)) → flag n ≡ true
+    → (k : ℕ) → is_listed (found ++ n ∷ []) k ≡ (nat_lt k (n + 1) && flag k)
 found_more found n flag h f k = among_push found n k ∙ rw (h k, ← below_next k n) (go (cases_eq n k)) where
   by : (a b : Bool) → ((a && b) || false) ≡ ((a || false) && b)
   by true true = refl
@@ -48,8 +49,8 @@ found_more found n flag h f k = among_push found n k ∙ rw (h k, ← below_next
     all false = refl
   go (inr apart) = rw (ne_eqb n k apart) (by (nat_lt k n) (flag k))
 
-pub found_same : (found : List ℕ) (n : ℕ) (flag : ℕ → Bool) → ((k : ℕ) → is_among found k ≡ (nat_lt k n && flag k)) → flag n ≡ false
-    → (k : ℕ) → is_among found k ≡ (nat_lt k (n + 1) && flag k)
+pub found_same : (found : List ℕ) (n : ℕ) (flag : ℕ → Bool) → ((k : ℕ) → is_listed found k ≡ (nat_lt k n && flag k)) → flag n ≡ false
+    → (k : ℕ) → is_listed found k ≡ (nat_lt k (n + 1) && flag k)
 found_same found n flag h f k = h k ∙ rw (← below_next k n) (go (cases_eq n k)) where
   by : (a b : Bool) → (a && b) ≡ ((a || false) && b)
   by true b = refl
@@ -107,8 +108,8 @@ pub record Goes (rate : Rate) (streams : List Stream) (pdos : ℕ) (fill : List 
   pub inside : (k : ℕ) → left k ≡ true → k < pdos
   pub counted : length fill + count pdos left ≡ pdos
   pub holds : (others : ℕ → Bool) → IsRefusalSet least_id rate streams pdos others → (p : ℕ) → p < pdos → others p ≡ true → left p ≡ true
-  pub ends : (rest : List ℕ) → IsFilling rate streams pdos rest → AreDistinct rest → ((k : ℕ) → is_among rest k ≡ left k)
-      → IsFilling rate streams pdos (fill ++ rest) × AreDistinct (fill ++ rest) × ((k : ℕ) → is_among (fill ++ rest) k ≡ nat_lt k pdos)
+  pub ends : (rest : List ℕ) → IsFilling rate streams pdos rest → AreDistinct rest → ((k : ℕ) → is_listed rest k ≡ left k)
+      → IsFilling rate streams pdos (fill ++ rest) × AreDistinct (fill ++ rest) × ((k : ℕ) → is_listed (fill ++ rest) k ≡ nat_lt k pdos)
 
 count_all : (n m : ℕ) → n ≤ m → count n (λ k. nat_lt k m) ≡ n
 unfolding sum_where
@@ -152,13 +153,13 @@ goes_on rate streams pdos fill left rest p few g below here gone others passes l
     kept set r k i m (inl e) = absurd (not_in_refusal rate streams pdos left p few below g.holds passes set r (rw e at m))
     kept set r k i m (inr apart) = others k apart ∙ g.holds set r k i m
 
-    among : (tail : List ℕ) → ((k : ℕ) → is_among tail k ≡ rest k) → (k : ℕ) → (k ≡ p) ⊎ (k ≡ p → ⊥) → is_among (p ∷ tail) k ≡ left k
+    among : (tail : List ℕ) → ((k : ℕ) → is_listed tail k ≡ rest k) → (k : ℕ) → (k ≡ p) ⊎ (k ≡ p → ⊥) → is_listed (p ∷ tail) k ≡ left k
     among tail same k (inl e) = rw (e, eq-eqb p p refl) (sym here)
     among tail same k (inr apart) = rw (ne_eqb p k (λ e. apart (sym e)), same k) (others k apart)
 
-    filling : (tail : List ℕ) → IsFilling rate streams pdos tail → ((k : ℕ) → is_among tail k ≡ rest k) → IsFilling rate streams pdos (p ∷ tail)
+    filling : (tail : List ℕ) → IsFilling rate streams pdos tail → ((k : ℕ) → is_listed tail k ≡ rest k) → IsFilling rate streams pdos (p ∷ tail)
     filling tail f same =
-        let test : left ≡ is_among (p ∷ tail) = λ i k. sym (among tail same k (cases_eq k p)) i in (
+        let test : left ≡ is_listed (p ∷ tail) = λ i k. sym (among tail same k (cases_eq k p)) i in (
           subst (λ (members : ℕ → Bool). Passes (trial least_id rate streams pdos members p)) test passes,
           λ r m up good.
               let there : left r ≡ true = sym (among tail same r (cases_eq r p)) ∙ among_tail p r tail m in
@@ -174,8 +175,8 @@ goes_to_end rate streams pdos fill left g all =
     let whole : fill ++ [] ≡ fill = append-nil fill in (
       record {
         distinct = subst AreDistinct whole e.1;
-        each = λ k h. ap (λ (list : List ℕ). is_among list k) (sym whole) ∙ e.2 k ∙ lt-ltb k pdos h;
-        inside = λ k h. ltb-true k pdos (sym (e.2 k) ∙ ap (λ (list : List ℕ). is_among list k) whole ∙ h);
+        each = λ k h. ap (λ (list : List ℕ). is_listed list k) (sym whole) ∙ e.2 k ∙ lt-ltb k pdos h;
+        inside = λ k h. ltb-true k pdos (sym (e.2 k) ∙ ap (λ (list : List ℕ). is_listed list k) whole ∙ h);
         count = all;
       },
       subst (λ (list : List ℕ). IsFilling rate streams pdos list) whole e.0,
@@ -187,11 +188,11 @@ goes_to_end rate streams pdos fill left g all =
 
 -- none that is left passes
 pub goes_no_further : (rate : Rate) (streams : List Stream) (pdos : ℕ) (fill members : List ℕ) (left : ℕ → Bool) → Goes rate streams pdos fill left → length fill < pdos
-    → ((k : ℕ) → is_among members k ≡ left k)
+    → ((k : ℕ) → is_listed members k ≡ left k)
     → ((r : ℕ) → r < pdos → left r ≡ true → Passes (trial least_id rate streams pdos left r) → ⊥)
-    → IsGreatestRefusalSet least_id rate streams pdos (is_among members)
+    → IsGreatestRefusalSet least_id rate streams pdos (is_listed members)
 goes_no_further rate streams pdos fill members left g few same none =
-    let test : left ≡ is_among members = λ i k. sym (same k) i in
+    let test : left ≡ is_listed members = λ i k. sym (same k) i in
     let some = count_some pdos left (omega (arith, g.counted, few)) in
     subst (λ (set : ℕ → Bool). IsGreatestRefusalSet least_id rate streams pdos set) test
     (record {
@@ -273,3 +274,62 @@ goes_next rate streams pdos p fill flags few below inside t g flag passes last =
     (λ k apart. ap (λ (b : Bool). nat_lt k pdos && b) (flag_kept flags p k apart))
     (trial_is rate streams pdos p flags t passes)
     (λ r inside_r up left good. last r inside_r up (left_is_flagged pdos r flags left) (trial_was rate streams pdos r flags t good))
+
+-- ---- how many trials there are
+
+count_alike : (n : ℕ) (a b : ℕ → Bool) → ((k : ℕ) → k < n → a k ≡ b k) → count n a ≡ count n b
+unfolding sum_where
+count_alike zero a b h = refl
+count_alike (suc n) a b h = rw (h n (omega arith), count_alike n a b (λ k lt. h k (omega (arith, lt)))) refl
+
+-- the flagged PDOs are those that are left
+pub flagged_are_left : (pdos : ℕ) (flags : List Bool) → count pdos (is_flagged flags) ≡ count pdos (left_of pdos flags)
+flagged_are_left pdos flags = count_alike pdos (is_flagged flags) (left_of pdos flags) (λ k lt. rw (lt-ltb k pdos lt) refl)
+
+-- one that is looked at is counted if it is flagged
+pub count_here : (pdos done : ℕ) (flags : ℕ → Bool) → done < pdos → flags (pdos - 1 - done) ≡ true → suc (count (pdos - (done + 1)) flags) ≡ count (pdos - done) flags
+unfolding sum_where
+count_here pdos done flags h e =
+    let there : pdos - 1 - done ≡ pdos - (done + 1) = omega (arith, h) in
+    go (pdos - (done + 1)) (pdos - done) (omega (arith, h)) (rw there at e)
+  where
+    go : (n m : ℕ) → m ≡ suc n → flags n ≡ true → suc (count n flags) ≡ count m flags
+    go n m same f = rw (same, f) (omega arith)
+
+pub count_grows : (pdos done : ℕ) (flags : ℕ → Bool) → count (pdos - (done + 1)) flags ≤ count (pdos - done) flags
+unfolding sum_where
+count_grows pdos done flags = go (cases_lt done pdos)
+  where
+    one : (n m : ℕ) → m ≡ suc n → count n flags ≤ count m flags
+    one n m same = rw same (omega arith)
+
+    go : (done < pdos) ⊎ (pdos ≤ done) → count (pdos - (done + 1)) flags ≤ count (pdos - done) flags
+    go (inl lt) = one (pdos - (done + 1)) (pdos - done) (omega (arith, lt))
+    go (inr ge) = let same : pdos - (done + 1) ≡ pdos - done = omega (arith, ge) in rw same (omega arith)
+
+-- a place more is filled with as many trials as PDOs were left
+pub trials_go_on : (before after total left : ℕ) → 2 * before + suc left * (suc left + 1) ≤ total → after ≤ before + suc left → 2 * after + left * (left + 1) ≤ total
+trials_go_on before after total left h more =
+    let squares : suc left * (suc left + 1) ≡ left * (left + 1) + 2 * suc left = grind arith in
+    omega (arith, h, more, squares)
+
+pub place_trials : (pdos placed before after old flagged : ℕ) → placed < pdos → flagged ≡ pdos - placed → after ≤ before + flagged
+    → 2 * before + (pdos - placed) * (pdos - placed + 1) ≤ 2 * old + pdos * (pdos + 1)
+    → 2 * after + (pdos - (placed + 1)) * (pdos - (placed + 1) + 1) ≤ 2 * old + pdos * (pdos + 1)
+place_trials pdos placed before after old flagged inside same more h =
+    let left : pdos - placed ≡ suc (pdos - (placed + 1)) = omega (arith, inside) in
+    trials_go_on before after (2 * old + pdos * (pdos + 1)) (pdos - (placed + 1)) (rw left at h) (omega (arith, more, same, left))
+
+-- as many are flagged as have no place yet
+pub flagged_left : (rate : Rate) (streams : List Stream) (pdos placed : ℕ) (fill : List ℕ) (flags : List Bool) → Goes rate streams pdos fill (left_of pdos flags) → length fill ≡ placed
+    → count pdos (is_flagged flags) ≡ pdos - placed
+flagged_left rate streams pdos placed fill flags g there = omega (arith, flagged_are_left pdos flags, g.counted, there)
+
+pub trials_end : (count left total : ℕ) → 2 * count + left * (left + 1) ≤ total → 2 * count ≤ total
+trials_end count left total h = omega (arith, h)
+
+-- the counter has room
+pub trials_fit : (trials old left pdos : ℕ) → pdos ≤ 1100 → old ≤ 8589934592 → 2 * trials + left * (left + 1) ≤ 2 * old + pdos * (pdos + 1) → trials + pdos < 18446744073709551616
+trials_fit trials old left pdos few low h =
+    let most : pdos * (pdos + 1) ≤ 1100 * 1101 = mul-le-mul {n₁ = pdos} {m₁ = pdos + 1} {n₂ = 1100} {m₂ = 1101} few (omega (arith, few)) in
+    omega (arith, h, most, few, low)

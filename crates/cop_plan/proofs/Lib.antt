@@ -1,3 +1,10 @@
 pub mod FillingLemmas
 pub mod UniqueLemmas
 pub mod GreedyLemmas
+pub mod OrderLemmas
+pub mod SamePlace
+pub mod RateLemmas
+pub mod AssignLemmas
+pub mod RenameLemmas
+pub mod PlannedLemmas
+pub mod DeadlineLemmas

@@ -1,36 +1,32 @@
 -- Places filled from the lowest. A list has the PDO of the lowest place first.
-use Rattle.std.specs.Prelude.{◌≡◌, ℕ, ◌+◌, ◌<◌, Bool, true, false, ◌==◌, ◌||◌, if◌then◌else◌, List, [], ◌∷◌, length}
+use Rattle.std.specs.Prelude.{◌≡◌, ℕ, ◌<◌, true, false, ◌==◌, if◌then◌else◌, List, [], ◌∷◌, length, All, AllPairs}
 use Rattle.cop_frame.specs.declared.rates.Rate.{Rate}
 use Rattle.cop_rta.specs.declared.streams.Stream.{Stream}
 use Rattle.cop_rta.specs.Test.{Passes}
 use Rattle.cop_cert.specs.Assignments.{least_id}
+use Rattle.cop_cert.specs.Evidence.{is_listed}
 use Rattle.cop_cert.specs.Sets.{trial, IsGreatestRefusalSet}
 use Rattle.cop_plan.specs.declared.filling.Filling.{Filling}
 use Rattle.cop_plan.specs.declared.filling.Filling.TheVariants as fillings
-
--- k is in the list
-abbrev pub is_among : List ℕ → ℕ → Bool
-is_among [] k = false
-is_among (p ∷ rest) k = (p == k) || is_among rest k
 
 -- each PDO passes with those after it above it, and of them no later row would pass in its place
 abbrev pub IsFilling : Rate → List Stream → ℕ → List ℕ → Type 0
 IsFilling rate streams pdos [] = Unit {0}
 IsFilling rate streams pdos (p ∷ rest) =
-    Passes (trial least_id rate streams pdos (is_among (p ∷ rest)) p)
-    × ((r : ℕ) → is_among rest r ≡ true → p < r → Passes (trial least_id rate streams pdos (is_among (p ∷ rest)) r) → ⊥)
+    Passes (trial least_id rate streams pdos (is_listed (p ∷ rest)) p)
+    × ((r : ℕ) → is_listed rest r ≡ true → p < r → Passes (trial least_id rate streams pdos (is_listed (p ∷ rest)) r) → ⊥)
     × IsFilling rate streams pdos rest
 
 -- no number twice
 abbrev pub AreDistinct : List ℕ → Type 0
 AreDistinct [] = Unit {0}
-AreDistinct (p ∷ rest) = (is_among rest p ≡ false) × AreDistinct rest
+AreDistinct (p ∷ rest) = (is_listed rest p ≡ false) × AreDistinct rest
 
 -- the list has each PDO once
 pub record IsWhole (pdos : ℕ) (fill : List ℕ) : Type 0 where
   pub distinct : AreDistinct fill
-  pub each : (k : ℕ) → k < pdos → is_among fill k ≡ true
-  pub inside : (k : ℕ) → is_among fill k ≡ true → k < pdos
+  pub each : (k : ℕ) → k < pdos → is_listed fill k ≡ true
+  pub inside : (k : ℕ) → is_listed fill k ≡ true → k < pdos
   pub count : length fill ≡ pdos
 
 -- how many stand above k
@@ -38,11 +34,13 @@ abbrev pub rank : List ℕ → ℕ → ℕ
 rank [] k = 0
 rank (p ∷ rest) k = if p == k then length rest else rank rest k
 
--- the identifiers that a list gives
-abbrev pub ids_of : List ℕ → ℕ → ℕ
-ids_of fill k = least_id + rank fill k
+-- PDOs that rise and are the greatest refusal set
+pub record IsStuck (rate : Rate) (streams : List Stream) (pdos : ℕ) (members : List ℕ) : Type 0 where
+  pub greatest : IsGreatestRefusalSet least_id rate streams pdos (is_listed members)
+  pub rise : AllPairs (λ m n. m < n) members
+  pub inside : All (λ m. m < pdos) members
 
 -- what a filling says: each PDO has its place, or some PDOs are the greatest refusal set
 abbrev pub IsFound : Rate → List Stream → ℕ → Filling → Type 0
 IsFound rate streams pdos (fillings.Whole fill) = IsWhole pdos fill.items × IsFilling rate streams pdos fill.items
-IsFound rate streams pdos (fillings.Stuck members) = IsGreatestRefusalSet least_id rate streams pdos (is_among members.items)
+IsFound rate streams pdos (fillings.Stuck members) = IsStuck rate streams pdos members.items

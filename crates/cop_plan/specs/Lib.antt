@@ -1,2 +1,4 @@
 pub mod Orders
 pub mod Fillings
+pub mod Values
+pub mod Plans

@@ -1,9 +1,9 @@
 -- The order of a plan, by the identifiers that it gives.
-use Rattle.std.specs.Prelude.{◌≡◌, ℕ, ◌+◌, ◌<◌, ◌≤◌, Bool, nat_le, List, length}
+use Rattle.std.specs.Prelude.{◌≡◌, ℕ, ◌+◌, ◌<◌, ◌≤◌, Bool, nat_le, List, length, get_or, All}
 use Rattle.cop_frame.specs.declared.rates.Rate.{Rate}
 use Rattle.cop_rta.specs.declared.streams.Stream.{Stream}
 use Rattle.cop_rta.specs.Test.{Passes}
-use Rattle.cop_cert.specs.Assignments.{least_id, AreFixedOutside, AllPass, IsPassing}
+use Rattle.cop_cert.specs.Assignments.{least_id, AreFixedOutside, AllPass}
 use Rattle.cop_cert.specs.Sets.{trial}
 
 -- the first streams are the PDOs: there are as many, and no fixed frame has an identifier that a PDO may get
@@ -29,10 +29,8 @@ pub record IsPlanOrder (rate : Rate) (streams : List Stream) (pdos : ℕ) (ids :
   pub passes : AllPass rate streams pdos ids
   pub later : (p r : ℕ) → p < pdos → r < pdos → p < r → ids r < ids p → Passes (trial least_id rate streams pdos (from_place ids p) r) → ⊥
 
--- there is an order for a plan
-abbrev pub HasPlanOrder : Rate → List Stream → ℕ → Type 0
-HasPlanOrder rate streams pdos = (ids : ℕ → ℕ) × IsPlanOrder rate streams pdos ids
-
--- some assignment passes
-abbrev pub SomeAssignmentPasses : Rate → List Stream → ℕ → Type 0
-SomeAssignmentPasses rate streams pdos = (ids : ℕ → ℕ) × IsPassing rate streams pdos ids
+-- the PDOs by priority, that with the lowest identifier first
+pub record IsByPriority (pdos : ℕ) (ids : ℕ → ℕ) (order : List ℕ) : Type 0 where
+  pub count : length order ≡ pdos
+  pub inside : All (λ p. p < pdos) order
+  pub places : (i : ℕ) → i < pdos → ids (get_or order i 0) ≡ least_id + i

@@ -1,24 +1,30 @@
 //! Places filled from the lowest on.
 
-ghost use Rattle.std.specs.Prelude.{◌≡◌, ◌↔◌, ◌<◌, ◌≤◌, ◌+◌, ℕ, true, length, IsTrue, IfSome, IfNone, IfOk, nat_lt, ◌&&◌};
+ghost use Rattle.std.specs.Prelude.{◌≡◌, ◌↔◌, ◌<◌, ◌≤◌, ◌+◌, ◌*◌, ◌^◌, ℕ, true, length, IsTrue, IfSome, IfNone, IfOk, nat_lt, ◌&&◌, All, AllPairs};
 ghost use Rattle.cop_rta.specs.Test.{Passes, flagged_place, is_flagged};
+ghost use Rattle.cop_rta.specs.Sums.{sum_where};
 ghost use Rattle.cop_cert.specs.Assignments.{least_id};
+ghost use Rattle.cop_cert.specs.Evidence.{is_listed};
 ghost use Rattle.cop_cert.specs.Sets.{is_in_trial};
-ghost use Rattle.cop_plan.specs.Fillings.{is_among, IsFound};
+ghost use Rattle.cop_plan.specs.Fillings.{IsFound};
 
+use crate::plans::LEAST_ID;
 use cop_frame::Rate;
 use cop_rta::{StreamSet, Verdict, verdict};
 use std::alloc::{AllocError, Global};
 
-/// The least identifier of a PDO: fixed frames below it are above each PDO.
-const LEAST_ID: u16 = 0x181;
+/// How many trials were made. A trial is the judging of one PDO for one place.
+#[derive(Clone, Copy, PartialEq, Eq, Debug)]
+pub struct Count {
+    pub trials: u64,
+}
 
 /// What the filling of the places at one rate gives.
 #[derive(Drop)]
-pub enum Filling {
+pub(crate) enum Filling {
     /// Each PDO has a place; the PDO of the lowest place comes first.
     Whole(Vec<usize>),
-    /// None of these PDOs passes with the others above it, and no other PDO is in any such set.
+    /// None of these PDOs, by rising number, passes with the others above it, and no other PDO is in any such set.
     Stuck(Vec<usize>),
 }
 
@@ -32,9 +38,18 @@ fn passes(set: &StreamSet, above: &[bool], pdo: usize, rate: Rate) -> bool
 }
 
 /// The last of the flagged PDOs that passes with the other flagged streams above it.
-fn last_passing(set: &StreamSet, above: &[bool], pdos: usize, rate: Rate) -> Option<usize>
+fn last_passing(
+    set: &StreamSet,
+    above: &[bool],
+    pdos: usize,
+    rate: Rate,
+    count: &mut Count,
+) -> Option<usize>
     requires flags { length above.now ≡ length set.now }
     requires pdos { pdos ≤ length set.now }
+    requires room { count.old.trials + pdos < 2 ^ 64 }
+    ensures rises { count.old.trials ≤ count.new.trials }
+    ensures trials { count.new.trials ≤ count.old.trials + sum_where (is_flagged above.now) (λ _. 1) pdos }
     ensures inside { IfSome result (λ p. p < pdos) }
     ensures flagged { IfSome result (λ p. is_flagged above.now p ≡ true) }
     ensures passes { IfSome result (λ p. Passes (flagged_place set.now above.now p rate)) }
@@ -43,8 +58,11 @@ fn last_passing(set: &StreamSet, above: &[bool], pdos: usize, rate: Rate) -> Opt
 {
     for done in 0..pdos {
         let pdo = pdos - 1 - done;
-        if above[pdo] && passes(set, above, pdo, rate) {
-            return Some(pdo);
+        if above[pdo] {
+            count.trials += 1;
+            if passes(set, above, pdo, rate) {
+                return Some(pdo);
+            }
         }
     }
     None
@@ -64,7 +82,9 @@ fn flag_all(set: &StreamSet, pdos: usize, out: &mut [bool])
 /// The PDOs that are flagged.
 fn flagged(alloc: Global, above: &[bool], pdos: usize) -> Result<Vec<usize>, AllocError>
     requires { pdos ≤ length above.now }
-    ensures { IfOk result (λ pdo. (k : ℕ) → is_among pdo.items k ≡ (nat_lt k pdos && is_flagged above.now k)) }
+    ensures exact { IfOk result (λ found. (k : ℕ) → is_listed found.items k ≡ (nat_lt k pdos && is_flagged above.now k)) }
+    ensures rise { IfOk result (λ found. AllPairs (λ m n. m < n) found.items) }
+    ensures inside { IfOk result (λ found. All (λ m. m < pdos) found.items) }
 {
     let mut found = Vec::new(alloc);
     for pdo in 0..pdos {
@@ -77,9 +97,20 @@ fn flagged(alloc: Global, above: &[bool], pdos: usize) -> Result<Vec<usize>, All
 
 /// The filling of the places at one rate, from the lowest on: at each the last PDO that passes there with the PDOs that
 /// have no place yet and the fixed frames below 181h above it, and all others below.
-pub fn fill(alloc: Global, set: &StreamSet, pdos: usize, rate: Rate) -> Result<Filling, AllocError>
-    requires { pdos ≤ length set.now }
-    ensures { IfOk result (IsFound rate set.now pdos) }
+///
+/// With n PDOs it makes n(n+1)/2 trials at most, and counts them.
+pub(crate) fn fill(
+    alloc: Global,
+    set: &StreamSet,
+    pdos: usize,
+    rate: Rate,
+    count: &mut Count,
+) -> Result<Filling, AllocError>
+    requires pdos { pdos ≤ length set.now }
+    requires room { count.old.trials ≤ 2 ^ 33 }
+    ensures found { IfOk result (IsFound rate set.now pdos) }
+    ensures rises { count.old.trials ≤ count.new.trials }
+    ensures trials { 2 * count.new.trials ≤ 2 * count.old.trials + pdos * (pdos + 1) }
 {
     let mut flags = [false; StreamSet::MOST];
     let streams = set.streams();
@@ -87,7 +118,7 @@ pub fn fill(alloc: Global, set: &StreamSet, pdos: usize, rate: Rate) -> Result<F
     flag_all(set, pdos, above);
     let mut fill = Vec::new(alloc);
     for _placed in 0..pdos {
-        let Some(pdo) = last_passing(set, above, pdos, rate) else {
+        let Some(pdo) = last_passing(set, above, pdos, rate, count) else {
             return Ok(Filling::Stuck(flagged(alloc, above, pdos)?));
         };
         fill.push(pdo)?;

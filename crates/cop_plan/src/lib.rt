@@ -1,11 +1,15 @@
-//! The order of a plan, and how it is found.
+//! The planner: the slowest rate, and the identifiers.
 #![tactic(auto)]
 
+mod assigning;
 mod filling;
 mod laws;
+mod plans;
 
-pub use filling::{Filling, fill};
-pub use laws::{filling_is_the_order, order_is_unique};
+pub use assigning::{Outcome, assign, can_assign};
+pub use filling::Count;
+pub use laws::order_is_unique;
+pub use plans::Plan;
 
 #[cfg(test)]
 mod tests;

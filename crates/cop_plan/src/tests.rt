@@ -1,7 +1,10 @@
-use crate::{Filling, fill};
-use cop_frame::Rate;
-use cop_rta::read_streams;
+use crate::{Count, Outcome, Plan, assign, can_assign};
+use cop_cert::{Evidence, Refusal};
+use cop_frame::{Rate, RateSet};
+use cop_rta::{Stream, StreamSet, Verdict, above_by_id, read_streams, verdict};
 use std::alloc::Global;
+
+const ALL: &[Rate] = &Rate::ALL;
 
 const THREE: &[u8] =
     b"id,bytes,period,jitter,deadline\n0x181,7,2500,0,2500\n0x182,7,3500,0,3250\n0x183,7,3500,0,3250\n";
@@ -12,31 +15,258 @@ const TWO: &[u8] =
 const LATE_JITTER: &[u8] =
     b"id,bytes,period,jitter,deadline\n0x181,8,1350,1282,1600\n0x182,8,13500,0,330\n";
 
-// Whether each PDO of a table gets a place, and the PDOs of the filling.
-fn found(alloc: Global, table: &[u8], rate: Rate) -> Option<(bool, Vec<usize>)> {
+const AT_THE_DEADLINE: &[u8] = b"id,bytes,period,jitter,deadline\n0x181,8,1080,0,1080\n";
+
+const PAST_THE_DEADLINE: &[u8] = b"id,bytes,period,jitter,deadline\n0x181,8,1080,0,1079\n";
+
+const WITHIN_169: &[u8] = b"id,bytes,period,jitter,deadline\n0x181,8,100000,0,169\n";
+
+const WITHIN_168: &[u8] = b"id,bytes,period,jitter,deadline\n0x181,8,100000,0,168\n";
+
+const TOO_BUSY: &[u8] = b"id,bytes,period,jitter,deadline\n0x181,8,500,0,500\n";
+
+const NONE: &[u8] = b"id,bytes,period,jitter,deadline\n";
+
+// What is planned for a table all of whose streams are PDOs, and how many trials it took.
+fn answer(alloc: Global, table: &[u8], candidates: &[Rate]) -> Option<(Outcome, u64)> {
     let set = read_streams(alloc, table).ok()?;
-    match fill(alloc, &set, set.len(), rate).ok()? {
-        Filling::Whole(order) => Some((true, order)),
-        Filling::Stuck(members) => Some((false, members)),
+    let mut rates = RateSet::new();
+    for rate in candidates {
+        rates.insert(*rate);
+    }
+    let pdos = set.len();
+    if !can_assign(&set, pdos) {
+        return None;
+    }
+    let mut count = Count { trials: 0 };
+    let outcome = assign(alloc, &set, pdos, &rates, &mut count).ok()?;
+    Some((outcome, count.trials))
+}
+
+// The response of each PDO of a plan, in ticks.
+fn responses(alloc: Global, plan: &Plan) -> Option<Vec<u64>> {
+    let set = plan.streams();
+    let mut above = [false; StreamSet::MOST];
+    let above = &mut above[..set.streams().len()];
+    let mut found = Vec::new(alloc);
+    for pdo in 0..plan.ids().len() {
+        above_by_id(set, pdo, above);
+        match verdict(set, above, pdo, plan.rate()) {
+            Verdict::Pass { response } => found.push(response).ok()?,
+            _ => return None,
+        }
+    }
+    Some(found)
+}
+
+// A table, the candidates, the rate, the identifiers, the responses, and the rates and members of the refusals.
+#[derive(Drop)]
+struct Row {
+    table: &'static [u8],
+    candidates: &'static [Rate],
+    rate: Rate,
+    ids: &'static [u16],
+    responses: &'static [u64],
+    refused: &'static [(Rate, usize)],
+}
+
+const ROWS: [Row; 7] = [
+    Row {
+        table: THREE,
+        candidates: ALL,
+        rate: Rate::Kbit250,
+        ids: &[0x181, 0x182, 0x183],
+        responses: &[4000, 6000, 6000],
+        refused: &[
+            (Rate::Kbit10, 3),
+            (Rate::Kbit20, 3),
+            (Rate::Kbit50, 3),
+            (Rate::Kbit125, 3),
+        ],
+    },
+    Row {
+        table: AT_THE_DEADLINE,
+        candidates: ALL,
+        rate: Rate::Kbit125,
+        ids: &[0x181],
+        responses: &[4320],
+        refused: &[(Rate::Kbit10, 1), (Rate::Kbit20, 1), (Rate::Kbit50, 1)],
+    },
+    Row {
+        table: WITHIN_169,
+        candidates: &[Rate::Kbit800, Rate::Kbit1000],
+        rate: Rate::Kbit800,
+        ids: &[0x181],
+        responses: &[675],
+        refused: &[],
+    },
+    Row {
+        table: WITHIN_168,
+        candidates: &[Rate::Kbit1000, Rate::Kbit800],
+        rate: Rate::Kbit1000,
+        ids: &[0x181],
+        responses: &[540],
+        refused: &[(Rate::Kbit800, 1)],
+    },
+    Row {
+        table: TWO,
+        candidates: &[Rate::Kbit125, Rate::Kbit250],
+        rate: Rate::Kbit250,
+        ids: &[0x181, 0x182],
+        responses: &[4320, 4320],
+        refused: &[(Rate::Kbit125, 1)],
+    },
+    Row {
+        table: LATE_JITTER,
+        candidates: &[Rate::Kbit1000],
+        rate: Rate::Kbit1000,
+        ids: &[0x182, 0x181],
+        responses: &[6208, 1080],
+        refused: &[],
+    },
+    Row {
+        table: NONE,
+        candidates: &[Rate::Kbit500, Rate::Kbit250],
+        rate: Rate::Kbit250,
+        ids: &[],
+        responses: &[],
+        refused: &[],
+    },
+];
+
+fn are_refused(refusals: &[Refusal], rows: &[(Rate, usize)]) -> bool {
+    refusals.len() == rows.len()
+        && refusals.iter().zip(rows.iter()).all(|(refusal, row)| {
+            refusal.rate == row.0 && refusal.members.as_slice().len() == row.1
+        })
+}
+
+#[test]
+fn slowest_rates_are_planned(rt: HostRuntime) {
+    for row in ROWS {
+        let Some((Outcome::Planned(plan), trials)) = answer(rt.alloc(), row.table, row.candidates)
+        else {
+            assert!(rt; false);
+            return;
+        };
+        assert_eq!(rt; plan.rate(), row.rate);
+        assert_eq!(rt; plan.ids(), row.ids);
+        assert!(rt; are_refused(plan.refusals(), row.refused));
+        let n = row.ids.len() as u64;
+        let rates = row.refused.len() as u64 + 1;
+        assert!(rt; trials <= rates * (n * (n + 1) / 2));
+        match responses(rt.alloc(), &plan) {
+            Some(list) => assert_eq!(rt; list.as_slice(), row.responses),
+            None => assert!(rt; false),
+        }
     }
 }
 
 #[test]
-fn places_are_filled(rt: HostRuntime) {
-    let cases: [(&[u8], Rate, bool, &[usize]); 5] = [
-        (THREE, Rate::Kbit125, false, &[0, 1, 2]),
-        (THREE, Rate::Kbit250, true, &[2, 1, 0]),
-        (TWO, Rate::Kbit125, false, &[0]),
-        (TWO, Rate::Kbit250, true, &[1, 0]),
-        (LATE_JITTER, Rate::Kbit1000, true, &[0, 1]),
-    ];
-    for (table, rate, whole, places) in cases {
-        match found(rt.alloc(), table, rate) {
-            Some((all, list)) => {
-                assert_eq!(rt; all, whole);
-                assert_eq!(rt; list.as_slice(), places);
-            }
-            None => assert!(rt; false),
+fn one_pdo_past_its_deadline(rt: HostRuntime) {
+    let Some((Outcome::Planned(plan), _)) = answer(rt.alloc(), PAST_THE_DEADLINE, ALL) else {
+        assert!(rt; false);
+        return;
+    };
+    assert_eq!(rt; plan.rate(), Rate::Kbit250);
+    let refusals = plan.refusals();
+    assert_eq!(rt; refusals.len(), 4);
+    let member = &refusals[3].members.as_slice()[0];
+    match &member.evidence {
+        Evidence::Late { q, busy, queue } => {
+            assert_eq!(rt; *q, 0);
+            assert_eq!(rt; busy.as_slice(), [1, 4320].as_slice());
+            assert_eq!(rt; queue.as_slice(), [0].as_slice());
         }
+        Evidence::Long { .. } => assert!(rt; false),
+    }
+}
+
+#[test]
+fn no_rate_passes(rt: HostRuntime) {
+    let Some((Outcome::Refused(refusals), trials)) = answer(rt.alloc(), TOO_BUSY, &[Rate::Kbit125])
+    else {
+        assert!(rt; false);
+        return;
+    };
+    let refusals = refusals.as_slice();
+    assert!(rt; are_refused(refusals, &[(Rate::Kbit125, 1)]));
+    assert!(rt;
+        matches!(
+            refusals[0].members.as_slice()[0].evidence,
+            Evidence::Long { .. }
+        )
+    );
+    assert_eq!(rt; trials, 1);
+}
+
+// 512 PDOs of 8 bytes, each with a period and a deadline of a second.
+fn largest(alloc: Global) -> Option<StreamSet> {
+    let mut set = StreamSet::new(alloc);
+    for k in 0..512u16 {
+        set.push(Stream {
+            id: 0x181 + k,
+            bytes: 8,
+            period: 4_000_000,
+            jitter: 0,
+            deadline: Some(4_000_000),
+        })
+        .ok()?;
+    }
+    Some(set)
+}
+
+#[test]
+fn the_largest_table_keeps_its_order(rt: HostRuntime) {
+    let Some(set) = largest(rt.alloc()) else {
+        assert!(rt; false);
+        return;
+    };
+    let mut rates = RateSet::new();
+    rates.insert(Rate::Kbit1000);
+    let mut count = Count { trials: 0 };
+    assert!(rt; can_assign(&set, 512));
+    let Ok(Outcome::Planned(plan)) = assign(rt.alloc(), &set, 512, &rates, &mut count) else {
+        assert!(rt; false);
+        return;
+    };
+    assert!(rt;
+        plan.ids()
+            .iter()
+            .enumerate()
+            .all(|(k, id)| usize::from(*id) == 0x181 + k)
+    );
+    assert!(rt; plan.order().iter().enumerate().all(|(k, pdo)| *pdo == k));
+    match responses(rt.alloc(), &plan) {
+        Some(list) => {
+            assert_eq!(rt; list[0], 1080);
+            assert_eq!(rt; list[1], 1620);
+            assert_eq!(rt; list[510], 276480);
+            assert_eq!(rt; list[511], 276480);
+        }
+        None => assert!(rt; false),
+    }
+}
+
+#[test]
+fn what_can_be_assigned(rt: HostRuntime) {
+    let table: &[u8] =
+        b"id,bytes,period,jitter,deadline\n0x181,8,1000,0,1000\n0x182,8,1000,0,\n0x81,8,1000,0,\n";
+    let Ok(set) = read_streams(rt.alloc(), table) else {
+        assert!(rt; false);
+        return;
+    };
+    let cases = [(0, false), (1, false), (2, false), (4, false)];
+    for (pdos, can) in cases {
+        assert_eq!(rt; can_assign(&set, pdos), can);
+    }
+    let outside: &[u8] =
+        b"id,bytes,period,jitter,deadline\n0x181,8,1000,0,1000\n0x81,8,1000,0,\n0x580,8,1000,0,\n";
+    match read_streams(rt.alloc(), outside) {
+        Ok(set) => {
+            assert!(rt; can_assign(&set, 1));
+            assert!(rt; !can_assign(&set, 2));
+        }
+        Err(_) => assert!(rt; false),
     }
 }

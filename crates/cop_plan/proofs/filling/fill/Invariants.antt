@@ -1,4 +1,4 @@
-use Rattle.std.proofs.Common.{◌≡◌, length}
+use Rattle.std.proofs.Common.{◌≡◌, ◌≤◌, ◌+◌, ◌*◌, ◌-◌, length}
 use Rattle.cop_plan.proofs.GreedyLemmas.{Goes, AreTrial, left_of}
 use Rattle.cop_plan.proofs.filling.fill.Given as goal
 
@@ -8,4 +8,6 @@ invariant-loop-placed l = record {
   flags : AreTrial l.set l.pdos l.above;
   goes : Goes l.rate l.set l.pdos l.fill.items (left_of l.pdos l.above);
   placed : length l.fill.items ≡ l._placed;
+  rises : l.fn.count.trials ≤ l.count.trials;
+  trials : 2 * l.count.trials + (l.pdos - l._placed) * (l.pdos - l._placed + 1) ≤ 2 * l.fn.count.trials + l.pdos * (l.pdos + 1);
 }

@@ -1,5 +1,7 @@
-use Rattle.std.proofs.Common.{◌∙◌, false}
+use Rattle.std.proofs.Common.{◌∙◌, ◌<◌, false, ◌+◌, arith}
 use Rattle.std.proofs.lemmas.Option.{unwrap_or-slice_get}
+use Rattle.std.proofs.lemmas.List.Elements.{All-push}
+use Rattle.std.proofs.lemmas.List.Quantifiers.{all_pairs_push}
 use Rattle.cop_rta.specs.Test.{is_flagged}
 use Rattle.cop_plan.proofs.GreedyLemmas.{found_more, found_same}
 use Rattle.cop_plan.proofs.filling.flagged.Goals as goal
@@ -7,8 +9,14 @@ use Rattle.cop_plan.proofs.filling.flagged.Goals.{then-above-pdo+in_ok-push, els
 
 pub loop-pdo-preserved : goal.loop-pdo-preserved
 loop-pdo-preserved c = elim c.if-above-pdo.branch [
-  | then-above-pdo+in_ok-push w ↦ rw (w.found-is, w.in_ok-push.ensures.items)
-      (found_more c.loop-pdo.found.items c.loop-pdo.pdo (is_flagged c.args.above.now) c.loop-pdo.invariant (unwrap_or-slice_get c.args.above.now c.loop-pdo.pdo false ∙ w.if-above-pdo.true))
-  | else-above-pdo w ↦ rw w.found-is
-      (found_same c.loop-pdo.found.items c.loop-pdo.pdo (is_flagged c.args.above.now) c.loop-pdo.invariant (unwrap_or-slice_get c.args.above.now c.loop-pdo.pdo false ∙ w.if-above-pdo.false))
+  | then-above-pdo+in_ok-push w ↦ rw (w.found-is, w.in_ok-push.ensures.items) (record {
+    exact = found_more c.loop-pdo.found.items c.loop-pdo.pdo (is_flagged c.args.above.now) c.loop-pdo.invariant.exact (unwrap_or-slice_get c.args.above.now c.loop-pdo.pdo false ∙ w.if-above-pdo.true);
+    rise = all_pairs_push (λ m n. m < n) c.loop-pdo.found.items c.loop-pdo.pdo c.loop-pdo.invariant.rise c.loop-pdo.invariant.inside;
+    inside = All-push (λ m. m < c.loop-pdo.pdo + 1) c.loop-pdo.found.items c.loop-pdo.pdo (λ k d h. omega (arith, c.loop-pdo.invariant.inside k d h)) (omega arith);
+  })
+  | else-above-pdo w ↦ rw w.found-is (record {
+    exact = found_same c.loop-pdo.found.items c.loop-pdo.pdo (is_flagged c.args.above.now) c.loop-pdo.invariant.exact (unwrap_or-slice_get c.args.above.now c.loop-pdo.pdo false ∙ w.if-above-pdo.false);
+    rise = c.loop-pdo.invariant.rise;
+    inside = λ k d h. omega (arith, c.loop-pdo.invariant.inside k d h);
+  })
 ]

@@ -1,6 +1,12 @@
-use Rattle.std.proofs.Common.{ℕ, ◌≡◌, ◌<◌, ◌≤◌, ◌+◌, true}
+use Rattle.std.proofs.Common.{ℕ, ◌≡◌, ◌<◌, ◌≤◌, ◌+◌, ◌-◌, true}
 use Rattle.cop_rta.specs.Test.{Passes, flagged_place, is_flagged}
+use Rattle.cop_rta.specs.Sums.{sum_where}
 use Rattle.cop_plan.proofs.filling.last_passing.Given as goal
 
 abbrev pub invariant-loop-done : goal.invariant-loop-done
-invariant-loop-done l = (r : ℕ) → r < l.pdos → l.pdos ≤ r + l.done → is_flagged l.above r ≡ true → Passes (flagged_place l.set l.above r l.rate) → ⊥
+invariant-loop-done l = record {
+  failed : (r : ℕ) → r < l.pdos → l.pdos ≤ r + l.done → is_flagged l.above r ≡ true → Passes (flagged_place l.set l.above r l.rate) → ⊥;
+  rises : l.fn.count.trials ≤ l.count.trials;
+  few : l.count.trials ≤ l.fn.count.trials + l.done;
+  trials : l.count.trials + sum_where (is_flagged l.above) (λ _. 1) (l.pdos - l.done) ≤ l.fn.count.trials + sum_where (is_flagged l.above) (λ _. 1) l.pdos;
+}

@@ -1,0 +1,158 @@
+-- Streams under other identifiers, one more.
+use Rattle.std.proofs.Common.{◌≡◌, ◌≢◌, ◌==◌, ℕ, zero, suc, ◌+◌, ◌<◌, ◌≤◌, ◌⊎◌, inl, inr, true, false, nat_lt, List, [], ◌∷◌, ◌++◌, length, map, take, get_or, slice_get, Option, Some, None, refl, sym, ap, ◌∙◌, arith, length-append}
+use Rattle.std.proofs.lemmas.Bool.{cases_lt, lt-ltb, le-ltb, ltb-true, ne_eqb, cond-true, cond-false}
+use Rattle.std.proofs.lemmas.List.{map-append, take_more, take_all}
+use Rattle.std.proofs.lemmas.List.Folds.{list_any_none}
+use Rattle.cop_rta.specs.declared.streams.Stream.{Stream}
+use Rattle.cop_rta.specs.Streams.{AreDistinct, has_id}
+use Rattle.cop_frame.specs.declared.rates.Rate.{Rate}
+use Rattle.cop_rta.specs.Test.{of_stream, Passes, has_lower_id, place_by_id}
+use Rattle.cop_rta.proofs.MoreAbove.{passes_under_fewer}
+use Rattle.cop_cert.specs.Assignments.{least_id, greatest_id, AreFixedOutside, id_under, is_lower, place_under, AllPass}
+use Rattle.cop_cert.proofs.AboveLemmas.{more_above}
+use Rattle.cop_plan.specs.Orders.{IsGapless}
+use Rattle.cop_plan.specs.Values.{Timing, timing_of, id_of, HaveIds, HaveDeadlines, AreOnTime}
+use Rattle.cop_plan.proofs.FillingLemmas.{no_bit}
+use Rattle.cop_plan.proofs.SamePlace.{same_length, same_deadline, passes_same}
+
+-- the first k streams under their identifiers
+pub record AreRenamed (streams : List Stream) (pdos : ℕ) (ids : ℕ → ℕ) (k : ℕ) (renamed : List Stream) : Type 0 where
+  pub timings : map timing_of renamed ≡ map timing_of (take k streams)
+  pub count : length renamed ≡ k
+  pub each : (j : ℕ) → j < k → of_stream (λ s. s.id) renamed j ≡ id_under streams pdos ids j
+
+-- no PDO has the identifier of another stream
+abbrev pub AreApart : List Stream → ℕ → (ℕ → ℕ) → Type 0
+AreApart streams pdos ids = (p k : ℕ) → p < pdos → k < length streams → p ≢ k → ids p ≢ id_under streams pdos ids k
+
+pub of_stream_at : (streams : List Stream) (k : ℕ) (d : Stream) → k < length streams → of_stream (λ s. s.id) streams k ≡ (get_or streams k d).id
+of_stream_at [] k d h = absurd (omega arith)
+of_stream_at (s ∷ ss) zero d h = refl
+of_stream_at (s ∷ ss) (suc k) d h = of_stream_at ss k d (omega arith)
+
+pub of_stream_left : (streams more : List Stream) (k : ℕ) → k < length streams → of_stream (λ s. s.id) (streams ++ more) k ≡ of_stream (λ s. s.id) streams k
+of_stream_left [] more k h = absurd (omega arith)
+of_stream_left (s ∷ ss) more zero h = refl
+of_stream_left (s ∷ ss) more (suc k) h = of_stream_left ss more k (omega arith)
+
+pub of_stream_last : (streams : List Stream) (s : Stream) → of_stream (λ s. s.id) (streams ++ s ∷ []) (length streams) ≡ s.id
+of_stream_last [] s = refl
+of_stream_last (x ∷ xs) s = of_stream_last xs s
+
+-- two streams of a set have two identifiers
+two_apart : (streams : List Stream) → AreDistinct streams → (j k : ℕ) → j < k → k < length streams → of_stream (λ s. s.id) streams j ≢ of_stream (λ s. s.id) streams k
+two_apart [] distinct j k lt h same = absurd (omega arith)
+two_apart (s ∷ ss) distinct j k lt h same =
+    distinct j k s lt h (sym (of_stream_at (s ∷ ss) j s (omega (arith, lt, h))) ∙ same ∙ of_stream_at (s ∷ ss) k s h)
+
+module _ (streams : List Stream) (pdos : ℕ) (ids : ℕ → ℕ) where
+  pub id_of_pdo : (k : ℕ) → k < pdos → id_under streams pdos ids k ≡ ids k
+  id_of_pdo k h = cond-true (nat_lt k pdos) (ids k) (of_stream (λ s. s.id) streams k) (lt-ltb k pdos h)
+
+  pub id_of_fixed : (k : ℕ) → pdos ≤ k → id_under streams pdos ids k ≡ of_stream (λ s. s.id) streams k
+  id_of_fixed k h = cond-false (nat_lt k pdos) (ids k) (of_stream (λ s. s.id) streams k) (le-ltb k pdos h)
+
+  -- two streams of the set have two identifiers
+  pub apart : AreApart streams pdos ids → AreDistinct streams → (j k : ℕ) → j < k → k < length streams → id_under streams pdos ids j ≢ id_under streams pdos ids k
+  apart separate distinct j k lt h same = go (cases_lt j pdos)
+    where
+      go : (j < pdos) ⊎ (pdos ≤ j) → ⊥
+      go (inl pdo) = separate j k pdo h (λ e. omega arith) (sym (id_of_pdo j pdo) ∙ same)
+      go (inr fixed) = two_apart streams distinct j k lt h (sym (id_of_fixed j fixed) ∙ same ∙ id_of_fixed k (omega arith))
+
+  pub none_renamed : AreRenamed streams pdos ids 0 []
+  none_renamed = record { timings = refl; count = refl; each = λ j h. absurd (omega arith) }
+
+  -- the next one has an identifier that none has yet
+  pub next_is_new : (k id : ℕ) (renamed : List Stream) → AreApart streams pdos ids → AreDistinct streams → k < length streams → AreRenamed streams pdos ids k renamed
+      → id ≡ id_under streams pdos ids k → has_id renamed id ≡ false
+  next_is_new k id renamed separate distinct h r its =
+      list_any_none (λ s. s.id == id) renamed
+      (λ j d low. ne_eqb (get_or renamed j d).id id
+      (λ same.
+      let below : j < k = omega (arith, low, r.count) in
+      apart separate distinct j k below h (sym (r.each j below) ∙ of_stream_at renamed j d low ∙ same ∙ its)))
+
+  pub one_more : (k : ℕ) (renamed : List Stream) (s d : Stream) → k < length streams → AreRenamed streams pdos ids k renamed
+      → timing_of s ≡ timing_of (get_or streams k d) → s.id ≡ id_under streams pdos ids k
+      → AreRenamed streams pdos ids (k + 1) (renamed ++ s ∷ [])
+  one_more k renamed s d h r timing its = record {
+    timings =
+        map-append timing_of renamed (s ∷ [])
+        ∙ ap (λ (ts : List Timing). ts ++ timing_of s ∷ []) r.timings
+        ∙ ap (λ (t : Timing). map timing_of (take k streams) ++ t ∷ []) timing
+        ∙ sym (map-append timing_of (take k streams) (get_or streams k d ∷ []))
+        ∙ ap (λ (ss : List Stream). map timing_of ss) (sym (take_more streams k d h));
+    count = simp length-append (omega (arith, r.count));
+    each = λ j low. each j low (cases_lt j k);
+  }
+    where
+      each : (j : ℕ) → j < k + 1 → (j < k) ⊎ (k ≤ j) → of_stream (λ s. s.id) (renamed ++ s ∷ []) j ≡ id_under streams pdos ids j
+      each j low (inl below) = of_stream_left renamed (s ∷ []) j (omega (arith, below, r.count)) ∙ r.each j below
+      each j low (inr last) =
+          let here : j ≡ length renamed = omega (arith, low, last, r.count) in
+          let there : k ≡ j = omega (arith, low, last) in
+          ap (λ (n : ℕ). of_stream (λ s. s.id) (renamed ++ s ∷ []) n) here ∙ of_stream_last renamed s ∙ its ∙ ap (λ (n : ℕ). id_under streams pdos ids n) there
+
+  pub all_renamed : (k : ℕ) (renamed : List Stream) → length streams ≤ k → AreRenamed streams pdos ids k renamed → HaveIds streams pdos ids renamed
+  all_renamed k renamed h r = record {
+    timings = r.timings ∙ ap (λ (ss : List Stream). map timing_of ss) (take_all k streams h);
+    each = λ j low. r.each j (omega (arith, low, h));
+  }
+
+-- identifiers without a gap are apart from those of fixed frames outside
+pub apart_from_fixed : (streams : List Stream) (pdos : ℕ) (ids : ℕ → ℕ) → pdos ≤ 512 → IsGapless pdos ids → AreFixedOutside streams pdos → AreApart streams pdos ids
+apart_from_fixed streams pdos ids few g outside = λ p k h low other same. go p k h low other same (cases_lt k pdos)
+  where
+    go : (p k : ℕ) → p < pdos → k < length streams → p ≢ k → ids p ≡ id_under streams pdos ids k → (k < pdos) ⊎ (pdos ≤ k) → ⊥
+    go p k h low other same (inl pdo) = other (g.distinct p k h pdo (same ∙ id_of_pdo streams pdos ids k pdo))
+    go p k h low other same (inr fixed) = side (outside k fixed low)
+      where
+        side : (of_stream (λ s. s.id) streams k < least_id) ⊎ (greatest_id < of_stream (λ s. s.id) streams k) → ⊥
+        side (inl l) = absurd (omega (arith, l, g.low p h, same, id_of_fixed streams pdos ids k fixed))
+        side (inr l) = absurd (omega (arith, l, g.high p h, few, same, id_of_fixed streams pdos ids k fixed))
+
+-- ---- the test under the identifiers
+
+module _ (rate : Rate) (streams renamed : List Stream) (pdos : ℕ) (ids : ℕ → ℕ) (have : HaveIds streams pdos ids renamed) where
+  same_count : length renamed ≡ length streams
+  same_count = same_length renamed streams have.timings
+
+  id_renamed : (k : ℕ) → k < length streams → of_stream (λ s. s.id) renamed k ≡ id_under streams pdos ids k
+  id_renamed k h = have.each k h
+
+  above_is_lower : (index k : ℕ) (o : Option Stream) → slice_get renamed k ≡ o → has_lower_id renamed index k ≡ true → of_stream (λ s. s.id) renamed k < of_stream (λ s. s.id) renamed index
+  above_is_lower index k None e h = absurd (none_is_above e h)
+    where
+      none_is_above : slice_get renamed k ≡ None → has_lower_id renamed index k ≡ true → ⊥
+      none_is_above e h = let no : has_lower_id renamed index k ≡ false = rw e refl in no_bit (has_lower_id renamed index k) h no
+  above_is_lower index k (Some s) e h =
+      let number : of_stream (λ s. s.id) renamed k ≡ s.id = rw e refl in
+      let test : has_lower_id renamed index k ≡ nat_lt s.id (of_stream (λ s. s.id) renamed index) = rw e refl in
+      omega (arith, number, ltb-true s.id (of_stream (λ s. s.id) renamed index) (sym test ∙ h))
+
+  -- a PDO that passes under an assignment passes where the streams have its identifiers
+  pub passes_renamed : (p : ℕ) → p < length streams → Passes (place_under rate streams pdos ids p) → Passes (place_by_id renamed p rate)
+  passes_renamed p h passes =
+      passes_under_fewer (place_by_id renamed p rate) (is_lower streams pdos ids p) (omega (arith, h, same_count))
+      (more_above (place_by_id renamed p rate) (is_lower streams pdos ids p) above)
+      (passes_same streams renamed (sym have.timings) (is_lower streams pdos ids p) p rate passes)
+    where
+      above : (k : ℕ) → k < length renamed → k ≢ p → has_lower_id renamed p k ≡ true → is_lower streams pdos ids p k ≡ true
+      above k low other e =
+          lt-ltb (id_under streams pdos ids k) (id_under streams pdos ids p)
+          (omega (arith, above_is_lower p k (slice_get renamed k) refl e, id_renamed k (omega (arith, low, same_count)), id_renamed p h))
+
+  pub on_time_renamed : pdos ≤ length streams → HaveDeadlines streams pdos → AllPass rate streams pdos ids → AreOnTime rate renamed pdos
+  on_time_renamed few deadlines all = record {
+    deadlines = λ p h. let d = deadlines p h in (d.0, same_deadline renamed streams have.timings p ∙ d.1);
+    pass = λ p h. passes_renamed p (omega (arith, h, few)) (all p h);
+  }
+
+-- the identifier of a stream of the set by whether it is a PDO
+pub id_if_pdo : (streams : List Stream) (ids : List ℕ) (k : ℕ) → k < length ids → get_or ids k 0 ≡ id_under streams (length ids) (id_of ids) k
+id_if_pdo streams ids k h = sym (id_of_pdo streams (length ids) (id_of ids) k h)
+
+pub id_if_fixed : (streams : List Stream) (ids : List ℕ) (k : ℕ) (s : Stream) → length ids ≤ k → k < length streams → s ≡ get_or streams k s → s.id ≡ id_under streams (length ids) (id_of ids) k
+id_if_fixed streams ids k s h low here =
+    ap (λ (s : Stream). s.id) here ∙ sym (of_stream_at streams k s low) ∙ sym (id_of_fixed streams (length ids) (id_of ids) k h)

@@ -1,0 +1,54 @@
+use Rattle.std.proofs.Common.{◌≡◌, ◌∙◌, ◌-◌, arith, false, ⊎_elim}
+use Rattle.std.proofs.lemmas.Bool.{cases_eq}
+use Rattle.std.proofs.lemmas.Option.{unwrap_or-slice_get}
+use Rattle.cop_rta.specs.Test.{is_flagged}
+use Rattle.cop_plan.proofs.GreedyLemmas.{count_here, count_grows}
+use Rattle.cop_plan.proofs.FillingLemmas.{no_bit}
+use Rattle.cop_plan.proofs.filling.last_passing.Goals as goal
+use Rattle.cop_plan.proofs.filling.last_passing.Goals.{then-above-pdo+else-passes, else-above-pdo}
+
+pub returns-then-passes-clause-rises : goal.returns-then-passes-clause-rises
+returns-then-passes-clause-rises c = omega (arith, c.loop-done.invariant.rises)
+
+pub returns-then-passes-clause-trials : goal.returns-then-passes-clause-trials
+returns-then-passes-clause-trials c =
+    omega (
+      arith,
+      c.loop-done.invariant.trials,
+      count_here c.args.pdos c.loop-done.done (is_flagged c.args.above.now) c.loop-done-test.true
+          (unwrap_or-slice_get c.args.above.now (c.args.pdos - 1 - c.loop-done.done) false ∙ c.if-above-pdo.true),
+    )
+
+pub returns-then-passes-clause-flagged : goal.returns-then-passes-clause-flagged
+returns-then-passes-clause-flagged c = unwrap_or-slice_get c.args.above.now (c.args.pdos - 1 - c.loop-done.done) false ∙ c.if-above-pdo.true
+
+pub returns-then-passes-clause-last : goal.returns-then-passes-clause-last
+returns-then-passes-clause-last c = λ r inside later flagged passes. c.loop-done.invariant.failed r inside (omega (arith, later, c.loop-done-test.true)) flagged passes
+
+pub loop-done-preserved : goal.loop-done-preserved
+loop-done-preserved c = elim c.if-above-pdo.branch [
+  | then-above-pdo+else-passes w ↦ rw w.count-is (record {
+    failed = λ r inside here flagged passes. ⊎_elim
+        (λ (same : r ≡ c.args.pdos - 1 - c.loop-done.done). absurd (no_bit w.passes.result (w.passes.ensures.1 (rw same at passes)) w.if-passes.false))
+        (λ other. c.loop-done.invariant.failed r inside (omega (arith, here, other)) flagged passes)
+        (cases_eq r (c.args.pdos - 1 - c.loop-done.done));
+    rises = omega (arith, c.loop-done.invariant.rises);
+    few = omega (arith, c.loop-done.invariant.few);
+    trials = omega (
+      arith,
+      c.loop-done.invariant.trials,
+      count_here c.args.pdos c.loop-done.done (is_flagged c.args.above.now) c.loop-done-test.true
+          (unwrap_or-slice_get c.args.above.now (c.args.pdos - 1 - c.loop-done.done) false ∙ w.if-above-pdo.true),
+    );
+  })
+  | else-above-pdo w ↦ rw w.count-is (record {
+    failed = λ r inside here flagged passes. ⊎_elim
+        (λ (same : r ≡ c.args.pdos - 1 - c.loop-done.done).
+        absurd (no_bit (is_flagged c.args.above.now r) flagged (rw same (unwrap_or-slice_get c.args.above.now (c.args.pdos - 1 - c.loop-done.done) false ∙ w.if-above-pdo.false))))
+        (λ other. c.loop-done.invariant.failed r inside (omega (arith, here, other)) flagged passes)
+        (cases_eq r (c.args.pdos - 1 - c.loop-done.done));
+    rises = c.loop-done.invariant.rises;
+    few = omega (arith, c.loop-done.invariant.few);
+    trials = omega (arith, c.loop-done.invariant.trials, count_grows c.args.pdos c.loop-done.done (is_flagged c.args.above.now));
+  })
+]

@@ -1,0 +1,44 @@
+-- What a plan says, and the streams under its identifiers.
+use Rattle.std.specs.Prelude.{◌≡◌, ℕ, ◌<◌, List, length, map, get_or, slice_get, Option, Some}
+use Rattle.std.specs.Option.{option_and_then}
+use Rattle.cop_frame.specs.declared.rates.Rate.{Rate}
+use Rattle.cop_rta.specs.declared.streams.Stream.{Stream}
+use Rattle.cop_rta.specs.Test.{Passes, of_stream, place_by_id}
+use Rattle.cop_cert.specs.declared.refusals.Refusal.{Refusal}
+use Rattle.cop_cert.specs.Assignments.{id_under}
+
+-- the rate, the PDOs by priority, their identifiers, the refusals of slower rates, and all streams under their identifiers
+pub record PlanValue : Type 0 where
+  pub rate : Rate
+  pub order : List ℕ
+  pub ids : List ℕ
+  pub refusals : List Refusal
+  pub streams : List Stream
+
+-- the identifier of a PDO
+abbrev pub id_of : List ℕ → ℕ → ℕ
+id_of ids p = get_or ids p 0
+
+-- what identifiers leave as it is
+pub record Timing : Type 0 where
+  pub bytes : ℕ
+  pub period : ℕ
+  pub jitter : ℕ
+  pub deadline : Option ℕ
+
+abbrev pub timing_of : Stream → Timing
+timing_of s = record { bytes = s.bytes; period = s.period; jitter = s.jitter; deadline = s.deadline }
+
+-- the same streams in their order, the PDOs under other identifiers
+pub record HaveIds (streams : List Stream) (pdos : ℕ) (ids : ℕ → ℕ) (renamed : List Stream) : Type 0 where
+  pub timings : map timing_of renamed ≡ map timing_of streams
+  pub each : (k : ℕ) → k < length streams → of_stream (λ s. s.id) renamed k ≡ id_under streams pdos ids k
+
+-- each PDO has a deadline
+abbrev pub HaveDeadlines : List Stream → ℕ → Type 0
+HaveDeadlines streams pdos = (p : ℕ) → p < pdos → (d : ℕ) × (option_and_then (λ s. s.deadline) (slice_get streams p) ≡ Some d)
+
+-- each PDO has a deadline and passes, lower identifiers being above
+pub record AreOnTime (rate : Rate) (streams : List Stream) (pdos : ℕ) : Type 0 where
+  pub deadlines : HaveDeadlines streams pdos
+  pub pass : (p : ℕ) → p < pdos → Passes (place_by_id streams p rate)
