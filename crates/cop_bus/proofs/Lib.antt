@@ -18,3 +18,4 @@ mod Found
 mod LateLemmas
 mod StreamOf
 mod WholeTrace
+mod Sent

@@ -1,7 +1,7 @@
-use Rattle.std.specs.Prelude.{◌≡◌, ℕ, ◌≤◌, ◌<◌, List, Option, None, Some, Bool, true, suc, length, slice_index, slice_index_or, slice_set}
+use Rattle.std.specs.Prelude.{◌≡◌, ℕ, ◌≤◌, ◌<◌, List, Option, None, Some, Bool, true, suc, length, take, slice_index, slice_index_or, slice_set}
 use Rattle.cop_bus.specs.declared.steps.Step.{Step}
 use Rattle.cop_bus.specs.declared.steps.Step.TheVariants.{Queue, Start, End}
-use Rattle.cop_bus.specs.Trace.{is_queue, is_start, count_to, step_at}
+use Rattle.cop_bus.specs.Trace.{is_queue, is_start, count_to, nth_that, moment_of, step_at}
 use Rattle.cop_bus.specs.Judge.{last_event}
 
 -- What the judge's tables hold after the first i steps. A table has a place for each identifier.
@@ -28,6 +28,11 @@ pub record IsUnsent (steps : List Step) (i : ℕ) (unsent : List ℕ) : Type 0 w
   pub ids : length unsent ≡ 65536
   pub places : (id : ℕ) → id < 65536 → IsPlace (is_queue id) steps (count_to (is_start id) steps i) (slice_index unsent id)
 
+-- for each queue step the moment at which one of the first i steps sends its instance
+pub record IsSentBy (steps : List Step) (i : ℕ) (sent : List (Option ℕ)) : Type 0 where
+  pub steps_long : length sent ≡ length steps
+  pub moments : (a id : ℕ) → a < length steps → is_queue id (step_at steps a) ≡ true → slice_index_or sent a None ≡ moment_of (nth_that (is_start id) (count_to (is_queue id) steps a) (take i steps))
+
 -- each stream's last event
 pub record IsLast (steps : List Step) (i : ℕ) (last : List (Option ℕ)) : Type 0 where
   pub ids : length last ≡ 65536
@@ -48,6 +53,11 @@ abbrev pub unsent_after : Step → List ℕ → List ℕ → List ℕ
 unsent_after (Start at id) next unsent = slice_set unsent id (slice_index next (slice_index unsent id))
 unsent_after (Queue at id event frame) next unsent = unsent
 unsent_after (End at id) next unsent = unsent
+
+abbrev pub sent_after : Step → List ℕ → List (Option ℕ) → List (Option ℕ)
+sent_after (Start at id) unsent sent = slice_set sent (slice_index unsent id) (Some at)
+sent_after (Queue at id event frame) unsent sent = sent
+sent_after (End at id) unsent sent = sent
 
 abbrev pub last_after : Step → List (Option ℕ) → List (Option ℕ)
 last_after (Queue at id event frame) last = slice_set last id (Some event)

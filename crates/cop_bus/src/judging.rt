@@ -5,7 +5,8 @@ ghost use Rattle.cop_frame.specs.Rate.{ticks_of};
 ghost use Rattle.cop_bus.specs.declared.steps.Step.{Step};
 ghost use Rattle.cop_bus.specs.Judge.{IsFaultOf, first_broken, stream_of, id_of, any_waits, lower_waits, waits_after, is_in_order, has_one_to_send, is_lowest, is_not_idle, broken_by, broken_at_end};
 ghost use Rattle.cop_bus.specs.Trace.{running as running_spec, after, step_at, nth_that, is_queue, is_start, count_to};
-ghost use Rattle.cop_bus.specs.Tables.{IsUnsent, IsNext, IsLast, ahead_after, next_after, unsent_after, last_after};
+ghost use Rattle.cop_bus.specs.Tables.{IsUnsent, IsNext, IsLast, IsSentBy, ahead_after, next_after, unsent_after, sent_after, last_after};
+ghost use Rattle.cop_bus.specs.Late.{IsSent};
 
 use crate::faults::BusFault;
 use crate::rules::{
@@ -43,7 +44,7 @@ pub fn judge<'a>(
     ensures legal { OnOk result (first_broken (ticks_of rate) streams.now trace.now.until trace.now.steps.items ≡ None) }
     ensures err { IfErr result (λ fault. IsFaultOf (first_broken (ticks_of rate) streams.now trace.now.until trace.now.steps.items) fault) }
 {
-    check_steps(
+    let sent = check_steps(
         alloc,
         streams,
         rate.ticks_per_bit(),
@@ -54,24 +55,30 @@ pub fn judge<'a>(
         streams,
         trace,
         rate,
+        sent,
     })
 }
 
-// Whether the trace breaks no rule; else the first step that breaks one, and the least rule that it breaks.
+// For each queue step the moment at which its instance is sent, if the trace breaks no rule; else the first step that
+// breaks one, and the least rule that it breaks.
 fn check_steps(
     alloc: Global,
     streams: &StreamSet,
     ticks: u32,
     until: u64,
     steps: &[Step],
-) -> Result<(), BusFault>
+) -> Result<Vec<Option<u64>>, BusFault>
     ensures ok { OnOk result (first_broken ticks streams.now until steps.now ≡ None) }
+    ensures sent { IfOk result (λ sent. IsSent steps.now sent.items) }
     ensures err { IfErr result (λ fault. IsFaultOf (first_broken ticks streams.now until steps.now) fault) }
 {
     let Ok(links) = link_all(alloc, steps) else {
         return Err(BusFault::Memory);
     };
     let Ok(mut last) = no_events(alloc) else {
+        return Err(BusFault::Memory);
+    };
+    let Ok(mut sent) = none_sent(alloc, steps) else {
         return Err(BusFault::Memory);
     };
     let next = links.next;
@@ -87,6 +94,7 @@ fn check_steps(
         }
         running = running_after(steps, i, ticks, running, &unsent);
         note_event(&steps[i], &mut last);
+        note_sent(&steps[i], &unsent, &mut sent);
         send(&steps[i], &next, &mut unsent);
     }
     match broken_at_end(streams, ticks, until, steps, running, &unsent) {
@@ -94,7 +102,7 @@ fn check_steps(
             place: steps.len() + 1,
             number,
         }),
-        None => Ok(()),
+        None => Ok(sent),
     }
 }
 
@@ -147,6 +155,30 @@ fn no_events(alloc: Global) -> Result<Vec<Option<u64>>, AllocError>
         last.push(None)?;
     }
     Ok(last)
+}
+
+// No moment for any step.
+fn none_sent(alloc: Global, steps: &[Step]) -> Result<Vec<Option<u64>>, AllocError>
+    ensures { IfOk result (λ sent. IsSentBy steps.now 0 sent.items) }
+{
+    let mut sent = Vec::new(alloc);
+    for _step in steps {
+        sent.push(None)?;
+    }
+    Ok(sent)
+}
+
+// Notes at the stream's first unsent instance the moment of a start, which sends it.
+fn note_sent(step: &Step, unsent: &[usize], sent: &mut Vec<Option<u64>>)
+    requires ids { length unsent.now ≡ 65536 }
+    requires some { (at id : ℕ) → step.now ≡ Step.Start at id → slice_index unsent.now id < length sent.old.items }
+    ensures { sent.new.items ≡ sent_after step.now unsent.now sent.old.items }
+{
+    match step {
+        Step::Queue { .. } => {}
+        Step::Start { at, id } => sent[unsent[usize::from(*id)]] = Some(*at),
+        Step::End { .. } => {}
+    }
 }
 
 // Notes the event of what the step queues.
