@@ -19,3 +19,4 @@ mod LateLemmas
 mod StreamOf
 mod WholeTrace
 mod Sent
+mod Waits

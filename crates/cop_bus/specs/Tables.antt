@@ -1,8 +1,11 @@
-use Rattle.std.specs.Prelude.{◌≡◌, ℕ, ◌≤◌, ◌<◌, List, Option, None, Some, Bool, true, suc, length, take, slice_index, slice_index_or, slice_set}
+use Rattle.std.specs.Prelude.{◌≡◌, ℕ, ◌≤◌, ◌<◌, List, Option, None, Some, Bool, true, suc, length, take, slice_index, slice_index_or, slice_set, is_some}
 use Rattle.cop_bus.specs.declared.steps.Step.{Step}
 use Rattle.cop_bus.specs.declared.steps.Step.TheVariants.{Queue, Start, End}
 use Rattle.cop_bus.specs.Trace.{is_queue, is_start, count_to, nth_that, moment_of, step_at}
-use Rattle.cop_bus.specs.Judge.{last_event}
+use Rattle.cop_bus.specs.Judge.{last_event, waits_after, stream_of}
+use Rattle.cop_rta.specs.declared.streams.Stream.{Stream}
+use Rattle.std.specs.BTreeSet.{BTreeSet, contains}
+use Rattle.std.specs.Ordering.{nat_cmp}
 
 -- What the judge's tables hold after the first i steps. A table has a place for each identifier.
 
@@ -37,6 +40,11 @@ pub record IsSentBy (steps : List Step) (i : ℕ) (sent : List (Option ℕ)) : T
 pub record IsLast (steps : List Step) (i : ℕ) (last : List (Option ℕ)) : Type 0 where
   pub ids : length last ≡ 65536
   pub events : (id : ℕ) → id < 65536 → slice_index_or last id None ≡ last_event id steps i
+
+-- the identifiers of which an instance waits, which are those of streams of the set
+pub record IsWaiting (streams : List Stream) (steps : List Step) (i : ℕ) (waiting : BTreeSet ℕ) : Type 0 where
+  pub those : (id : ℕ) → contains nat_cmp waiting id ≡ waits_after steps i id
+  pub known : (id : ℕ) → waits_after steps i id ≡ true → is_some (stream_of streams id) ≡ true
 
 -- how the tables change at a step
 abbrev pub ahead_after : Step → ℕ → List ℕ → List ℕ

@@ -1,5 +1,9 @@
 //! Why a trace is refused.
 
+ghost use Rattle.std.specs.Prelude.{◌≡◌};
+ghost use Rattle.cop_bus.specs.declared.faults.BusFault.TheVariants.{Memory};
+
+use std::alloc::AllocError;
 use thiserror::Error;
 
 /// Why a trace is refused.
@@ -11,4 +15,12 @@ pub enum BusFault {
     Refused { place: usize, number: u8 },
     #[error("out of memory")]
     Memory,
+}
+
+impl From<AllocError> for BusFault {
+    ghost from_gives = { λ _ fault. fault ≡ Memory };
+
+    fn from(_error: AllocError) -> BusFault {
+        BusFault::Memory
+    }
 }

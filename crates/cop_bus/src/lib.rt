@@ -5,6 +5,7 @@ mod faults;
 mod judging;
 mod lateness;
 mod laws;
+mod pending;
 mod rules;
 mod runs;
 mod steps;
