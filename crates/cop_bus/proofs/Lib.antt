@@ -20,3 +20,7 @@ mod StreamOf
 mod WholeTrace
 mod Sent
 mod Waits
+pub mod WriterLemmas
+pub mod TraceLemmas
+pub mod CsvLemmas
+pub mod RoundTrip

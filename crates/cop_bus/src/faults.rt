@@ -10,8 +10,8 @@ use thiserror::Error;
 #[derive(Clone, Copy, PartialEq, Eq, Debug, Drop, Error)]
 pub enum BusFault {
     /// The first step, from 1, that breaks a rule, and the least number of a rule that it breaks. The end
-    /// counts as a step.
-    #[error("step {place} breaks rule {number}")]
+    /// counts as a step. Of a text, the record from 1 that is none of a trace, or 0 for the header, by number 69.
+    #[error("rule {number} is broken at {place}")]
     Refused { place: usize, number: u8 },
     #[error("out of memory")]
     Memory,
