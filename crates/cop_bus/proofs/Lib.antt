@@ -24,3 +24,4 @@ pub mod WriterLemmas
 pub mod TraceLemmas
 pub mod CsvLemmas
 pub mod RoundTrip
+mod BusLemmas

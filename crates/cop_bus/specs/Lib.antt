@@ -8,3 +8,4 @@ pub mod Format
 pub mod Writer
 pub mod Entries
 pub mod Reading
+pub mod Bus

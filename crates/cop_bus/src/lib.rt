@@ -1,6 +1,7 @@
 //! Runs of the bus and their traces, and what the response-time test says of them.
 #![tactic(auto)]
 
+mod bus;
 mod entries;
 mod faults;
 mod judging;
@@ -13,6 +14,7 @@ mod runs;
 mod steps;
 mod writing;
 
+pub use bus::{Bus, Instance, Started};
 pub use faults::BusFault;
 pub use judging::judge;
 pub use lateness::first_late;
