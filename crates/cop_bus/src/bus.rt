@@ -53,6 +53,20 @@ impl Bus {
         }
     }
 
+    /// The instances that wait, as they were queued.
+    pub fn waiting(&self) -> &[Instance]
+        ensures { result.now ≡ self.now.waiting }
+    {
+        &self.waiting
+    }
+
+    /// The moment at which the transfer that runs ends, and its identifier.
+    pub fn running(&self) -> Option<(u64, u16)>
+        ensures { result ≡ self.now.running }
+    {
+        self.running
+    }
+
     /// Lets an instance wait behind the others. `Err` is want of memory: nothing has changed.
     pub fn queue(&mut self, instance: Instance) -> Result<(), AllocError>
         ensures ok { OnOk result (self.new ≡ record self.old { waiting = self.old.waiting ++ instance ∷ [] }) }
