@@ -25,3 +25,4 @@ pub mod TraceLemmas
 pub mod CsvLemmas
 pub mod RoundTrip
 mod BusLemmas
+mod RangeLemmas
