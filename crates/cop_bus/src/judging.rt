@@ -4,7 +4,7 @@ ghost use Rattle.std.specs.Prelude.{◌≡◌, ◌<◌, ◌≤◌, ℕ, List, So
 ghost use Rattle.cop_frame.specs.Rate.{ticks_of};
 ghost use Rattle.cop_rta.specs.declared.streams.Stream.{Stream};
 ghost use Rattle.cop_bus.specs.declared.steps.Step.{Step};
-ghost use Rattle.cop_bus.specs.Judge.{IsFaultOf, first_broken, stream_of, id_of, is_in_order, has_one_to_send, is_lowest, is_not_idle, broken_by, broken_at_end};
+ghost use Rattle.cop_bus.specs.Judge.{IsFaultOf, first_broken, stream_of, id_of, is_in_order, has_one_to_send, is_lowest, is_not_idle, broken_in_turn, broken_by, broken_at_end};
 ghost use Rattle.cop_bus.specs.Trace.{running as running_spec, after, step_at, nth_that, is_queue, is_start, count_to};
 ghost use Rattle.cop_bus.specs.Tables.{IsWaiting, IsUnsent, IsNext, IsLast, IsSentBy, ahead_after, next_after, unsent_after, sent_after, last_after};
 ghost use Rattle.cop_bus.specs.Late.{IsSent};
@@ -307,6 +307,33 @@ fn is_not_idle(
     }
 }
 
+// The least rule that step number `i` breaks of those that ask what runs and what waits.
+fn broken_in_turn(
+    ticks: u32,
+    steps: &[Step],
+    i: usize,
+    running: Option<(u16, u128)>,
+    unsent: &[usize],
+    waiting: &BTreeSet<u16>,
+) -> Option<u8>
+    requires i { i < length steps.now }
+    requires unsent { IsUnsent steps.now i unsent.now }
+    ensures { (streams : List Stream) → IsWaiting streams steps.now i waiting.now → result ≡ broken_in_turn ticks streams steps.now i running (step_at steps.now i) }
+{
+    let step = &steps[i];
+    if !fits_transfer(running, step) {
+        Some(65)
+    } else if !has_one_to_send(ticks, steps, i, unsent, waiting) {
+        Some(66)
+    } else if !is_lowest(steps, i, waiting) {
+        Some(67)
+    } else if !is_not_idle(steps, i, running, at_of(step), waiting) {
+        Some(68)
+    } else {
+        None
+    }
+}
+
 // The least rule that step number `i` breaks.
 fn broken_by(
     streams: &StreamSet,
@@ -340,16 +367,8 @@ fn broken_by(
         Some(63)
     } else if !is_of_length(stream, step) {
         Some(64)
-    } else if !fits_transfer(running, step) {
-        Some(65)
-    } else if !has_one_to_send(ticks, steps, i, unsent, waiting) {
-        Some(66)
-    } else if !is_lowest(steps, i, waiting) {
-        Some(67)
-    } else if !is_not_idle(steps, i, running, at_of(step), waiting) {
-        Some(68)
     } else {
-        None
+        broken_in_turn(ticks, steps, i, running, unsent, waiting)
     }
 }
 

@@ -214,55 +214,54 @@ fn cut_traces_are_refused(rt: HostRuntime) {
 }
 
 #[test]
-fn other_records_are_refused(rt: HostRuntime) {
-    for (text, place) in [
-        ("", 0),
-        ("kind,moment,id,event,bits\nuntil,0,0,,\n", 0),
-        ("kind,moment,id,event,bits,data\n", 1),
-        ("kind,moment,id,event,bits,data\nstart,100,385,,,\n", 2),
-        (
-            "kind,moment,id,event,bits,data\nuntil,0,0,,,\nuntil,0,0,,,\n",
-            2,
-        ),
-        ("kind,moment,id,event,bits,data\nuntil,0,1,,,\n", 1),
-        (
-            "kind,moment,id,event,bits,data\nstart,100,65536,,,\nuntil,100,0,,,\n",
-            1,
-        ),
-        (
-            "kind,moment,id,event,bits,data\nstart,18446744073709551616,1,,,\nuntil,100,0,,,\n",
-            1,
-        ),
-        (
-            "kind,moment,id,event,bits,data\nstart,100,1,,,\nqueue,100,1,100,4294967296,\nuntil,100,0,,,\n",
-            2,
-        ),
-        (
-            "kind,moment,id,event,bits,data\nqueue,100,1,100,47,ABC\nuntil,100,0,,,\n",
-            1,
-        ),
-        (
-            "kind,moment,id,event,bits,data\nqueue,100,1,100,47,000000000000000000\nuntil,100,0,,,\n",
-            1,
-        ),
-        (
-            "kind,moment,id,event,bits,data\nend,100,0x1,,,\nuntil,100,0,,,\n",
-            1,
-        ),
-        (
-            "kind,moment,id,event,bits,data\nend,100,1,0,,\nuntil,100,0,,,\n",
-            1,
-        ),
-    ] {
+fn other_headers_are_refused(rt: HostRuntime) {
+    for text in ["", "kind,moment,id,event,bits\nuntil,0,0,,\n"] {
         match read_trace(rt.alloc(), text.as_bytes()) {
             Err(fault) => assert_eq!(rt;
                 fault,
-                BusFault::Refused { place, number: 69 },
-                "at {text}"
+                BusFault::Refused {
+                    place: 0,
+                    number: 69
+                }
             ),
             Ok(_) => assert!(rt; false, "at {text}"),
         }
     }
+}
+
+fn under_header(alloc: Global, records: &str) -> Result<Vec<u8>, Fail> {
+    let mut text = Vec::new(alloc);
+    text.extend_from_slice(b"kind,moment,id,event,bits,data\n")?;
+    text.extend_from_slice(records.as_bytes())?;
+    Ok(text)
+}
+
+#[test]
+fn other_records_are_refused(rt: HostRuntime) -> Result<(), Fail> {
+    for (records, place) in [
+        ("", 1),
+        ("start,100,385,,,\n", 2),
+        ("until,0,0,,,\nuntil,0,0,,,\n", 2),
+        ("until,0,1,,,\n", 1),
+        ("start,100,65536,,,\n", 1),
+        ("start,18446744073709551616,1,,,\n", 1),
+        ("start,100,1,,,\nqueue,100,1,100,4294967296,\n", 2),
+        ("queue,100,1,100,47,ABC\n", 1),
+        ("queue,100,1,100,47,000000000000000000\n", 1),
+        ("end,100,0x1,,,\n", 1),
+        ("end,100,1,0,,\n", 1),
+    ] {
+        let text = under_header(rt.alloc(), records)?;
+        match read_trace(rt.alloc(), &text) {
+            Err(fault) => assert_eq!(rt;
+                fault,
+                BusFault::Refused { place, number: 69 },
+                "at {records}"
+            ),
+            Ok(_) => assert!(rt; false, "at {records}"),
+        }
+    }
+    Ok(())
 }
 
 #[test]
