@@ -11,10 +11,18 @@ pub mod Indexed
 pub mod StepLemmas
 pub mod Judged
 pub mod Converse
-mod Places
-mod Verdict
-mod Accepts
-mod Found
-mod LateLemmas
-mod StreamOf
-mod WholeTrace
+pub mod Places
+pub mod Verdict
+pub mod Accepts
+pub mod Found
+pub mod LateLemmas
+pub mod StreamOf
+pub mod WholeTrace
+pub mod Sent
+pub mod Waits
+pub mod WriterLemmas
+pub mod TraceLemmas
+pub mod CsvLemmas
+pub mod RoundTrip
+pub mod BusLemmas
+pub mod RangeLemmas

@@ -151,7 +151,7 @@ module _ (streams : List Stream) (index : ℕ) (rate : Rate) (m : Stream) (its :
   blocks : blocking (ticks_of rate) below ≤ blocking_at place
   blocks = filter_max (λ k. nat_lt m.id k.id) (ticks_of rate) streams (is_below place) (of_stream (cost_of rate) streams) below_counts
 
-  busy_less : (t : ℕ) → busy_value (ticks_of rate) above below m t ≤ busy_at place t
+  pub busy_less : (t : ℕ) → busy_value (ticks_of rate) above below m t ≤ busy_at place t
   unfolding busy_at
   busy_less t = let a = sums t in let c = at_index (load_of rate t) in omega (arith, a, blocks, c)
 

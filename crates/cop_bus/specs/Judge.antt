@@ -106,6 +106,15 @@ is_not_idle streams steps zero transfer moment = true
 is_not_idle streams steps (suc i) None moment = nat_le moment (at_of (step_at steps i)) || not (any_waits steps (suc i) streams)
 is_not_idle streams steps (suc i) (Some r) moment = true
 
+-- the least of the last four, by what runs and waits, that the step breaks
+abbrev pub broken_in_turn : ℕ → List Stream → List Step → ℕ → Option (ℕ × ℕ) → Step → Option ℕ
+broken_in_turn tau streams steps i transfer x =
+    if not (fits_transfer transfer x) then Some 65 else
+    if not (has_one_to_send tau streams steps i x) then Some 66 else
+    if not (is_lowest streams steps i x) then Some 67 else
+    if not (is_not_idle streams steps i transfer (at_of x)) then Some 68 else
+    None
+
 -- the least rule that the step breaks
 abbrev pub broken_by : ℕ → List Stream → ℕ → List Step → ℕ → Step → Option ℕ
 broken_by tau streams until steps i x =
@@ -114,11 +123,7 @@ broken_by tau streams until steps i x =
     if not (is_period_later (stream_of streams (id_of x)) (last_event (id_of x) steps i) x) then Some 62 else
     if not (is_queued_in_time (stream_of streams (id_of x)) x) then Some 63 else
     if not (is_of_length (stream_of streams (id_of x)) x) then Some 64 else
-    if not (fits_transfer (running tau steps i) x) then Some 65 else
-    if not (has_one_to_send tau streams steps i x) then Some 66 else
-    if not (is_lowest streams steps i x) then Some 67 else
-    if not (is_not_idle streams steps i (running tau steps i) (at_of x)) then Some 68 else
-    None
+    broken_in_turn tau streams steps i (running tau steps i) x
 
 -- the same of the trace's end: a transfer's end can be missing, and the bus be idle
 abbrev pub is_unfinished : ℕ → Option (ℕ × ℕ) → Bool

@@ -1,9 +1,9 @@
 -- Instances that are late.
-use Rattle.std.specs.Prelude.{ℕ, ◌+◌, ◌*◌, List, [], ◌∷◌, Option, None, Some, Bool, false, suc, not, ◌&&◌, nat_le, if◌then◌else◌}
+use Rattle.std.specs.Prelude.{◌≡◌, ◌<◌, true, length, slice_index_or, ℕ, ◌+◌, ◌*◌, List, [], ◌∷◌, Option, None, Some, Bool, false, suc, not, ◌&&◌, nat_le, if◌then◌else◌}
 use Rattle.cop_rta.specs.declared.streams.Stream.{Stream}
 use Rattle.cop_bus.specs.declared.steps.Step.{Step}
 use Rattle.cop_bus.specs.declared.steps.Step.TheVariants.{Queue, Start, End}
-use Rattle.cop_bus.specs.Trace.{is_queue, is_start, count_to, nth_that, moment_of}
+use Rattle.cop_bus.specs.Trace.{step_at, is_queue, is_start, count_to, nth_that, moment_of}
 use Rattle.cop_bus.specs.Judge.{id_of, stream_of}
 
 -- a transfer of so many bits that starts there, if it does, has ended by a moment
@@ -26,6 +26,11 @@ is_late tau until None start x = false
 -- the moment at which the instance that is queued after the first i steps is sent
 abbrev pub sent_at : List Step → ℕ → ℕ → Option ℕ
 sent_at steps i id = moment_of (nth_that (is_start id) (count_to (is_queue id) steps i) steps)
+
+-- what stands at the place of each step that queues an instance is the moment at which that is sent
+pub record IsSent (steps : List Step) (sent : List (Option ℕ)) : Type 0 where
+  pub steps_long : length sent ≡ length steps
+  pub moments : (a id : ℕ) → a < length steps → is_queue id (step_at steps a) ≡ true → slice_index_or sent a None ≡ sent_at steps a id
 
 -- the number, from 1, of the first step, from number i on, that queues an instance that is late
 abbrev pub first_late_from : ℕ → List Stream → ℕ → List Step → ℕ → List Step → Option ℕ

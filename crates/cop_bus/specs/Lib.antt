@@ -4,3 +4,8 @@ pub mod Trace
 pub mod Judge
 pub mod Late
 pub mod Tables
+pub mod Format
+pub mod Writer
+pub mod Entries
+pub mod Reading
+pub mod Bus

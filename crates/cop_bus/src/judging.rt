@@ -1,13 +1,16 @@
 //! The judge of a trace.
 
-ghost use Rattle.std.specs.Prelude.{◌≡◌, ◌<◌, ◌≤◌, ℕ, List, Some, None, length, slice_index, nat_lt, ◌&&◌, OnOk, IfOk, IfErr};
+ghost use Rattle.std.specs.Prelude.{◌≡◌, ◌<◌, ◌≤◌, ℕ, List, Some, None, length, slice_index, OnOk, IfOk, IfErr};
 ghost use Rattle.cop_frame.specs.Rate.{ticks_of};
+ghost use Rattle.cop_rta.specs.declared.streams.Stream.{Stream};
 ghost use Rattle.cop_bus.specs.declared.steps.Step.{Step};
-ghost use Rattle.cop_bus.specs.Judge.{IsFaultOf, first_broken, stream_of, id_of, any_waits, lower_waits, waits_after, is_in_order, has_one_to_send, is_lowest, is_not_idle, broken_by, broken_at_end};
+ghost use Rattle.cop_bus.specs.Judge.{IsFaultOf, first_broken, stream_of, id_of, is_in_order, has_one_to_send, is_lowest, is_not_idle, broken_in_turn, broken_by, broken_at_end};
 ghost use Rattle.cop_bus.specs.Trace.{running as running_spec, after, step_at, nth_that, is_queue, is_start, count_to};
-ghost use Rattle.cop_bus.specs.Tables.{IsUnsent, IsNext, IsLast, ahead_after, next_after, unsent_after, last_after};
+ghost use Rattle.cop_bus.specs.Tables.{IsWaiting, IsUnsent, IsNext, IsLast, IsSentBy, ahead_after, next_after, unsent_after, sent_after, last_after};
+ghost use Rattle.cop_bus.specs.Late.{IsSent};
 
 use crate::faults::BusFault;
+use crate::pending::{any_waits, lower_waits, note_waiting};
 use crate::rules::{
     at_of, bits, fits_transfer, id_of, is_of_length, is_period_later, is_queued_in_time,
     is_soon_queued, is_unfinished, not_before,
@@ -17,6 +20,7 @@ use crate::steps::Step;
 use cop_frame::Rate;
 use cop_rta::{Stream, StreamSet};
 use std::alloc::{AllocError, Global};
+use std::collections::BTreeSet;
 
 // How many identifiers a trace can name.
 const IDS: usize = 65536;
@@ -43,7 +47,7 @@ pub fn judge<'a>(
     ensures legal { OnOk result (first_broken (ticks_of rate) streams.now trace.now.until trace.now.steps.items ≡ None) }
     ensures err { IfErr result (λ fault. IsFaultOf (first_broken (ticks_of rate) streams.now trace.now.until trace.now.steps.items) fault) }
 {
-    check_steps(
+    let sent = check_steps(
         alloc,
         streams,
         rate.ticks_per_bit(),
@@ -54,31 +58,34 @@ pub fn judge<'a>(
         streams,
         trace,
         rate,
+        sent,
     })
 }
 
-// Whether the trace breaks no rule; else the first step that breaks one, and the least rule that it breaks.
+// For each queue step the moment at which its instance is sent, if the trace breaks no rule; else the first step that
+// breaks one, and the least rule that it breaks.
 fn check_steps(
     alloc: Global,
     streams: &StreamSet,
     ticks: u32,
     until: u64,
     steps: &[Step],
-) -> Result<(), BusFault>
+) -> Result<Vec<Option<u64>>, BusFault>
     ensures ok { OnOk result (first_broken ticks streams.now until steps.now ≡ None) }
+    ensures sent { IfOk result (λ sent. IsSent steps.now sent.items) }
     ensures err { IfErr result (λ fault. IsFaultOf (first_broken ticks streams.now until steps.now) fault) }
 {
-    let Ok(links) = link_all(alloc, steps) else {
-        return Err(BusFault::Memory);
-    };
-    let Ok(mut last) = no_events(alloc) else {
-        return Err(BusFault::Memory);
-    };
+    let links = link_all(alloc, steps)?;
     let next = links.next;
     let mut unsent = links.first;
+    let mut waiting = BTreeSet::new(alloc);
+    let mut last = no_events(alloc)?;
+    let mut sent = none_sent(alloc, steps)?;
     let mut running = None;
     for i in 0..steps.len() {
-        match broken_by(streams, ticks, until, steps, i, running, &last, &unsent) {
+        match broken_by(
+            streams, ticks, until, steps, i, running, &last, &unsent, &waiting,
+        ) {
             Some(number) => return Err(BusFault::Refused {
                 place: i + 1,
                 number,
@@ -87,14 +94,16 @@ fn check_steps(
         }
         running = running_after(steps, i, ticks, running, &unsent);
         note_event(&steps[i], &mut last);
+        note_sent(&steps[i], &unsent, &mut sent);
         send(&steps[i], &next, &mut unsent);
+        note_waiting(&steps[i], &unsent, i, &mut waiting)?;
     }
-    match broken_at_end(streams, ticks, until, steps, running, &unsent) {
+    match broken_at_end(until, steps, running, &waiting) {
         Some(number) => Err(BusFault::Refused {
             place: steps.len() + 1,
             number,
         }),
-        None => Ok(()),
+        None => Ok(sent),
     }
 }
 
@@ -147,6 +156,30 @@ fn no_events(alloc: Global) -> Result<Vec<Option<u64>>, AllocError>
         last.push(None)?;
     }
     Ok(last)
+}
+
+// No moment for any step.
+fn none_sent(alloc: Global, steps: &[Step]) -> Result<Vec<Option<u64>>, AllocError>
+    ensures { IfOk result (λ sent. IsSentBy steps.now 0 sent.items) }
+{
+    let mut sent = Vec::new(alloc);
+    for _step in steps {
+        sent.push(None)?;
+    }
+    Ok(sent)
+}
+
+// Notes at the stream's first unsent instance the moment of a start, which sends it.
+fn note_sent(step: &Step, unsent: &[usize], sent: &mut Vec<Option<u64>>)
+    requires ids { length unsent.now ≡ 65536 }
+    requires some { (at id : ℕ) → step.now ≡ Step.Start at id → slice_index unsent.now id < length sent.old.items }
+    ensures { sent.new.items ≡ sent_after step.now unsent.now sent.old.items }
+{
+    match step {
+        Step::Queue { .. } => {}
+        Step::Start { at, id } => sent[unsent[usize::from(*id)]] = Some(*at),
+        Step::End { .. } => {}
+    }
 }
 
 // Notes the event of what the step queues.
@@ -212,40 +245,6 @@ fn running_after(
     }
 }
 
-// Whether an instance of the stream waits after the first `i` steps.
-fn waits(unsent: &[usize], i: usize, id: u16) -> bool
-    requires { length unsent.now ≡ 65536 }
-    ensures { (steps : List Step) → i ≤ length steps → IsUnsent steps i unsent.now → result ≡ waits_after steps i id }
-{
-    unsent[usize::from(id)] < i
-}
-
-// Whether an instance of some stream does.
-fn any_waits_among(streams: &[Stream], unsent: &[usize], i: usize) -> bool
-    requires { length unsent.now ≡ 65536 }
-    ensures { (steps : List Step) → i ≤ length steps → IsUnsent steps i unsent.now → result ≡ any_waits steps i streams.now }
-{
-    for stream in streams {
-        if waits(unsent, i, stream.id) {
-            return true;
-        }
-    }
-    false
-}
-
-// Whether an instance of a stream with a lower identifier does.
-fn lower_waits_among(streams: &[Stream], unsent: &[usize], i: usize, id: u16) -> bool
-    requires { length unsent.now ≡ 65536 }
-    ensures { (steps : List Step) → i ≤ length steps → IsUnsent steps i unsent.now → result ≡ lower_waits steps i id streams.now }
-{
-    for stream in streams {
-        if waits_below(stream, unsent, i, id) {
-            return true;
-        }
-    }
-    false
-}
-
 fn is_in_order(steps: &[Step], i: usize, until: u64) -> bool
     requires { i < length steps.now }
     ensures { result ≡ is_in_order until steps.now i (step_at steps.now i) }
@@ -259,55 +258,79 @@ fn is_in_order(steps: &[Step], i: usize, until: u64) -> bool
 }
 
 fn has_one_to_send(
-    streams: &StreamSet,
     ticks: u32,
     steps: &[Step],
     i: usize,
     unsent: &[usize],
+    waiting: &BTreeSet<u16>,
 ) -> bool
     requires i { i < length steps.now }
     requires unsent { IsUnsent steps.now i unsent.now }
-    ensures { result ≡ has_one_to_send ticks streams.now steps.now i (step_at steps.now i) }
+    ensures { (streams : List Stream) → IsWaiting streams steps.now i waiting.now → result ≡ has_one_to_send ticks streams steps.now i (step_at steps.now i) }
 {
     match steps[i] {
         Step::Queue { .. } => true,
         Step::Start { at, id } => {
-            any_waits(streams, unsent, i) && is_soon_queued(ticks, at, unsent_of(steps, unsent, id))
+            any_waits(waiting) && is_soon_queued(ticks, at, unsent_of(steps, unsent, id))
         }
         Step::End { .. } => true,
     }
 }
 
-fn is_lowest(streams: &StreamSet, steps: &[Step], i: usize, unsent: &[usize]) -> bool
-    requires i { i < length steps.now }
-    requires unsent { IsUnsent steps.now i unsent.now }
-    ensures { result ≡ is_lowest streams.now steps.now i (step_at steps.now i) }
+fn is_lowest(steps: &[Step], i: usize, waiting: &BTreeSet<u16>) -> bool
+    requires { i < length steps.now }
+    ensures { (streams : List Stream) → IsWaiting streams steps.now i waiting.now → result ≡ is_lowest streams steps.now i (step_at steps.now i) }
 {
     match steps[i] {
         Step::Queue { .. } => true,
-        Step::Start { id, .. } => !lower_waits(streams, unsent, i, id),
+        Step::Start { id, .. } => !lower_waits(waiting, id),
         Step::End { .. } => true,
     }
 }
 
 fn is_not_idle(
-    streams: &StreamSet,
     steps: &[Step],
     i: usize,
     running: Option<(u16, u128)>,
     moment: u64,
-    unsent: &[usize],
+    waiting: &BTreeSet<u16>,
 ) -> bool
-    requires i { i ≤ length steps.now }
-    requires unsent { IsUnsent steps.now i unsent.now }
-    ensures { result ≡ is_not_idle streams.now steps.now i running moment }
+    requires { i ≤ length steps.now }
+    ensures { (streams : List Stream) → IsWaiting streams steps.now i waiting.now → result ≡ is_not_idle streams steps.now i running moment }
 {
     if i == 0 {
         return true;
     }
     match running {
-        None => moment <= at_of(&steps[i - 1]) || !any_waits(streams, unsent, i),
+        None => moment <= at_of(&steps[i - 1]) || !any_waits(waiting),
         Some(_) => true,
+    }
+}
+
+// The least rule that step number `i` breaks of those that ask what runs and what waits.
+fn broken_in_turn(
+    ticks: u32,
+    steps: &[Step],
+    i: usize,
+    running: Option<(u16, u128)>,
+    unsent: &[usize],
+    waiting: &BTreeSet<u16>,
+) -> Option<u8>
+    requires i { i < length steps.now }
+    requires unsent { IsUnsent steps.now i unsent.now }
+    ensures { (streams : List Stream) → IsWaiting streams steps.now i waiting.now → result ≡ broken_in_turn ticks streams steps.now i running (step_at steps.now i) }
+{
+    let step = &steps[i];
+    if !fits_transfer(running, step) {
+        Some(65)
+    } else if !has_one_to_send(ticks, steps, i, unsent, waiting) {
+        Some(66)
+    } else if !is_lowest(steps, i, waiting) {
+        Some(67)
+    } else if !is_not_idle(steps, i, running, at_of(step), waiting) {
+        Some(68)
+    } else {
+        None
     }
 }
 
@@ -321,11 +344,13 @@ fn broken_by(
     running: Option<(u16, u128)>,
     last: &[Option<u64>],
     unsent: &[usize],
+    waiting: &BTreeSet<u16>,
 ) -> Option<u8>
     requires i { i < length steps.now }
     requires running { running ≡ running_spec ticks steps.now i }
     requires last { IsLast steps.now i last.now }
     requires unsent { IsUnsent steps.now i unsent.now }
+    requires waiting { IsWaiting streams.now steps.now i waiting.now }
     ensures least { result ≡ broken_by ticks streams.now until steps.now i (step_at steps.now i) }
     ensures fits { id_of (step_at steps.now i) < 65536 }
 {
@@ -342,35 +367,24 @@ fn broken_by(
         Some(63)
     } else if !is_of_length(stream, step) {
         Some(64)
-    } else if !fits_transfer(running, step) {
-        Some(65)
-    } else if !has_one_to_send(streams, ticks, steps, i, unsent) {
-        Some(66)
-    } else if !is_lowest(streams, steps, i, unsent) {
-        Some(67)
-    } else if !is_not_idle(streams, steps, i, running, at_of(step), unsent) {
-        Some(68)
     } else {
-        None
+        broken_in_turn(ticks, steps, i, running, unsent, waiting)
     }
 }
 
 // The least rule that is broken at the trace's end.
 fn broken_at_end(
-    streams: &StreamSet,
-    ticks: u32,
     until: u64,
     steps: &[Step],
     running: Option<(u16, u128)>,
-    unsent: &[usize],
+    waiting: &BTreeSet<u16>,
 ) -> Option<u8>
-    requires running { running ≡ running_spec ticks steps.now (length steps.now) }
-    requires unsent { IsUnsent steps.now (length steps.now) unsent.now }
-    ensures { result ≡ broken_at_end ticks streams.now until steps.now }
+    ensures { (streams : List Stream) (ticks : ℕ) → IsWaiting streams steps.now (length steps.now) waiting.now → running ≡ running_spec ticks steps.now (length steps.now)
+        → result ≡ broken_at_end ticks streams until steps.now }
 {
     if !is_unfinished(until, running) {
         Some(65)
-    } else if !is_not_idle(streams, steps, steps.len(), running, until, unsent) {
+    } else if !is_not_idle(steps, steps.len(), running, until, waiting) {
         Some(68)
     } else {
         None
@@ -385,30 +399,4 @@ pub(crate) fn stream_of(streams: &StreamSet, id: u16) -> Option<Stream>
         Some(place) => Some(streams.streams()[place]),
         None => None,
     }
-}
-
-// Whether an instance of some stream of the set waits after the first `i` steps.
-fn any_waits(streams: &StreamSet, unsent: &[usize], i: usize) -> bool
-    requires { length unsent.now ≡ 65536 }
-    ensures { (steps : List Step) → i ≤ length steps → IsUnsent steps i unsent.now → result ≡ any_waits steps i streams.now }
-{
-    any_waits_among(streams.streams(), unsent, i)
-}
-
-// Whether one of a stream with a lower identifier does.
-fn lower_waits(streams: &StreamSet, unsent: &[usize], i: usize, id: u16) -> bool
-    requires { length unsent.now ≡ 65536 }
-    ensures { (steps : List Step) → i ≤ length steps → IsUnsent steps i unsent.now → result ≡ lower_waits steps i id streams.now }
-{
-    lower_waits_among(streams.streams(), unsent, i, id)
-}
-
-// Whether the stream's identifier is lower and an instance of it waits after the first `i` steps.
-fn waits_below(stream: &Stream, unsent: &[usize], i: usize, id: u16) -> bool
-    requires { length unsent.now ≡ 65536 }
-    ensures { (steps : List Step) → i ≤ length steps → IsUnsent steps i unsent.now → result ≡ (nat_lt stream.now.id id && waits_after steps i stream.now.id) }
-{
-    let lower = stream.id < id;
-    let waits = waits(unsent, i, stream.id);
-    lower && waits
 }

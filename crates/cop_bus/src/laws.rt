@@ -6,7 +6,7 @@ ghost use Rattle.std.specs.Option.{ForSome};
 ghost use Rattle.cop_frame.specs.declared.rates.Rate.{Rate};
 ghost use Rattle.cop_frame.specs.Rate.{ticks_of};
 ghost use Rattle.cop_rta.specs.declared.streams.Stream.{Stream};
-ghost use Rattle.cop_rta.specs.Test.{place_by_id, queueing_at};
+ghost use Rattle.cop_rta.specs.Test.{place_by_id, busy_at, queueing_at};
 ghost use Rattle.cop_bus.specs.Run.{Instance, IsRunAbove, PassesById, IsOnTime, Runs, waiting};
 ghost use Rattle.cop_bus.specs.Period.{IsPeriodOf, starts_of, queued_since};
 ghost use Rattle.cop_rta.specs.Streams.{AreDistinct};
@@ -60,6 +60,11 @@ pub fn busy_period()
         → IsPeriodOf rate streams until pre x post index m t
         → (w : ℕ) → queueing_at (place_by_id streams index rate) (queued_since m.id t pre) w ≤ w → t + w < until
         → (s : ℕ) × (x.start ≡ Some s) × (s ≤ t + w) }
+    // that number lies in the range of the test, if x is queued within the run: it is below a busy time and the jitter
+    ensures in_range { (rate : Rate) (streams : List Stream) (until : ℕ) (pre : List Instance) (x : Instance) (post : List Instance) (index : ℕ) (m : Stream) (t : ℕ)
+        → IsPeriodOf rate streams until pre x post index m t → x.queued ≤ until
+        → (b : ℕ) → 1 ≤ b → busy_at (place_by_id streams index rate) b ≤ b
+        → queued_since m.id t pre * m.period < b + m.jitter }
 {}
 
 /// A trace breaks no rule, step by step, exactly where it is that of a legal run in which all streams obey.

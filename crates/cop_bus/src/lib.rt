@@ -1,14 +1,20 @@
 //! Runs of the bus and their traces, and what the response-time test says of them.
 #![tactic(auto)]
 
+mod bus;
+mod entries;
 mod faults;
 mod judging;
 mod lateness;
 mod laws;
+mod pending;
+mod reading;
 mod rules;
 mod runs;
 mod steps;
+mod writing;
 
+pub use bus::{Bus, Instance, Started};
 pub use faults::BusFault;
 pub use judging::judge;
 pub use lateness::first_late;
@@ -16,8 +22,10 @@ pub use laws::{
     busy_period, clean_is_legal, none_late_is_on_time, passing_is_on_time, passing_waits_bounded,
     started_is_on_time,
 };
+pub use reading::read_trace;
 pub use runs::{Run, Trace};
 pub use steps::{Content, Step};
+pub use writing::write_trace;
 
 #[cfg(test)]
 mod tests;

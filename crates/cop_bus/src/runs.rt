@@ -3,6 +3,7 @@
 ghost use Rattle.cop_frame.specs.Rate.{ticks_of};
 ghost use Rattle.std.specs.Prelude.{◌≡◌, None};
 ghost use Rattle.cop_bus.specs.Judge.{first_broken};
+ghost use Rattle.cop_bus.specs.Late.{IsSent};
 
 use crate::steps::Step;
 use cop_frame::Rate;
@@ -17,10 +18,13 @@ pub struct Trace {
 
 /// A trace that was judged: it breaks no rule, and so is that of a legal run at the rate in which each stream of the
 /// set obeys ([`clean_is_legal`](crate::clean_is_legal)).
-#[derive(Clone, Copy)]
+#[derive(Drop)]
 pub struct Run<'a> {
     pub streams: &'a StreamSet,
     pub trace: &'a Trace,
     pub rate: Rate,
+    // For each queue step the moment at which its instance is sent.
+    pub(crate) sent: Vec<Option<u64>>,
+    ghost moments: { IsSent trace.now.steps.items sent.items },
     ghost clean: { first_broken (ticks_of rate) streams.now trace.now.until trace.now.steps.items ≡ None },
 }

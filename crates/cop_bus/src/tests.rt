@@ -1,6 +1,9 @@
-ghost use Rattle.std.specs.Prelude.{◌≤◌};
+ghost use Rattle.std.specs.Prelude.{◌≤◌, ◌≡◌};
 
-use crate::{BusFault, Content, Step, Trace, first_late, judge};
+use crate::{
+    Bus, BusFault, Content, Instance, Started, Step, Trace, first_late, judge, read_trace,
+    write_trace,
+};
 use cop_frame::Rate;
 use cop_rta::{Stream, StreamSet};
 use std::alloc::Global;
@@ -169,5 +172,159 @@ fn bound_is_reached(rt: HostRuntime) -> Result<(), Fail> {
             Err(_) => assert!(rt; false),
         }
     }
+    Ok(())
+}
+
+fn late_joiner_text() -> &'static str {
+    "kind,moment,id,event,bits,data\n\
+     queue,100,386,100,135,0000000000000000\n\
+     start,100,385,,,\n\
+     queue,102,385,102,111,0000000000000000\n\
+     end,544,385,,,\n\
+     start,544,386,,,\n\
+     end,1084,386,,,\n\
+     until,1084,0,,,\n"
+}
+
+#[test]
+fn trace_is_written_and_read(rt: HostRuntime) -> Result<(), Fail> {
+    let written = trace(rt.alloc(), 1084, &late_joiner())?;
+    let text = write_trace(rt.alloc(), &written)?;
+    assert_eq!(rt; text.as_slice(), late_joiner_text().as_bytes());
+    match read_trace(rt.alloc(), &text) {
+        Ok(read) => {
+            assert_eq!(rt; read.until, 1084);
+            assert_eq!(rt; read.steps.as_slice(), late_joiner().as_slice());
+        }
+        Err(_) => assert!(rt; false),
+    }
+    Ok(())
+}
+
+// A text that is cut within a record of a step, or before the end's, is refused; the last line feed may be missing.
+#[test]
+fn cut_traces_are_refused(rt: HostRuntime) {
+    let text = late_joiner_text().as_bytes();
+    for cut in 0..text.len() {
+        match read_trace(rt.alloc(), &text[..cut]) {
+            Ok(_) => assert_eq!(rt; cut + 1, text.len()),
+            Err(fault) => assert!(rt; matches!(fault, BusFault::Refused { number: 69, .. })),
+        }
+    }
+}
+
+#[test]
+fn other_headers_are_refused(rt: HostRuntime) {
+    for text in ["", "kind,moment,id,event,bits\nuntil,0,0,,\n"] {
+        match read_trace(rt.alloc(), text.as_bytes()) {
+            Err(fault) => assert_eq!(rt;
+                fault,
+                BusFault::Refused {
+                    place: 0,
+                    number: 69
+                }
+            ),
+            Ok(_) => assert!(rt; false, "at {text}"),
+        }
+    }
+}
+
+fn under_header(alloc: Global, records: &str) -> Result<Vec<u8>, Fail> {
+    let mut text = Vec::new(alloc);
+    text.extend_from_slice(b"kind,moment,id,event,bits,data\n")?;
+    text.extend_from_slice(records.as_bytes())?;
+    Ok(text)
+}
+
+#[test]
+fn other_records_are_refused(rt: HostRuntime) -> Result<(), Fail> {
+    for (records, place) in [
+        ("", 1),
+        ("start,100,385,,,\n", 2),
+        ("until,0,0,,,\nuntil,0,0,,,\n", 2),
+        ("until,0,1,,,\n", 1),
+        ("start,100,65536,,,\n", 1),
+        ("start,18446744073709551616,1,,,\n", 1),
+        ("start,100,1,,,\nqueue,100,1,100,4294967296,\n", 2),
+        ("queue,100,1,100,47,ABC\n", 1),
+        ("queue,100,1,100,47,000000000000000000\n", 1),
+        ("end,100,0x1,,,\n", 1),
+        ("end,100,1,0,,\n", 1),
+    ] {
+        let text = under_header(rt.alloc(), records)?;
+        match read_trace(rt.alloc(), &text) {
+            Err(fault) => assert_eq!(rt;
+                fault,
+                BusFault::Refused { place, number: 69 },
+                "at {records}"
+            ),
+            Ok(_) => assert!(rt; false, "at {records}"),
+        }
+    }
+    Ok(())
+}
+
+#[test]
+fn data_is_read(rt: HostRuntime) {
+    let text = b"kind,moment,id,event,bits,data\nqueue,7,2047,5,67,0aF1\nuntil,9,0,,,\n";
+    match read_trace(rt.alloc(), text) {
+        Ok(read) => assert_eq!(rt;
+            read.steps.as_slice(),
+            [Step::Queue {
+                at: 7,
+                id: 2047,
+                event: 5,
+                frame: Content {
+                    bits: 67,
+                    body: [0x0A, 0xF1, 0, 0, 0, 0, 0, 0],
+                    len: 2,
+                },
+            }]
+            .as_slice()
+        ),
+        Err(_) => assert!(rt; false),
+    }
+}
+
+fn instance(at: u64, id: u16, bits: u32) -> Instance
+    ensures at { result.at ≡ at }
+    ensures id { result.id ≡ id }
+{
+    Instance {
+        at,
+        id,
+        event: at,
+        frame: Content {
+            bits,
+            body: [0; 8],
+            len: 8,
+        },
+    }
+}
+
+// The run of the late joiner, step by step.
+#[test]
+fn joiner_is_sent_first(rt: HostRuntime) -> Result<(), Fail> {
+    let mut bus = Bus::new(rt.alloc(), Rate::Kbit1000);
+    bus.queue(instance(100, 0x182, 135))?;
+    let joined = bus.start(100, &[instance(102, 0x181, 111)]);
+    assert_eq!(rt;
+        joined,
+        Some(Started {
+            id: 0x181,
+            joined: true
+        })
+    );
+    assert_eq!(rt; bus.end(), Some((544, 0x181)));
+    let started = bus.start(544, &[]);
+    assert_eq!(rt;
+        started,
+        Some(Started {
+            id: 0x182,
+            joined: false
+        })
+    );
+    assert_eq!(rt; bus.end(), Some((1084, 0x182)));
+    assert_eq!(rt; bus.start(1084, &[]), None);
     Ok(())
 }

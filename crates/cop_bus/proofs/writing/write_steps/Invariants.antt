@@ -1,0 +1,7 @@
+use Rattle.std.proofs.Common.{map, take}
+use Rattle.cop_bus.specs.Format.{fields_of}
+use Rattle.cop_bus.specs.Writer.{Adds}
+use Rattle.cop_bus.proofs.writing.write_steps.Given as goal
+
+abbrev pub invariant-loop-step : goal.invariant-loop-step
+invariant-loop-step l = Adds l.fn.writer l.writer (map fields_of (take l.step-index l.steps))
