@@ -1,0 +1,4 @@
+pub mod Names
+pub mod Nodes
+pub mod Pdos
+pub mod Refusals

@@ -1,0 +1,12 @@
+//! The tables of a network: its nodes and its PDOs.
+#![tactic(auto)]
+
+mod names;
+mod node_table;
+mod pdo_table;
+mod refusals;
+
+pub use names::Name;
+pub use node_table::{DeviceRow, FrameKind, FrameRow, NodeTable};
+pub use pdo_table::{Consumer, Consumers, PdoRow, PdoTable};
+pub use refusals::{Refusal, RowFault, Rule};
