@@ -5,6 +5,8 @@ use Rattle.cop_rows.specs.declared.refusals.Rule.TheVariants as rules
 use Rattle.cop_rows.specs.declared.refusals.Refusal.{Refusal}
 use Rattle.cop_rows.specs.declared.refusals.RowFault.{RowFault}
 use Rattle.cop_rows.specs.declared.refusals.RowFault.TheVariants as faults
+use Rattle.cop_rows.specs.declared.refusals.RecordFault.{RecordFault}
+use Rattle.cop_rows.specs.declared.refusals.RecordFault.TheVariants as records
 
 abbrev pub number_of_rule : Rule → ℕ
 number_of_rule rules.Header = 40
@@ -27,3 +29,12 @@ refuse rule place = Err (record { rule = rule; place = place })
 abbrev pub placed : {A : Type 0} → ℕ → Result A Rule → Result A Refusal
 placed place (Ok x) = Ok x
 placed place (Err rule) = refuse rule place
+
+-- the rule of a record's fault, which want of memory has not
+abbrev pub broken : RecordFault → Option Rule
+broken (records.Broken rule) = Some rule
+broken records.Memory = None
+
+abbrev pub fault_at : ℕ → RecordFault → RowFault
+fault_at place (records.Broken rule) = faults.Refused (record { rule = rule; place = place })
+fault_at place records.Memory = faults.Memory

@@ -1,9 +1,11 @@
 //! The tables of a network: its nodes and its PDOs.
 #![tactic(auto)]
 
+mod fields;
 mod names;
 mod node_table;
 mod pdo_table;
+mod pdos;
 mod refusals;
 
 pub use names::Name;

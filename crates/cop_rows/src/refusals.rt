@@ -2,7 +2,8 @@
 
 ghost use Rattle.std.specs.Prelude.{◌≡◌};
 ghost use Rattle.cop_rows.specs.declared.refusals.RowFault.TheVariants.{Memory};
-ghost use Rattle.cop_rows.specs.Refusals.{number_of_rule};
+ghost use Rattle.cop_rows.specs.declared.refusals.RecordFault.TheVariants as records;
+ghost use Rattle.cop_rows.specs.Refusals.{number_of_rule, fault_at};
 
 use std::alloc::AllocError;
 use thiserror::Error;
@@ -62,5 +63,40 @@ impl From<AllocError> for RowFault {
 
     fn from(_error: AllocError) -> RowFault {
         RowFault::Memory
+    }
+}
+
+/// Why a record is not read.
+#[derive(Clone, Copy, Drop)]
+pub(crate) enum RecordFault {
+    Broken(Rule),
+    Memory,
+}
+
+impl From<AllocError> for RecordFault {
+    ghost from_gives = { λ _ fault. fault ≡ records.Memory };
+
+    fn from(_error: AllocError) -> RecordFault {
+        RecordFault::Memory
+    }
+}
+
+impl From<Rule> for RecordFault {
+    ghost from_gives = { λ rule fault. fault ≡ records.Broken rule };
+
+    fn from(rule: Rule) -> RecordFault {
+        RecordFault::Broken(rule)
+    }
+}
+
+impl RecordFault {
+    /// The fault with its record.
+    pub(crate) fn at(self, place: u64) -> RowFault
+        ensures { result ≡ fault_at place self }
+    {
+        match self {
+            RecordFault::Broken(rule) => RowFault::Refused(Refusal { rule, place }),
+            RecordFault::Memory => RowFault::Memory,
+        }
     }
 }
