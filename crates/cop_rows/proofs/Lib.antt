@@ -1,2 +1,4 @@
 pub mod PartLemmas
 pub mod ConsumerLemmas
+pub mod RangeLemmas
+pub mod NamedLemmas

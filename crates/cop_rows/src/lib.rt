@@ -4,6 +4,7 @@
 mod fields;
 mod names;
 mod node_table;
+mod pdo_rows;
 mod pdo_table;
 mod pdos;
 mod refusals;
@@ -11,4 +12,5 @@ mod refusals;
 pub use names::Name;
 pub use node_table::{DeviceRow, FrameKind, FrameRow, NodeTable};
 pub use pdo_table::{Consumer, Consumers, PdoRow, PdoTable};
+pub use pdos::read_pdos;
 pub use refusals::{Refusal, RowFault, Rule};
