@@ -3,7 +3,9 @@
 
 mod fields;
 mod names;
+mod node_rows;
 mod node_table;
+mod nodes;
 mod pdo_rows;
 mod pdo_table;
 mod pdos;
@@ -11,6 +13,7 @@ mod refusals;
 
 pub use names::Name;
 pub use node_table::{DeviceRow, FrameKind, FrameRow, NodeTable};
+pub use nodes::read_nodes;
 pub use pdo_table::{Consumer, Consumers, PdoRow, PdoTable};
 pub use pdos::read_pdos;
 pub use refusals::{Refusal, RowFault, Rule};
