@@ -69,37 +69,40 @@ fn pdos_at_the_ends_of_their_ranges(rt: HostRuntime) -> Result<(), Fail> {
     Ok(())
 }
 
+/// Rows of PDOs, the number of their refusal and its record.
+const BROKEN_PDOS: [(&str, u8, u64); 26] = [
+    ("5,1,10000,0,670\n", 40, 1),
+    ("5,1,10000,0,670,,\n", 40, 1),
+    ("0,1,10000,0,670,\n", 41, 1),
+    ("128,1,10000,0,670,\n", 41, 1),
+    ("5,0,10000,0,670,\n", 41, 1),
+    ("5,513,10000,0,670,\n", 41, 1),
+    ("5,1,99,0,670,\n", 41, 1),
+    ("5,1,60000001,0,670,\n", 41, 1),
+    ("5,1,10000,60000001,670,\n", 41, 1),
+    ("5,1,10000,0,,\n", 41, 1),
+    ("5,1,10000,0,0,\n", 41, 1),
+    ("5,1,10000,0,60000001,\n", 41, 1),
+    ("5,0x1,10000,0,670,\n", 41, 1),
+    ("5,00000000001,10000,0,670,\n", 41, 1),
+    ("5,1,10000,0,670,6\n", 41, 1),
+    ("5,1,10000,0,670,6.\n", 41, 1),
+    ("5,1,10000,0,670,6.1.1\n", 41, 1),
+    ("5,1,10000,0,670,6.0\n", 41, 1),
+    ("5,1,10000,0,670,6.513\n", 41, 1),
+    ("5,1,10000,0,670,128.1\n", 41, 1),
+    ("5,1,10000,0,670,6.1 \n", 41, 1),
+    ("5,1,10000,0,670,6.1  6.2\n", 41, 1),
+    ("5,1,10000,0,670,6.1\t6.2\n", 41, 1),
+    ("5,1,10000,0,670,\n5,1,10000,0,670,\n", 44, 2),
+    // Of several, the first record, and in it the least number.
+    ("5,x,10000,0\n5,1,1,0,670,\n", 40, 1),
+    ("5,1,10000,0,670,\n5,1,1,0,670,\n5\n", 41, 2),
+];
+
 #[test]
 fn pdos_that_break_a_rule(rt: HostRuntime) -> Result<(), Fail> {
-    for (rows, number, place) in [
-        ("5,1,10000,0,670\n", 40, 1),
-        ("5,1,10000,0,670,,\n", 40, 1),
-        ("0,1,10000,0,670,\n", 41, 1),
-        ("128,1,10000,0,670,\n", 41, 1),
-        ("5,0,10000,0,670,\n", 41, 1),
-        ("5,513,10000,0,670,\n", 41, 1),
-        ("5,1,99,0,670,\n", 41, 1),
-        ("5,1,60000001,0,670,\n", 41, 1),
-        ("5,1,10000,60000001,670,\n", 41, 1),
-        ("5,1,10000,0,,\n", 41, 1),
-        ("5,1,10000,0,0,\n", 41, 1),
-        ("5,1,10000,0,60000001,\n", 41, 1),
-        ("5,0x1,10000,0,670,\n", 41, 1),
-        ("5,00000000001,10000,0,670,\n", 41, 1),
-        ("5,1,10000,0,670,6\n", 41, 1),
-        ("5,1,10000,0,670,6.\n", 41, 1),
-        ("5,1,10000,0,670,6.1.1\n", 41, 1),
-        ("5,1,10000,0,670,6.0\n", 41, 1),
-        ("5,1,10000,0,670,6.513\n", 41, 1),
-        ("5,1,10000,0,670,128.1\n", 41, 1),
-        ("5,1,10000,0,670,6.1 \n", 41, 1),
-        ("5,1,10000,0,670,6.1  6.2\n", 41, 1),
-        ("5,1,10000,0,670,6.1\t6.2\n", 41, 1),
-        ("5,1,10000,0,670,\n5,1,10000,0,670,\n", 44, 2),
-        // Of several, the first record, and in it the least number.
-        ("5,x,10000,0\n5,1,1,0,670,\n", 40, 1),
-        ("5,1,10000,0,670,\n5,1,1,0,670,\n5\n", 41, 2),
-    ] {
+    for (rows, number, place) in BROKEN_PDOS {
         let text = table(rt.alloc(), PDOS, rows)?;
         assert_eq!(rt;
             refusal(read_pdos(rt.alloc(), text.as_bytes())),
@@ -220,51 +223,54 @@ fn rows_in_any_order(rt: HostRuntime) -> Result<(), Fail> {
     Ok(())
 }
 
+/// Rows of nodes, the number of their refusal and its record.
+const BROKEN_NODES: [(&str, u8, u64); 32] = [
+    ("device,5,Valve,unit.eds,0\n", 40, 1),
+    ("device,5,Valve,unit.eds,100,0\n", 41, 1),
+    ("device,5,Valve,unit.eds,0,1\n", 41, 1),
+    ("device,5,Valve,unit.eds,,0\n", 41, 1),
+    ("device,5,,unit.eds,0,0\n", 41, 1),
+    ("device,5,Valve,,0,0\n", 41, 1),
+    ("device,5,V\u{e9},unit.eds,0,0\n", 41, 1),
+    ("device,5,Valve,a/unit.eds,0,0\n", 41, 1),
+    (
+        "device,5,01234567890123456789012345678901234567890,a,0,0\n",
+        41,
+        1,
+    ),
+    ("device,0,Valve,unit.eds,0,0\n", 41, 1),
+    ("device,128,Valve,unit.eds,0,0\n", 41, 1),
+    ("Device,5,Valve,unit.eds,0,0\n", 41, 1),
+    (",5,,,0,0\n", 41, 1),
+    ("heartbeat,5,Valve,,100000,0\n", 41, 1),
+    ("heartbeat,5,,unit.eds,100000,0\n", 41, 1),
+    ("heartbeat,5,,,100500,0\n", 41, 1),
+    ("emcy,5,,,99,0\n", 41, 1),
+    ("emcy,5,,,60000001,0\n", 41, 1),
+    ("emcy,5,,,100000,60000001\n", 41, 1),
+    ("emcy,0,,,100000,0\n", 41, 1),
+    ("nmt,5,,,100000,0\n", 41, 1),
+    ("sync,1,,,100000,0\n", 41, 1),
+    ("nmt,0,,,100,0\nnmt,0,,,200,0\n", 42, 2),
+    ("device,5,A,a,0,0\nemcy,5,,,0,0\ndevice,5,B,b,0,0\n", 42, 3),
+    ("device,5,A,a,0,0\nemcy,5,,,0,0\nemcy,5,,,0,0\n", 42, 3),
+    (
+        "device,5,A,a,0,0\nnmt,0,,,0,0\nemcy,6,,,0,0\nemcy,7,,,0,0\n",
+        42,
+        3,
+    ),
+    ("", 42, 0),
+    ("nmt,0,,,0,0\nsync,0,,,0,0\n", 42, 0),
+    ("emcy,5,,,0,0\n", 42, 1),
+    // Rows that want their device are looked for after all others.
+    ("emcy,5,,,0,0\nnmt,0,,,0,0\nnmt,0,,,0,0\n", 42, 3),
+    ("emcy,5,,,0,0\nnmt,0,,,1,0\nnmt,0\n", 41, 2),
+    ("emcy,5,,,0,0\nemcy,5,,,1,0\nnmt,0\n", 41, 2),
+];
+
 #[test]
 fn nodes_that_break_a_rule(rt: HostRuntime) -> Result<(), Fail> {
-    for (rows, number, place) in [
-        ("device,5,Valve,unit.eds,0\n", 40, 1),
-        ("device,5,Valve,unit.eds,100,0\n", 41, 1),
-        ("device,5,Valve,unit.eds,0,1\n", 41, 1),
-        ("device,5,Valve,unit.eds,,0\n", 41, 1),
-        ("device,5,,unit.eds,0,0\n", 41, 1),
-        ("device,5,Valve,,0,0\n", 41, 1),
-        ("device,5,V\u{e9},unit.eds,0,0\n", 41, 1),
-        ("device,5,Valve,a/unit.eds,0,0\n", 41, 1),
-        (
-            "device,5,01234567890123456789012345678901234567890,a,0,0\n",
-            41,
-            1,
-        ),
-        ("device,0,Valve,unit.eds,0,0\n", 41, 1),
-        ("device,128,Valve,unit.eds,0,0\n", 41, 1),
-        ("Device,5,Valve,unit.eds,0,0\n", 41, 1),
-        (",5,,,0,0\n", 41, 1),
-        ("heartbeat,5,Valve,,100000,0\n", 41, 1),
-        ("heartbeat,5,,unit.eds,100000,0\n", 41, 1),
-        ("heartbeat,5,,,100500,0\n", 41, 1),
-        ("emcy,5,,,99,0\n", 41, 1),
-        ("emcy,5,,,60000001,0\n", 41, 1),
-        ("emcy,5,,,100000,60000001\n", 41, 1),
-        ("emcy,0,,,100000,0\n", 41, 1),
-        ("nmt,5,,,100000,0\n", 41, 1),
-        ("sync,1,,,100000,0\n", 41, 1),
-        ("nmt,0,,,100,0\nnmt,0,,,200,0\n", 42, 2),
-        ("device,5,A,a,0,0\nemcy,5,,,0,0\ndevice,5,B,b,0,0\n", 42, 3),
-        ("device,5,A,a,0,0\nemcy,5,,,0,0\nemcy,5,,,0,0\n", 42, 3),
-        (
-            "device,5,A,a,0,0\nnmt,0,,,0,0\nemcy,6,,,0,0\nemcy,7,,,0,0\n",
-            42,
-            3,
-        ),
-        ("", 42, 0),
-        ("nmt,0,,,0,0\nsync,0,,,0,0\n", 42, 0),
-        ("emcy,5,,,0,0\n", 42, 1),
-        // Rows that want their device are looked for after all others.
-        ("emcy,5,,,0,0\nnmt,0,,,0,0\nnmt,0,,,0,0\n", 42, 3),
-        ("emcy,5,,,0,0\nnmt,0,,,1,0\nnmt,0\n", 41, 2),
-        ("emcy,5,,,0,0\nemcy,5,,,1,0\nnmt,0\n", 41, 2),
-    ] {
+    for (rows, number, place) in BROKEN_NODES {
         let text = table(rt.alloc(), NODES, rows)?;
         assert_eq!(rt;
             refusal(read_nodes(rt.alloc(), text.as_bytes())),
