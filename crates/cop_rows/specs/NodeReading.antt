@@ -64,8 +64,8 @@ abbrev pub period_in : FrameKind → List ℕ → Result ℕ Rule
 period_in kind text = number_within 0 60000000 text >>= if_period kind
 
 -- a field that is to be empty
-abbrev pub no_text : List ℕ → Result (List ℕ) Rule
-no_text text = if length text == 0 then Ok text else Err rules.Value
+abbrev pub no_text : List ℕ → Result (Unit {0}) Rule
+no_text text = if length text == 0 then Ok tt else Err rules.Value
 
 -- the row of a frame
 unfoldable pub frame_in : ℕ → FrameKind → List (List ℕ) → Result FrameRow Rule

@@ -1,6 +1,6 @@
 //! Reading the table of nodes.
 
-ghost use Rattle.std.specs.Prelude.{◌≡◌, ◌≤◌, IfOk, MatchResult, Ok, Err, length};
+ghost use Rattle.std.specs.Prelude.{◌≡◌, ◌≤◌, IfOk, length};
 ghost use Rattle.cop_table.specs.Reading.{Gives};
 ghost use Rattle.cop_rows.specs.Refusals.{broken, refusal};
 ghost use Rattle.cop_rows.specs.NodeReading.{is_device, kind_of, node_in, period_in, is_period, no_text, frame_in, device_in, row_in, added, rows_in, node_rows_of, nodes_of};
@@ -81,11 +81,11 @@ fn period_in(kind: FrameKind, field: &[u8]) -> Result<u64, Rule>
 }
 
 /// Refuses a field that is not empty.
-fn no_text(field: &[u8]) -> Result<&[u8], Rule>
-    ensures { MatchResult result (λ text. no_text field.now ≡ Ok text.now) (λ rule. no_text field.now ≡ Err rule) }
+fn no_text(field: &[u8]) -> Result<(), Rule>
+    ensures { result ≡ no_text field.now }
 {
     if field.is_empty() {
-        Ok(field)
+        Ok(())
     } else {
         Err(Rule::Value)
     }
@@ -118,6 +118,7 @@ fn device_in(alloc: Global, place: u64, row: &Record) -> Result<DeviceRow, Recor
     ensures ranges { IfOk result IsDeviceRow }
 {
     let node = number_within(1, 127, row.field(1))?;
+    // The period and the jitter of a device are 0.
     number_within(0, 0, row.field(4))?;
     number_within(0, 0, row.field(5))?;
     let name = Name::read(alloc, row.field(2))?;
