@@ -296,3 +296,34 @@ fn bytes_that_are_no_text(rt: HostRuntime) -> Result<(), Fail> {
     assert_eq!(rt; Rule::Full.number(), 49);
     Ok(())
 }
+
+#[test]
+fn copies_are_equal(rt: HostRuntime) -> Result<(), Fail> {
+    let text = table(rt.alloc(), PDOS, "5,1,10000,0,670,6.1 7.2\n")?;
+    for row in read_pdos(rt.alloc(), text.as_bytes())?.rows() {
+        let copy = row.clone()?;
+        assert_eq!(rt; (copy.node, copy.deadline), (5, 670));
+        assert_eq!(rt; copy.consumers.as_slice(), row.consumers.as_slice());
+    }
+    let text = table(rt.alloc(), NODES, "device,5,Valve,unit.eds,0,0\n")?;
+    for row in read_nodes(rt.alloc(), text.as_bytes())?.devices() {
+        let copy = row.clone()?;
+        assert_eq!(rt; (copy.place, copy.node), (1, 5));
+        assert!(rt; copy.name == row.name && copy.eds == row.eds);
+    }
+    Ok(())
+}
+
+#[test]
+fn faults_are_printed(rt: HostRuntime) -> Result<(), Fail> {
+    match read_pdos(rt.alloc(), b"x".as_slice()) {
+        Ok(_) => assert!(rt; false),
+        Err(fault) => {
+            let text = format!(in rt.alloc(); "{fault}")?;
+            assert_eq!(rt; text.as_str(), "refused at record 0");
+        }
+    }
+    let text = format!(in rt.alloc(); "{}", RowFault::Memory)?;
+    assert_eq!(rt; text.as_str(), "out of memory");
+    Ok(())
+}
