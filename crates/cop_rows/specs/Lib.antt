@@ -1,0 +1,9 @@
+pub mod Fields
+pub mod Named
+pub mod Names
+pub mod NodeReading
+pub mod NodeRows
+pub mod Nodes
+pub mod PdoReading
+pub mod Pdos
+pub mod Refusals
