@@ -1,0 +1,9 @@
+//! From the table of nodes, the table of PDOs and the EDS files of the devices to the network: its dictionaries, its rates
+//! and the streams of its bus.
+#![tactic(auto)]
+
+mod faults;
+mod fixed;
+
+pub use cop_rows::{Consumer, Consumers, DeviceRow, FrameKind, FrameRow, Name, NodeTable, PdoRow, PdoTable};
+pub use faults::{PlanFault, Refusal, Rule, Table};
