@@ -1,13 +1,14 @@
 -- The streams of the fixed identifiers.
-use Rattle.std.proofs.Common.{◌≡◌, ◌≢◌, ◌<◌, ◌≤◌, ◌==◌, ◌-◌, ◌+◌, ℕ, suc, Bool, true, false, List, [], ◌∷◌, ◌++◌, length, take, drop, get_or, set, replicate, find, is_some, Option, Some, None, arith, refl, sym, ap, ◌∙◌, ⊎_elim, add-one, map, append_assoc}
+use Rattle.std.proofs.Common.{◌≡◌, ◌≢◌, ◌<◌, ◌≤◌, ◌==◌, ◌-◌, ◌+◌, ℕ, suc, Bool, true, false, List, [], ◌∷◌, ◌++◌, length, take, drop, get_or, set, replicate, find, is_some, Option, Some, None, arith, refl, sym, ap, ◌∙◌, ⊎_elim, add-one, map, append_assoc, All, IfSome, cond, Result, Ok}
 use Rattle.std.specs.Option.{option_or}
 use Rattle.std.proofs.lemmas.Bool.{cases_eq, eq-eqb, ne_eqb}
 use Rattle.std.proofs.lemmas.List.{length-set, get_or-set_same, get_or-set_other, get_or-replicate, append-nil}
 use Rattle.std.proofs.lemmas.List.Folds.{find-append}
-use Rattle.std.proofs.Math.Seq.{take-suc}
 use Rattle.cop_rows.specs.declared.node_table.FrameRow.{FrameRow}
 use Rattle.cop_rta.specs.Entries.{Entry}
-use Rattle.cop_net.specs.Fixed.{key_of, sent, streams_from, fixed_streams, KnowsFrames}
+use Rattle.std.proofs.lemmas.List.{take_more}
+use Rattle.std.proofs.lemmas.List.Elements.{All-head, All-tail}
+use Rattle.cop_net.specs.Fixed.{IsTimed, key_of, sent, streams_from, fixed_streams, KnowsFrames}
 
 -- no row is known at first
 pub knows_none : (places : List (Option FrameRow)) → places ≡ replicate 768 None → KnowsFrames places []
@@ -72,11 +73,12 @@ knows_old places frames row knows inside taken = record {
 }
 
 -- the streams from a place on are that place's and those from the next on
-pub one_more : (frames : List FrameRow) (before after : List Entry) (i : ℕ) (row : Option FrameRow) (total : List Entry) → i < 768
-    → row ≡ find (λ r. key_of r == i) frames → after ≡ before ++ sent row
+pub one_more : {F : Type 0} (frames : List FrameRow) (before after : List Entry) (i : ℕ) (row : Option FrameRow) (total : List Entry) → i < 768
+    → row ≡ find (λ r. key_of r == i) frames → ◌≡◌ {A = Result (List Entry) F} (Ok (before ++ sent row)) (Ok after)
     → before ++ streams_from frames i (768 - i) ≡ total → after ++ streams_from frames (i + 1) (768 - (i + 1)) ≡ total
 unfolding streams_from
-one_more frames before after i row total lt here more so_far =
+one_more frames before after i row total lt here told so_far =
+    let more : after ≡ before ++ sent row = cc in
     let k : 768 - i ≡ suc (768 - (i + 1)) = omega arith in
     let one : streams_from frames i (768 - i) ≡ sent row ++ streams_from frames (i + 1) (768 - (i + 1)) = rw (k, here) refl in
     rw (more, append_assoc) (ap (λ r. before ++ r) (sym one) ∙ so_far)
@@ -88,3 +90,26 @@ no_more frames before i total le so_far =
     let k : 768 - i ≡ 0 = omega arith in
     let none : before ++ streams_from frames i (768 - i) ≡ before = rw k (append-nil before) in
     sym none ∙ so_far
+
+-- the rows up to one more of them
+pub step_new : (places new : List (Option FrameRow)) (frames : List FrameRow) (i key : ℕ) (d : FrameRow) → i < length frames → key ≡ key_of (get_or frames i d) → key < 768
+    → is_some (get_or places key None) ≡ false → new ≡ set places key (Some (get_or frames i d)) → KnowsFrames places (take i frames) → KnowsFrames new (take (i + 1) frames)
+step_new places new frames i key d lt here inside free written knows =
+    rw (take_more frames i d lt, written, here) (knows_new places (take i frames) (get_or frames i d) knows (rw here at inside) (rw here at free))
+
+pub step_old : (places new : List (Option FrameRow)) (frames : List FrameRow) (i key : ℕ) (d : FrameRow) → i < length frames → key ≡ key_of (get_or frames i d) → key < 768
+    → is_some (get_or places key None) ≡ true → new ≡ places → KnowsFrames places (take i frames) → KnowsFrames new (take (i + 1) frames)
+step_old places new frames i key d lt here inside taken written knows =
+    rw (take_more frames i d lt, written) (knows_old places (take i frames) (get_or frames i d) knows (rw here at inside) (rw here at taken))
+
+-- what is found is one of them
+pub found_all : {A : Type 0} (P : A → Type 0) (test : A → Bool) (xs : List A) → All P xs → IfSome (find test xs) P
+found_all P test [] h = tt
+found_all P test (x ∷ xs) h = by_test (test x) (All-head P x xs h) (found_all P test xs (All-tail P x xs h))
+  where
+    by_test : (b : Bool) → P x → IfSome (find test xs) P → IfSome (cond b (Some x) (find test xs)) P
+    by_test true here rest = here
+    by_test false here rest = rest
+
+pub row_timed : (places : List (Option FrameRow)) (frames : List FrameRow) (i : ℕ) → i < 768 → KnowsFrames places frames → All IsTimed frames → IfSome (get_or places i None) IsTimed
+row_timed places frames i lt knows timed = rw (knows.each i lt) (found_all IsTimed (λ row. key_of row == i) frames timed)

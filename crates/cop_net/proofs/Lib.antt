@@ -1,1 +1,2 @@
 pub mod FixedLemmas
+pub mod RateLemmas

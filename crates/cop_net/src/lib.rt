@@ -2,8 +2,12 @@
 //! and the streams of its bus.
 #![tactic(auto)]
 
+mod devices;
+mod eds_files;
 mod faults;
 mod fixed;
+mod rates;
+mod texts;
 
 pub use cop_rows::{Consumer, Consumers, DeviceRow, FrameKind, FrameRow, Name, NodeTable, PdoRow, PdoTable};
 pub use faults::{PlanFault, Refusal, Rule, Table};
