@@ -24,7 +24,7 @@ pub record File : Type 0 where
 
 -- the text of a name: of two files with one name the first counts
 abbrev pub text_of : List File → List ℕ → Option (List ℕ)
-text_of files name = option_map (λ f. f.text) (find (λ f. bytes_eq name f.name) files)
+text_of files name = option_map (λ f. f.text) (find (λ f. bytes_eq f.name name) files)
 
 -- a file that is not handed in, or whose text is refused, is refused at its device's record
 abbrev pub text_at : ℕ → Option (List ℕ) → Result (List ℕ) Refusal

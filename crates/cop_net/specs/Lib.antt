@@ -4,3 +4,7 @@ pub mod Fixed
 pub mod Rates
 pub mod Devices
 pub mod Texts
+pub mod Uses
+pub mod Settings
+pub mod Pdos
+pub mod Network

@@ -7,7 +7,9 @@ mod eds_files;
 mod faults;
 mod fixed;
 mod rates;
+mod settings;
 mod texts;
+mod uses;
 
 pub use cop_rows::{Consumer, Consumers, DeviceRow, FrameKind, FrameRow, Name, NodeTable, PdoRow, PdoTable};
 pub use faults::{PlanFault, Refusal, Rule, Table};
