@@ -4,3 +4,4 @@ pub mod TextLemmas
 pub mod FoldLemmas
 pub mod SettingLemmas
 pub mod UseLemmas
+pub mod PdoLemmas

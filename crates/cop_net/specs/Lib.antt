@@ -7,4 +7,5 @@ pub mod Texts
 pub mod Uses
 pub mod Settings
 pub mod Pdos
+pub mod Heartbeats
 pub mod Network

@@ -1,10 +1,9 @@
 -- The network of the tables and the EDS files.
-use Rattle.std.specs.Prelude.{ℕ, ◌+◌, ◌*◌, ◌/◌, Bool, true, false, not, ◌&&◌, List, [], ◌∷◌, ◌++◌, ◌==◌, find, Option, Some, None, if◌then◌else◌, Result, Ok}
+use Rattle.std.specs.Prelude.{ℕ, ◌+◌, Bool, not, ◌&&◌, List, [], ◌∷◌, ◌++◌, Option, Some, None, if◌then◌else◌, Result, Ok}
 use Rattle.std.specs.List.{list_any}
 use Rattle.cop_frame.specs.declared.rates.Rate.{Rate}
 use Rattle.cop_dict.specs.Find as dictionary
 use Rattle.cop_rows.specs.declared.node_table.FrameRow.{FrameRow}
-use Rattle.cop_rows.specs.declared.node_table.FrameKind.TheVariants.{Heartbeat}
 use Rattle.cop_rows.specs.declared.pdo_table.PdoRow.{PdoRow}
 use Rattle.cop_rows.specs.Nodes.{NodeLists}
 use Rattle.cop_rta.specs.Entries.{Entry}
@@ -14,20 +13,12 @@ use Rattle.cop_net.specs.declared.faults.Rule.TheVariants as rules
 use Rattle.cop_net.specs.declared.devices.Device.{Device}
 use Rattle.cop_net.specs.declared.uses.Used.{Used}
 use Rattle.cop_net.specs.Faults.{at_node}
-use Rattle.cop_net.specs.Fixed.{key_of, rank_of, fixed_streams}
+use Rattle.cop_net.specs.Fixed.{fixed_streams}
+use Rattle.cop_net.specs.Heartbeats.{heartbeat_of}
 use Rattle.cop_net.specs.Settings.{beats, stays_on}
 use Rattle.cop_net.specs.Devices.{File, Equipment, devices_of}
 use Rattle.cop_net.specs.Pdos.{Traffic, pdos_of}
 use Rattle.cop_net.specs.Uses.{is_used}
-
--- the time of a row in milliseconds, 0 where it is not there
-abbrev pub time_in : Option FrameRow → ℕ
-time_in None = 0
-time_in (Some row) = row.period / 1000
-
--- the time of a node's heartbeat, in ms
-abbrev pub heartbeat_of : List FrameRow → ℕ → ℕ
-heartbeat_of frames node = time_in (find (λ row. key_of row == 6 * node + rank_of Heartbeat) frames)
 
 -- some PDO that nobody uses stays on
 abbrev pub has_stray : List Used → ℕ → List dictionary.Entry → Bool

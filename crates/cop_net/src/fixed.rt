@@ -66,7 +66,7 @@ fn key(row: FrameRow) -> usize
 }
 
 /// The rows by their places in the order of the frames.
-fn by_place(frames: &[FrameRow]) -> [Option<FrameRow>; PLACES]
+pub fn by_place(frames: &[FrameRow]) -> [Option<FrameRow>; PLACES]
     requires { All IsTimed frames.now }
     ensures { KnowsFrames result frames.now }
 {

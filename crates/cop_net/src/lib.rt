@@ -6,6 +6,7 @@ mod devices;
 mod eds_files;
 mod faults;
 mod fixed;
+mod heartbeats;
 mod pdos;
 mod rates;
 mod settings;

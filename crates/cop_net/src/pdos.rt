@@ -194,3 +194,38 @@ impl Model for Found {
 
     ghost view = { λ p. record { streams = map entry_of p.set; used = p.used } };
 }
+
+impl Found {
+    /// Adds a PDO and its consumers.
+    fn add(&mut self, devices: &Devices, row: &PdoRow) -> Result<(), PlanFault>
+        requires row { IsPdoRow row.now }
+        requires before { length self.old.streams < 512 }
+        ensures exact { Gives (λ _. self.new) refusal result (pdo_added devices.now.devices self.old row.now) }
+    {
+        let before = self.set.len();
+        let place = before as u64 + 1;
+        let sent = transmitted_by(place, row.tpdo, devices.device(row.node))?;
+        self.used.push(Used {
+            node: row.node,
+            index: 0x17FF + row.tpdo,
+        })?;
+        add_consumers(devices, place, &sent, &mut self.used, row.consumers.as_slice())?;
+        put(&mut self.set, stream(before, sent.bytes(), row))
+    }
+}
+
+/// The streams of the PDOs of the rows, and the records that they use, or the first refusal by record.
+pub fn find_pdos(alloc: Global, devices: &Devices, rows: &[PdoRow]) -> Result<Found, PlanFault>
+    requires rows { All IsPdoRow rows.now }
+    requires count { length rows.now ≤ 512 }
+    ensures { Gives (λ p. p) refusal result (pdos_of devices.now.devices rows.now) }
+{
+    let mut found = Found {
+        set: StreamSet::new(alloc),
+        used: Uses::new(alloc)?,
+    };
+    for row in rows {
+        found.add(devices, row)?;
+    }
+    Ok(found)
+}
