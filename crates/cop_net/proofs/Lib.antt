@@ -5,3 +5,5 @@ pub mod FoldLemmas
 pub mod SettingLemmas
 pub mod UseLemmas
 pub mod PdoLemmas
+pub mod HeartbeatLemmas
+pub mod StrayLemmas

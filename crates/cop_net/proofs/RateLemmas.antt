@@ -1,16 +1,16 @@
 -- Sets of rates as lists, the slowest first.
-use Rattle.std.proofs.Common.{◌≡◌, ◌↔◌, ◌⊎◌, ◌≤◌, ◌<◌, ℕ, ◌+◌, zero, suc, Bool, true, false, cond, ◌&&◌, ◌==◌, List, [], ◌∷◌, take, length, Contains, Result, Ok, Err, refl, sym, ap, subst, ◌∙◌, arith, eq-eqb, eqb-true, ⊎_elim, filter, if◌then◌else◌, ◌||◌}
+use Rattle.std.proofs.Common.{◌≡◌, ◌↔◌, ◌⊎◌, ◌≤◌, ◌<◌, ℕ, ◌+◌, zero, suc, Bool, true, false, cond, ◌&&◌, ◌==◌, List, [], ◌∷◌, take, length, Contains, Result, Ok, Err, refl, sym, ap, subst, ◌∙◌, arith, eq-eqb, eqb-true, ⊎_elim, filter, if◌then◌else◌, ◌||◌, inl, inr, zero-lt-suc, Option, Some, None, IfSome, IfNone, is_some}
 use Rattle.std.specs.List.{list_any}
 use Rattle.std.proofs.lemmas.Map.Views.{Contains-from_any}
-use Rattle.std.proofs.lemmas.List.Elements.{Contains-append_cases}
+use Rattle.std.proofs.lemmas.List.Elements.{Contains-append_cases, Contains-append_right}
 use Rattle.cop_frame.specs.declared.rates.Rate.{Rate}
 use Rattle.cop_frame.specs.declared.rates.Rate.TheVariants.{Kbit10, Kbit20, Kbit50, Kbit125, Kbit250, Kbit500, Kbit800, Kbit1000}
 use Rattle.cop_frame.specs.Rate.{place_of}
 use Rattle.cop_frame.specs.RateSet.{all_rates}
-use Rattle.cop_eds.proofs.RateLemmas.{found_more, all_found}
+use Rattle.cop_eds.proofs.RateLemmas.{found_more, all_found, all_contain}
 use Rattle.cop_eds.specs.Rates.{support_of}
 use Rattle.cop_eds.specs.declared.fault.Refusal as eds
-use Rattle.cop_net.specs.Rates.{has_rate, in_order}
+use Rattle.cop_net.specs.Rates.{has_rate, in_order, is_some_rate}
 use Rattle.cop_net.specs.Devices.{supports, is_supported}
 
 rate_at : ℕ → Rate
@@ -103,3 +103,40 @@ all_in_order rates h =
 -- the rates inserted so far
 abbrev pub each_rate : Rate → Result Bool ℕ
 each_rate rate = Ok true
+
+-- the rates in order are the same
+pub same_members : (rates : List Rate) (r : Rate) → Contains (in_order rates) r ↔ Contains rates r
+unfolding in_order
+same_members rates r = (λ h. in_it rates r (passes (has_rate rates) all_rates r h), λ h. kept (has_rate rates) all_rates r (all_contain r) (of_it rates r h))
+  where
+    passes_if : (b : Bool) (p : Rate → Bool) (x : Rate) (xs : List Rate) (y : Rate) → p x ≡ b → (Contains xs y → p y ≡ true) → Contains (cond b (x ∷ xs) xs) y → p y ≡ true
+    passes_if false p x xs y e rest c = rest c
+    passes_if true p x xs y e rest c = ⊎_elim (λ one. ap p (only x y one) ∙ e) rest (Contains-append_cases (x ∷ []) xs y c)
+
+    passes : (p : Rate → Bool) (xs : List Rate) (y : Rate) → Contains (filter p xs) y → p y ≡ true
+    passes p [] y c = absurd (omega (arith, c.1))
+    passes p (x ∷ xs) y c = passes_if (p x) p x (filter p xs) y refl (passes p xs y) c
+
+    kept_if : (b : Bool) (x y : Rate) (ys : List Rate) → (x ≡ y → b ≡ true) → (y ≡ x) ⊎ Contains ys y → Contains (cond b (x ∷ ys) ys) y
+    kept_if true x y ys h (inl e) = (0, zero-lt-suc _, sym e)
+    kept_if true x y ys h (inr c) = Contains-append_right (x ∷ []) ys y c
+    kept_if false x y ys h (inl e) = absurd (let g = h (sym e) in cc)
+    kept_if false x y ys h (inr c) = c
+
+    kept : (p : Rate → Bool) (xs : List Rate) (y : Rate) → Contains xs y → p y ≡ true → Contains (filter p xs) y
+    kept p [] y c h = absurd (omega (arith, c.1))
+    kept p (x ∷ xs) y c h =
+        kept_if (p x) x y (filter p xs) (λ e. ap p e ∙ h) (⊎_elim (λ one. inl (only x y one)) (λ rest. inr (kept p xs y rest h)) (Contains-append_cases (x ∷ []) xs y c))
+
+-- a set with a slowest rate has one in order, and none otherwise
+pub some_member : (rates : List Rate) (r : Rate) → Contains rates r → is_some_rate rates ≡ true
+some_member [] r h = absurd (omega (arith, h.1))
+some_member (x ∷ rates) r h = refl
+
+pub no_member : (rates : List Rate) → ((r : Rate) → Contains rates r → ⊥) → is_some_rate rates ≡ false
+no_member [] h = refl
+no_member (x ∷ rates) h = absurd (h x (0, zero-lt-suc _, refl))
+
+pub has_one : (rates : List Rate) (o : Option Rate) → IfSome o (Contains rates) → IfNone o ((r : Rate) → Contains rates r → ⊥) → is_some o ≡ is_some_rate (in_order rates)
+has_one rates (Some r) member absent = sym (some_member (in_order rates) r ((same_members rates r).1 member))
+has_one rates None member absent = sym (no_member (in_order rates) (λ r h. absent r ((same_members rates r).0 h)))

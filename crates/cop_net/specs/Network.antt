@@ -1,5 +1,5 @@
 -- The network of the tables and the EDS files.
-use Rattle.std.specs.Prelude.{ℕ, ◌+◌, Bool, not, ◌&&◌, List, [], ◌∷◌, ◌++◌, Option, Some, None, if◌then◌else◌, Result, Ok}
+use Rattle.std.specs.Prelude.{ℕ, ◌+◌, Bool, true, false, not, ◌&&◌, List, [], ◌∷◌, ◌++◌, Option, Some, None, if◌then◌else◌, Result, Ok}
 use Rattle.std.specs.List.{list_any}
 use Rattle.cop_frame.specs.declared.rates.Rate.{Rate}
 use Rattle.cop_dict.specs.Find as dictionary
@@ -13,6 +13,7 @@ use Rattle.cop_net.specs.declared.faults.Rule.TheVariants as rules
 use Rattle.cop_net.specs.declared.devices.Device.{Device}
 use Rattle.cop_net.specs.declared.uses.Used.{Used}
 use Rattle.cop_net.specs.Faults.{at_node}
+use Rattle.cop_net.specs.Rates.{is_some_rate}
 use Rattle.cop_net.specs.Fixed.{fixed_streams}
 use Rattle.cop_net.specs.Heartbeats.{heartbeat_of}
 use Rattle.cop_net.specs.Settings.{beats, stays_on}
@@ -37,9 +38,10 @@ unfoldable pub all_settable : List FrameRow → List Used → ℕ → List (Opti
 all_settable frames used node [] = Ok tt
 all_settable frames used node (device ∷ devices) = settable frames used node device >>= λ _. all_settable frames used (node + 1) devices
 
-abbrev pub with_rate : List Rate → Result (Unit {0}) Refusal
-with_rate [] = at_node rules.NoRate 0
-with_rate (rate ∷ rates) = Ok tt
+-- some rate is supported by all devices
+abbrev pub with_rate : Bool → Result (Unit {0}) Refusal
+with_rate false = at_node rules.NoRate 0
+with_rate true = Ok tt
 
 -- what is accepted: the devices by their nodes, the rates that all of them support, and the streams
 pub record Accepted : Type 0 where
@@ -53,5 +55,5 @@ network_of nodes rows files = do
   equipment ← devices_of files nodes.devices
   traffic ← pdos_of equipment.devices rows
   _ ← all_settable nodes.frames traffic.used 0 equipment.devices
-  _ ← with_rate equipment.rates
+  _ ← with_rate (is_some_rate equipment.rates)
   Ok (record { devices = equipment.devices; rates = equipment.rates; streams = traffic.streams ++ fixed_streams nodes.frames })

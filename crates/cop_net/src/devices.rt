@@ -1,6 +1,9 @@
 //! The devices of a network.
 
-ghost use Rattle.std.specs.Prelude.{◌≡◌, ◌≤◌, None, Ok, get_or};
+ghost use Rattle.std.specs.Prelude.{◌≡◌, ◌≤◌, ◌↔◌, None, Ok, get_or, length};
+ghost use Rattle.std.specs.List.{Contains};
+ghost use Rattle.cop_frame.specs.declared.rates.Rate.{Rate};
+ghost use Rattle.cop_net.specs.Rates.{is_some_rate};
 ghost use Rattle.std.specs.Option.{option_copied};
 ghost use Rattle.cop_table.specs.Reading.{Gives};
 ghost use Rattle.cop_net.specs.Faults.{refusal};
@@ -70,6 +73,29 @@ impl Devices {
         });
         self.rates = supported(&self.rates, eds);
         Ok(())
+    }
+
+    /// How many nodes have a place: all from 0 to 127.
+    pub fn nodes(&self) -> u8
+        ensures nodes { result ≡ 128 }
+        ensures places { length self.now.devices ≡ 128 }
+    {
+        self.devices.len() as u8
+    }
+
+    /// The rates that all devices support.
+    pub fn rates(&self) -> RateSet
+        ensures { (rate : Rate) → Contains result rate ↔ Contains self.now.rates rate }
+    {
+        // A set has no copy: what is in it and in itself is that set.
+        self.rates.both(&self.rates)
+    }
+
+    /// Whether some rate is supported by all devices.
+    pub fn has_rate(&self) -> bool
+        ensures { result ≡ is_some_rate self.now.rates }
+    {
+        self.rates.slowest().is_some()
     }
 
     /// The device of a node.

@@ -10,6 +10,7 @@ mod heartbeats;
 mod pdos;
 mod rates;
 mod settings;
+mod strays;
 mod texts;
 mod uses;
 
