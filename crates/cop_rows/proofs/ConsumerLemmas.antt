@@ -1,5 +1,5 @@
 -- The consumers that a text names.
-use Rattle.std.proofs.Common.{◌≡◌, ℕ, ◌+◌, ◌<◌, Bool, true, false, List, [], ◌∷◌, ◌++◌, length, refl, sym, ◌∙◌, arith, Option, Some, None, Result, Ok, Err, MatchOption, Bor, IfSome, is_some, ap, append_assoc, ◌==◌}
+use Rattle.std.proofs.Common.{◌≡◌, ℕ, ◌+◌, ◌<◌, true, false, List, [], ◌∷◌, ◌++◌, length, refl, sym, ◌∙◌, Option, Some, None, Result, Ok, Err, MatchOption, Bor, IfSome, is_some, ap, append_assoc, ◌==◌}
 use Rattle.cop_rows.specs.declared.pdo_table.Consumer.{Consumer}
 use Rattle.cop_rows.specs.declared.refusals.Rule.TheVariants as rules
 use Rattle.cop_rows.specs.Fields.{parts, each}

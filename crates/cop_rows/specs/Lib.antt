@@ -1,7 +1,9 @@
+pub mod Fields
+pub mod Named
 pub mod Names
+pub mod NodeReading
+pub mod NodeRows
 pub mod Nodes
+pub mod PdoReading
 pub mod Pdos
 pub mod Refusals
-pub mod Fields
-pub mod PdoReading
-pub mod Named

@@ -1,5 +1,5 @@
 -- Reading the table of PDOs.
-use Rattle.std.specs.Prelude.{ℕ, Bool, ◌&&◌, not, List, [], ◌∷◌, ◌++◌, length, codes, ◌==◌, if◌then◌else◌, Result, Ok, Err}
+use Rattle.std.specs.Prelude.{ℕ, ◌≤◌, Bool, ◌&&◌, not, List, [], ◌∷◌, ◌++◌, length, codes, ◌==◌, if◌then◌else◌, Result, Ok, Err}
 use Rattle.std.specs.List.{list_any}
 use Rattle.cop_table.specs.Reading.{◌>>=◌}
 use Rattle.cop_table.specs.Records.{field}
@@ -31,6 +31,18 @@ one_more xs r = r >>= λ x. Ok (xs ++ x ∷ [])
 -- no bytes, for none, or consumers with one blank between them
 abbrev pub consumers_of : List ℕ → Result (List Consumer) Rule
 consumers_of text = if length text == 0 then Ok [] else each consumer_of (parts 32 text)
+
+-- the ranges of the numbers: times are in microseconds
+pub record IsNumbers (n : Numbers) : Type 0 where
+  pub node_least : 1 ≤ n.node
+  pub node_most : n.node ≤ 127
+  pub tpdo_least : 1 ≤ n.tpdo
+  pub tpdo_most : n.tpdo ≤ 512
+  pub period_least : 100 ≤ n.period
+  pub period_most : n.period ≤ 60000000
+  pub jitter_most : n.jitter ≤ 60000000
+  pub deadline_least : 1 ≤ n.deadline
+  pub deadline_most : n.deadline ≤ 60000000
 
 -- the numbers of a record, or the least rule that it breaks
 unfoldable pub numbers_in : List (List ℕ) → Result Numbers Rule
@@ -68,8 +80,12 @@ added place rows row = placed place (pdo_in row >>= pushed rows)
 abbrev pub header : List (List ℕ)
 header = codes "node" ∷ codes "tpdo" ∷ codes "period" ∷ codes "jitter" ∷ codes "deadline" ∷ codes "consumers" ∷ []
 
+-- the records under the header
+abbrev pub rows_in : List ℕ → Result (List (List (List ℕ))) Refusal
+rows_in text = rows_under header text
+
 -- the PDOs of a table
 unfoldable pub pdos_of : List ℕ → Result (List PdoRow) Refusal
 pdos_of text = do
-  rows ← rows_under header text
+  rows ← rows_in text
   rows_from added 1 [] rows

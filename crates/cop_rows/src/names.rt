@@ -1,12 +1,17 @@
 //! Names of devices and of files.
 
 ghost use Rattle.std.specs.Prelude.{◌≡◌, Some, nat_eq, refl, IsTrue};
+ghost use Rattle.std.specs.List.{list_all};
 ghost use Rattle.std.specs.Ordering.{nat_cmp};
 ghost use Rattle.std.specs.Cmp.{partial_equiv_from_equiv};
 ghost use Rattle.std.specs.Cmp.Lexicographic.{pointwise, slice_cmp, nat_list_eq_equiv, nat_list_cmp_total, texts_ties, texts_po};
-ghost use Rattle.cop_rows.specs.Names.{is_name};
+ghost use Rattle.cop_table.specs.Reading.{Gives};
+ghost use Rattle.cop_rows.specs.Names.{is_name, is_name_code};
+ghost use Rattle.cop_rows.specs.Fields.{name_of};
+ghost use Rattle.cop_rows.specs.Refusals.{broken};
 
-use std::alloc::AllocError;
+use crate::refusals::{RecordFault, Rule};
+use std::alloc::{AllocError, Global};
 use std::cmp::Ordering;
 use std::marker::Model;
 
@@ -27,7 +32,39 @@ impl Model for Name {
     ghost invariant = { λ n. IsTrue (is_name n.bytes.items) };
 }
 
+/// Whether a byte may stand in a name.
+fn is_name_code(byte: u8) -> bool
+    ensures { result ≡ is_name_code byte }
+{
+    byte.is_ascii_alphanumeric() || byte == b' ' || byte == b'_' || byte == b'-' || byte == b'.'
+}
+
+fn has_name_codes(text: &[u8]) -> bool
+    ensures { result ≡ list_all is_name_code text.now }
+{
+    text.iter().all(|byte| is_name_code(*byte))
+}
+
+/// Whether a text is a name.
+fn is_name(text: &[u8]) -> bool
+    ensures { result ≡ is_name text.now }
+{
+    !text.is_empty() && text.len() <= 40 && has_name_codes(text)
+}
+
 impl Name {
+    /// The name that a text is.
+    pub(crate) fn read(alloc: Global, text: &[u8]) -> Result<Name, RecordFault>
+        ensures { Gives (λ name. name) broken result (name_of text.now) }
+    {
+        if !is_name(text) {
+            return Err(RecordFault::Broken(Rule::Value));
+        }
+        Ok(Name {
+            bytes: Vec::from_slice(alloc, text)?,
+        })
+    }
+
     /// The bytes of the name.
     pub fn as_bytes(&self) -> &[u8]
         ensures value { result.now ≡ self.now }

@@ -3,13 +3,25 @@
 ghost use Rattle.std.specs.Prelude.{◌≡◌, ◌≤◌, IfOk, length};
 ghost use Rattle.cop_table.specs.Reading.{Gives};
 ghost use Rattle.cop_rows.specs.Refusals.{broken, refusal};
-ghost use Rattle.cop_rows.specs.PdoReading.{consumer_of, consumers_of, numbers_in, one_more, pdo_in};
+ghost use Rattle.cop_rows.specs.PdoReading.{consumer_of, consumers_of, numbers_in, one_more, pdo_in, added, pdos_of, rows_in, IsNumbers};
+ghost use Rattle.cop_rows.specs.Pdos.{IsPdoRow};
 
 use crate::fields::{cut, number_within};
-use crate::pdo_table::{Consumer, Consumers, PdoRow};
-use crate::refusals::{RecordFault, Rule};
-use cop_table::Record;
+use crate::pdo_rows::PdoRows;
+use crate::pdo_table::{Consumer, Consumers, PdoRow, PdoTable};
+use crate::refusals::{RecordFault, Refusal, RowFault, Rule};
+use cop_table::{Record, Records, TableError, under_header};
 use std::alloc::Global;
+
+/// The fields of the header.
+const HEADER: [&[u8]; 6] = [
+    b"node",
+    b"tpdo",
+    b"period",
+    b"jitter",
+    b"deadline",
+    b"consumers",
+];
 
 /// The numbers of a record.
 #[derive(Clone, Copy)]
@@ -24,7 +36,8 @@ struct Numbers {
 #[tactic(auto, unfolding(crate::specs::PdoReading::numbers_in))]
 /// The numbers of a record, or the least rule that it breaks.
 fn numbers_in(row: &Record) -> Result<Numbers, Rule>
-    ensures { result ≡ numbers_in row.now }
+    ensures value { result ≡ numbers_in row.now }
+    ensures ranges { IfOk result IsNumbers }
 {
     if row.len() != 6 {
         return Err(Rule::Fields);
@@ -92,7 +105,8 @@ fn consumers_in(alloc: Global, text: &[u8]) -> Result<Consumers, RecordFault>
 
 /// The PDO of a record, or the least rule that it breaks.
 fn pdo_in(alloc: Global, row: &Record) -> Result<PdoRow, RecordFault>
-    ensures { Gives (λ pdo. pdo) broken result (pdo_in row.now) }
+    ensures value { Gives (λ pdo. pdo) broken result (pdo_in row.now) }
+    ensures ranges { IfOk result IsPdoRow }
 {
     let numbers = numbers_in(row)?;
     let consumers = consumers_in(alloc, row.field(5))?;
@@ -104,4 +118,49 @@ fn pdo_in(alloc: Global, row: &Record) -> Result<PdoRow, RecordFault>
         deadline: numbers.deadline,
         consumers,
     })
+}
+
+/// Adds the PDO of a record to those of the records before it.
+fn add(alloc: Global, rows: &mut PdoRows, place: u64, row: &Record) -> Result<(), RowFault>
+    ensures { Gives (λ _. rows.new) refusal result (added place rows.old row.now) }
+{
+    let pdo = match pdo_in(alloc, row) {
+        Ok(pdo) => pdo,
+        Err(fault) => return Err(fault.at(place)),
+    };
+    match rows.push(pdo) {
+        Ok(()) => Ok(()),
+        Err(fault) => Err(fault.at(place)),
+    }
+}
+
+/// The records under the header.
+fn rows_in<'a>(alloc: Global, bytes: &'a [u8], row: &mut Record) -> Result<Records<'a>, RowFault>
+    ensures rows { Gives (λ r. r) refusal result (rows_in bytes.now) }
+    ensures count { IfOk result (λ r. length r ≤ length bytes.now) }
+{
+    match under_header(alloc, bytes, &HEADER, row) {
+        Ok(rows) => Ok(rows),
+        Err(TableError::Header) => Err(RowFault::Refused(Refusal {
+            rule: Rule::Header,
+            place: 0,
+        })),
+        Err(TableError::Memory) => Err(RowFault::Memory),
+    }
+}
+
+#[tactic(auto, unfolding(crate::specs::PdoReading::pdos_of), using(cop_table::proofs::RowsLemmas::goes_on, cop_table::proofs::RowsLemmas::stops, cop_table::proofs::RowsLemmas::ends))]
+/// The table of PDOs. Of its records the first that breaks a rule counts, and of its rules the one of least number.
+pub fn read_pdos(alloc: Global, bytes: &[u8]) -> Result<PdoTable, RowFault>
+    ensures { Gives (λ table. table) refusal result (pdos_of bytes.now) }
+{
+    let mut row = Record::new(alloc);
+    let mut rows = rows_in(alloc, bytes, &mut row)?;
+    let mut pdos = PdoRows::new(alloc)?;
+    let mut place = 0;
+    'rows: while rows.read(&mut row)? {
+        place += 1;
+        add(alloc, &mut pdos, place, &row)?;
+    }
+    Ok(pdos.into_table())
 }

@@ -1,4 +1,4 @@
-use Rattle.std.proofs.Common.{◌≡◌, ◌+◌, ◌-◌, ◌<◌, sym, take, drop, length, arith, length-take, length-drop}
+use Rattle.std.proofs.Common.{◌+◌, sym, arith, length-drop}
 use Rattle.std.proofs.lemmas.List.{take_rest}
 use Rattle.cop_rows.proofs.PartLemmas.{parts_cut}
 use Rattle.cop_rows.proofs.fields.cut.Goals as goal

@@ -1,6 +1,5 @@
-use Rattle.std.proofs.Common.{◌≡◌, sym, ◌∙◌}
+use Rattle.std.proofs.Common.{sym, ◌∙◌}
 use Rattle.std.proofs.lemmas.Result.{err_from_is_err_and}
-use Rattle.cop_rows.specs.Fields.{each}
 use Rattle.cop_rows.specs.PdoReading.{consumer_of}
 use Rattle.cop_rows.specs.Refusals.{broken}
 use Rattle.cop_rows.proofs.ConsumerLemmas.{each_more, each_fails, each_ends, left_cut, left_parts, begins}

@@ -1,0 +1,172 @@
+-- Reading the table of nodes.
+use Rattle.std.specs.Prelude.{ℕ, ◌%◌, Bool, true, false, not, ◌&&◌, ◌||◌, List, [], ◌∷◌, ◌++◌, length, codes, ◌==◌, if◌then◌else◌, Option, Some, None, Result, Ok, Err}
+use Rattle.std.specs.List.{list_any}
+use Rattle.std.specs.Str.{bytes_eq}
+use Rattle.cop_table.specs.Reading.{◌>>=◌}
+use Rattle.cop_table.specs.Records.{field}
+use Rattle.cop_table.specs.Rows.{rows_from}
+use Rattle.cop_rows.specs.declared.refusals.Rule.{Rule}
+use Rattle.cop_rows.specs.declared.refusals.Rule.TheVariants as rules
+use Rattle.cop_rows.specs.declared.refusals.Refusal.{Refusal}
+use Rattle.cop_rows.specs.declared.node_table.DeviceRow.{DeviceRow}
+use Rattle.cop_rows.specs.declared.node_table.FrameRow.{FrameRow}
+use Rattle.cop_rows.specs.declared.node_table.FrameKind.{FrameKind}
+use Rattle.cop_rows.specs.declared.node_table.FrameKind.TheVariants.{Nmt, Sync, Emcy, SdoResponse, SdoRequest, Heartbeat}
+use Rattle.cop_rows.specs.declared.node_rows.Row.{Row}
+use Rattle.cop_rows.specs.declared.node_rows.Row.TheVariants as variants
+use Rattle.cop_rows.specs.Fields.{number_within, is_within, name_of, rows_under}
+use Rattle.cop_rows.specs.Nodes.{NodeLists}
+use Rattle.cop_rows.specs.Refusals.{placed, refuse}
+
+-- the word of a row that is no device's
+abbrev pub kind_of : List ℕ → Option FrameKind
+kind_of word =
+    if bytes_eq word (codes "nmt") then Some Nmt
+    else if bytes_eq word (codes "sync") then Some Sync
+    else if bytes_eq word (codes "emcy") then Some Emcy
+    else if bytes_eq word (codes "sdo_response") then Some SdoResponse
+    else if bytes_eq word (codes "sdo_request") then Some SdoRequest
+    else if bytes_eq word (codes "heartbeat") then Some Heartbeat
+    else None
+
+abbrev pub is_device : List ℕ → Bool
+is_device word = bytes_eq word (codes "device")
+
+-- NMT and SYNC are no node's
+abbrev pub has_node : FrameKind → Bool
+has_node Nmt = false
+has_node Sync = false
+has_node Emcy = true
+has_node SdoResponse = true
+has_node SdoRequest = true
+has_node Heartbeat = true
+
+abbrev pub is_heartbeat : FrameKind → Bool
+is_heartbeat Nmt = false
+is_heartbeat Sync = false
+is_heartbeat Emcy = false
+is_heartbeat SdoResponse = false
+is_heartbeat SdoRequest = false
+is_heartbeat Heartbeat = true
+
+-- node 0, or 1 to 127
+abbrev pub node_in : FrameKind → List ℕ → Result ℕ Rule
+node_in kind text = if has_node kind then number_within 1 127 text else number_within 0 0 text
+
+-- 0 for never, or 100 to 60,000,000, for a heartbeat whole milliseconds
+abbrev pub is_period : FrameKind → ℕ → Bool
+is_period kind n = (n == 0) || (is_within 100 60000000 n && (not (is_heartbeat kind) || (n % 1000 == 0)))
+
+abbrev pub if_period : FrameKind → ℕ → Result ℕ Rule
+if_period kind n = if is_period kind n then Ok n else Err rules.Value
+
+abbrev pub period_in : FrameKind → List ℕ → Result ℕ Rule
+period_in kind text = number_within 0 60000000 text >>= if_period kind
+
+-- a field that is to be empty
+abbrev pub no_text : List ℕ → Result (List ℕ) Rule
+no_text text = if length text == 0 then Ok text else Err rules.Value
+
+-- the row of a frame
+unfoldable pub frame_in : ℕ → FrameKind → List (List ℕ) → Result FrameRow Rule
+frame_in place kind row = do
+  node ← node_in kind (field row 1)
+  no_name ← no_text (field row 2)
+  no_eds ← no_text (field row 3)
+  period ← period_in kind (field row 4)
+  jitter ← number_within 0 60000000 (field row 5)
+  Ok (record { place = place; kind = kind; node = node; period = period; jitter = jitter })
+
+-- the row of a device, whose period and jitter are 0
+unfoldable pub device_in : ℕ → List (List ℕ) → Result DeviceRow Rule
+device_in place row = do
+  node ← number_within 1 127 (field row 1)
+  period ← number_within 0 0 (field row 4)
+  jitter ← number_within 0 0 (field row 5)
+  name ← name_of (field row 2)
+  eds ← name_of (field row 3)
+  Ok (record { place = place; node = node; name = name; eds = eds })
+
+abbrev pub or_value : {A : Type 0} → Option A → Result A Rule
+or_value None = Err rules.Value
+or_value (Some x) = Ok x
+
+abbrev pub as_device : Result DeviceRow Rule → Result Row Rule
+as_device device = device >>= λ device. Ok (variants.Device device)
+
+abbrev pub as_frame : Result FrameRow Rule → Result Row Rule
+as_frame frame = frame >>= λ frame. Ok (variants.Frame frame)
+
+-- the row of a record, or the least rule that it breaks
+abbrev pub row_in : ℕ → List (List ℕ) → Result Row Rule
+row_in place row =
+    if not (length row == 6) then Err rules.Fields
+    else if is_device (field row 0) then as_device (device_in place row)
+    else as_frame (or_value (kind_of (field row 0)) >>= λ kind. frame_in place kind row)
+
+-- whether a device row has this node
+abbrev pub has_device : List DeviceRow → ℕ → Bool
+has_device devices node = list_any (λ d. d.node == node) devices
+
+-- the number of a kind, from 1 on
+unfoldable pub number_of_kind : FrameKind → ℕ
+number_of_kind Nmt = 1
+number_of_kind Sync = 2
+number_of_kind Emcy = 3
+number_of_kind SdoResponse = 4
+number_of_kind SdoRequest = 5
+number_of_kind Heartbeat = 6
+
+-- whether a row is of this kind and node
+abbrev pub has_frame : List FrameRow → FrameKind → ℕ → Bool
+has_frame frames kind node = list_any (λ f. (number_of_kind f.kind == number_of_kind kind) && (f.node == node)) frames
+
+-- the rows and one more, or the rule against it
+abbrev pub pushed : NodeLists → Row → Result NodeLists Rule
+pushed lists (variants.Device d) =
+    if has_device lists.devices d.node then Err rules.RowRepeated
+    else Ok (record { devices = lists.devices ++ d ∷ []; frames = lists.frames })
+pushed lists (variants.Frame f) =
+    if has_frame lists.frames f.kind f.node then Err rules.RowRepeated
+    else Ok (record { devices = lists.devices; frames = lists.frames ++ f ∷ [] })
+
+-- the row of a record after those of the records before it
+abbrev pub added : ℕ → NodeLists → List (List ℕ) → Result NodeLists Refusal
+added place lists row = placed place (row_in place row >>= pushed lists)
+
+-- a row's node has no device row
+abbrev pub lacks_device : List DeviceRow → FrameRow → Bool
+lacks_device devices f = has_node f.kind && not (has_device devices f.node)
+
+-- the record of the first such row
+abbrev pub first_lacking : List DeviceRow → List FrameRow → Option ℕ
+first_lacking devices [] = None
+first_lacking devices (f ∷ frames) = if lacks_device devices f then Some f.place else first_lacking devices frames
+
+abbrev pub unless_lacking : Option ℕ → NodeLists → Result NodeLists Refusal
+unless_lacking None lists = if length lists.devices == 0 then refuse rules.NoDevice 0 else Ok lists
+unless_lacking (Some place) lists = refuse rules.NoDevice place
+
+-- each row has its device row, and there is one at least
+abbrev pub with_devices : NodeLists → Result NodeLists Refusal
+with_devices lists = unless_lacking (first_lacking lists.devices lists.frames) lists
+
+abbrev pub no_rows : NodeLists
+no_rows = record { devices = []; frames = [] }
+
+abbrev pub header : List (List ℕ)
+header = codes "row" ∷ codes "node" ∷ codes "name" ∷ codes "eds" ∷ codes "period" ∷ codes "jitter" ∷ []
+
+-- the records under the header
+abbrev pub rows_in : List ℕ → Result (List (List (List ℕ))) Refusal
+rows_in text = rows_under header text
+
+-- the rows of a table, whose nodes may want their device rows
+unfoldable pub node_rows_of : List ℕ → Result NodeLists Refusal
+node_rows_of text = do
+  rows ← rows_in text
+  rows_from added 1 no_rows rows
+
+-- the nodes of a table
+abbrev pub nodes_of : List ℕ → Result NodeLists Refusal
+nodes_of text = node_rows_of text >>= with_devices

@@ -1,0 +1,203 @@
+//! Reading the table of nodes.
+
+ghost use Rattle.std.specs.Prelude.{◌≡◌, ◌≤◌, IfOk, MatchResult, Ok, Err, length};
+ghost use Rattle.cop_table.specs.Reading.{Gives};
+ghost use Rattle.cop_rows.specs.Refusals.{broken, refusal};
+ghost use Rattle.cop_rows.specs.NodeReading.{is_device, kind_of, node_in, period_in, is_period, no_text, frame_in, device_in, row_in, added, rows_in, node_rows_of, nodes_of};
+ghost use Rattle.cop_rows.specs.NodeRows.{IsRow, IsDeviceRow, IsFrameRow};
+
+use crate::fields::number_within;
+use crate::names::Name;
+use crate::node_rows::{NodeRows, Row, has_node};
+use crate::node_table::{DeviceRow, FrameKind, FrameRow, NodeTable};
+use crate::refusals::{RecordFault, Refusal, RowFault, Rule};
+use cop_table::{Record, Records, TableError, under_header};
+use std::alloc::Global;
+
+/// The fields of the header.
+const HEADER: [&[u8]; 6] = [b"row", b"node", b"name", b"eds", b"period", b"jitter"];
+
+/// Whether a word is a device's.
+fn is_device(word: &[u8]) -> bool
+    ensures { result ≡ is_device word.now }
+{
+    word == b"device".as_slice()
+}
+
+/// The kind of a row that is no device's.
+fn kind_of(word: &[u8]) -> Option<FrameKind>
+    ensures { result ≡ kind_of word.now }
+{
+    if word == b"nmt".as_slice() {
+        Some(FrameKind::Nmt)
+    } else if word == b"sync".as_slice() {
+        Some(FrameKind::Sync)
+    } else if word == b"emcy".as_slice() {
+        Some(FrameKind::Emcy)
+    } else if word == b"sdo_response".as_slice() {
+        Some(FrameKind::SdoResponse)
+    } else if word == b"sdo_request".as_slice() {
+        Some(FrameKind::SdoRequest)
+    } else if word == b"heartbeat".as_slice() {
+        Some(FrameKind::Heartbeat)
+    } else {
+        None
+    }
+}
+
+/// The node of a frame's row: 0 for NMT and SYNC.
+fn node_in(kind: FrameKind, field: &[u8]) -> Result<u64, Rule>
+    ensures value { result ≡ node_in kind field.now }
+    ensures most { IfOk result (λ node. node ≤ 127) }
+{
+    if has_node(kind) {
+        number_within(1, 127, field)
+    } else {
+        number_within(0, 0, field)
+    }
+}
+
+/// Whether a number is a period of a frame in microseconds: 0 for one that is never sent.
+fn is_period(kind: FrameKind, period: u64) -> bool
+    ensures { result ≡ is_period kind period }
+{
+    period == 0
+        || (period >= 100
+            && period <= 60_000_000
+            && (!matches!(kind, FrameKind::Heartbeat) || period % 1000 == 0))
+}
+
+/// The period of a frame's row.
+fn period_in(kind: FrameKind, field: &[u8]) -> Result<u64, Rule>
+    ensures value { result ≡ period_in kind field.now }
+    ensures most { IfOk result (λ period. period ≤ 60000000) }
+{
+    let period = number_within(0, 60_000_000, field)?;
+    if is_period(kind, period) {
+        Ok(period)
+    } else {
+        Err(Rule::Value)
+    }
+}
+
+/// Refuses a field that is not empty.
+fn no_text(field: &[u8]) -> Result<&[u8], Rule>
+    ensures { MatchResult result (λ text. no_text field.now ≡ Ok text.now) (λ rule. no_text field.now ≡ Err rule) }
+{
+    if field.is_empty() {
+        Ok(field)
+    } else {
+        Err(Rule::Value)
+    }
+}
+
+#[tactic(auto, unfolding(crate::specs::NodeReading::frame_in))]
+/// The row of a frame.
+fn frame_in(place: u64, kind: FrameKind, row: &Record) -> Result<FrameRow, Rule>
+    ensures value { result ≡ frame_in place kind row.now }
+    ensures ranges { IfOk result IsFrameRow }
+{
+    let node = node_in(kind, row.field(1))?;
+    no_text(row.field(2))?;
+    no_text(row.field(3))?;
+    let period = period_in(kind, row.field(4))?;
+    let jitter = number_within(0, 60_000_000, row.field(5))?;
+    Ok(FrameRow {
+        place,
+        kind,
+        node: node as u8,
+        period: period as u32,
+        jitter: jitter as u32,
+    })
+}
+
+#[tactic(auto, unfolding(crate::specs::NodeReading::device_in))]
+/// The row of a device.
+fn device_in(alloc: Global, place: u64, row: &Record) -> Result<DeviceRow, RecordFault>
+    ensures value { Gives (λ device. device) broken result (device_in place row.now) }
+    ensures ranges { IfOk result IsDeviceRow }
+{
+    let node = number_within(1, 127, row.field(1))?;
+    number_within(0, 0, row.field(4))?;
+    number_within(0, 0, row.field(5))?;
+    let name = Name::read(alloc, row.field(2))?;
+    let eds = Name::read(alloc, row.field(3))?;
+    Ok(DeviceRow {
+        place,
+        node: node as u8,
+        name,
+        eds,
+    })
+}
+
+/// The row of a record, or the least rule that it breaks.
+fn row_in(alloc: Global, place: u64, row: &Record) -> Result<Row, RecordFault>
+    ensures value { Gives (λ found. found) broken result (row_in place row.now) }
+    ensures ranges { IfOk result IsRow }
+{
+    if row.len() != 6 {
+        return Err(RecordFault::Broken(Rule::Fields));
+    }
+    if is_device(row.field(0)) {
+        return Ok(Row::Device(device_in(alloc, place, row)?));
+    }
+    let kind = kind_of(row.field(0)).ok_or(Rule::Value)?;
+    Ok(Row::Frame(frame_in(place, kind, row)?))
+}
+
+/// Adds the row of a record to those of the records before it.
+fn add(alloc: Global, rows: &mut NodeRows, place: u64, row: &Record) -> Result<(), RowFault>
+    ensures { Gives (λ _. rows.new) refusal result (added place rows.old row.now) }
+{
+    let found = match row_in(alloc, place, row) {
+        Ok(found) => found,
+        Err(fault) => return Err(fault.at(place)),
+    };
+    match rows.push(found) {
+        Ok(()) => Ok(()),
+        Err(fault) => Err(fault.at(place)),
+    }
+}
+
+/// The records under the header.
+fn rows_in<'a>(alloc: Global, bytes: &'a [u8], row: &mut Record) -> Result<Records<'a>, RowFault>
+    ensures rows { Gives (λ r. r) refusal result (rows_in bytes.now) }
+    ensures count { IfOk result (λ r. length r ≤ length bytes.now) }
+{
+    match under_header(alloc, bytes, &HEADER, row) {
+        Ok(rows) => Ok(rows),
+        Err(TableError::Header) => Err(RowFault::Refused(Refusal {
+            rule: Rule::Header,
+            place: 0,
+        })),
+        Err(TableError::Memory) => Err(RowFault::Memory),
+    }
+}
+
+#[tactic(auto, unfolding(crate::specs::NodeReading::node_rows_of), using(cop_table::proofs::RowsLemmas::goes_on, cop_table::proofs::RowsLemmas::stops, cop_table::proofs::RowsLemmas::ends))]
+/// The rows of a table, whose nodes may want their device rows. Of the records the first that breaks a rule counts,
+/// and of its rules the one of least number.
+fn read_rows(alloc: Global, bytes: &[u8]) -> Result<NodeRows, RowFault>
+    ensures { Gives (λ rows. rows) refusal result (node_rows_of bytes.now) }
+{
+    let mut row = Record::new(alloc);
+    let mut rows = rows_in(alloc, bytes, &mut row)?;
+    let mut nodes = NodeRows::new(alloc);
+    let mut place = 0;
+    'rows: while rows.read(&mut row)? {
+        place += 1;
+        add(alloc, &mut nodes, place, &row)?;
+    }
+    Ok(nodes)
+}
+
+/// The table of nodes. Of its records the first that breaks a rule counts, and of its rules the one of least number;
+/// then the first row whose node has no device row.
+pub fn read_nodes(alloc: Global, bytes: &[u8]) -> Result<NodeTable, RowFault>
+    ensures { Gives (λ table. table) refusal result (nodes_of bytes.now) }
+{
+    match read_rows(alloc, bytes)?.into_table() {
+        Ok(table) => Ok(table),
+        Err(refusal) => Err(RowFault::Refused(refusal)),
+    }
+}
