@@ -1,5 +1,5 @@
 -- The streams of the fixed identifiers.
-use Rattle.std.proofs.Common.{◌≡◌, ◌≢◌, ◌<◌, ◌≤◌, ◌==◌, ◌-◌, ◌+◌, ℕ, suc, Bool, true, false, List, [], ◌∷◌, ◌++◌, length, take, drop, get_or, set, replicate, find, is_some, Option, Some, None, arith, refl, sym, ap, ◌∙◌, ⊎_elim, add-one, map, append_assoc, All, IfSome, cond, Result, Ok}
+use Rattle.std.proofs.Common.{◌≡◌, ◌≢◌, ◌<◌, ◌≤◌, ◌==◌, ◌-◌, ◌+◌, ℕ, suc, Bool, true, false, List, [], ◌∷◌, ◌++◌, length, take, get_or, set, replicate, find, is_some, Option, Some, None, arith, refl, sym, ap, ◌∙◌, ⊎_elim, append_assoc, All, IfSome, cond, Result, Ok}
 use Rattle.std.specs.Option.{option_or}
 use Rattle.std.proofs.lemmas.Bool.{cases_eq, eq-eqb, ne_eqb}
 use Rattle.std.proofs.lemmas.List.{length-set, get_or-set_same, get_or-set_other, get_or-replicate, append-nil}
@@ -8,7 +8,7 @@ use Rattle.cop_rows.specs.declared.node_table.FrameRow.{FrameRow}
 use Rattle.cop_rta.specs.Entries.{Entry}
 use Rattle.std.proofs.lemmas.List.{take_more}
 use Rattle.std.proofs.lemmas.List.Elements.{All-head, All-tail}
-use Rattle.cop_net.specs.Fixed.{IsTimed, key_of, sent, streams_from, fixed_streams, KnowsFrames}
+use Rattle.cop_net.specs.Fixed.{IsTimed, key_of, sent, streams_from, KnowsFrames}
 
 -- no row is known at first
 pub knows_none : (places : List (Option FrameRow)) → places ≡ replicate 768 None → KnowsFrames places []
@@ -38,12 +38,12 @@ new_at : (places : List (Option FrameRow)) (frames : List FrameRow) (row : Frame
     → get_or (set places (key_of row) (Some row)) key None ≡ find (λ r. key_of r == key) (frames ++ row ∷ [])
 new_at places frames row key knows inside h free = ⊎_elim
     (λ (e : key_of row ≡ key).
-        let none : find (λ r. key_of r == key) frames ≡ None = none_before _ (rw (← knows.each key h) (rw (← e) free)) in
-        let here : get_or (set places (key_of row) (Some row)) key None ≡ Some row = rw (← e) (get_or-set_same places (key_of row) (Some row) None (omega (arith, knows.size))) in
-        here ∙ sym (first_of frames row key ∙ rw (none, eq-eqb (key_of row) key e) refl))
+    let none : find (λ r. key_of r == key) frames ≡ None = none_before _ (rw (← knows.each key h) (rw (← e) free)) in
+    let here : get_or (set places (key_of row) (Some row)) key None ≡ Some row = rw (← e) (get_or-set_same places (key_of row) (Some row) None (omega (arith, knows.size))) in
+    here ∙ sym (first_of frames row key ∙ rw (none, eq-eqb (key_of row) key e) refl))
     (λ (other : key_of row ≢ key).
-        get_or-set_other places (key_of row) key (Some row) None (λ e. other (sym e)) ∙ knows.each key h
-        ∙ sym (first_of frames row key ∙ rw (ne_eqb (key_of row) key other) (or_none _)))
+    get_or-set_other places (key_of row) key (Some row) None (λ e. other (sym e)) ∙ knows.each key h
+    ∙ sym (first_of frames row key ∙ rw (ne_eqb (key_of row) key other) (or_none _)))
     (cases_eq (key_of row) key)
 
 pub knows_new : (places : List (Option FrameRow)) (frames : List FrameRow) (row : FrameRow) → KnowsFrames places frames → key_of row < 768
@@ -59,10 +59,10 @@ old_at : (places : List (Option FrameRow)) (frames : List FrameRow) (row : Frame
     → get_or places key None ≡ find (λ r. key_of r == key) (frames ++ row ∷ [])
 old_at places frames row key knows inside h taken = ⊎_elim
     (λ (e : key_of row ≡ key).
-        let some : is_some (find (λ r. key_of r == key) frames) ≡ true = rw (← knows.each key h) (rw (← e) taken) in
-        knows.each key h ∙ sym (first_of frames row key ∙ some_before _ _ some))
+    let some : is_some (find (λ r. key_of r == key) frames) ≡ true = rw (← knows.each key h) (rw (← e) taken) in
+    knows.each key h ∙ sym (first_of frames row key ∙ some_before _ _ some))
     (λ (other : key_of row ≢ key).
-        knows.each key h ∙ sym (first_of frames row key ∙ rw (ne_eqb (key_of row) key other) (or_none _)))
+    knows.each key h ∙ sym (first_of frames row key ∙ rw (ne_eqb (key_of row) key other) (or_none _)))
     (cases_eq (key_of row) key)
 
 pub knows_old : (places : List (Option FrameRow)) (frames : List FrameRow) (row : FrameRow) → KnowsFrames places frames → key_of row < 768

@@ -7,3 +7,4 @@ pub mod UseLemmas
 pub mod PdoLemmas
 pub mod HeartbeatLemmas
 pub mod StrayLemmas
+pub mod NetworkLemmas

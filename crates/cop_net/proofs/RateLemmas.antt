@@ -1,13 +1,12 @@
 -- Sets of rates as lists, the slowest first.
-use Rattle.std.proofs.Common.{◌≡◌, ◌↔◌, ◌⊎◌, ◌≤◌, ◌<◌, ℕ, ◌+◌, zero, suc, Bool, true, false, cond, ◌&&◌, ◌==◌, List, [], ◌∷◌, take, length, Contains, Result, Ok, Err, refl, sym, ap, subst, ◌∙◌, arith, eq-eqb, eqb-true, ⊎_elim, filter, if◌then◌else◌, ◌||◌, inl, inr, zero-lt-suc, Option, Some, None, IfSome, IfNone, is_some}
-use Rattle.std.specs.List.{list_any}
+use Rattle.std.proofs.Common.{◌≡◌, ◌↔◌, ◌⊎◌, ℕ, zero, suc, Bool, true, false, cond, ◌&&◌, ◌==◌, List, [], ◌∷◌, Contains, Result, Ok, Err, refl, sym, ap, ◌∙◌, arith, eq-eqb, eqb-true, ⊎_elim, filter, if◌then◌else◌, ◌||◌, inl, inr, zero-lt-suc, Option, Some, None, IfSome, IfNone, is_some}
 use Rattle.std.proofs.lemmas.Map.Views.{Contains-from_any}
 use Rattle.std.proofs.lemmas.List.Elements.{Contains-append_cases, Contains-append_right}
 use Rattle.cop_frame.specs.declared.rates.Rate.{Rate}
 use Rattle.cop_frame.specs.declared.rates.Rate.TheVariants.{Kbit10, Kbit20, Kbit50, Kbit125, Kbit250, Kbit500, Kbit800, Kbit1000}
 use Rattle.cop_frame.specs.Rate.{place_of}
 use Rattle.cop_frame.specs.RateSet.{all_rates}
-use Rattle.cop_eds.proofs.RateLemmas.{found_more, all_found, all_contain}
+use Rattle.cop_eds.proofs.RateLemmas.{all_contain}
 use Rattle.cop_eds.specs.Rates.{support_of}
 use Rattle.cop_eds.specs.declared.fault.Refusal as eds
 use Rattle.cop_net.specs.Rates.{has_rate, in_order, is_some_rate}
@@ -77,7 +76,7 @@ pub filtered : (old new : List Rate) (test : Rate → Bool) → ((r : Rate) → 
 unfolding in_order
 filtered old new test h = filter_both (has_rate new) (has_rate old) test
     (λ r. same_test (has_rate new r) (has_rate old r) (test r)
-      (λ e. let p = (h r).0 (in_it new r e) in (of_it old r p.0, p.1), λ p. of_it new r ((h r).1 (in_it old r p.0, p.1)))) all_rates
+    (λ e. let p = (h r).0 (in_it new r e) in (of_it old r p.0, p.1), λ p. of_it new r ((h r).1 (in_it old r p.0, p.1)))) all_rates
 
 support : (r : Result Bool eds.Refusal) → (is_supported r ≡ true) ↔ (r ≡ Ok true)
 support (Ok true) = (λ _. refl, λ _. refl)
@@ -97,8 +96,16 @@ narrowed old new mine text own both = filtered old new (supports text)
 pub all_in_order : (rates : List Rate) → ((r : Rate) → Contains rates r) → in_order rates ≡ all_rates
 unfolding in_order
 all_in_order rates h =
-    rw (of_it rates Kbit10 (h Kbit10), of_it rates Kbit20 (h Kbit20), of_it rates Kbit50 (h Kbit50), of_it rates Kbit125 (h Kbit125), of_it rates Kbit250 (h Kbit250),
-    of_it rates Kbit500 (h Kbit500), of_it rates Kbit800 (h Kbit800), of_it rates Kbit1000 (h Kbit1000)) refl
+    rw (
+      of_it rates Kbit10 (h Kbit10),
+      of_it rates Kbit20 (h Kbit20),
+      of_it rates Kbit50 (h Kbit50),
+      of_it rates Kbit125 (h Kbit125),
+      of_it rates Kbit250 (h Kbit250),
+      of_it rates Kbit500 (h Kbit500),
+      of_it rates Kbit800 (h Kbit800),
+      of_it rates Kbit1000 (h Kbit1000),
+    ) refl
 
 -- the rates inserted so far
 abbrev pub each_rate : Rate → Result Bool ℕ

@@ -1,5 +1,5 @@
 -- Which writes of a COB-ID a dictionary accepts.
-use Rattle.std.proofs.Common.{◌≡◌, ◌<◌, ◌≤◌, ◌+◌, ◌*◌, ◌/◌, ◌%◌, ◌^◌, ◌==◌, ℕ, zero, suc, Bool, true, false, cond, not, ◌&&◌, ◌||◌, List, [], ◌∷◌, length, Option, Some, None, Result, Ok, Err, refl, sym, ap, subst, ◌∙◌, arith, nat_lt, nat_le, option_map, option_and_then, ℤ, pos, negsuc, lit<, lit≤, ◌≢◌, ⊎_elim}
+use Rattle.std.proofs.Common.{◌≡◌, ◌<◌, ◌≤◌, ◌+◌, ◌*◌, ◌/◌, ◌%◌, ◌^◌, ◌==◌, ℕ, zero, suc, Bool, true, false, cond, not, ◌&&◌, ◌||◌, List, [], ◌∷◌, length, Option, Some, None, Result, Ok, Err, refl, sym, ap, subst, ◌∙◌, arith, nat_lt, nat_le, option_map, ℤ, pos, negsuc, lit<, lit≤, ◌≢◌, ⊎_elim}
 use Rattle.std.specs.Prelude.{int_lt}
 use Rattle.std.specs.Ordering.{int_eq}
 use Rattle.std.specs.Option.{is_none, option_map_or}
@@ -15,7 +15,7 @@ use Rattle.cop_dict.specs.Types.{is_writable, is_unsigned32}
 use Rattle.cop_dict.specs.Number.{number}
 use Rattle.cop_dict.specs.Rules.{first_broken, value_rules}
 use Rattle.cop_dict.specs.Find.{Entry, unsigned32_of, entry_at, is_at}
-use Rattle.cop_dict.specs.Pdo.{is_communication, is_cob_id, is_restricted, moves_pdo, names_restricted, cob_id_rules, refused_by_pdos, exists_by, keeps_pdo}
+use Rattle.cop_dict.specs.Pdo.{is_communication, is_cob_id, is_restricted, names_restricted, cob_id_rules, refused_by_pdos, exists_by, keeps_pdo}
 use Rattle.cop_dict.specs.Dict.{written, with_value, valued, unless_broken, ◌>>=◌}
 use Rattle.std.proofs.lemmas.Bool.{cases_eq, eqb-true}
 use Rattle.cop_dict.proofs.PatternLemmas.{own_number}
@@ -223,15 +223,15 @@ pub usable : (dict : List Entry) (index : ℕ) (e : Entry) (v : ℕ) → entry_a
 unfolding takes_each
 usable dict index e v at cob own =
     rw (at, own) (same_truth (passes_from (takes dict index v) 0x181 1023) _
-      (λ all.
-        let one = both_true (may_hold e.description (off v)) (may_hold e.description (on v 0x181)) (sym (takes_by_limits dict index e v 0x181 at cob own (lit≤ tt) (lit≤ tt)) ∙ each_passes (takes dict index v) 0x181 1023 0x181 all (lit≤ tt) (lit< tt)) in
-        let two = both_true (may_hold e.description (off v)) (may_hold e.description (on v 0x57F)) (sym (takes_by_limits dict index e v 0x57F at cob own (lit≤ tt) (lit≤ tt)) ∙ each_passes (takes dict index v) 0x181 1023 0x57F all (lit≤ tt) (lit< tt)) in
-        rw (one.0, one.1, two.1) refl)
-      (λ ends.
-        let p = both_true (may_hold e.description (off v)) _ ends in
-        let q = both_true (may_hold e.description (on v 0x181)) (may_hold e.description (on v 0x57F)) p.1 in
-        all_pass (takes dict index v) 0x181 1023
-          (λ id low high. takes_by_limits dict index e v id at cob own low (omega arith) ∙ rw (p.0, by_ends e.description v id low (omega arith) q.0 q.1) refl)))
+    (λ all.
+    let one = both_true (may_hold e.description (off v)) (may_hold e.description (on v 0x181)) (sym (takes_by_limits dict index e v 0x181 at cob own (lit≤ tt) (lit≤ tt)) ∙ each_passes (takes dict index v) 0x181 1023 0x181 all (lit≤ tt) (lit< tt)) in
+    let two = both_true (may_hold e.description (off v)) (may_hold e.description (on v 0x57F)) (sym (takes_by_limits dict index e v 0x57F at cob own (lit≤ tt) (lit≤ tt)) ∙ each_passes (takes dict index v) 0x181 1023 0x57F all (lit≤ tt) (lit< tt)) in
+    rw (one.0, one.1, two.1) refl)
+    (λ ends.
+    let p = both_true (may_hold e.description (off v)) _ ends in
+    let q = both_true (may_hold e.description (on v 0x181)) (may_hold e.description (on v 0x57F)) p.1 in
+    all_pass (takes dict index v) 0x181 1023
+    (λ id low high. takes_by_limits dict index e v id at cob own low (omega arith) ∙ rw (p.0, by_ends e.description v id low (omega arith) q.0 q.1) refl)))
 
 at_place : (index sub : ℕ) (x : Entry) → is_at index sub x ≡ true → (x.index ≡ index) × (x.sub ≡ sub)
 at_place index sub x t =

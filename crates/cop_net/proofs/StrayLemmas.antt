@@ -1,9 +1,8 @@
 -- PDOs that nobody uses, entry by entry.
-use Rattle.std.proofs.Common.{◌≡◌, ℕ, ◌+◌, ◌<◌, ◌≤◌, Bool, true, false, not, ◌&&◌, ◌||◌, List, [], ◌∷◌, length, get_or, drop, drop-cons, add-one, Option, Some, None, Result, Ok, Err, IfSome, Contains, refl, sym, ap, ◌∙◌, arith}
+use Rattle.std.proofs.Common.{◌≡◌, ℕ, ◌+◌, ◌<◌, ◌≤◌, Bool, true, false, not, ◌&&◌, ◌||◌, List, [], ◌∷◌, length, get_or, drop, drop-cons, add-one, Option, Some, None, Result, Ok, Err, IfSome, Contains, refl, sym, ◌∙◌}
 use Rattle.std.specs.List.{list_any}
 use Rattle.std.proofs.lemmas.List.{drop_all}
-use Rattle.cop_table.specs.Reading.{◌>>=◌}
-use Rattle.cop_dict.specs.Find.{Entry, entry_at, IsSorted}
+use Rattle.cop_dict.specs.Find.{Entry, IsSorted}
 use Rattle.cop_dict.proofs.DictLemmas.{own_place}
 use Rattle.cop_rows.specs.declared.node_table.FrameRow.{FrameRow}
 use Rattle.cop_net.specs.declared.faults.Refusal.{Refusal}

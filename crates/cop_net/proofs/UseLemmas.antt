@@ -1,5 +1,5 @@
 -- A table of the records in use.
-use Rattle.std.proofs.Common.{◌≡◌, ◌+◌, ◌*◌, ◌<◌, ℕ, Bool, false, List, [], length, get_or, replicate, arith, ap, sym, ◌∙◌}
+use Rattle.std.proofs.Common.{◌≡◌, ◌+◌, ◌*◌, ℕ, Bool, false, List, [], length, replicate, arith, ap, ◌∙◌}
 use Rattle.std.proofs.lemmas.List.{get_or-replicate, length-replicate}
 use Rattle.cop_net.specs.declared.uses.Used.{Used}
 use Rattle.cop_net.specs.Uses.{KnowsUses}

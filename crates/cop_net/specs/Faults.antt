@@ -1,7 +1,6 @@
 -- The refusals of a network.
-use Rattle.std.specs.Prelude.{ℕ, Option, Some, None, Result, Ok, Err}
+use Rattle.std.specs.Prelude.{ℕ, Option, Some, None, Result, Err}
 use Rattle.cop_rows.specs.Refusals as rows
-use Rattle.cop_net.specs.declared.faults.Table.{Table}
 use Rattle.cop_net.specs.declared.faults.Table.TheVariants as tables
 use Rattle.cop_net.specs.declared.faults.Rule.{Rule}
 use Rattle.cop_net.specs.declared.faults.Rule.TheVariants as rules

@@ -9,3 +9,4 @@ pub mod Settings
 pub mod Pdos
 pub mod Heartbeats
 pub mod Network
+pub mod Tables

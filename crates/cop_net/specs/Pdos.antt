@@ -1,5 +1,5 @@
 -- The PDOs of a network: what each of them sends, and who takes it.
-use Rattle.std.specs.Prelude.{ℕ, ◌+◌, ◌*◌, ◌/◌, Bool, true, false, not, ◌&&◌, ◌||◌, List, [], ◌∷◌, ◌++◌, length, ◌==◌, pos, get_or, Option, Some, None, option_and_then, if◌then◌else◌, ℤ, Result, Ok, Err}
+use Rattle.std.specs.Prelude.{ℕ, ◌+◌, Bool, true, false, not, ◌||◌, List, [], ◌∷◌, ◌++◌, length, pos, get_or, Option, Some, None, option_and_then, ℤ, Result, Ok, Err}
 use Rattle.std.specs.Ordering.{int_eq}
 use Rattle.cop_dict.specs.declared.mapping.Direction.{Direction}
 use Rattle.cop_dict.specs.declared.mapping.Direction.TheVariants as directions

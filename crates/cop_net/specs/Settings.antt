@@ -1,5 +1,5 @@
 -- Which settings a device takes.
-use Rattle.std.specs.Prelude.{ℕ, zero, suc, ◌+◌, ◌*◌, ◌/◌, ◌%◌, ◌^◌, Bool, true, false, not, ◌&&◌, ◌||◌, List, ◌==◌, pos, Option, Some, None, option_and_then, if◌then◌else◌, ℤ, int_lt, Result}
+use Rattle.std.specs.Prelude.{ℕ, zero, suc, ◌+◌, ◌*◌, ◌/◌, ◌%◌, ◌^◌, Bool, true, false, not, ◌&&◌, ◌||◌, List, ◌==◌, pos, Option, Some, None, option_and_then, if◌then◌else◌, ℤ, int_lt}
 use Rattle.std.specs.Result.{is_ok}
 use Rattle.std.specs.Ordering.{int_eq}
 use Rattle.std.specs.Int.{bytes_low_first}

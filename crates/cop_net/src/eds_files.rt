@@ -19,7 +19,11 @@ use std::alloc::Global;
 pub fn refused(place: u64, refusal: Option<cop_eds::Refusal>) -> PlanFault
     ensures { result ≡ Refused (record { table = Nodes; rule = rules.Eds refusal; place = place }) }
 {
-    PlanFault::Refused(Refusal { table: Table::Nodes, rule: Rule::Eds(refusal), place })
+    PlanFault::Refused(Refusal {
+        table: Table::Nodes,
+        rule: Rule::Eds(refusal),
+        place,
+    })
 }
 
 /// The dictionary of a device that an accepted text describes.
@@ -43,4 +47,3 @@ pub fn read_text<'a>(alloc: Global, place: u64, text: &'a [u8]) -> Result<Eds<'a
         Err(EdsFault::Memory) => Err(PlanFault::Memory),
     }
 }
-

@@ -209,7 +209,13 @@ impl Found {
             node: row.node,
             index: 0x17FF + row.tpdo,
         })?;
-        add_consumers(devices, place, &sent, &mut self.used, row.consumers.as_slice())?;
+        add_consumers(
+            devices,
+            place,
+            &sent,
+            &mut self.used,
+            row.consumers.as_slice(),
+        )?;
         put(&mut self.set, stream(before, sent.bytes(), row))
     }
 }

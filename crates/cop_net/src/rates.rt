@@ -26,4 +26,3 @@ pub fn supported(rates: &RateSet, eds: &Eds<'_>) -> RateSet
 {
     rates.both(&eds.rates())
 }
-

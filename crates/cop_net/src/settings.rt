@@ -11,10 +11,7 @@ use cop_dict::{Access, DataType, Description, Dictionary, Object};
 fn may_hold(description: Description, n: u64) -> bool
     ensures { result ≡ may_hold description n }
 {
-    if matches!(
-        description.access,
-        Access::ReadOnly | Access::Constant
-    ) {
+    if matches!(description.access, Access::ReadOnly | Access::Constant) {
         return false;
     }
     let number = i128::from(n);

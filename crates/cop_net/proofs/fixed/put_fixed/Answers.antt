@@ -1,4 +1,4 @@
-use Rattle.std.proofs.Common.{◌≡◌, refl, arith, sym, ap, Ok, length}
+use Rattle.std.proofs.Common.{refl, arith, sym, ap, Ok}
 use Rattle.cop_net.specs.Fixed.{fixed_streams}
 use Rattle.cop_net.proofs.FixedLemmas.{one_more, no_more, row_timed}
 use Rattle.cop_net.proofs.fixed.put_fixed.Goals as goal

@@ -1,4 +1,4 @@
-use Rattle.std.proofs.Common.{arith, ◌∙◌, length}
+use Rattle.std.proofs.Common.{arith, ◌∙◌}
 use Rattle.std.proofs.lemmas.List.{length-set}
 use Rattle.cop_net.proofs.FixedLemmas.{row_timed}
 use Rattle.cop_net.proofs.HeartbeatLemmas.{times_more}

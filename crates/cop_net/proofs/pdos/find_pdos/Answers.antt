@@ -1,4 +1,4 @@
-use Rattle.std.proofs.Common.{ap, length, map, refl, ◌≡◌, []}
+use Rattle.std.proofs.Common.{ap, length, map}
 use Rattle.std.proofs.lemmas.Result.{err_from_is_err_and}
 use Rattle.cop_rta.specs.Entries.{entry_of}
 use Rattle.cop_net.specs.Faults.{refusal}

@@ -1,4 +1,4 @@
-use Rattle.std.proofs.Common.{◌≡◌, ◌≤◌, drop, length}
+use Rattle.std.proofs.Common.{◌≡◌, drop, length}
 use Rattle.cop_net.specs.Steps.{folded}
 use Rattle.cop_net.specs.Pdos.{pdo_added, pdos_of}
 use Rattle.cop_net.proofs.pdos.find_pdos.Given as goal

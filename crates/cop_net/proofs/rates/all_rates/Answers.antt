@@ -1,4 +1,4 @@
-use Rattle.std.proofs.Common.{refl, true, arith}
+use Rattle.std.proofs.Common.{refl, true}
 use Rattle.cop_frame.specs.RateSet.{all_rates}
 use Rattle.cop_eds.proofs.RateLemmas.{found_more, all_found, put}
 use Rattle.cop_net.proofs.RateLemmas.{each_rate, all_in_order}

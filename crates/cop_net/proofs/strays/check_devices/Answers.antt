@@ -1,4 +1,4 @@
-use Rattle.std.proofs.Common.{◌≡◌, ◌<◌, ◌≤◌, Ok, arith, rules, get_or, None, length}
+use Rattle.std.proofs.Common.{◌<◌, ◌≤◌, arith, length}
 use Rattle.std.proofs.lemmas.Result.{err_from_is_err_and}
 use Rattle.cop_net.specs.Faults.{refusal}
 use Rattle.cop_net.proofs.StrayLemmas.{goes_on, fails, ends}

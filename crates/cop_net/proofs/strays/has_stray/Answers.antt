@@ -1,5 +1,5 @@
-use Rattle.std.proofs.Common.{◌∙◌, sym, ◌≡◌, ◌<◌, length, get_or, true, false}
-use Rattle.cop_net.proofs.StrayLemmas.{stray_found, stray_not, stray_end}
+use Rattle.std.proofs.Common.{◌∙◌, sym}
+use Rattle.cop_net.proofs.StrayLemmas.{stray_found, stray_not}
 use Rattle.cop_net.proofs.strays.has_stray.Goals as goal
 
 pub returns-then-is_stray : goal.returns-then-is_stray

@@ -1,4 +1,4 @@
-use Rattle.std.proofs.Common.{sym, ◌∙◌, ◌≡◌, Some}
+use Rattle.std.proofs.Common.{sym, ◌≡◌, Some}
 use Rattle.cop_net.specs.Texts.{text_in, named}
 use Rattle.cop_net.proofs.TextLemmas.{read_before}
 use Rattle.cop_net.proofs.texts.add_row.Goals as goal

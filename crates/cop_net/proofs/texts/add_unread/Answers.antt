@@ -1,4 +1,3 @@
-use Rattle.std.proofs.Common.{◌≡◌, Some}
 use Rattle.std.proofs.lemmas.Result.{on_ok_weaker}
 use Rattle.cop_net.specs.Texts.{text_in}
 use Rattle.cop_net.proofs.TextLemmas.{unread}

@@ -1,5 +1,4 @@
-use Rattle.std.proofs.Common.{◌≡◌, ◌↔◌, Contains}
-use Rattle.cop_frame.specs.declared.rates.Rate.{Rate}
+use Rattle.std.proofs.Common.{◌↔◌}
 use Rattle.cop_eds.proofs.RateLemmas.{twice}
 use Rattle.cop_net.proofs.RateLemmas.{same_members}
 use Rattle.cop_net.proofs.devices.Devices.rates.Goals as goal
