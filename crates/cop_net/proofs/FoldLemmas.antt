@@ -1,0 +1,53 @@
+-- Loops that add one element after the other to what was found.
+use Rattle.std.proofs.Common.{◌≡◌, ℕ, ◌+◌, ◌<◌, ◌≤◌, List, [], ◌∷◌, Result, Ok, Err, Option, Some, None, IfSome, length, drop, get_or, drop-cons, add-one, refl, sym, ap, ◌∙◌}
+use Rattle.std.proofs.lemmas.List.{drop_all}
+use Rattle.cop_table.specs.Reading.{◌>>=◌}
+use Rattle.cop_net.specs.Steps.{folded}
+
+pub goes_on : {A X F : Type 0} (next : A → X → Result A F) (xs : List X) (i : ℕ) (d : X) (found more : A) (total : Result A F)
+    → i < length xs → next found (get_or xs i d) ≡ Ok more → folded next found (drop i xs) ≡ total → folded next more (drop (i + 1) xs) ≡ total
+unfolding folded
+goes_on next xs i d found more total lt h so_far =
+    let cut : drop i xs ≡ get_or xs i d ∷ drop (i + 1) xs = rw add-one (drop-cons xs i d lt) in
+    let one : folded next found (drop i xs) ≡ folded next more (drop (i + 1) xs) = rw (cut, h) refl in
+    sym one ∙ so_far
+
+pub stops : {A X F : Type 0} (next : A → X → Result A F) (xs : List X) (i : ℕ) (d : X) (found : A) (fault : F) (total : Result A F)
+    → i < length xs → next found (get_or xs i d) ≡ Err fault → folded next found (drop i xs) ≡ total → total ≡ Err fault
+unfolding folded
+stops next xs i d found fault total lt h so_far =
+    let cut : drop i xs ≡ get_or xs i d ∷ drop (i + 1) xs = rw add-one (drop-cons xs i d lt) in
+    let one : folded next found (drop i xs) ≡ Err fault = rw (cut, h) refl in
+    sym so_far ∙ one
+
+pub fails : {A X F : Type 0} (next : A → X → Result A F) (xs : List X) (i : ℕ) (d : X) (found : A) (fault : Option F) (total : Result A F)
+    → i < length xs → folded next found (drop i xs) ≡ total → IfSome fault (λ f. next found (get_or xs i d) ≡ Err f) → IfSome fault (λ f. total ≡ Err f)
+fails next xs i d found None total lt so_far h = tt
+fails next xs i d found (Some f) total lt so_far h = stops next xs i d found f total lt h so_far
+
+pub ends : {A X F : Type 0} (next : A → X → Result A F) (xs : List X) (i : ℕ) (found : A) (total : Result A F)
+    → length xs ≤ i → folded next found (drop i xs) ≡ total → total ≡ Ok found
+unfolding folded
+ends next xs i found total le so_far =
+    let none : drop i xs ≡ [] = drop_all i xs le in
+    let one : folded next found (drop i xs) ≡ Ok found = rw none refl in
+    sym so_far ∙ one
+
+same_next : {A B F : Type 0} (r : Result A F) (f g : A → Result B F) → ((a : A) → f a ≡ g a) → (r >>= f) ≡ (r >>= g)
+same_next (Ok a) f g h = h a
+same_next (Err e) f g h = refl
+
+pub same_steps : {A X F : Type 0} (f g : A → X → Result A F) (found : A) (xs : List X) → ((a : A) (x : X) → f a x ≡ g a x) → folded f found xs ≡ folded g found xs
+unfolding folded
+same_steps f g found [] h = refl
+same_steps f g found (x ∷ xs) h = rw h (same_next (g found x) (λ a. folded f a xs) (λ a. folded g a xs) (λ a. same_steps f g a xs h))
+
+-- the same of an element that is known as itself
+pub goes_on_at : {A X F : Type 0} (next : A → X → Result A F) (xs : List X) (i : ℕ) (x : X) (found more : A) (total : Result A F)
+    → i < length xs → x ≡ get_or xs i x → next found x ≡ Ok more → folded next found (drop i xs) ≡ total → folded next more (drop (i + 1) xs) ≡ total
+goes_on_at next xs i x found more total lt here h so_far = goes_on next xs i x found more total lt (ap (next found) (sym here) ∙ h) so_far
+
+pub fails_at : {A X F : Type 0} (next : A → X → Result A F) (xs : List X) (i : ℕ) (x : X) (found : A) (fault : Option F) (total : Result A F)
+    → i < length xs → x ≡ get_or xs i x → folded next found (drop i xs) ≡ total → IfSome fault (λ f. next found x ≡ Err f) → IfSome fault (λ f. total ≡ Err f)
+fails_at next xs i x found None total lt here so_far h = tt
+fails_at next xs i x found (Some f) total lt here so_far h = stops next xs i x found f total lt (ap (next found) (sym here) ∙ h) so_far

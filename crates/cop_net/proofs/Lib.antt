@@ -1,0 +1,10 @@
+pub mod FixedLemmas
+pub mod RateLemmas
+pub mod TextLemmas
+pub mod FoldLemmas
+pub mod SettingLemmas
+pub mod UseLemmas
+pub mod PdoLemmas
+pub mod HeartbeatLemmas
+pub mod StrayLemmas
+pub mod NetworkLemmas

@@ -1,0 +1,12 @@
+pub mod Faults
+pub mod Steps
+pub mod Fixed
+pub mod Rates
+pub mod Devices
+pub mod Texts
+pub mod Uses
+pub mod Settings
+pub mod Pdos
+pub mod Heartbeats
+pub mod Network
+pub mod Tables

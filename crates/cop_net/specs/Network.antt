@@ -1,0 +1,92 @@
+-- The network of the tables and the EDS files.
+use Rattle.std.specs.Prelude.{◌≡◌, ◌<◌, ◌≤◌, ◌⊎◌, ℕ, ◌+◌, map, length, slice_get, IsSome, option_and_then, Bool, true, false, not, ◌&&◌, List, [], ◌∷◌, ◌++◌, Option, Some, None, if◌then◌else◌, Result, Ok}
+use Rattle.std.specs.List.{list_any}
+use Rattle.cop_dict.specs.Find as dictionary
+use Rattle.cop_rows.specs.declared.node_table.FrameRow.{FrameRow}
+use Rattle.cop_rows.specs.declared.pdo_table.PdoRow.{PdoRow}
+use Rattle.cop_rows.specs.Nodes.{NodeLists, IsNodeTable}
+use Rattle.cop_rows.specs.Pdos.{IsPdoTable}
+use Rattle.cop_rta.specs.declared.streams.Stream.{Stream}
+use Rattle.cop_rta.specs.Entries.{Entry, entry_of}
+use Rattle.cop_rta.specs.Test.{of_stream}
+use Rattle.cop_table.specs.Reading.{◌>>=◌}
+use Rattle.cop_net.specs.declared.faults.Refusal.{Refusal}
+use Rattle.cop_net.specs.declared.faults.Rule.TheVariants as rules
+use Rattle.cop_net.specs.declared.devices.Device.{Device}
+use Rattle.cop_net.specs.declared.uses.Used.{Used}
+use Rattle.cop_net.specs.Faults.{at_node}
+use Rattle.cop_net.specs.Rates.{is_some_rate}
+use Rattle.cop_net.specs.Fixed.{fixed_streams}
+use Rattle.cop_net.specs.Heartbeats.{heartbeat_of}
+use Rattle.cop_net.specs.Settings.{beats, stays_on}
+use Rattle.cop_net.specs.Devices.{File, Equipment, devices_of}
+use Rattle.cop_net.specs.Pdos.{pdos_of}
+use Rattle.cop_net.specs.Uses.{is_used}
+
+-- some PDO that nobody uses stays on
+abbrev pub has_stray : List Used → ℕ → List dictionary.Entry → Bool
+has_stray used node dict = list_any (λ entry. stays_on dict entry && not (is_used used node entry.index)) dict
+
+-- a device takes what each plan sets: its heartbeat's time, and that unused PDOs are off
+abbrev pub settable : List FrameRow → List Used → ℕ → Option Device → Result (Unit {0}) Refusal
+settable frames used node None = Ok tt
+settable frames used node (Some device) =
+    if not (beats device.dictionary (heartbeat_of frames node)) then at_node rules.Heartbeat device.place
+    else if has_stray used node device.dictionary then at_node rules.StaysOn device.place
+    else Ok tt
+
+-- the same of all devices, by rising node
+unfoldable pub all_settable : List FrameRow → List Used → ℕ → List (Option Device) → Result (Unit {0}) Refusal
+all_settable frames used node [] = Ok tt
+all_settable frames used node (device ∷ devices) = settable frames used node device >>= λ _. all_settable frames used (node + 1) devices
+
+-- some rate is supported by all devices
+abbrev pub with_rate : Bool → Result (Unit {0}) Refusal
+with_rate false = at_node rules.NoRate 0
+with_rate true = Ok tt
+
+-- the streams of a network, or the first rule that its PDOs and devices break
+unfoldable pub streams_of : List FrameRow → List PdoRow → Equipment → Result (List Entry) Refusal
+streams_of frames rows equipment = do
+  traffic ← pdos_of equipment.devices rows
+  _ ← all_settable frames traffic.used 0 equipment.devices
+  _ ← with_rate (is_some_rate equipment.rates)
+  Ok (traffic.streams ++ fixed_streams frames)
+
+-- what is accepted: the devices by their nodes and the rates that all of them support, and the streams
+pub record Accepted : Type 0 where
+  pub equipment : Equipment
+  pub streams : List Entry
+
+-- the network, or the first rule that it breaks
+unfoldable pub network_of : NodeLists → List PdoRow → List File → Result Accepted Refusal
+network_of nodes rows files = do
+  equipment ← devices_of files nodes.devices
+  streams ← streams_of nodes.frames rows equipment
+  Ok (record { equipment = equipment; streams = streams })
+
+-- a network with its tables
+pub record Net : Type 0 where
+  pub nodes : NodeLists
+  pub rows : List PdoRow
+  pub equipment : Equipment
+  pub set : List Stream
+
+-- the same as it is accepted, where ranges are left out
+abbrev pub accepted : Net → Accepted
+accepted n = record { equipment = n.equipment; streams = map entry_of n.set }
+
+-- the streams begin with the PDOs, whose identifiers are 181h, 182h, .. and which have deadlines; no other stream has an
+-- identifier that a PDO may get
+pub record BeginsWith (pdos : ℕ) (streams : List Stream) : Type 0 where
+  pub count : pdos ≤ length streams
+  pub provisional : (k : ℕ) → k < pdos → of_stream (λ s. s.id) streams k ≡ 0x181 + k
+  pub deadlines : (k : ℕ) → k < pdos → IsSome (option_and_then (λ s. s.deadline) (slice_get streams k))
+  pub outside : (k : ℕ) → pdos ≤ k → k < length streams → (of_stream (λ s. s.id) streams k < 0x181) ⊎ (0x57F < of_stream (λ s. s.id) streams k)
+
+-- what holds of each network
+pub record IsNetwork (n : Net) : Type 0 where
+  pub nodes : IsNodeTable n.nodes
+  pub rows : IsPdoTable n.rows
+  pub streams : BeginsWith (length n.rows) n.set
+  pub rates : is_some_rate n.equipment.rates ≡ true

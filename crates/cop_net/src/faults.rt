@@ -1,0 +1,94 @@
+//! Why files make no network.
+
+ghost use Rattle.std.specs.Prelude.{◌≡◌};
+ghost use Rattle.cop_net.specs.declared.faults.PlanFault.TheVariants.{Memory};
+ghost use Rattle.cop_net.specs.Faults.{number_of_rule};
+
+use cop_dict::MappingFault;
+use std::alloc::{AllocError, AllocFailed};
+use thiserror::Error;
+
+/// The table in which the record stands that is refused.
+#[derive(Clone, Copy, PartialEq, Eq, Debug)]
+pub enum Table {
+    Nodes,
+    Pdos,
+}
+
+/// The rule that a network breaks.
+#[derive(Clone, Copy, PartialEq, Eq, Debug)]
+pub enum Rule {
+    /// A rule of the table itself.
+    Record(cop_rows::Rule),
+    /// The device's EDS file is not handed in, or the text breaks this rule.
+    Eds(Option<cop_eds::Refusal>),
+    /// The TPDO has no payload: its mapping breaks this rule, or the node has no device row.
+    Transmit(Option<MappingFault>),
+    /// The COB-ID of a PDO can't be given each identifier.
+    CobId,
+    /// The transmission type of the TPDO is absent or neither 254 nor 255.
+    Transmission,
+    /// The RPDO has no payload: its mapping breaks this rule, or the node has no device row; or it is used twice, or has
+    /// another layout than the TPDO.
+    Receive(Option<MappingFault>),
+    /// A PDO that nobody uses exists and can't be switched off.
+    StaysOn,
+    /// The time of the heartbeat can't be set.
+    Heartbeat,
+    /// No rate is supported by all devices.
+    NoRate,
+}
+
+impl Rule {
+    /// The number by which the refusal is known.
+    pub fn number(self) -> u8
+        ensures { result ≡ number_of_rule self }
+    {
+        match self {
+            Rule::Record(rule) => rule.number(),
+            Rule::Eds(_) => 43,
+            Rule::Transmit(_) => 45,
+            Rule::CobId => 46,
+            Rule::Transmission => 47,
+            Rule::Receive(_) => 48,
+            Rule::StaysOn => 50,
+            Rule::Heartbeat => 51,
+            Rule::NoRate => 52,
+        }
+    }
+}
+
+/// A rule that is broken, and where: the table and its record, from 1 on. Record 0 stands for the header, and for what the
+/// table as a whole lacks.
+#[derive(Clone, Copy, PartialEq, Eq, Debug)]
+pub struct Refusal {
+    pub table: Table,
+    pub rule: Rule,
+    pub place: u64,
+}
+
+/// Why files make no network.
+#[derive(Debug, Drop, Error)]
+pub enum PlanFault {
+    /// A rule is broken.
+    #[error("refused {} at record {}", .0.rule.number(), .0.place)]
+    Refused(Refusal),
+    #[error("out of memory")]
+    Memory,
+}
+
+impl From<AllocError> for PlanFault {
+    ghost from_gives = { λ _ fault. fault ≡ Memory };
+
+    fn from(_error: AllocError) -> PlanFault {
+        PlanFault::Memory
+    }
+}
+
+impl<T: Drop> From<AllocFailed<T>> for PlanFault {
+    ghost from_gives = { λ _ fault. fault ≡ Memory };
+
+    fn from(_error: AllocFailed<T>) -> PlanFault {
+        PlanFault::Memory
+    }
+}

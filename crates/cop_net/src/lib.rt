@@ -1,0 +1,26 @@
+//! From the table of nodes, the table of PDOs and the EDS files of the devices to the network: its dictionaries, its rates
+//! and the streams of its bus.
+#![tactic(auto)]
+
+mod devices;
+mod eds_files;
+mod faults;
+mod fixed;
+mod heartbeats;
+mod making;
+mod networks;
+mod pdos;
+mod rates;
+mod settings;
+mod strays;
+mod tables;
+mod texts;
+mod uses;
+
+pub use cop_rows::{
+    Consumer, Consumers, DeviceRow, FrameKind, FrameRow, Name, NodeTable, PdoRow, PdoTable,
+};
+pub use faults::{PlanFault, Refusal, Rule, Table};
+pub use making::network;
+pub use networks::Network;
+pub use tables::{read_nodes, read_pdos};

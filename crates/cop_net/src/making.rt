@@ -1,0 +1,90 @@
+//! How a network is made of its tables and files.
+
+ghost use Rattle.std.specs.Prelude.{◌≡◌, ◌≤◌, All, IfOk, length, map};
+ghost use Rattle.std.specs.String.{string_bytes};
+ghost use Rattle.cop_table.specs.Reading.{Gives};
+ghost use Rattle.cop_rta.specs.Entries.{entry_of};
+ghost use Rattle.cop_rows.specs.Nodes.{IsNodeTable};
+ghost use Rattle.cop_rows.specs.Pdos.{IsPdoRow};
+ghost use Rattle.cop_net.specs.Faults.{refusal};
+ghost use Rattle.cop_net.specs.Fixed.{IsTimed};
+ghost use Rattle.cop_net.specs.Network.{accepted, streams_of, network_of};
+
+use crate::devices::Devices;
+use crate::faults::{PlanFault, Rule};
+use crate::fixed::put_fixed;
+use crate::heartbeats::Heartbeats;
+use crate::networks::Network;
+use crate::pdos::find_pdos;
+use crate::strays::{check_devices, refused};
+use crate::texts::equip;
+use cop_rows::{DeviceRow, FrameRow, NodeTable, PdoRow, PdoTable};
+use cop_rta::StreamSet;
+use std::alloc::Global;
+
+/// The rows of the devices of a table.
+fn device_rows(nodes: &NodeTable) -> &[DeviceRow]
+    ensures rows { result.now ≡ nodes.now.devices }
+    ensures nodes { All (λ row. row.node ≤ 127) result.now }
+{
+    nodes.devices()
+}
+
+/// The rows of the frames of a table.
+fn frame_rows(nodes: &NodeTable) -> &[FrameRow]
+    ensures rows { result.now ≡ nodes.now.frames }
+    ensures timed { All IsTimed result.now }
+    ensures table { IsNodeTable nodes.now }
+{
+    nodes.frames()
+}
+
+#[tactic(auto, unfolding(crate::specs::Network::streams_of))]
+/// The streams of the frames and the PDOs of the tables.
+fn streams_of(
+    alloc: Global,
+    frames: &[FrameRow],
+    heartbeats: &Heartbeats<'_>,
+    rows: &[PdoRow],
+    devices: &Devices,
+) -> Result<StreamSet, PlanFault>
+    requires timed { All IsTimed frames.now }
+    requires same { heartbeats.now ≡ frames.now }
+    requires rows { All IsPdoRow rows.now }
+    requires count { length rows.now ≤ 512 }
+    ensures { Gives (λ set. map entry_of set) refusal result (streams_of frames.now rows.now devices.now) }
+{
+    let found = find_pdos(alloc, devices, rows)?;
+    check_devices(heartbeats, &found.used, devices)?;
+    if !devices.has_rate() {
+        return Err(refused(Rule::NoRate, 0));
+    }
+    let mut set = found.set;
+    put_fixed(&mut set, frames)?;
+    Ok(set)
+}
+
+#[tactic(auto, unfolding(crate::specs::Network::network_of))]
+/// The network of the tables and of the EDS files, which have names and texts; of two files with one name the first counts.
+/// Otherwise the first rule that is broken: of the devices by record (43); then of the PDOs by record (45, the TPDO's 46,
+/// 47, and of each consumer in turn 48 and 46); then of the devices by node (51, 50); then 52.
+pub fn network<'a>(
+    alloc: Global,
+    nodes: &'a NodeTable,
+    pdos: &'a PdoTable,
+    files: &[(String, Vec<u8>)],
+) -> Result<Network<'a>, PlanFault>
+    ensures exact { Gives accepted refusal result (network_of nodes.now pdos.now (map (λ f. record { name = string_bytes f.0; text = f.1.items }) files.now)) }
+    ensures tables { IfOk result (λ n. (n.nodes ≡ nodes.now) × (n.rows ≡ pdos.now)) }
+{
+    let devices = equip(alloc, device_rows(nodes), files)?;
+    let heartbeats = Heartbeats::new(frame_rows(nodes));
+    let set = streams_of(alloc, frame_rows(nodes), &heartbeats, pdos.rows(), &devices)?;
+    Ok(Network {
+        nodes,
+        pdos,
+        heartbeats,
+        devices,
+        set,
+    })
+}

@@ -1,0 +1,78 @@
+//! The communication records that the PDOs of a network use.
+
+ghost use Rattle.std.specs.Prelude.{◌≡◌, ◌<◌, ◌≤◌, ◌++◌, [], ◌∷◌, Ok};
+ghost use Rattle.cop_table.specs.Reading.{Gives};
+ghost use Rattle.cop_net.specs.Faults.{refusal};
+ghost use Rattle.cop_net.specs.Uses.{is_used};
+
+use crate::faults::PlanFault;
+use std::alloc::Global;
+use std::marker::Model;
+
+/// The communication record of a PDO in use, at an index of a node.
+#[derive(Clone, Copy, PartialEq, Eq, Debug)]
+pub struct Used {
+    pub node: u8,
+    pub index: u16,
+}
+
+/// The index of the first communication record.
+const FIRST: u16 = 0x1400;
+
+/// How many indexes there are from the first communication record to the last.
+const INDEXES: usize = 0x600;
+
+/// The communication records in use, in the order in which they were added.
+#[derive(Drop)]
+pub struct Uses {
+    records: Vec<Used>,
+    // Whether the record of each node and index is one of them.
+    flags: Vec<bool>,
+}
+
+impl Model for Uses {
+    ghost use Rattle.std.specs.Prelude.{List};
+    ghost use Rattle.cop_net.specs.declared.uses.Used.{Used};
+    ghost use Rattle.cop_net.specs.Uses.{KnowsUses};
+
+    ghost Value = { List Used };
+
+    ghost view = { λ u. u.records.items };
+
+    ghost invariant = { λ u. KnowsUses u.flags.items u.records.items };
+}
+
+impl Uses {
+    /// No record.
+    pub fn new(alloc: Global) -> Result<Uses, PlanFault>
+        ensures { Gives (λ u. u) refusal result (Ok []) }
+    {
+        let flags = vec![in alloc; false; 128 * INDEXES]?;
+        Ok(Uses {
+            records: Vec::new(alloc),
+            flags,
+        })
+    }
+
+    /// Whether a record is in use.
+    pub fn contains(&self, node: u8, index: u16) -> bool
+        requires node { node < 128 }
+        requires low { 0x1400 ≤ index }
+        requires high { index < 0x1A00 }
+        ensures { result ≡ is_used self.now node index }
+    {
+        self.flags[INDEXES * usize::from(node) + usize::from(index - FIRST)]
+    }
+
+    /// Adds a record.
+    pub fn push(&mut self, used: Used) -> Result<(), PlanFault>
+        requires node { used.node < 128 }
+        requires low { 0x1400 ≤ used.index }
+        requires high { used.index < 0x1A00 }
+        ensures { Gives (λ _. self.new) refusal result (Ok (self.old ++ used ∷ [])) }
+    {
+        self.records.push(used)?;
+        self.flags[INDEXES * usize::from(used.node) + usize::from(used.index - FIRST)] = true;
+        Ok(())
+    }
+}
