@@ -21,9 +21,9 @@ use Rattle.cop_net.specs.declared.devices.Device.{Device}
 use Rattle.cop_net.specs.Steps.{folded}
 use Rattle.cop_net.specs.Rates.{is_some_rate}
 use Rattle.cop_net.specs.Fixed.{IsTimed, base_of, key_of, frame_stream, sent, streams_from, fixed_streams}
-use Rattle.cop_net.specs.Devices.{Equipment}
+use Rattle.cop_net.specs.Devices.{File, Equipment, devices_of}
 use Rattle.cop_net.specs.Pdos.{Traffic, pdo_stream, pdo_added, pdos_of, no_traffic}
-use Rattle.cop_net.specs.Network.{all_settable, with_rate, streams_of, BeginsWith}
+use Rattle.cop_net.specs.Network.{all_settable, with_rate, streams_of, BeginsWith, network_of, accepted}
 use Rattle.cop_net.proofs.FixedLemmas.{found_all}
 use Rattle.cop_net.proofs.PdoLemmas.{bind_ok, shape, one_more}
 
@@ -172,3 +172,10 @@ network_streams frames rows equipment set h ok =
     let parts : map entry_of set ≡ p.0.streams ++ fixed_streams frames = cc in
     let s = pdos_from equipment.devices rows no_traffic p.0 p.1 (λ k d lt. absurd (omega (arith, lt))) in
     (begins (length rows) set p.0.streams (fixed_streams frames) parts (s.1 ∙ zero-add (length rows)) s.0 (fixed_outside frames h), with_rate_ok (is_some_rate equipment.rates) r.0 r.1)
+
+-- what the devices and the streams make
+pub made : (nodes : NodeLists) (rows : List PdoRow) (files : List File) (equipment : Equipment) (set : List Stream) → devices_of files nodes.devices ≡ Ok equipment
+    → streams_of nodes.frames rows equipment ≡ Ok (map entry_of set)
+    → network_of nodes rows files ≡ Ok (accepted (record { nodes = nodes; rows = rows; equipment = equipment; set = set }))
+unfolding network_of
+made nodes rows files equipment set devices streams = rw (devices, streams) refl

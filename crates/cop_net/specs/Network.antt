@@ -84,8 +84,10 @@ pub record BeginsWith (pdos : ℕ) (streams : List Stream) : Type 0 where
   pub deadlines : (k : ℕ) → k < pdos → IsSome (option_and_then (λ s. s.deadline) (slice_get streams k))
   pub outside : (k : ℕ) → pdos ≤ k → k < length streams → (of_stream (λ s. s.id) streams k < 0x181) ⊎ (0x57F < of_stream (λ s. s.id) streams k)
 
--- what holds of each network
+-- what holds of each network: it is what its tables and some files make
 pub record IsNetwork (n : Net) : Type 0 where
+  pub files : List File
+  pub made : network_of n.nodes n.rows files ≡ Ok (accepted n)
   pub nodes : IsNodeTable n.nodes
   pub rows : IsPdoTable n.rows
   pub streams : BeginsWith (length n.rows) n.set

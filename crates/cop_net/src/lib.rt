@@ -24,3 +24,6 @@ pub use faults::{PlanFault, Refusal, Rule, Table};
 pub use making::network;
 pub use networks::Network;
 pub use tables::{read_nodes, read_pdos};
+
+#[cfg(test)]
+mod tests;

@@ -67,7 +67,7 @@ impl<'a> Network<'a> {
         ensures most { result ≤ 512 }
         ensures network { IsNetwork self.now }
     {
-        self.pdos.rows().len()
+        self.rows().len()
     }
 
     /// The rates that all devices support; there is one.
