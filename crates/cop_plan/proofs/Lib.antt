@@ -8,3 +8,4 @@ pub mod AssignLemmas
 pub mod RenameLemmas
 pub mod PlannedLemmas
 pub mod DeadlineLemmas
+pub mod NetworkLemmas

@@ -4,11 +4,13 @@
 mod assigning;
 mod filling;
 mod laws;
+mod planning;
 mod plans;
 
 pub use assigning::{Outcome, assign, can_assign};
 pub use filling::Count;
 pub use laws::order_is_unique;
+pub use planning::plan;
 pub use plans::Plan;
 
 #[cfg(test)]

@@ -49,7 +49,7 @@ fn responses(alloc: Global, plan: &Plan) -> Option<Vec<u64>> {
     let mut above = [false; StreamSet::MOST];
     let above = &mut above[..set.streams().len()];
     let mut found = Vec::new(alloc);
-    for pdo in 0..plan.ids().len() {
+    for pdo in 0..plan.ids().len().min(set.len()) {
         above_by_id(set, pdo, above);
         match verdict(set, above, pdo, plan.rate()) {
             Verdict::Pass { response } => found.push(response).ok()?,
@@ -68,6 +68,8 @@ struct Row {
     ids: &'static [u16],
     responses: &'static [u64],
     refused: &'static [(Rate, usize)],
+    // n(n+1)/2 for each rate that is tried
+    trials: u64,
 }
 
 const ROWS: [Row; 7] = [
@@ -83,6 +85,7 @@ const ROWS: [Row; 7] = [
             (Rate::Kbit50, 3),
             (Rate::Kbit125, 3),
         ],
+        trials: 30,
     },
     Row {
         table: AT_THE_DEADLINE,
@@ -91,6 +94,7 @@ const ROWS: [Row; 7] = [
         ids: &[0x181],
         responses: &[4320],
         refused: &[(Rate::Kbit10, 1), (Rate::Kbit20, 1), (Rate::Kbit50, 1)],
+        trials: 4,
     },
     Row {
         table: WITHIN_169,
@@ -99,6 +103,7 @@ const ROWS: [Row; 7] = [
         ids: &[0x181],
         responses: &[675],
         refused: &[],
+        trials: 1,
     },
     Row {
         table: WITHIN_168,
@@ -107,6 +112,7 @@ const ROWS: [Row; 7] = [
         ids: &[0x181],
         responses: &[540],
         refused: &[(Rate::Kbit800, 1)],
+        trials: 2,
     },
     Row {
         table: TWO,
@@ -115,6 +121,7 @@ const ROWS: [Row; 7] = [
         ids: &[0x181, 0x182],
         responses: &[4320, 4320],
         refused: &[(Rate::Kbit125, 1)],
+        trials: 6,
     },
     Row {
         table: LATE_JITTER,
@@ -123,6 +130,7 @@ const ROWS: [Row; 7] = [
         ids: &[0x182, 0x181],
         responses: &[6208, 1080],
         refused: &[],
+        trials: 3,
     },
     Row {
         table: NONE,
@@ -131,6 +139,7 @@ const ROWS: [Row; 7] = [
         ids: &[],
         responses: &[],
         refused: &[],
+        trials: 0,
     },
 ];
 
@@ -141,20 +150,30 @@ fn are_refused(refusals: &[Refusal], rows: &[(Rate, usize)]) -> bool {
         })
 }
 
+// Whether each member has a busy period above the horizon.
+fn is_long(refusal: &Refusal) -> bool {
+    refusal
+        .members
+        .as_slice()
+        .iter()
+        .all(|member| matches!(member.evidence, Evidence::Long { .. }))
+}
+
 #[test]
 fn slowest_rates_are_planned(rt: HostRuntime) {
     for row in ROWS {
-        let Some((Outcome::Planned(plan), trials)) = answer(rt.alloc(), row.table, row.candidates)
-        else {
+        let Some((outcome, trials)) = answer(rt.alloc(), row.table, row.candidates) else {
+            assert!(rt; false);
+            return;
+        };
+        let Outcome::Planned(plan) = outcome else {
             assert!(rt; false);
             return;
         };
         assert_eq!(rt; plan.rate(), row.rate);
         assert_eq!(rt; plan.ids(), row.ids);
         assert!(rt; are_refused(plan.refusals(), row.refused));
-        let n = row.ids.len() as u64;
-        let rates = row.refused.len() as u64 + 1;
-        assert!(rt; trials <= rates * (n * (n + 1) / 2));
+        assert!(rt; trials <= row.trials);
         match responses(rt.alloc(), &plan) {
             Some(list) => assert_eq!(rt; list.as_slice(), row.responses),
             None => assert!(rt; false),
@@ -164,14 +183,25 @@ fn slowest_rates_are_planned(rt: HostRuntime) {
 
 #[test]
 fn one_pdo_past_its_deadline(rt: HostRuntime) {
-    let Some((Outcome::Planned(plan), _)) = answer(rt.alloc(), PAST_THE_DEADLINE, ALL) else {
+    let Some((outcome, _)) = answer(rt.alloc(), PAST_THE_DEADLINE, ALL) else {
+        assert!(rt; false);
+        return;
+    };
+    let Outcome::Planned(plan) = outcome else {
         assert!(rt; false);
         return;
     };
     assert_eq!(rt; plan.rate(), Rate::Kbit250);
     let refusals = plan.refusals();
     assert_eq!(rt; refusals.len(), 4);
-    let member = &refusals[3].members.as_slice()[0];
+    let Some(refusal) = refusals.last() else {
+        assert!(rt; false);
+        return;
+    };
+    let Some(member) = refusal.members.as_slice().first() else {
+        assert!(rt; false);
+        return;
+    };
     match &member.evidence {
         Evidence::Late { q, busy, queue } => {
             assert_eq!(rt; *q, 0);
@@ -184,19 +214,17 @@ fn one_pdo_past_its_deadline(rt: HostRuntime) {
 
 #[test]
 fn no_rate_passes(rt: HostRuntime) {
-    let Some((Outcome::Refused(refusals), trials)) = answer(rt.alloc(), TOO_BUSY, &[Rate::Kbit125])
-    else {
+    let Some((outcome, trials)) = answer(rt.alloc(), TOO_BUSY, &[Rate::Kbit125]) else {
+        assert!(rt; false);
+        return;
+    };
+    let Outcome::Refused(refusals) = outcome else {
         assert!(rt; false);
         return;
     };
     let refusals = refusals.as_slice();
     assert!(rt; are_refused(refusals, &[(Rate::Kbit125, 1)]));
-    assert!(rt;
-        matches!(
-            refusals[0].members.as_slice()[0].evidence,
-            Evidence::Long { .. }
-        )
-    );
+    assert!(rt; refusals.iter().all(|refusal| is_long(refusal)));
     assert_eq!(rt; trials, 1);
 }
 
@@ -226,7 +254,11 @@ fn the_largest_table_keeps_its_order(rt: HostRuntime) {
     rates.insert(Rate::Kbit1000);
     let mut count = Count { trials: 0 };
     assert!(rt; can_assign(&set, 512));
-    let Ok(Outcome::Planned(plan)) = assign(rt.alloc(), &set, 512, &rates, &mut count) else {
+    let Ok(outcome) = assign(rt.alloc(), &set, 512, &rates, &mut count) else {
+        assert!(rt; false);
+        return;
+    };
+    let Outcome::Planned(plan) = outcome else {
         assert!(rt; false);
         return;
     };
@@ -239,10 +271,10 @@ fn the_largest_table_keeps_its_order(rt: HostRuntime) {
     assert!(rt; plan.order().iter().enumerate().all(|(k, pdo)| *pdo == k));
     match responses(rt.alloc(), &plan) {
         Some(list) => {
-            assert_eq!(rt; list[0], 1080);
-            assert_eq!(rt; list[1], 1620);
-            assert_eq!(rt; list[510], 276480);
-            assert_eq!(rt; list[511], 276480);
+            assert_eq!(rt; list.first().copied(), Some(1080));
+            assert_eq!(rt; list.get(1).copied(), Some(1620));
+            assert_eq!(rt; list.get(510).copied(), Some(276_480));
+            assert_eq!(rt; list.get(511).copied(), Some(276_480));
         }
         None => assert!(rt; false),
     }
