@@ -1,5 +1,5 @@
 -- What the files say, from what each reading gives.
-use Rattle.std.proofs.Common.{◌≡◌, ℕ, List, map, length, Ok, Err, Result, IfSome, MatchResult, refl, sym, subst}
+use Rattle.std.proofs.Common.{◌≡◌, ℕ, List, map, length, Ok, Err, Result, IfSome, IsTrue, MatchResult, All, Bool, true, ◌↔◌, inl, inr, refl, sym, subst}
 use Rattle.std.specs.Result.{IsErrAnd}
 use Rattle.cop_table.specs.Reading.{Gives}
 use Rattle.cop_rta.specs.declared.streams.Stream.{Stream}
@@ -17,12 +17,19 @@ use Rattle.cop_net.specs.Tables.{in_table}
 use Rattle.cop_net.specs.Network.{Net, Accepted, accepted, network_of}
 use Rattle.canplan.specs.declared.faults.Fault.{Fault}
 use Rattle.canplan.specs.declared.plans.Files.{Files}
-use Rattle.canplan.specs.Faults.{fault_of}
+use Rattle.cop_cert.specs.declared.faults.CertFault.{CertFault}
+use Rattle.cop_cert.specs.declared.faults.CertFault.TheVariants as cert
+use Rattle.cop_cert.specs.declared.refusals.Refusal as refused
+use Rattle.cop_cert.specs.Faults.{breach_of}
+use Rattle.cop_cert.specs.Reading.{refusals_of}
+use Rattle.canplan.specs.Reports.{lines_below}
+use Rattle.canplan.specs.Checks.{check_line_at, AreChecked, IsCheckOf, ExplainsCheck}
+use Rattle.canplan.specs.Faults.{fault_of, fault_of_refusals}
 use Rattle.canplan.specs.Networks.{Found, network_in, ExplainsNetwork}
 use Rattle.canplan.specs.Plans.{ArePlanned, AreFilesOf}
 
 -- what holds of the fault that is answered
-pub err_is : (r : Result Files Fault) (A : Files → Type 0) (B : Fault → Type 0) (fault : Fault) → IsErrAnd r (λ f. f ≡ fault) → B fault → MatchResult r A B
+pub err_is : {X : Type 0} (r : Result X Fault) (A : X → Type 0) (B : Fault → Type 0) (fault : Fault) → IsErrAnd r (λ f. f ≡ fault) → B fault → MatchResult r A B
 err_is (Ok x) A B fault e b = absurd e
 err_is (Err f) A B fault e b = subst B (sym e) b
 
@@ -52,6 +59,10 @@ module _ (nodes pdos : List ℕ) (files : List File) where
   unfolding network_in
   network_read n rows a read also e = rw (read, also, e) refl
 
+  pub network_found : (n : NodeLists) (rows : List PdoRow) (network : Net) → in_table Nodes (nodes_of nodes) ≡ Ok n → in_table Pdos (pdos_of pdos) ≡ Ok rows
+      → network_of n rows files ≡ Ok (accepted network) → network_in nodes pdos files ≡ Ok (record { rows = rows; network = accepted network })
+  network_found n rows network read also e = network_read n rows (accepted network) read also e
+
   -- the files of the network's plan are those of the files
   pub files_are : (n : NodeLists) (rows : List PdoRow) (network : Net) (made : Files) → in_table Nodes (nodes_of nodes) ≡ Ok n → in_table Pdos (pdos_of pdos) ≡ Ok rows
       → network_of n rows files ≡ Ok (accepted network) → network.rows ≡ rows → ArePlanned network made → AreFilesOf nodes pdos files made
@@ -61,4 +72,33 @@ module _ (nodes pdos : List ℕ) (files : List File) where
     streams = network.set;
     streams_are = refl;
     planned = rw same at planned;
+  }
+
+  -- a fault of the network explains why there is no check
+  pub of_network : (text : List ℕ) (fault : PlanFault) → ExplainsNetwork nodes pdos files (fault_of fault) → ExplainsCheck nodes pdos files text (fault_of fault)
+  of_network text (Refused r) e = inl e
+  of_network text Memory e = tt
+
+  -- one of the refusal file does
+  pub refusals_explain : (text : List ℕ) (found : Found) (fault : CertFault) → network_in nodes pdos files ≡ Ok found → IfSome (breach_of fault) (λ b. refusals_of text ≡ Err b)
+      → ExplainsCheck nodes pdos files text (fault_of_refusals fault)
+  refusals_explain text found (cert.Refused b) read e = inr (found, read, b, e, refl, refl)
+  refusals_explain text found cert.Memory read e = tt
+
+  -- the check of the network's refusals is that of the files
+  pub check_is : (n : NodeLists) (rows : List PdoRow) (network : Net) (text lines : List ℕ) (refusals : List refused.Refusal) (answers : List Bool) (all : Bool)
+      → in_table Nodes (nodes_of nodes) ≡ Ok n → in_table Pdos (pdos_of pdos) ≡ Ok rows → network_of n rows files ≡ Ok (accepted network) → network.rows ≡ rows → refusals_of text ≡ Ok refusals
+      → AreChecked network.set (length network.rows) refusals answers (length refusals) → lines ≡ lines_below (check_line_at refusals answers) (length refusals)
+      → (IsTrue all ↔ All (λ answer. answer ≡ true) answers) → IsCheckOf nodes pdos files text lines all
+  check_is n rows network text lines refusals answers all read also e same told checked are hold = record {
+    found = record { rows = rows; network = accepted network };
+    read = network_read n rows (accepted network) read also e;
+    streams = network.set;
+    streams_are = refl;
+    refusals = refusals;
+    refusals_are = told;
+    answers = answers;
+    checked = rw same at checked;
+    lines_are = are;
+    all_hold = hold;
   }
