@@ -1,6 +1,8 @@
 use crate::{NodeTable, PdoTable, PlanFault, Rule, Table, network, read_nodes, read_pdos};
-use cop_dict::MappingFault;
+use cop_dict::{MappingFault, build};
+use cop_eds::parse;
 use cop_frame::Rate;
+use cop_pdo::{Direction, payload};
 use std::alloc::Global;
 use std::fmt::Write;
 use std::test::Fail;
@@ -435,5 +437,20 @@ fn one_pdo_too_many(rt: HostRuntime) -> Result<(), Fail> {
         told(read_pdos(rt.alloc(), text.as_bytes()))?,
         Some((49, Table::Pdos, 513))
     );
+    Ok(())
+}
+
+#[test]
+fn the_sample_device_sends_eight_bytes(rt: HostRuntime) -> Result<(), Fail> {
+    let text = text_of(rt.alloc(), USUAL)?;
+    let eds = parse(rt.alloc(), &text)?;
+    let dict = build(rt.alloc(), &eds, 5)?;
+    match payload(&dict, Direction::Transmit, 1) {
+        Ok(mapping) => {
+            assert_eq!(rt; mapping.bits(), 64);
+            assert_eq!(rt; mapping.bytes(), 8);
+        }
+        Err(_) => assert!(rt; false),
+    }
     Ok(())
 }
