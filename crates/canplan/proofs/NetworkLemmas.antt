@@ -1,9 +1,6 @@
 -- What the files say, from what each reading gives.
-use Rattle.std.proofs.Common.{◌≡◌, ℕ, List, map, length, Ok, Err, Result, IfSome, IsTrue, MatchResult, All, Bool, true, ◌↔◌, inl, inr, refl, sym, subst}
+use Rattle.std.proofs.Common.{◌≡◌, ℕ, List, length, Ok, Err, Result, IfSome, IsTrue, MatchResult, All, Bool, true, ◌↔◌, inl, inr, refl, sym, subst}
 use Rattle.std.specs.Result.{IsErrAnd}
-use Rattle.cop_table.specs.Reading.{Gives}
-use Rattle.cop_rta.specs.declared.streams.Stream.{Stream}
-use Rattle.cop_rta.specs.Entries.{entry_of}
 use Rattle.cop_rows.specs.Nodes.{NodeLists}
 use Rattle.cop_rows.specs.declared.pdo_table.PdoRow.{PdoRow}
 use Rattle.cop_rows.specs.NodeReading.{nodes_of}
@@ -14,7 +11,7 @@ use Rattle.cop_net.specs.declared.faults.Table.TheVariants.{Nodes, Pdos}
 use Rattle.cop_net.specs.Devices.{File}
 use Rattle.cop_net.specs.Faults.{refusal}
 use Rattle.cop_net.specs.Tables.{in_table}
-use Rattle.cop_net.specs.Network.{Net, Accepted, accepted, network_of}
+use Rattle.cop_net.specs.Network.{Net, Accepted, IsNetwork, accepted, network_of}
 use Rattle.canplan.specs.declared.faults.Fault.{Fault}
 use Rattle.canplan.specs.declared.plans.Files.{Files}
 use Rattle.cop_cert.specs.declared.faults.CertFault.{CertFault}
@@ -65,12 +62,13 @@ module _ (nodes pdos : List ℕ) (files : List File) where
 
   -- the files of the network's plan are those of the files
   pub files_are : (n : NodeLists) (rows : List PdoRow) (network : Net) (made : Files) → in_table Nodes (nodes_of nodes) ≡ Ok n → in_table Pdos (pdos_of pdos) ≡ Ok rows
-      → network_of n rows files ≡ Ok (accepted network) → network.rows ≡ rows → ArePlanned network made → AreFilesOf nodes pdos files made
-  files_are n rows network made read also e same planned = record {
+      → network_of n rows files ≡ Ok (accepted network) → network.rows ≡ rows → IsNetwork network → ArePlanned network made → AreFilesOf nodes pdos files made
+  files_are n rows network made read also e same is planned = record {
     found = record { rows = rows; network = accepted network };
     read = network_read n rows (accepted network) read also e;
     streams = network.set;
     streams_are = refl;
+    begins = rw same at is.streams;
     planned = rw same at planned;
   }
 

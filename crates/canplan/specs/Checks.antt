@@ -1,5 +1,5 @@
 -- The check of a refusal file.
-use Rattle.std.specs.Prelude.{◌≡◌, ◌↔◌, ℕ, ◌<◌, ◌⊎◌, List, [], ◌++◌, Bool, true, false, codes, decimal, length, map, get_or, slice_get, All, IsTrue, Result, Ok, Err, Some}
+use Rattle.std.specs.Prelude.{◌≡◌, ◌↔◌, ℕ, ◌<◌, ◌⊎◌, List, [], ◌++◌, Bool, true, false, codes, decimal, length, map, get_or, slice_get, All, IsTrue, Ok, Err, Some}
 use Rattle.std.specs.Option.{option_map_or}
 use Rattle.cop_frame.specs.Rate.{kbits_of}
 use Rattle.cop_rta.specs.declared.streams.Stream.{Stream}

@@ -7,7 +7,7 @@ use Rattle.cop_rta.specs.Entries.{entry_of}
 use Rattle.cop_cert.specs.Format.{text_of}
 use Rattle.cop_rows.specs.declared.pdo_table.PdoRow.{PdoRow}
 use Rattle.cop_net.specs.Devices.{File}
-use Rattle.cop_net.specs.Network.{Net}
+use Rattle.cop_net.specs.Network.{Net, BeginsWith}
 use Rattle.cop_plan.specs.declared.assigning.Outcome.{Outcome}
 use Rattle.cop_plan.specs.declared.assigning.Outcome.TheVariants.{Planned, Refused}
 use Rattle.cop_plan.specs.Plans.{IsOutcome}
@@ -36,10 +36,11 @@ pub record AreFilesFor (rates : List Rate) (streams : List Stream) (rows : List 
 abbrev pub ArePlanned : Net → Files → Type 0
 ArePlanned network files = AreFilesFor network.equipment.rates network.set network.rows files
 
--- the files of the network that the tables and the EDS files say
+-- the files of the network that the tables and the EDS files say, whose first streams are the PDOs
 pub record AreFilesOf (nodes pdos : List ℕ) (eds : List File) (files : Files) : Type 0 where
   pub found : Found
   pub read : network_in nodes pdos eds ≡ Ok found
   pub streams : List Stream
   pub streams_are : map entry_of streams ≡ found.network.streams
+  pub begins : BeginsWith (length found.rows) streams
   pub planned : AreFilesFor found.network.equipment.rates streams found.rows files

@@ -75,10 +75,8 @@ fn late_joiner_is_judged(rt: HostRuntime) -> Result<(), Fail> {
     for (deadline, late) in [(983, Some(1)), (984, None)] {
         let set = two_streams(rt.alloc(), deadline)?;
         let trace = trace(rt.alloc(), 1084, &late_joiner())?;
-        match judge(rt.alloc(), &set, Rate::Kbit1000, &trace) {
-            Ok(run) => assert_eq!(rt; first_late(&run), late),
-            Err(_) => assert!(rt; false),
-        }
+        let run = judge(rt.alloc(), &set, Rate::Kbit1000, &trace)?;
+        assert_eq!(rt; first_late(&run), late);
     }
     Ok(())
 }
@@ -167,10 +165,8 @@ fn bound_is_reached(rt: HostRuntime) -> Result<(), Fail> {
     for (deadline, late) in [(13_000, Some(13)), (14_000, None)] {
         let set = three_streams(rt.alloc(), deadline)?;
         let trace = trace(rt.alloc(), 28_000, &steps)?;
-        match judge(rt.alloc(), &set, Rate::Kbit125, &trace) {
-            Ok(run) => assert_eq!(rt; first_late(&run), late),
-            Err(_) => assert!(rt; false),
-        }
+        let run = judge(rt.alloc(), &set, Rate::Kbit125, &trace)?;
+        assert_eq!(rt; first_late(&run), late);
     }
     Ok(())
 }
@@ -191,26 +187,26 @@ fn trace_is_written_and_read(rt: HostRuntime) -> Result<(), Fail> {
     let written = trace(rt.alloc(), 1084, &late_joiner())?;
     let text = write_trace(rt.alloc(), &written)?;
     assert_eq!(rt; text.as_slice(), late_joiner_text().as_bytes());
-    match read_trace(rt.alloc(), &text) {
-        Ok(read) => {
-            assert_eq!(rt; read.until, 1084);
-            assert_eq!(rt; read.steps.as_slice(), late_joiner().as_slice());
-        }
-        Err(_) => assert!(rt; false),
-    }
+    let read = read_trace(rt.alloc(), &text)?;
+    assert_eq!(rt; read.until, 1084);
+    assert_eq!(rt; read.steps.as_slice(), late_joiner().as_slice());
     Ok(())
 }
 
 // A text that is cut within a record of a step, or before the end's, is refused; the last line feed may be missing.
 #[test]
-fn cut_traces_are_refused(rt: HostRuntime) {
+fn cut_traces_are_refused(rt: HostRuntime) -> Result<(), Fail> {
     let text = late_joiner_text().as_bytes();
     for cut in 0..text.len() {
         match read_trace(rt.alloc(), &text[..cut]) {
-            Ok(_) => assert_eq!(rt; cut + 1, text.len()),
-            Err(fault) => assert!(rt; matches!(fault, BusFault::Refused { number: 69, .. })),
+            Err(BusFault::Refused { number, .. }) => assert_eq!(rt; number, 69),
+            read => {
+                let _whole = read?;
+                assert_eq!(rt; cut + 1, text.len());
+            }
         }
     }
+    Ok(())
 }
 
 #[test]
@@ -265,25 +261,24 @@ fn other_records_are_refused(rt: HostRuntime) -> Result<(), Fail> {
 }
 
 #[test]
-fn data_is_read(rt: HostRuntime) {
+fn data_is_read(rt: HostRuntime) -> Result<(), Fail> {
     let text = b"kind,moment,id,event,bits,data\nqueue,7,2047,5,67,0aF1\nuntil,9,0,,,\n";
-    match read_trace(rt.alloc(), text) {
-        Ok(read) => assert_eq!(rt;
-            read.steps.as_slice(),
-            [Step::Queue {
-                at: 7,
-                id: 2047,
-                event: 5,
-                frame: Content {
-                    bits: 67,
-                    body: [0x0A, 0xF1, 0, 0, 0, 0, 0, 0],
-                    len: 2,
-                },
-            }]
-            .as_slice()
-        ),
-        Err(_) => assert!(rt; false),
-    }
+    let read = read_trace(rt.alloc(), text)?;
+    assert_eq!(rt;
+        read.steps.as_slice(),
+        [Step::Queue {
+            at: 7,
+            id: 2047,
+            event: 5,
+            frame: Content {
+                bits: 67,
+                body: [0x0A, 0xF1, 0, 0, 0, 0, 0, 0],
+                len: 2,
+            },
+        }]
+        .as_slice()
+    );
+    Ok(())
 }
 
 fn instance(at: u64, id: u16, bits: u32) -> Instance

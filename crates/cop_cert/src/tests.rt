@@ -265,7 +265,7 @@ fn long_lists_are_refused(rt: HostRuntime) -> Result<(), Fail> {
     for _ in 0..200_000 {
         text.extend_from_slice(b"10,1,busy,7\n")?;
     }
-    assert!(rt; read(rt.alloc(), &text).is_ok());
+    let _ = read(rt.alloc(), &text)?;
     text.extend_from_slice(b"10,1,busy,7\n")?;
     match read(rt.alloc(), &text) {
         Err(CertFault::Refused(breach)) => {

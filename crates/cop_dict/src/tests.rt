@@ -1,6 +1,7 @@
 use super::*;
 use cop_eds::{EdsFault, parse};
 use std::alloc::Global;
+use std::process;
 use std::test::Fail;
 
 // The sample device.
@@ -165,15 +166,12 @@ fn device(alloc: Global, text: &[u8]) -> Result<Dictionary, EdsFault> {
 // A write: index and sub, bytes, and the answer.
 type Row<'a> = ((u16, u8), &'a [u8], Result<(), u32>);
 
-// Whether writes in turn have these answers.
-fn answer(dict: &mut Dictionary, rows: &[Row]) -> bool {
+// Writes in turn have these answers.
+fn answer(rt: &impl process::Abort, dict: &mut Dictionary, rows: &[Row]) {
     for (at, bytes, wanted) in rows {
         let answer = dict.write(at.0, at.1, bytes);
-        if answer.map_err(|abort| abort.code()) != *wanted {
-            return false;
-        }
+        assert_eq!(rt; answer.map_err(|abort| abort.code()), *wanted);
     }
-    true
 }
 
 #[test]
@@ -195,7 +193,7 @@ fn sample(rt: HostRuntime) -> Result<(), Fail> {
         ((0x1800, 1), &[0x81, 0x01, 0x00, 0x60], Err(0x0609_0030)),
         ((0x1800, 1), &[0x81, 0x01, 0x00, 0x40], Ok(())),
     ];
-    assert!(rt; answer(&mut dict, rows));
+    answer(&rt, &mut dict, rows);
     assert_eq!(rt; dict.read(0x1017, 0)?, [0x64, 0].as_slice());
     assert_eq!(rt; dict.read(0x1800, 1)?, [0x81, 0x01, 0x00, 0x40].as_slice());
     dict.reset_communication();
@@ -223,7 +221,7 @@ fn types(rt: HostRuntime) -> Result<(), Fail> {
         ((0x2001, 0), &[0x06, 0x00], Err(0x0609_0031)),
         ((0x2002, 0), b"a longer name", Ok(())),
     ];
-    assert!(rt; answer(&mut dict, rows));
+    answer(&rt, &mut dict, rows);
     dict.reset_communication();
     assert_eq!(rt; dict.read(0x2002, 0)?, b"a longer name".as_slice());
     dict.reset_all();
@@ -256,7 +254,7 @@ fn mappings(rt: HostRuntime) -> Result<(), Fail> {
         ((0x1600, 1), &[0x1F, 0x01, 0x00, 0x20], Ok(())),
         ((0x1600, 0), &[1], Err(0x0604_0041)),
     ];
-    assert!(rt; answer(&mut dict, rows));
+    answer(&rt, &mut dict, rows);
     assert_eq!(rt; dict.layout_bits(0x1A00, 1), Err(MappingFault::Absent));
     assert_eq!(rt; dict.mapped(0x1600, 1), Err(MappingFault::NotMappable));
     Ok(())
@@ -289,7 +287,7 @@ fn refusal(alloc: Global, data_type: &[u8], lines: &[u8]) -> Result<Option<(u8, 
     match device(alloc, &text) {
         Ok(_) => Ok(None),
         Err(EdsFault::Refused(refusal)) => Ok(Some((refusal.rule.number(), refusal.line))),
-        Err(EdsFault::Memory) => Ok(Some((0, 0))),
+        Err(fault) => Err(fault)?,
     }
 }
 

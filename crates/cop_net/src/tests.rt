@@ -391,7 +391,8 @@ fn what_refusals_carry(rt: HostRuntime) -> Result<(), Fail> {
     for (made, rule) in rules.into_iter().zip(carried) {
         match made {
             Err(PlanFault::Refused(refusal)) => assert_eq!(rt; refusal.rule, rule),
-            _ => assert!(rt; false),
+            Ok(_) => assert!(rt; false),
+            Err(fault) => return Err(Fail::from(fault)),
         }
     }
     Ok(())

@@ -9,3 +9,6 @@ pub mod RenameLemmas
 pub mod PlannedLemmas
 pub mod DeadlineLemmas
 pub mod NetworkLemmas
+pub mod OnceLemmas
+pub mod ListsOnce
+pub mod OutcomeOnce

@@ -9,7 +9,7 @@ mod plans;
 
 pub use assigning::{Outcome, assign, can_assign};
 pub use filling::Count;
-pub use laws::order_is_unique;
+pub use laws::{one_outcome, order_is_unique};
 pub use planning::plan;
 pub use plans::Plan;
 

@@ -4,10 +4,11 @@ use std::fmt::Write;
 use std::test::Fail;
 
 /// The number of a refusal and its record.
-fn refusal<T: Drop>(read: Result<T, RowFault>) -> Option<(u8, u64)> {
+fn refusal<T: Drop>(read: Result<T, RowFault>) -> Result<Option<(u8, u64)>, Fail> {
     match read {
-        Err(RowFault::Refused(refusal)) => Some((refusal.rule.number(), refusal.place)),
-        _ => None,
+        Ok(_) => Ok(None),
+        Err(RowFault::Refused(refusal)) => Ok(Some((refusal.rule.number(), refusal.place))),
+        Err(fault) => Err(Fail::from(fault)),
     }
 }
 
@@ -105,7 +106,7 @@ fn pdos_that_break_a_rule(rt: HostRuntime) -> Result<(), Fail> {
     for (rows, number, place) in BROKEN_PDOS {
         let text = table(rt.alloc(), PDOS, rows)?;
         assert_eq!(rt;
-            refusal(read_pdos(rt.alloc(), text.as_bytes())),
+            refusal(read_pdos(rt.alloc(), text.as_bytes()))?,
             Some((number, place)),
             "{rows}"
         );
@@ -114,7 +115,7 @@ fn pdos_that_break_a_rule(rt: HostRuntime) -> Result<(), Fail> {
 }
 
 #[test]
-fn headers_are_compared_first(rt: HostRuntime) {
+fn headers_are_compared_first(rt: HostRuntime) -> Result<(), Fail> {
     for text in [
         "",
         "node,tpdo,period,jitter,deadline\n5\n",
@@ -123,16 +124,17 @@ fn headers_are_compared_first(rt: HostRuntime) {
         "5,1,10000,0,670,\n",
     ] {
         assert_eq!(rt;
-            refusal(read_pdos(rt.alloc(), text.as_bytes())),
+            refusal(read_pdos(rt.alloc(), text.as_bytes()))?,
             Some((40, 0)),
             "{text}"
         );
         assert_eq!(rt;
-            refusal(read_nodes(rt.alloc(), text.as_bytes())),
+            refusal(read_nodes(rt.alloc(), text.as_bytes()))?,
             Some((40, 0)),
             "{text}"
         );
     }
+    Ok(())
 }
 
 #[test]
@@ -147,12 +149,12 @@ fn more_than_512_pdos(rt: HostRuntime) -> Result<(), Fail> {
     let mut other = text.clone()?;
     writeln!(other, "6,1,10000,0,670,")?;
     assert_eq!(rt;
-        refusal(read_pdos(rt.alloc(), other.as_bytes())),
+        refusal(read_pdos(rt.alloc(), other.as_bytes()))?,
         Some((49, 513))
     );
     writeln!(text, "5,512,10000,0,670,")?;
     assert_eq!(rt;
-        refusal(read_pdos(rt.alloc(), text.as_bytes())),
+        refusal(read_pdos(rt.alloc(), text.as_bytes()))?,
         Some((44, 513))
     );
     Ok(())
@@ -273,7 +275,7 @@ fn nodes_that_break_a_rule(rt: HostRuntime) -> Result<(), Fail> {
     for (rows, number, place) in BROKEN_NODES {
         let text = table(rt.alloc(), NODES, rows)?;
         assert_eq!(rt;
-            refusal(read_nodes(rt.alloc(), text.as_bytes())),
+            refusal(read_nodes(rt.alloc(), text.as_bytes()))?,
             Some((number, place)),
             "{rows}"
         );
@@ -285,12 +287,12 @@ fn nodes_that_break_a_rule(rt: HostRuntime) -> Result<(), Fail> {
 fn bytes_that_are_no_text(rt: HostRuntime) -> Result<(), Fail> {
     let text = b"row,node,name,eds,period,jitter\ndevice,5,V\xFF,unit.eds,0,0\n";
     assert_eq!(rt;
-        refusal(read_nodes(rt.alloc(), text.as_slice())),
+        refusal(read_nodes(rt.alloc(), text.as_slice()))?,
         Some((41, 1))
     );
     let text = b"node,tpdo,period,jitter,deadline,consumers\n5,1,10000,0,670,\xFF\n";
     assert_eq!(rt;
-        refusal(read_pdos(rt.alloc(), text.as_slice())),
+        refusal(read_pdos(rt.alloc(), text.as_slice()))?,
         Some((41, 1))
     );
     assert_eq!(rt; Rule::Full.number(), 49);

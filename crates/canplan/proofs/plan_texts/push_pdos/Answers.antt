@@ -1,8 +1,7 @@
-use Rattle.std.proofs.Common.{◌≡◌, ◌++◌, ℕ, List, sym, ap, ◌∙◌, refl, arith}
-use Rattle.std.proofs.lemmas.List.{append-nil, append_assoc}
-use Rattle.canplan.specs.Reports.{lines_below}
+use Rattle.std.proofs.Common.{◌++◌, ℕ, List, sym, ap, ◌∙◌, refl, arith}
+use Rattle.std.proofs.lemmas.List.{append-nil}
 use Rattle.canplan.specs.PlanTexts.{pdo_line_at, response_of}
-use Rattle.canplan.proofs.ReportsLemmas.{lines_none, lines_more}
+use Rattle.canplan.proofs.ReportsLemmas.{lines_none}
 use Rattle.canplan.proofs.PlanTextLemmas.{pdo_found, pdos_more, same_verdict}
 use Rattle.cop_rta.specs.declared.verdicts.Verdict.TheVariants.{Long}
 use Rattle.canplan.proofs.plan_texts.push_pdos.Goals as goal

@@ -1,3 +1,5 @@
+use Rattle.std.proofs.Common.{subst}
+use Rattle.cop_net.specs.Network.{IsNetwork}
 use Rattle.canplan.specs.Faults.{fault_of}
 use Rattle.canplan.proofs.NetworkLemmas.{nodes_explain, pdos_explain, network_explains, files_are, err_is}
 use Rattle.canplan.proofs.plans.plan_bytes.Goals as goal
@@ -20,4 +22,4 @@ returns-in_err-network c =
 pub returns : goal.returns
 returns c =
     files_are c.args.nodes.now c.args.pdos.now _ c.in_ok-nodes.nodes c.in_ok-pdos.pdos c.in_ok-network.network c.in_ok-files_of.field-0
-    c.in_ok-nodes.ensures c.in_ok-pdos.ensures c.in_ok-network.ensures.exact c.in_ok-network.ensures.tables.1 c.in_ok-files_of.ensures
+    c.in_ok-nodes.ensures c.in_ok-pdos.ensures c.in_ok-network.ensures.exact c.in_ok-network.ensures.tables.1 (subst IsNetwork c.network-2.view_is c.network-2.invariant.0) c.in_ok-files_of.ensures

@@ -1,0 +1,131 @@
+-- Some streams and candidates have one outcome.
+use Rattle.std.proofs.Common.{◌≡◌, ℕ, suc, ◌<◌, ◌⊎◌, inl, inr, true, List, [], ◌∷◌, map, length, get_or, Contains, refl, sym, ap, ◌∙◌, subst, arith}
+use Rattle.std.proofs.lemmas.Bool.{cases_order}
+use Rattle.std.proofs.lemmas.List.{ext_get_or}
+use Rattle.cop_frame.specs.declared.rates.Rate.{Rate}
+use Rattle.cop_frame.specs.Rate.{kbits_of, place_of}
+use Rattle.cop_rta.specs.declared.streams.Stream.{Stream}
+use Rattle.cop_rta.specs.Test.{of_stream}
+use Rattle.cop_rta.specs.Entries.{entry_of}
+use Rattle.cop_rta.proofs.StreamLemmas.{streams_same}
+use Rattle.cop_cert.specs.declared.refusals.Refusal.{Refusal}
+use Rattle.cop_cert.specs.Assignments.{least_id}
+use Rattle.cop_cert.specs.Sets.{IsRefusalSet}
+use Rattle.cop_cert.specs.Evidence.{is_member, pdos_of}
+use Rattle.cop_cert.specs.Chains.{IsMade}
+use Rattle.cop_plan.specs.declared.assigning.Outcome.{Outcome}
+use Rattle.cop_plan.specs.declared.assigning.Outcome.TheVariants.{Planned, Refused}
+use Rattle.cop_plan.specs.Orders.{HasPdos, IsPlanOrder, IsByPriority}
+use Rattle.cop_plan.specs.Values.{PlanValue, Timing, timing_of, id_of, HaveIds}
+use Rattle.cop_plan.specs.Plans.{IsGreatestRefusal, AreRefusals, IsSlower, IsPlan, IsOutcome}
+use Rattle.cop_plan.proofs.RateLemmas.{rate_at, at_place, kbits_rise}
+use Rattle.cop_plan.proofs.SamePlace.{same_length}
+use Rattle.cop_plan.proofs.UniqueLemmas.{unique}
+use Rattle.cop_plan.proofs.OnceLemmas.{made_once}
+use Rattle.cop_plan.proofs.ListsOnce.{listed_has, numbers_once, rate_has, refusals_once}
+
+-- ---- refusals
+
+module _ (streams : List Stream) (pdos : ℕ) where
+  -- the greatest of two refusal sets has the members of both
+  within : (r s : Refusal) → IsGreatestRefusal streams pdos r → IsGreatestRefusal streams pdos s → r.rate ≡ s.rate → (k : ℕ) → is_member r.members k ≡ true → is_member s.members k ≡ true
+  within r s a b e k h =
+      let mine : IsRefusalSet least_id s.rate streams pdos (is_member r.members) =
+      subst (λ (rate : Rate). IsRefusalSet least_id rate streams pdos (is_member r.members)) e a.greatest.is in
+      b.greatest.greatest (is_member r.members) mine k (listed_has (λ m. m < pdos) (pdos_of r.members) k a.holds.inside h) h
+
+  greatest_once : (r s : Refusal) → IsGreatestRefusal streams pdos r → IsGreatestRefusal streams pdos s → r.rate ≡ s.rate → r ≡ s
+  greatest_once r s a b e =
+      let same : pdos_of r.members ≡ pdos_of s.members = numbers_once (pdos_of r.members) (pdos_of s.members) a.holds.rise b.holds.rise (within r s a b e) (within s r b a (sym e)) in
+      let at_rate : IsMade least_id streams pdos s.rate (pdos_of r.members) r = subst (λ (rate : Rate). IsMade least_id streams pdos rate (pdos_of r.members) r) e a.made in
+      let mine : IsMade least_id streams pdos s.rate (pdos_of s.members) r = subst (λ (list : List ℕ). IsMade least_id streams pdos s.rate list r) same at_rate in
+      made_once least_id streams pdos s.rate (pdos_of s.members) r s mine b.made
+
+  pub all_once : (Are : Rate → Type 0) (rs ss : List Refusal) → AreRefusals streams pdos Are rs → AreRefusals streams pdos Are ss → rs ≡ ss
+  all_once Are rs ss a b =
+      refusals_once (IsGreatestRefusal streams pdos) greatest_once rs ss a.rise b.rise a.each b.each
+      (λ rate h. b.every rate (rate_has Are rs rate a.only h))
+      (λ rate h. a.every rate (rate_has Are ss rate b.only h))
+
+-- ---- the rate
+
+rate_same : (r q : Rate) → kbits_of r ≡ kbits_of q → r ≡ q
+rate_same r q e = go (cases_order (place_of r) (place_of q)) where
+  go : (place_of r ≡ place_of q) ⊎ ((place_of r < place_of q) ⊎ (place_of q < place_of r)) → r ≡ q
+  go (inl same) = sym (at_place r) ∙ ap rate_at same ∙ at_place q
+  go (inr (inl lt)) = absurd (omega (arith, e, kbits_rise r q lt))
+  go (inr (inr gt)) = absurd (omega (arith, e, kbits_rise q r gt))
+
+module _ (rates : List Rate) (streams : List Stream) (pdos : ℕ) where
+  pub rate_once : (a b : PlanValue) → IsPlan rates streams pdos a → IsPlan rates streams pdos b → a.rate ≡ b.rate
+  rate_once a b x y = go (cases_order (kbits_of a.rate) (kbits_of b.rate)) where
+    go : (kbits_of a.rate ≡ kbits_of b.rate) ⊎ ((kbits_of a.rate < kbits_of b.rate) ⊎ (kbits_of b.rate < kbits_of a.rate)) → a.rate ≡ b.rate
+    go (inl e) = rate_same a.rate b.rate e
+    go (inr (inl lt)) = absurd (y.slowest a.rate (x.candidate, lt) (id_of a.ids) x.passing)
+    go (inr (inr gt)) = absurd (x.slowest b.rate (y.candidate, gt) (id_of b.ids) y.passing)
+
+-- ---- the streams
+
+entries_same : (ss ts : List Stream) → map timing_of ss ≡ map timing_of ts → ((k : ℕ) → k < length ss → of_stream (λ s. s.id) ss k ≡ of_stream (λ s. s.id) ts k) → map entry_of ss ≡ map entry_of ts
+entries_same [] [] e ids = refl
+entries_same [] (t ∷ ts) e ids = absurd (omega (arith, ap length e))
+entries_same (s ∷ ss) [] e ids = absurd (omega (arith, ap length e))
+entries_same (s ∷ ss) (t ∷ ts) e ids =
+    let both : timing_of s ∷ map timing_of ss ≡ timing_of t ∷ map timing_of ts = e in
+    let head : timing_of s ≡ timing_of t = cc in
+    let tail : map timing_of ss ≡ map timing_of ts = cc in
+    let id : s.id ≡ t.id = ids 0 (omega arith) in
+    let bytes : s.bytes ≡ t.bytes = ap (λ (t : Timing). t.bytes) head in
+    let period : s.period ≡ t.period = ap (λ (t : Timing). t.period) head in
+    let jitter : s.jitter ≡ t.jitter = ap (λ (t : Timing). t.jitter) head in
+    let deadline : s.deadline ≡ t.deadline = ap (λ (t : Timing). t.deadline) head in
+    let first : entry_of s ≡ entry_of t = rw (id, bytes, period, jitter, deadline) refl in
+    rw (first, entries_same ss ts tail (λ k low. ids (suc k) (omega (arith, low)))) refl
+
+-- ---- plans
+
+module _ (rate : Rate) (streams : List Stream) (pdos : ℕ) (s : HasPdos streams pdos) where
+  ids_once : (ids others : List ℕ) → length ids ≡ pdos → length others ≡ pdos → IsPlanOrder rate streams pdos (id_of ids) → IsPlanOrder rate streams pdos (id_of others) → ids ≡ others
+  ids_once ids others m n a b =
+      ext_get_or 0 ids others (m ∙ sym n) (λ p low. unique rate streams pdos s (id_of ids) (id_of others) a b p (omega (arith, low, m)))
+
+  priority_once : (ids : ℕ → ℕ) (order other : List ℕ) → IsPlanOrder rate streams pdos ids → IsByPriority pdos ids order → IsByPriority pdos ids other → order ≡ other
+  priority_once ids order other a x y =
+      ext_get_or 0 order other (x.count ∙ sym y.count)
+      (λ i low. a.gapless.distinct (get_or order i 0) (get_or other i 0) (x.inside i 0 low) (y.inside i 0 (omega (arith, low, x.count, y.count)))
+      (x.places i (omega (arith, low, x.count)) ∙ sym (y.places i (omega (arith, low, x.count)))))
+
+  renamed_once : (ids : ℕ → ℕ) (ss ts : List Stream) → HaveIds streams pdos ids ss → HaveIds streams pdos ids ts → ss ≡ ts
+  renamed_once ids ss ts x y =
+      streams_same ss ts (entries_same ss ts (x.timings ∙ sym y.timings)
+      (λ k low. let inside : k < length streams = omega (arith, low, same_length ss streams x.timings) in x.each k inside ∙ sym (y.each k inside)))
+
+make_plan : Rate → List ℕ → List ℕ → List Refusal → List Stream → PlanValue
+make_plan rate order ids refusals streams = record { rate = rate; order = order; ids = ids; refusals = refusals; streams = streams }
+
+plan_same : (a b : PlanValue) → a.rate ≡ b.rate → a.order ≡ b.order → a.ids ≡ b.ids → a.refusals ≡ b.refusals → a.streams ≡ b.streams → a ≡ b
+unfolding make_plan
+plan_same a b rate order ids refusals streams =
+    let made : make_plan a.rate a.order a.ids a.refusals a.streams ≡ make_plan b.rate b.order b.ids b.refusals b.streams = rw (rate, order, ids, refusals, streams) refl in
+    made
+
+module _ (rates : List Rate) (streams : List Stream) (pdos : ℕ) (s : HasPdos streams pdos) where
+  -- the same where the rate is known to be the same
+  at_rate : (a b : PlanValue) → a.rate ≡ b.rate → IsPlan rates streams pdos a → IsPlan rates streams pdos b → a ≡ b
+  at_rate a b e x y =
+      let mine : IsPlanOrder b.rate streams pdos (id_of a.ids) = subst (λ (rate : Rate). IsPlanOrder rate streams pdos (id_of a.ids)) e x.order in
+      let ids : a.ids ≡ b.ids = ids_once b.rate streams pdos s a.ids b.ids x.count y.count mine y.order in
+      let priority : IsByPriority pdos (id_of b.ids) a.order = subst (λ (list : List ℕ). IsByPriority pdos (id_of list) a.order) ids x.by_priority in
+      let renamed : HaveIds streams pdos (id_of b.ids) a.streams = subst (λ (list : List ℕ). HaveIds streams pdos (id_of list) a.streams) ids x.renamed in
+      let refused : AreRefusals streams pdos (IsSlower rates b.rate) a.refusals = subst (λ (rate : Rate). AreRefusals streams pdos (IsSlower rates rate) a.refusals) e x.refused in
+      plan_same a b e
+      (priority_once b.rate streams pdos s (id_of b.ids) a.order b.order y.order priority y.by_priority)
+      ids
+      (all_once streams pdos (IsSlower rates b.rate) a.refusals b.refusals refused y.refused)
+      (renamed_once b.rate streams pdos s (id_of b.ids) a.streams b.streams renamed y.renamed)
+
+  pub outcome_once : (a b : Outcome) → IsOutcome rates streams pdos a → IsOutcome rates streams pdos b → a ≡ b
+  outcome_once (Planned a) (Planned b) x y = ap Planned (at_rate a b (rate_once rates streams pdos a b x y) x y)
+  outcome_once (Planned a) (Refused rs) x y = absurd (y.none a.rate x.candidate (id_of a.ids) x.passing)
+  outcome_once (Refused rs) (Planned b) x y = absurd (x.none b.rate y.candidate (id_of b.ids) y.passing)
+  outcome_once (Refused rs) (Refused ss) x y = ap Refused (all_once streams pdos (Contains rates) rs ss x.refused y.refused)
