@@ -200,51 +200,53 @@ fn refusals_are_written_and_read(rt: HostRuntime) -> Result<(), Fail> {
     Ok(())
 }
 
+/// The two parts of a file, the rule that it breaks, and where.
+const BROKEN: [(&[u8], &[u8], Rule, u64); 20] = [
+    (b"", b"", Rule::Version, 0),
+    (b"rate,pdo,what\n0,0,version,1\n", b"", Rule::Version, 0),
+    (b"rate,pdo,what,value\n", b"", Rule::Version, 1),
+    (b"rate,pdo,what,value\n0,0,version\n", b"", Rule::Fields, 1),
+    (
+        b"rate,pdo,what,value\n0,0,version,2\n",
+        b"",
+        Rule::Version,
+        1,
+    ),
+    (BEGIN, b"250,1,late\n", Rule::Fields, 2),
+    (BEGIN, b"251,1,late,0\n", Rule::Number, 2),
+    (BEGIN, b"250,0,late,0\n", Rule::Number, 2),
+    (BEGIN, b"250,513,late,0\n", Rule::Number, 2),
+    (BEGIN, b"250,1,late,18446744073709551616\n", Rule::Number, 2),
+    (BEGIN, b"250,1,long,1\n", Rule::Number, 2),
+    (
+        BEGIN,
+        b"250,1,long,0\n250,1,busy,1\n125,1,long,0\n",
+        Rule::Rates,
+        4,
+    ),
+    (
+        BEGIN,
+        b"250,1,long,0\n250,1,busy,1\n250,1,long,0\n",
+        Rule::Members,
+        4,
+    ),
+    (BEGIN, b"250,1,wide,0\n", Rule::Misplaced, 2),
+    (BEGIN, b"250,1,busy,1\n", Rule::Misplaced, 2),
+    (BEGIN, b"250,1,long,0\n250,2,busy,1\n", Rule::Misplaced, 3),
+    (BEGIN, b"250,1,late,0\n250,1,queue,1\n", Rule::Misplaced, 3),
+    (BEGIN, b"250,1,long,0\n250,2,long,0\n", Rule::Misplaced, 3),
+    (BEGIN, b"250,1,late,0\n250,1,busy,1\n", Rule::Misplaced, 3),
+    (
+        BEGIN,
+        b"250,1,late,0\n250,1,busy,1\n250,1,queue,0\n250,1,busy,9\n",
+        Rule::Misplaced,
+        5,
+    ),
+];
+
 #[test]
 fn broken_files_are_refused(rt: HostRuntime) -> Result<(), Fail> {
-    let cases: [(&[u8], &[u8], Rule, u64); 20] = [
-        (b"", b"", Rule::Version, 0),
-        (b"rate,pdo,what\n0,0,version,1\n", b"", Rule::Version, 0),
-        (b"rate,pdo,what,value\n", b"", Rule::Version, 1),
-        (b"rate,pdo,what,value\n0,0,version\n", b"", Rule::Fields, 1),
-        (
-            b"rate,pdo,what,value\n0,0,version,2\n",
-            b"",
-            Rule::Version,
-            1,
-        ),
-        (BEGIN, b"250,1,late\n", Rule::Fields, 2),
-        (BEGIN, b"251,1,late,0\n", Rule::Number, 2),
-        (BEGIN, b"250,0,late,0\n", Rule::Number, 2),
-        (BEGIN, b"250,513,late,0\n", Rule::Number, 2),
-        (BEGIN, b"250,1,late,18446744073709551616\n", Rule::Number, 2),
-        (BEGIN, b"250,1,long,1\n", Rule::Number, 2),
-        (
-            BEGIN,
-            b"250,1,long,0\n250,1,busy,1\n125,1,long,0\n",
-            Rule::Rates,
-            4,
-        ),
-        (
-            BEGIN,
-            b"250,1,long,0\n250,1,busy,1\n250,1,long,0\n",
-            Rule::Members,
-            4,
-        ),
-        (BEGIN, b"250,1,wide,0\n", Rule::Misplaced, 2),
-        (BEGIN, b"250,1,busy,1\n", Rule::Misplaced, 2),
-        (BEGIN, b"250,1,long,0\n250,2,busy,1\n", Rule::Misplaced, 3),
-        (BEGIN, b"250,1,late,0\n250,1,queue,1\n", Rule::Misplaced, 3),
-        (BEGIN, b"250,1,long,0\n250,2,long,0\n", Rule::Misplaced, 3),
-        (BEGIN, b"250,1,late,0\n250,1,busy,1\n", Rule::Misplaced, 3),
-        (
-            BEGIN,
-            b"250,1,late,0\n250,1,busy,1\n250,1,queue,0\n250,1,busy,9\n",
-            Rule::Misplaced,
-            5,
-        ),
-    ];
-    for (begin, end, rule, place) in cases {
+    for (begin, end, rule, place) in BROKEN {
         let mut text = Vec::from_slice(rt.alloc(), begin)?;
         text.extend_from_slice(end)?;
         match read(rt.alloc(), &text) {

@@ -28,18 +28,8 @@ const USUAL: Parts<'static> = Parts {
     second_bits: "0x20000220",
 };
 
-/// The text of a device that sends two words by TPDO 1 and takes two words by RPDO 1.
-fn text_of(alloc: Global, parts: Parts<'_>) -> Result<Vec<u8>, Fail> {
-    let Parts {
-        rates,
-        heartbeat,
-        cob_id,
-        transmission,
-        second_bits,
-    } = parts;
-    let text = format!(in alloc;
-        "[DeviceInfo]
-{rates}[MandatoryObjects]
+/// The lists of the objects.
+const LISTS: &str = "[MandatoryObjects]
 SupportedObjects=0
 [OptionalObjects]
 SupportedObjects=5
@@ -51,8 +41,10 @@ SupportedObjects=5
 [ManufacturerObjects]
 SupportedObjects=1
 1=0x2000
-[1017]
-{heartbeat}[1400]
+";
+
+/// The records of RPDO 1, up to the value of its second entry.
+const RECEIVE: &str = "[1400]
 ObjectType=9
 [1400sub1]
 DataType=0x0007
@@ -71,12 +63,10 @@ DefaultValue=0x20000120
 [1600sub2]
 DataType=0x0007
 AccessType=ro
-DefaultValue={second_bits}
-[1800]
-ObjectType=9
-[1800sub1]
-{cob_id}[1800sub2]
-{transmission}[1A00]
+";
+
+/// The mapping of TPDO 1, and the two words.
+const TRANSMIT: &str = "[1A00]
 ObjectType=9
 [1A00sub0]
 DataType=0x0005
@@ -100,7 +90,26 @@ PDOMapping=1
 DataType=0x0007
 AccessType=rw
 PDOMapping=1
-"
+";
+
+/// The text of a device that sends two words by TPDO 1 and takes two words by RPDO 1.
+fn text_of(alloc: Global, parts: Parts<'_>) -> Result<Vec<u8>, Fail> {
+    let Parts {
+        rates,
+        heartbeat,
+        cob_id,
+        transmission,
+        second_bits,
+    } = parts;
+    let text = format!(in alloc;
+        "[DeviceInfo]
+{rates}{LISTS}[1017]
+{heartbeat}{RECEIVE}DefaultValue={second_bits}
+[1800]
+ObjectType=9
+[1800sub1]
+{cob_id}[1800sub2]
+{transmission}{TRANSMIT}"
     )?;
     Ok(Vec::from_slice(alloc, text.as_bytes())?)
 }

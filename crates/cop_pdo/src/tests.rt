@@ -135,47 +135,52 @@ fn a_flag_and_a_byte(rt: HostRuntime) -> Result<(), Fail> {
     Ok(())
 }
 
+const COB_ID: Row<'static> = (
+    0x1800,
+    1,
+    DataType::Unsigned32,
+    Access::ReadWrite,
+    &[0x85, 1, 0, 0x40],
+);
+
+const COUNT: Row<'static> = (0x1A00, 0, DataType::Unsigned8, Access::ReadWrite, &[1]);
+
+const ENTRY: Row<'static> = (
+    0x1A00,
+    1,
+    DataType::Unsigned32,
+    Access::ReadWrite,
+    &[8, 0, 0, 0x20],
+);
+
+const OBJECT: Row<'static> = (0x2000, 0, DataType::Unsigned8, Access::ReadWrite, &[1]);
+/// The rows of a dictionary, and the number of what is refused in it.
+const REFUSED: [(&[Row<'static>], u8); 6] = [
+    (&[COUNT, ENTRY, OBJECT], 20),
+    (&[COB_ID, ENTRY, OBJECT], 20),
+    (&[COB_ID, COUNT, OBJECT], 20),
+    (
+        &[
+            COB_ID,
+            (0x1A00, 0, DataType::Unsigned8, Access::ReadWrite, &[65]),
+        ],
+        21,
+    ),
+    (&[COB_ID, COUNT, ENTRY], 22),
+    (
+        &[
+            COB_ID,
+            COUNT,
+            ENTRY,
+            (0x2000, 0, DataType::Unsigned8, Access::WriteOnly, &[1]),
+        ],
+        23,
+    ),
+];
+
 #[test]
 fn refused_payloads(rt: HostRuntime) -> Result<(), Fail> {
-    const COB_ID: Row<'static> = (
-        0x1800,
-        1,
-        DataType::Unsigned32,
-        Access::ReadWrite,
-        &[0x85, 1, 0, 0x40],
-    );
-    const COUNT: Row<'static> = (0x1A00, 0, DataType::Unsigned8, Access::ReadWrite, &[1]);
-    const ENTRY: Row<'static> = (
-        0x1A00,
-        1,
-        DataType::Unsigned32,
-        Access::ReadWrite,
-        &[8, 0, 0, 0x20],
-    );
-    const OBJECT: Row<'static> = (0x2000, 0, DataType::Unsigned8, Access::ReadWrite, &[1]);
-    let cases: [(&[Row<'_>], u8); 6] = [
-        (&[COUNT, ENTRY, OBJECT], 20),
-        (&[COB_ID, ENTRY, OBJECT], 20),
-        (&[COB_ID, COUNT, OBJECT], 20),
-        (
-            &[
-                COB_ID,
-                (0x1A00, 0, DataType::Unsigned8, Access::ReadWrite, &[65]),
-            ],
-            21,
-        ),
-        (&[COB_ID, COUNT, ENTRY], 22),
-        (
-            &[
-                COB_ID,
-                COUNT,
-                ENTRY,
-                (0x2000, 0, DataType::Unsigned8, Access::WriteOnly, &[1]),
-            ],
-            23,
-        ),
-    ];
-    for (rows, number) in cases {
+    for (rows, number) in REFUSED {
         let dict = dictionary(rt.alloc(), rows)?;
         match payload(&dict, Direction::Transmit, 1) {
             Ok(_) => assert!(rt; false),
