@@ -5,6 +5,8 @@ pub mod StepsLemmas
 pub mod SubsLemmas
 pub mod RateLemmas
 pub mod ObjectLemmas
+pub mod OrderLemmas
+pub mod SearchLemmas
 pub mod IndexLemmas
 pub mod KeyLemmas
 pub mod RefusalLemmas
