@@ -3,6 +3,7 @@ pub mod NumberLemmas
 pub mod LawLemmas
 pub mod StepsLemmas
 pub mod SubsLemmas
+pub mod SoundLemmas
 pub mod RateLemmas
 pub mod ObjectLemmas
 pub mod OrderLemmas
