@@ -3,8 +3,11 @@ pub mod NumberLemmas
 pub mod LawLemmas
 pub mod StepsLemmas
 pub mod SubsLemmas
+pub mod SoundLemmas
 pub mod RateLemmas
 pub mod ObjectLemmas
+pub mod OrderLemmas
+pub mod SearchLemmas
 pub mod IndexLemmas
 pub mod KeyLemmas
 pub mod RefusalLemmas

@@ -1,5 +1,5 @@
 -- The lists of objects, and the sections of the objects that they name.
-use Rattle.std.specs.Prelude.{ℕ, zero, suc, ◌+◌, List, [], ◌∷◌, ◌++◌, length, nat_lt, if◌then◌else◌, Option, Some, None, Result, Ok, codes, decimal}
+use Rattle.std.specs.Prelude.{◌≡◌, ℕ, zero, suc, ◌+◌, List, [], ◌∷◌, ◌++◌, length, nat_lt, if◌then◌else◌, Option, Some, None, Result, Ok, codes, decimal}
 use Rattle.cop_eds.specs.declared.fault.Refusal.{Refusal}
 use Rattle.cop_eds.specs.declared.line.Place.{Place}
 use Rattle.cop_eds.specs.Names.{object_code, sub_code}
@@ -35,6 +35,10 @@ checked_object text line index = do
   place ← needed line (own_place text index)
   _ ← described text place
   each (described_sub text) (subs_of text index)
+
+-- the object that an index names has a section, and it keeps its rules, whichever line names it
+abbrev pub IsSound : List ℕ → ℕ → Type 0
+IsSound text index = (line : ℕ) → checked_object text line index ≡ Ok tt
 
 -- the index at a place of a list
 unfoldable pub listed_at : List ℕ → Place → ℕ → Result ℕ Refusal

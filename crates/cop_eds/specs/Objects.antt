@@ -1,6 +1,6 @@
 -- The objects that a device holds.
-use Rattle.std.specs.Prelude.{ℕ, Bool, ◌&&◌, List, [], ◌∷◌, fold, find, ◌==◌, if◌then◌else◌, Option, Some, None, Result, Ok, Err}
-use Rattle.std.specs.List.{flat_map}
+use Rattle.std.specs.Prelude.{◌≡◌, ℕ, Bool, true, ◌&&◌, ◌||◌, List, [], ◌∷◌, fold, find, ◌==◌, nat_lt, if◌then◌else◌, Option, Some, None, Result, Ok, Err}
+use Rattle.std.specs.List.{flat_map, AllPairs}
 use Rattle.std.specs.Option.{option_map}
 use Rattle.std.specs.Ordering.{nat_cmp}
 use Rattle.std.specs.BTreeSet.{insert_key}
@@ -54,6 +54,14 @@ objects_of text = objects_listed text (listed text)
 
 abbrev pub is_at : ℕ → ℕ → Object → Bool
 is_at index sub object = (object.index == index) && (object.sub == sub)
+
+-- an object whose index is less, or the same with a lesser sub
+abbrev pub is_before : ℕ → ℕ → Object → Bool
+is_before index sub object = nat_lt object.index index || ((object.index == index) && nat_lt object.sub sub)
+
+-- each object stands before all later ones, so no two have one index and sub
+abbrev pub AreSorted : List Object → Type 0
+AreSorted objects = AllPairs (λ object later. is_before later.index later.sub object ≡ true) objects
 
 -- the section of an object
 abbrev pub object_section : List ℕ → ℕ → ℕ → Option ℕ

@@ -1,6 +1,6 @@
 //! The index of a text's names: what its headers and pairs are looked up by.
 
-ghost use Rattle.std.specs.Prelude.{◌≡◌, ◌^◌, ◌<◌, ◌≤◌, ◌+◌, ◌∷◌, [], ℕ, List, length, true, false, IfOk, OnOk, is_some, ◌&&◌, MatchOption, Some, None, slice_get, Contains};
+ghost use Rattle.std.specs.Prelude.{◌≡◌, ◌↔◌, ◌^◌, ◌<◌, ◌≤◌, ◌+◌, ◌∷◌, [], ℕ, List, length, true, false, IfOk, OnOk, is_some, ◌&&◌, MatchOption, Some, None, slice_get, Contains};
 ghost use Rattle.std.specs.List.{All, AllAdjacentBelow};
 ghost use Rattle.std.specs.List.Sorted.{IsSorted, IsPartitionPoint};
 ghost use Rattle.std.specs.Ordering.{is_eq};
@@ -150,7 +150,7 @@ fn has_key(entry: &Entry<'_>, key: &Entry<'_>) -> bool
 
 /// Whether no two neighbours are found by the same.
 pub fn are_apart(entries: &[Entry<'_>]) -> bool
-    ensures { result ≡ true → AllAdjacentBelow (λ x y. bytes_eq (sort_key x) (sort_key y) ≡ false) entries.now (length entries.now) }
+    ensures { result ≡ true ↔ AllAdjacentBelow (λ x y. bytes_eq (sort_key x) (sort_key y) ≡ false) entries.now (length entries.now) }
 {
     for i in 1..entries.len() {
         if has_key(&entries[i - 1], &entries[i]) {

@@ -1,12 +1,13 @@
 //! The lists of objects, and the sections of the objects that they name.
 
-ghost use Rattle.std.specs.Prelude.{◌≡◌, ◌≤◌, ◌+◌, ◌-◌, ℕ, List, [], ◌∷◌, length, IfSome, MatchOption, codes, decimal};
+ghost use Rattle.std.specs.Prelude.{◌≡◌, ◌≤◌, ◌+◌, ◌-◌, ℕ, List, [], ◌∷◌, length, IfSome, OnOk, MatchOption, codes, decimal};
+ghost use Rattle.std.specs.List.{All};
 ghost use Rattle.std.specs.Option.{option_map};
 ghost use Rattle.cop_eds.specs.Lines.{Gives, Sees};
 ghost use Rattle.cop_eds.specs.Names.{object_code, sub_code};
 ghost use Rattle.cop_eds.specs.Sections.{place_of, coded_place};
 ghost use Rattle.cop_eds.specs.Steps.{needed, each};
-ghost use Rattle.cop_eds.specs.Lists.{subs_from, subs_of, described_sub, checked_object, own_place, listed_at, listed_from, listed_in, listed};
+ghost use Rattle.cop_eds.specs.Lists.{subs_from, subs_of, described_sub, checked_object, IsSound, own_place, listed_at, listed_from, listed_in, listed};
 
 use crate::description::{described, number_at};
 use crate::fault::{EdsFault, Refusal, Rule};
@@ -15,6 +16,7 @@ use crate::names::{object_code, sub_code};
 use crate::sections::Sections;
 use itoa::Buffer;
 use std::alloc::Global;
+use std::collections::BTreeSet;
 
 /// Where a sub section begins.
 fn sub_place(text: &Sections<'_>, index: u64, sub: u64) -> Option<Place>
@@ -92,6 +94,23 @@ fn checked_object(text: &Sections<'_>, line: usize, index: u64) -> Result<(), Re
     checked_subs(text, index)
 }
 
+/// The same, looked at once for each index: the objects that were checked are kept.
+fn checked_once(
+    checked: &mut BTreeSet<u64>,
+    text: &Sections<'_>,
+    line: usize,
+    index: u64,
+) -> Result<(), EdsFault>
+    requires { All (IsSound text.now) checked.old.keys }
+    ensures value { Gives (λ done. done) result (checked_object text.now line index) }
+    ensures sound { OnOk result (All (IsSound text.now) checked.new.keys) }
+{
+    if checked.insert(index)? {
+        checked_object(text, line, index)?;
+    }
+    Ok(())
+}
+
 fn needed<'a>(line: usize, entry: Option<(usize, &'a [u8])>) -> Result<(usize, &'a [u8]), Refusal>
     ensures { Sees {Y = ℕ × List ℕ} (λ e. (e.0, e.1.now)) result (needed line (option_map (λ e. (e.0, e.1.now)) entry.entry)) }
 {
@@ -100,14 +119,21 @@ fn needed<'a>(line: usize, entry: Option<(usize, &'a [u8])>) -> Result<(usize, &
 
 /// The index at a place of a list.
 #[tactic(auto, unfolding(crate::specs::Lists::listed_at))]
-fn listed_at(text: &Sections<'_>, list: Place, place: u64) -> Result<u64, Refusal>
-    ensures { result ≡ listed_at text.now list place }
+fn listed_at(
+    checked: &mut BTreeSet<u64>,
+    text: &Sections<'_>,
+    list: Place,
+    place: u64,
+) -> Result<u64, EdsFault>
+    requires { All (IsSound text.now) checked.old.keys }
+    ensures value { Gives (λ index. index) result (listed_at text.now list place) }
+    ensures sound { OnOk result (All (IsSound text.now) checked.new.keys) }
 {
     let mut buffer = Buffer::new();
     let key = buffer.format(place).as_bytes();
     let entry = needed(list.line, text.entry(list.section, key))?;
     let index = number_at(entry.0, entry.1)?;
-    checked_object(text, entry.0, index)?;
+    checked_once(checked, text, entry.0, index)?;
     Ok(index)
 }
 
@@ -122,8 +148,9 @@ fn listed_from(
     ensures { Gives (λ v. v.items) result (listed_from text.now list [] count) }
 {
     let mut found = Vec::new(alloc);
+    let mut checked = BTreeSet::new(alloc);
     for place in 0..count {
-        let index = listed_at(text, list, place + 1)?;
+        let index = listed_at(&mut checked, text, list, place + 1)?;
         found.push(index)?;
     }
     Ok(found)

@@ -1,10 +1,11 @@
 //! The objects that a device holds.
 
-ghost use Rattle.std.specs.Prelude.{◌≡◌, ◌≤◌, ◌+◌, ◌-◌, ◌++◌, ◌∷◌, [], IfOk, OnOk, find};
+ghost use Rattle.std.specs.Prelude.{◌≡◌, ◌≤◌, ◌+◌, ◌-◌, ◌++◌, ◌∷◌, [], IfOk, OnOk, find, true, false};
 ghost use Rattle.std.specs.List.{flat_map};
+ghost use Rattle.std.specs.List.Sorted.{IsPartitionPoint};
 ghost use Rattle.std.specs.Option.{option_map};
 ghost use Rattle.cop_eds.specs.Lists.{subs_from, subs_of};
-ghost use Rattle.cop_eds.specs.Objects.{object_in, sub_object, objects_at, rising, is_at};
+ghost use Rattle.cop_eds.specs.Objects.{object_in, sub_object, objects_at, rising, is_at, is_before, AreSorted};
 
 use crate::description::{Description, Object, described};
 use crate::line::Place;
@@ -91,7 +92,8 @@ pub fn objects(
     text: &Sections<'_>,
     indexes: &[u64],
 ) -> Result<Vec<Object>, AllocError>
-    ensures { IfOk result (λ objects. objects.items ≡ flat_map (objects_at text.now) (rising indexes.now)) }
+    ensures held { IfOk result (λ objects. objects.items ≡ flat_map (objects_at text.now) (rising indexes.now)) }
+    ensures sorted { IfOk result (λ objects. AreSorted objects.items) }
 {
     let set = rising(alloc, indexes)?;
     let mut objects = Vec::new(alloc);
@@ -101,11 +103,35 @@ pub fn objects(
     Ok(objects)
 }
 
+fn is_at(object: &Object, index: u16, sub: u8) -> bool
+    ensures { result ≡ is_at index sub object.now }
+{
+    object.index == u64::from(index) && object.sub == u64::from(sub)
+}
+
+fn is_before(object: &Object, index: u16, sub: u8) -> bool
+    ensures { result ≡ is_before index sub object.now }
+{
+    let index = u64::from(index);
+    object.index < index || (object.index == index && object.sub < u64::from(sub))
+}
+
+/// How many objects stand before this index and sub.
+fn count_before(objects: &[Object], index: u16, sub: u8) -> usize
+    ensures { AreSorted objects.now → IsPartitionPoint (λ object. is_before index sub object ≡ true) (λ object. is_before index sub object ≡ false) objects.now result }
+{
+    objects.partition_point(|object| is_before(object, index, sub))
+}
+
 /// The section of the object at this index and sub.
 pub fn object_in(objects: &[Object], index: u16, sub: u8) -> Option<usize>
-    ensures { result ≡ option_map (λ object. object.place.section) (find (is_at index sub) objects.now) }
+    ensures { AreSorted objects.now → result ≡ option_map (λ object. object.place.section) (find (is_at index sub) objects.now) }
 {
-    let object = objects.iter().find(|object| object.index == u64::from(index)
-        && object.sub == u64::from(sub))?;
-    Some(object.place.section)
+    let place = count_before(objects, index, sub);
+    let object = objects.get(place)?;
+    if is_at(object, index, sub) {
+        Some(object.place.section)
+    } else {
+        None
+    }
 }

@@ -99,6 +99,8 @@ fn the_sample_is_read(rt: HostRuntime) -> Result<(), Fail> {
     assert_eq!(rt; eds.value(section, b"ParameterValue"), None);
     assert_eq!(rt; eds.object(0x1017, 0), eds.section(b"1017"));
     assert_eq!(rt; eds.object(0x1017, 1), None);
+    assert_eq!(rt; eds.object(0x2000, 2), eds.section(b"2000sub2"));
+    assert_eq!(rt; eds.object(0xFFFF, 0xFF), None);
     assert_eq!(rt; eds.objects().len(), 11);
     Ok(())
 }
