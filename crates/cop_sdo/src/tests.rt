@@ -355,3 +355,67 @@ fn client_hears(rt: HostRuntime) -> Result<(), Fail> {
     }
     Ok(())
 }
+
+// Whether a transfer ended since memory was refused, to the server or to the client.
+fn is_refused(end: Progress) -> bool {
+    match end {
+        Progress::Aborted(code) | Progress::Ended(_, code) => code == 0x0504_0005,
+        _ => false,
+    }
+}
+
+// These two are run with each allocation failing in turn, too: then one transfer is aborted with
+// all values as they were, and the next one comes to its end.
+#[test]
+fn memory_refused_to_a_download(rt: HostRuntime) -> Result<(), Fail> {
+    let Ok(mut dict) = dictionary(rt.alloc(), &DEVICE[..4]) else {
+        return Ok(());
+    };
+    let mut server = Server::new(rt.alloc(), 5);
+    let mut client = Client::new(rt.alloc(), 5);
+    let mut stored: &[u8] = b"";
+    for value in [b"ten bytes!", b"other ten."] {
+        let end = match client.download(0x2000, 0, value) {
+            Ok(first) => play(&mut client, &mut server, &mut dict, first),
+            Err(fault) => {
+                assert_eq!(rt; fault, ClientFault::Memory);
+                Progress::Aborted(0x0504_0005)
+            }
+        };
+        assert!(rt; end == Progress::Done || is_refused(end));
+        if end == Progress::Done {
+            stored = value;
+        }
+        assert_eq!(rt; dict.read(0x2000, 0)?, stored);
+    }
+    assert!(rt; !stored.is_empty());
+    // one to four bytes of an object of one width take no memory
+    let first = client.download(0x1017, 0, &[1, 2])?;
+    assert_eq!(rt;
+        play(&mut client, &mut server, &mut dict, first),
+        Progress::Done
+    );
+    assert_eq!(rt; dict.read(0x1017, 0)?, [1, 2].as_slice());
+    Ok(())
+}
+
+#[test]
+fn memory_refused_to_an_upload(rt: HostRuntime) -> Result<(), Fail> {
+    let Ok(mut dict) = dictionary(rt.alloc(), &DEVICE[4..6]) else {
+        return Ok(());
+    };
+    let mut server = Server::new(rt.alloc(), 5);
+    let mut client = Client::new(rt.alloc(), 5);
+    let mut is_one_done = false;
+    for _ in 0..2u8 {
+        let first = client.upload(0x2001, 0)?;
+        let end = play(&mut client, &mut server, &mut dict, first);
+        let is_done = end == Progress::Done;
+        assert!(rt; is_done || is_refused(end));
+        let taken: &[u8] = if is_done { b"ten bytes!" } else { b"" };
+        assert_eq!(rt; client.taken(), taken);
+        is_one_done = is_one_done || is_done;
+    }
+    assert!(rt; is_one_done);
+    Ok(())
+}
