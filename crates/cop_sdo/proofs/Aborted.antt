@@ -1,5 +1,5 @@
 -- What an abort leaves.
-use Rattle.std.proofs.Common.{◌≡◌, ℕ, Bool, true, false, List, refl, ◌==◌, inl, inr, Some, slice_index}
+use Rattle.std.proofs.Common.{◌≡◌, ℕ, Bool, true, false, List, refl, inl, inr, Some, slice_index}
 use Rattle.cop_dict.specs.Find.{Entry}
 use Rattle.cop_sdo.specs.Message.{Message}
 use Rattle.cop_sdo.specs.Request.{Request, Give, GiveUnsized, Begin, Segment, Ask, AskSegment, Cancel, Unknown, request_of, is_heard}

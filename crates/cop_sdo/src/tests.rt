@@ -5,9 +5,9 @@ use std::alloc::{AllocError, Global};
 use std::test::Fail;
 
 // An entry of a dictionary: its address, type, access, and initial value.
-type Row<'a> = (u16, u8, DataType, Access, &'a [u8]);
+pub type Row<'a> = (u16, u8, DataType, Access, &'a [u8]);
 
-fn dictionary(alloc: Global, rows: &[Row<'_>]) -> Result<Dictionary, AllocError> {
+pub fn dictionary(alloc: Global, rows: &[Row<'_>]) -> Result<Dictionary, AllocError> {
     let mut dict = Dictionary::new(alloc);
     for (index, sub, data_type, access, initial) in rows.iter().copied() {
         let description = Description {
@@ -25,7 +25,7 @@ fn dictionary(alloc: Global, rows: &[Row<'_>]) -> Result<Dictionary, AllocError>
     Ok(dict)
 }
 
-const DEVICE: [Row<'static>; 8] = [
+pub const DEVICE: [Row<'static>; 8] = [
     (0x1017, 0, DataType::Unsigned16, Access::ReadWrite, &[0, 0]),
     (
         0x1800,
@@ -54,198 +54,205 @@ const DEVICE: [Row<'static>; 8] = [
     (0x2004, 0, DataType::Unsigned64, Access::ReadWrite, &[0; 8]),
 ];
 
-fn asks(body: [u8; 8]) -> Frame {
+pub fn asks(body: [u8; 8]) -> Frame {
     Frame::new(0x605, &body)
 }
 
-fn says(body: [u8; 8]) -> Frame {
+pub fn says(body: [u8; 8]) -> Frame {
     Frame::new(0x585, &body)
 }
 
-// What an idle server of node 5 answers to requests in turn.
-fn answers(
-    alloc: Global,
-    dict: &mut Dictionary,
-    rows: &[([u8; 8], Option<[u8; 8]>)],
-) -> Option<usize> {
+// A request, and what the server answers.
+type Exchange = ([u8; 8], Option<[u8; 8]>);
+
+// The first place where an idle server of node 5 answers requests in turn otherwise.
+fn first_other(alloc: Global, dict: &mut Dictionary, rows: &[Exchange]) -> Option<usize> {
     let mut server = Server::new(alloc, 5);
     rows.iter().position(|(request, answer)| {
         server.step(dict, &asks(*request)) != answer.map(says)
     })
 }
 
+const UPLOADS: &[Exchange] = &[
+    // 4, 1, 2 and 3 bytes at once
+    (
+        [0x40, 0, 0x18, 1, 0, 0, 0, 0],
+        Some([0x43, 0, 0x18, 1, 0x85, 1, 0, 0x40]),
+    ),
+    (
+        [0x40, 0, 0x18, 2, 0, 0, 0, 0],
+        Some([0x4F, 0, 0x18, 2, 0xFF, 0, 0, 0]),
+    ),
+    (
+        [0x40, 0x17, 0x10, 0, 0, 0, 0, 0],
+        Some([0x4B, 0x17, 0x10, 0, 0, 0, 0, 0]),
+    ),
+    (
+        [0x40, 2, 0x20, 0, 0, 0, 0, 0],
+        Some([0x47, 2, 0x20, 0, 1, 2, 3, 0]),
+    ),
+    // an unknown command, and what can't be read
+    (
+        [0xA0, 0, 0x18, 1, 0, 0, 0, 0],
+        Some([0x80, 0, 0x18, 1, 1, 0, 4, 5]),
+    ),
+    (
+        [0x40, 3, 0x20, 0, 0, 0, 0, 0],
+        Some([0x80, 3, 0x20, 0, 1, 0, 1, 6]),
+    ),
+    (
+        [0x40, 9, 0x20, 0, 0, 0, 0, 0],
+        Some([0x80, 9, 0x20, 0, 0, 0, 2, 6]),
+    ),
+    (
+        [0x40, 0, 0x18, 9, 0, 0, 0, 0],
+        Some([0x80, 0, 0x18, 9, 0x11, 0, 9, 6]),
+    ),
+    // 10 bytes in segments, and none
+    (
+        [0x40, 1, 0x20, 0, 0, 0, 0, 0],
+        Some([0x41, 1, 0x20, 0, 10, 0, 0, 0]),
+    ),
+    (
+        [0x60, 0, 0, 0, 0, 0, 0, 0],
+        Some([0, b't', b'e', b'n', b' ', b'b', b'y', b't']),
+    ),
+    (
+        [0x70, 0, 0, 0, 0, 0, 0, 0],
+        Some([0x19, b'e', b's', b'!', 0, 0, 0, 0]),
+    ),
+    (
+        [0x60, 0, 0, 0, 0, 0, 0, 0],
+        Some([0x80, 0, 0, 0, 1, 0, 4, 5]),
+    ),
+    (
+        [0x40, 0, 0x20, 0, 0, 0, 0, 0],
+        Some([0x41, 0, 0x20, 0, 0, 0, 0, 0]),
+    ),
+    (
+        [0x60, 0, 0, 0, 0, 0, 0, 0],
+        Some([0x0F, 0, 0, 0, 0, 0, 0, 0]),
+    ),
+    // a wrong toggle, the client's abort, and an unknown command in the middle
+    (
+        [0x40, 1, 0x20, 0, 0, 0, 0, 0],
+        Some([0x41, 1, 0x20, 0, 10, 0, 0, 0]),
+    ),
+    (
+        [0x70, 0, 0, 0, 0, 0, 0, 0],
+        Some([0x80, 1, 0x20, 0, 0, 0, 3, 5]),
+    ),
+    (
+        [0x40, 1, 0x20, 0, 0, 0, 0, 0],
+        Some([0x41, 1, 0x20, 0, 10, 0, 0, 0]),
+    ),
+    ([0x80, 1, 0x20, 0, 0, 0, 4, 5], None),
+    (
+        [0x60, 0, 0, 0, 0, 0, 0, 0],
+        Some([0x80, 0, 0, 0, 1, 0, 4, 5]),
+    ),
+    (
+        [0x40, 1, 0x20, 0, 0, 0, 0, 0],
+        Some([0x41, 1, 0x20, 0, 10, 0, 0, 0]),
+    ),
+    (
+        [0xC0, 0, 0x18, 1, 0, 0, 0, 0],
+        Some([0x80, 1, 0x20, 0, 1, 0, 4, 5]),
+    ),
+];
+
+const DOWNLOADS: &[Exchange] = &[
+    // with its bytes, and with the object's width
+    (
+        [0x23, 0, 0x18, 1, 0x85, 1, 0, 0xC0],
+        Some([0x60, 0, 0x18, 1, 0, 0, 0, 0]),
+    ),
+    (
+        [0x22, 0x17, 0x10, 0, 0x64, 0, 9, 9],
+        Some([0x60, 0x17, 0x10, 0, 0, 0, 0, 0]),
+    ),
+    (
+        [0x22, 4, 0x20, 0, 1, 2, 3, 4],
+        Some([0x80, 4, 0x20, 0, 0x10, 0, 7, 6]),
+    ),
+    (
+        [0x22, 0, 0x20, 0, 1, 2, 3, 4],
+        Some([0x80, 0, 0x20, 0, 0x10, 0, 7, 6]),
+    ),
+    (
+        [0x2F, 0x17, 0x10, 0, 1, 0, 0, 0],
+        Some([0x80, 0x17, 0x10, 0, 0x13, 0, 7, 6]),
+    ),
+    (
+        [0x23, 0x17, 0x10, 0, 1, 0, 0, 0],
+        Some([0x80, 0x17, 0x10, 0, 0x12, 0, 7, 6]),
+    ),
+    (
+        [0x2F, 1, 0x20, 0, 1, 0, 0, 0],
+        Some([0x80, 1, 0x20, 0, 2, 0, 1, 6]),
+    ),
+    // a stated size that is wrong, or above 65,535
+    (
+        [0x21, 4, 0x20, 0, 7, 0, 0, 0],
+        Some([0x80, 4, 0x20, 0, 0x13, 0, 7, 6]),
+    ),
+    (
+        [0x21, 0, 0x20, 0, 0, 0, 1, 0],
+        Some([0x80, 0, 0x20, 0, 0x12, 0, 7, 6]),
+    ),
+    // more bytes than stated, and fewer
+    (
+        [0x21, 0, 0x20, 0, 3, 0, 0, 0],
+        Some([0x60, 0, 0x20, 0, 0, 0, 0, 0]),
+    ),
+    (
+        [0x07, 1, 2, 3, 4, 0, 0, 0],
+        Some([0x80, 0, 0x20, 0, 0x12, 0, 7, 6]),
+    ),
+    (
+        [0x21, 0, 0x20, 0, 3, 0, 0, 0],
+        Some([0x60, 0, 0x20, 0, 0, 0, 0, 0]),
+    ),
+    (
+        [0x0B, 1, 2, 0, 0, 0, 0, 0],
+        Some([0x80, 0, 0x20, 0, 0x13, 0, 7, 6]),
+    ),
+    // a segment without a transfer
+    (
+        [0x0B, 1, 2, 0, 0, 0, 0, 0],
+        Some([0x80, 0, 0, 0, 1, 0, 4, 5]),
+    ),
+    // a wrong toggle
+    (
+        [0x21, 0, 0x20, 0, 10, 0, 0, 0],
+        Some([0x60, 0, 0x20, 0, 0, 0, 0, 0]),
+    ),
+    ([0, 1, 2, 3, 4, 5, 6, 7], Some([0x20, 0, 0, 0, 0, 0, 0, 0])),
+    (
+        [0x09, 8, 9, 10, 0, 0, 0, 0],
+        Some([0x80, 0, 0x20, 0, 0, 0, 3, 5]),
+    ),
+];
+
 #[test]
 fn uploads(rt: HostRuntime) -> Result<(), Fail> {
     let mut dict = dictionary(rt.alloc(), &DEVICE)?;
-    let rows = [
-        // 4, 1, 2 and 3 bytes at once
-        (
-            [0x40, 0, 0x18, 1, 0, 0, 0, 0],
-            Some([0x43, 0, 0x18, 1, 0x85, 1, 0, 0x40]),
-        ),
-        (
-            [0x40, 0, 0x18, 2, 0, 0, 0, 0],
-            Some([0x4F, 0, 0x18, 2, 0xFF, 0, 0, 0]),
-        ),
-        (
-            [0x40, 0x17, 0x10, 0, 0, 0, 0, 0],
-            Some([0x4B, 0x17, 0x10, 0, 0, 0, 0, 0]),
-        ),
-        (
-            [0x40, 2, 0x20, 0, 0, 0, 0, 0],
-            Some([0x47, 2, 0x20, 0, 1, 2, 3, 0]),
-        ),
-        // an unknown command, and what can't be read
-        (
-            [0xA0, 0, 0x18, 1, 0, 0, 0, 0],
-            Some([0x80, 0, 0x18, 1, 1, 0, 4, 5]),
-        ),
-        (
-            [0x40, 3, 0x20, 0, 0, 0, 0, 0],
-            Some([0x80, 3, 0x20, 0, 1, 0, 1, 6]),
-        ),
-        (
-            [0x40, 9, 0x20, 0, 0, 0, 0, 0],
-            Some([0x80, 9, 0x20, 0, 0, 0, 2, 6]),
-        ),
-        (
-            [0x40, 0, 0x18, 9, 0, 0, 0, 0],
-            Some([0x80, 0, 0x18, 9, 0x11, 0, 9, 6]),
-        ),
-        // 10 bytes in segments, and none
-        (
-            [0x40, 1, 0x20, 0, 0, 0, 0, 0],
-            Some([0x41, 1, 0x20, 0, 10, 0, 0, 0]),
-        ),
-        (
-            [0x60, 0, 0, 0, 0, 0, 0, 0],
-            Some([0, b't', b'e', b'n', b' ', b'b', b'y', b't']),
-        ),
-        (
-            [0x70, 0, 0, 0, 0, 0, 0, 0],
-            Some([0x19, b'e', b's', b'!', 0, 0, 0, 0]),
-        ),
-        (
-            [0x60, 0, 0, 0, 0, 0, 0, 0],
-            Some([0x80, 0, 0, 0, 1, 0, 4, 5]),
-        ),
-        (
-            [0x40, 0, 0x20, 0, 0, 0, 0, 0],
-            Some([0x41, 0, 0x20, 0, 0, 0, 0, 0]),
-        ),
-        (
-            [0x60, 0, 0, 0, 0, 0, 0, 0],
-            Some([0x0F, 0, 0, 0, 0, 0, 0, 0]),
-        ),
-        // a wrong toggle, the client's abort, and an unknown command in the middle
-        (
-            [0x40, 1, 0x20, 0, 0, 0, 0, 0],
-            Some([0x41, 1, 0x20, 0, 10, 0, 0, 0]),
-        ),
-        (
-            [0x70, 0, 0, 0, 0, 0, 0, 0],
-            Some([0x80, 1, 0x20, 0, 0, 0, 3, 5]),
-        ),
-        (
-            [0x40, 1, 0x20, 0, 0, 0, 0, 0],
-            Some([0x41, 1, 0x20, 0, 10, 0, 0, 0]),
-        ),
-        ([0x80, 1, 0x20, 0, 0, 0, 4, 5], None),
-        (
-            [0x60, 0, 0, 0, 0, 0, 0, 0],
-            Some([0x80, 0, 0, 0, 1, 0, 4, 5]),
-        ),
-        (
-            [0x40, 1, 0x20, 0, 0, 0, 0, 0],
-            Some([0x41, 1, 0x20, 0, 10, 0, 0, 0]),
-        ),
-        (
-            [0xC0, 0, 0x18, 1, 0, 0, 0, 0],
-            Some([0x80, 1, 0x20, 0, 1, 0, 4, 5]),
-        ),
-    ];
-    assert_eq!(rt; answers(rt.alloc(), &mut dict, &rows), None);
+    assert_eq!(rt; first_other(rt.alloc(), &mut dict, UPLOADS), None);
     Ok(())
 }
 
 #[test]
 fn downloads(rt: HostRuntime) -> Result<(), Fail> {
     let mut dict = dictionary(rt.alloc(), &DEVICE)?;
-    let rows = [
-        // with its bytes, and with the object's width
-        (
-            [0x23, 0, 0x18, 1, 0x85, 1, 0, 0xC0],
-            Some([0x60, 0, 0x18, 1, 0, 0, 0, 0]),
-        ),
-        (
-            [0x22, 0x17, 0x10, 0, 0x64, 0, 9, 9],
-            Some([0x60, 0x17, 0x10, 0, 0, 0, 0, 0]),
-        ),
-        (
-            [0x22, 4, 0x20, 0, 1, 2, 3, 4],
-            Some([0x80, 4, 0x20, 0, 0x10, 0, 7, 6]),
-        ),
-        (
-            [0x22, 0, 0x20, 0, 1, 2, 3, 4],
-            Some([0x80, 0, 0x20, 0, 0x10, 0, 7, 6]),
-        ),
-        (
-            [0x2F, 0x17, 0x10, 0, 1, 0, 0, 0],
-            Some([0x80, 0x17, 0x10, 0, 0x13, 0, 7, 6]),
-        ),
-        (
-            [0x23, 0x17, 0x10, 0, 1, 0, 0, 0],
-            Some([0x80, 0x17, 0x10, 0, 0x12, 0, 7, 6]),
-        ),
-        (
-            [0x2F, 1, 0x20, 0, 1, 0, 0, 0],
-            Some([0x80, 1, 0x20, 0, 2, 0, 1, 6]),
-        ),
-        // a stated size that is wrong, or above 65,535
-        (
-            [0x21, 4, 0x20, 0, 7, 0, 0, 0],
-            Some([0x80, 4, 0x20, 0, 0x13, 0, 7, 6]),
-        ),
-        (
-            [0x21, 0, 0x20, 0, 0, 0, 1, 0],
-            Some([0x80, 0, 0x20, 0, 0x12, 0, 7, 6]),
-        ),
-        // more bytes than stated, and fewer
-        (
-            [0x21, 0, 0x20, 0, 3, 0, 0, 0],
-            Some([0x60, 0, 0x20, 0, 0, 0, 0, 0]),
-        ),
-        (
-            [0x07, 1, 2, 3, 4, 0, 0, 0],
-            Some([0x80, 0, 0x20, 0, 0x12, 0, 7, 6]),
-        ),
-        (
-            [0x21, 0, 0x20, 0, 3, 0, 0, 0],
-            Some([0x60, 0, 0x20, 0, 0, 0, 0, 0]),
-        ),
-        (
-            [0x0B, 1, 2, 0, 0, 0, 0, 0],
-            Some([0x80, 0, 0x20, 0, 0x13, 0, 7, 6]),
-        ),
-        // a segment without a transfer
-        (
-            [0x0B, 1, 2, 0, 0, 0, 0, 0],
-            Some([0x80, 0, 0, 0, 1, 0, 4, 5]),
-        ),
-        // a wrong toggle
-        (
-            [0x21, 0, 0x20, 0, 10, 0, 0, 0],
-            Some([0x60, 0, 0x20, 0, 0, 0, 0, 0]),
-        ),
-        ([0, 1, 2, 3, 4, 5, 6, 7], Some([0x20, 0, 0, 0, 0, 0, 0, 0])),
-        (
-            [0x09, 8, 9, 10, 0, 0, 0, 0],
-            Some([0x80, 0, 0x20, 0, 0, 0, 3, 5]),
-        ),
-    ];
-    assert_eq!(rt; answers(rt.alloc(), &mut dict, &rows), None);
+    assert_eq!(rt; first_other(rt.alloc(), &mut dict, DOWNLOADS), None);
     assert_eq!(rt; dict.read(0x2000, 0)?, b"".as_slice());
     assert_eq!(rt; dict.read(0x1017, 0)?, [0x64, 0].as_slice());
+    Ok(())
+}
+
+#[test]
+fn ten_bytes_in_segments(rt: HostRuntime) -> Result<(), Fail> {
+    let mut dict = dictionary(rt.alloc(), &DEVICE)?;
     let mut server = Server::new(rt.alloc(), 5);
     let frames = [
         asks([0x21, 0, 0x20, 0, 10, 0, 0, 0]),
@@ -349,72 +356,66 @@ fn client_hears(rt: HostRuntime) -> Result<(), Fail> {
     Ok(())
 }
 
-#[test]
-fn each_first_byte_to_the_server(rt: HostRuntime) -> Result<(), Fail> {
-    let mut dict = dictionary(rt.alloc(), &DEVICE)?;
-    for first in 0..=255u8 {
-        for start in [None, Some(0x20), Some(0x40)] {
-            let mut server = Server::new(rt.alloc(), 5);
-            if let Some(start) = start {
-                let _ = server.step(&mut dict, &asks([start, 1, 0x20, 0, 0, 0, 0, 0]));
-            }
-            let body = [first, 1, 0x20, 0, 0, 0, 0, 0];
-            for len in 0..8usize {
-                let ignored = server.step(&mut dict, &Frame::new(0x605, &body[..len]));
-                assert_eq!(rt; ignored, None);
-            }
-            let elsewhere = server.step(&mut dict, &Frame::new(0x606, &body));
-            assert_eq!(rt; elsewhere, None);
-            let answer = server.step(&mut dict, &asks(body));
-            let wanted = match (first / 32, start) {
-                (2, _) => Some(0x41),
-                (3, Some(0x40)) if first / 16 % 2 == 0 => Some(0),
-                (4, _) => None,
-                _ => Some(0x80),
-            };
-            assert_eq!(rt; answer.map(|frame| frame.body[0]), wanted);
-        }
+// Whether a transfer ended since memory was refused, to the server or to the client.
+fn is_refused(end: Progress) -> bool {
+    match end {
+        Progress::Aborted(code) | Progress::Ended(_, code) => code == 0x0504_0005,
+        _ => false,
     }
+}
+
+// These two are run with each allocation failing in turn, too: then one transfer is aborted with
+// all values as they were, and the next one comes to its end.
+#[test]
+fn memory_refused_to_a_download(rt: HostRuntime) -> Result<(), Fail> {
+    let Ok(mut dict) = dictionary(rt.alloc(), &DEVICE[..4]) else {
+        return Ok(());
+    };
+    let mut server = Server::new(rt.alloc(), 5);
+    let mut client = Client::new(rt.alloc(), 5);
+    let mut stored: &[u8] = b"";
+    for value in [b"ten bytes!", b"other ten."] {
+        let end = match client.download(0x2000, 0, value) {
+            Ok(first) => play(&mut client, &mut server, &mut dict, first),
+            Err(fault) => {
+                assert_eq!(rt; fault, ClientFault::Memory);
+                Progress::Aborted(0x0504_0005)
+            }
+        };
+        assert!(rt; end == Progress::Done || is_refused(end));
+        if end == Progress::Done {
+            stored = value;
+        }
+        assert_eq!(rt; dict.read(0x2000, 0)?, stored);
+    }
+    assert!(rt; !stored.is_empty());
+    // one to four bytes of an object of one width take no memory
+    let first = client.download(0x1017, 0, &[1, 2])?;
+    assert_eq!(rt;
+        play(&mut client, &mut server, &mut dict, first),
+        Progress::Done
+    );
+    assert_eq!(rt; dict.read(0x1017, 0)?, [1, 2].as_slice());
     Ok(())
 }
 
 #[test]
-fn each_first_byte_to_the_client(rt: HostRuntime) -> Result<(), Fail> {
-    for first in 0..=255u8 {
-        for state in 0..4u8 {
-            let mut client = Client::new(rt.alloc(), 5);
-            if state == 1 {
-                let _ = client.download(0x2000, 0, &[1])?;
-            } else if state == 2 {
-                let _ = client.download(0x2000, 0, &[1, 2, 3, 4, 5])?;
-            } else if state == 3 {
-                let _ = client.upload(0x2000, 0)?;
-            }
-            let body = [first, 0, 0x20, 0, 0, 0, 0, 0];
-            for len in 0..8usize {
-                let ignored = client.step(&Frame::new(0x585, &body[..len]));
-                assert_eq!(rt; ignored, Progress::Ignored);
-            }
-            let elsewhere = client.step(&Frame::new(0x586, &body));
-            assert_eq!(rt; elsewhere, Progress::Ignored);
-            let wanted = match (state, first / 32) {
-                (0, _) => 0,
-                (_, 4) => 1,
-                (1, 3) => 2,
-                (2, 3) => 3,
-                (3, 2) if first / 2 % 2 == 1 => 2,
-                (3, 2) => 3,
-                _ => 4,
-            };
-            let kind = match client.step(&says(body)) {
-                Progress::Ignored => 0,
-                Progress::Aborted(_) => 1,
-                Progress::Done => 2,
-                Progress::Send(_) => 3,
-                Progress::Ended(..) => 4,
-            };
-            assert_eq!(rt; kind, wanted);
-        }
+fn memory_refused_to_an_upload(rt: HostRuntime) -> Result<(), Fail> {
+    let Ok(mut dict) = dictionary(rt.alloc(), &DEVICE[4..6]) else {
+        return Ok(());
+    };
+    let mut server = Server::new(rt.alloc(), 5);
+    let mut client = Client::new(rt.alloc(), 5);
+    let mut is_one_done = false;
+    for _ in 0..2u8 {
+        let first = client.upload(0x2001, 0)?;
+        let end = play(&mut client, &mut server, &mut dict, first);
+        let is_done = end == Progress::Done;
+        assert!(rt; is_done || is_refused(end));
+        let taken: &[u8] = if is_done { b"ten bytes!" } else { b"" };
+        assert_eq!(rt; client.taken(), taken);
+        is_one_done = is_one_done || is_done;
     }
+    assert!(rt; is_one_done);
     Ok(())
 }
