@@ -9,3 +9,4 @@ pub mod RenameLemmas
 pub mod PlannedLemmas
 pub mod DeadlineLemmas
 pub mod NetworkLemmas
+pub mod TrialLemmas

@@ -1,6 +1,6 @@
 //! Places filled from the lowest on.
 
-ghost use Rattle.std.specs.Prelude.{◌≡◌, ◌↔◌, ◌<◌, ◌≤◌, ◌+◌, ◌*◌, ◌^◌, ℕ, true, length, IsTrue, IfSome, IfNone, IfOk, nat_lt, ◌&&◌, All, AllPairs};
+ghost use Rattle.std.specs.Prelude.{◌≡◌, ◌<◌, ◌≤◌, ◌+◌, ◌*◌, ◌^◌, ℕ, true, length, IfSome, IfNone, IfOk, nat_lt, ◌&&◌, All, AllPairs};
 ghost use Rattle.cop_rta.specs.Test.{Passes, flagged_place, is_flagged};
 ghost use Rattle.cop_rta.specs.Sums.{sum_where};
 ghost use Rattle.cop_cert.specs.Assignments.{least_id};
@@ -9,8 +9,9 @@ ghost use Rattle.cop_cert.specs.Sets.{is_in_trial};
 ghost use Rattle.cop_plan.specs.Fillings.{IsFound};
 
 use crate::plans::LEAST_ID;
+use crate::trial::passes;
 use cop_frame::Rate;
-use cop_rta::{StreamSet, Verdict, verdict};
+use cop_rta::StreamSet;
 use std::alloc::{AllocError, Global};
 
 /// How many trials were made. A trial is the judging of one PDO for one place.
@@ -26,15 +27,6 @@ pub(crate) enum Filling {
     Whole(Vec<usize>),
     /// None of these PDOs, by rising number, passes with the others above it, and no other PDO is in any such set.
     Stuck(Vec<usize>),
-}
-
-/// Whether a PDO passes with the flagged streams above it.
-fn passes(set: &StreamSet, above: &[bool], pdo: usize, rate: Rate) -> bool
-    requires flags { length above.now ≡ length set.now }
-    requires index { pdo < length set.now }
-    ensures { IsTrue result ↔ Passes (flagged_place set.now above.now pdo rate) }
-{
-    matches!(verdict(set, above, pdo, rate), Verdict::Pass { .. })
 }
 
 /// The last of the flagged PDOs that passes with the other flagged streams above it.

@@ -6,6 +6,7 @@ mod filling;
 mod laws;
 mod planning;
 mod plans;
+mod trial;
 
 pub use assigning::{Outcome, assign, can_assign};
 pub use filling::Count;
