@@ -10,3 +10,8 @@ pub mod PlannedLemmas
 pub mod DeadlineLemmas
 pub mod NetworkLemmas
 pub mod TrialLemmas
+pub mod InverseLemmas
+pub mod LineLemmas
+pub mod LevelLemmas
+pub mod PlaceEquations
+pub mod LevelTrial

@@ -72,9 +72,9 @@ module _ (p : Place) (s : Stream) (here : slice_get p.streams p.index ≡ Some s
       let solves : w ≡ queueing_at p q w = waits.solves in
       none w (omega arith) (omega (arith, latest, met)) (omega (arith, solves, latest, met, small))
 
-  -- a stream with no deadline is never late
-  pub no_deadline : (t : ℕ) → s.deadline ≡ None → IsBusyTime p t → t ≤ horizon → Passes p
-  no_deadline t never busy within = record {
+  -- no response is longer than the jitter and the busy time
+  pub slack : (t : ℕ) → ForSome s.deadline (λ d. s.jitter + t ≤ d) → IsBusyTime p t → t ≤ horizon → Passes p
+  slack t enough busy within = record {
     time = t;
     busy = busy;
     within = within;
@@ -82,9 +82,12 @@ module _ (p : Place) (s : Stream) (here : slice_get p.streams p.index ≡ Some s
         let w = wait_exists p s t q here busy queued in (
           jitter_at p + w.0 + cost_at p - q * period_at p,
           record { wait = w.0; queueing = w.1; response = refl },
-          rw here (never_late s.deadline _ never),
+          rw here (λ d due. short d (enough d due) w.0 w.2 (q * s.period)),
         );
   }
     where
-      never_late : (o : Option ℕ) (r : ℕ) → o ≡ None → ForSome o (λ d. r ≤ d)
-      never_late o r is = λ d some. absurd (cc)
+      short : (d : ℕ) → s.jitter + t ≤ d → (w : ℕ) → w + cost_of p.rate s ≤ t → (x : ℕ) → s.jitter + w + cost_of p.rate s - x ≤ d
+      short d le w room x = omega (arith, le, room)
+
+  pub no_deadline : (t : ℕ) → s.deadline ≡ None → IsBusyTime p t → t ≤ horizon → Passes p
+  no_deadline t never busy within = slack t (λ d due. absurd (cc)) busy within

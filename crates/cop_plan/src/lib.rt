@@ -4,6 +4,8 @@
 mod assigning;
 mod filling;
 mod laws;
+mod levels;
+mod lines;
 mod planning;
 mod plans;
 mod trial;
