@@ -23,7 +23,7 @@ enough_at o found d n is due le = let same : found ≡ d = cc in omega (arith, s
 pub read_here : (v : Flags) (set read : List Stream) (own : ℕ) (s : Stream) → own < length v.streams → set ≡ v.streams → read ≡ set → s ≡ get_or read own s → slice_get v.streams own ≡ Some s
 read_here v set read own s inside is same here = slice_get_read v.streams (length v.streams) own s refl inside (rw (same ∙ is) at here)
 
-module _ (v : Flags) (table lines : List Line) (from_below : ℕ) (busy : Option ℕ) (is : IsLevel v table lines from_below busy) (own : ℕ) (inside : own < length v.streams) (flag : is_flagged v.flags own ≡ true) where
+module _ (v : Flags) (table lines : List Line) (from_below first : ℕ) (busy : Option ℕ) (is : IsLevel v table lines from_below first busy) (own : ℕ) (inside : own < length v.streams) (flag : is_flagged v.flags own ≡ true) where
   pub long : busy ≡ None → Passes (place_in v own) → ⊥
   long none = level_long v own inside flag (rw none at is.none)
 
@@ -38,7 +38,7 @@ module _ (v : Flags) (table lines : List Line) (from_below : ℕ) (busy : Option
 
   module _ (line : Line) (here : line ≡ get_or table own line) (s : Stream) (there : slice_get v.streams own ≡ Some s) (t n : ℕ) (some : busy ≡ Some t) (count : n ≡ instances_in t line) where
     all : n ≡ div_ceil (t + s.jitter) s.period
-    all = instances_here v table lines from_below busy is own inside line here s there t n (early t some) count
+    all = instances_here v table lines from_below first busy is own inside line here s there t n (early t some) count
 
     queued : (q : ℕ) → q < n → q * s.period < t + s.jitter
     queued q lt = below_div_ceil q (t + s.jitter) s.period (omega (arith, s.period_least)) (rw all at lt)
@@ -52,7 +52,7 @@ module _ (v : Flags) (table lines : List Line) (from_below : ℕ) (busy : Option
         omega (arith, more, queued_most q lt)
 
     cost_here : line.cost ≡ cost_of v.rate s
-    cost_here = (stream_here v table lines from_below busy is own inside line here s there).cost
+    cost_here = (stream_here v table lines from_below first busy is own inside line here s there).cost
 
     -- no wait is short enough
     pub too_late : (q d : ℕ) → q < n → s.deadline ≡ Some d
@@ -77,7 +77,7 @@ module _ (v : Flags) (table lines : List Line) (from_below : ℕ) (busy : Option
     pub next_waits : (q w y : ℕ) → IsLeastSolution (queueing_at (place_in v own) q) 0 w → queueing_at (place_in v own) (q + 1) y ≤ y → w + line.cost ≤ y
     next_waits q w y waits closed =
         let more : w + cost_at (place_in v own) ≤ y = next_from v own inside flag q w y least closed in
-        omega (arith, more, cost_of_own v table lines from_below busy is own inside line here)
+        omega (arith, more, cost_of_own v table lines from_below first busy is own inside line here)
       where
         least : (y : ℕ) → queueing_at (place_in v own) q y ≤ y → w ≤ y
         least y closed =

@@ -1,5 +1,5 @@
 -- The equations of a flagged stream, by what is made once for all that are flagged.
-use Rattle.std.proofs.Common.{◌≡◌, ℕ, zero, suc, ◌+◌, ◌-◌, ◌*◌, ◌<◌, ◌≤◌, ◌⊎◌, inl, inr, Bool, true, false, not, ◌&&◌, ◌==◌, if◌then◌else◌, List, length, get_or, slice_get, Option, Some, None, IfSome, IfNone, sum_by, refl, sym, ap, ◌∙◌, arith, subst, ⊎_elim, le_trans, le_antisymm, zero-le}
+use Rattle.std.proofs.Common.{◌^◌, ◌≡◌, ℕ, zero, suc, ◌+◌, ◌-◌, ◌*◌, ◌<◌, ◌≤◌, ◌⊎◌, inl, inr, Bool, true, false, not, ◌&&◌, ◌==◌, if◌then◌else◌, List, length, get_or, slice_get, Option, Some, None, IfSome, IfNone, sum_by, refl, sym, ap, ◌∙◌, arith, subst, ⊎_elim, le_trans, le_antisymm, zero-le}
 use Rattle.std.specs.Int.{div_ceil}
 use Rattle.std.proofs.lemmas.Bool.{cases_eq, cases_lt, eq-eqb, ne_eqb}
 use Rattle.std.proofs.lemmas.Option.{slice_get_cases, slice_get_read}
@@ -184,7 +184,7 @@ module _ (v : Flags) (own : ℕ) (inside : own < length v.streams) (flag : is_fl
 
 -- ---- and its line
 
-module _ (v : Flags) (table lines : List Line) (from_below : ℕ) (busy : Option ℕ) (is : IsLevel v table lines from_below busy) (own : ℕ) (inside : own < length v.streams) (line : Line) (here : line ≡ get_or table own line) where
+module _ (v : Flags) (table lines : List Line) (from_below first : ℕ) (busy : Option ℕ) (is : IsLevel v table lines from_below first busy) (own : ℕ) (inside : own < length v.streams) (line : Line) (here : line ≡ get_or table own line) where
   pub stream_here : (s : Stream) → slice_get v.streams own ≡ Some s → IsLineOf v.rate s line
   stream_here s there = is.lines_are.each own s line there (slice_get_read table (length table) own line refl (omega (arith, inside, is.lines_are.count)) here)
 
@@ -214,6 +214,12 @@ module _ (v : Flags) (table lines : List Line) (from_below : ℕ) (busy : Option
       let mine : load ≡ of_stream (load_of v.rate time) v.streams own = is_load ∙ load_of_own time early in
       rw (all, mine, when, cost_of_own, is.blocking) (asked_is v own inside flag q w)
 
+  -- where each wait begins
+  pub level_first : is_flagged v.flags own ≡ true → (load : ℕ) → load ≡ load_in (ticks_of v.rate) line → ticks_of v.rate ≤ latest_time → from_below + (first - load) ≡ queueing_at (place_in v own) 0 0
+  level_first flag load is_load early =
+      let asked : from_below + 0 * line.cost + (first - load) ≡ queueing_at (place_in v own) 0 0 = level_asked flag 0 0 (ticks_of v.rate) first load (omega arith) early is.begins is_load in
+      omega (arith, asked)
+
   -- its instances in the busy time
   pub instances_here : (s : Stream) → slice_get v.streams own ≡ Some s → (t n : ℕ) → t ≤ horizon → n ≡ instances_in t line → n ≡ div_ceil (t + s.jitter) s.period
   instances_here s there t n early count = count ∙ (stream_here s there).instances t (omega (arith, early))
@@ -234,13 +240,14 @@ pub none_made : (f g : ℕ → ℕ) (o : Option ℕ) → ((t : ℕ) → t ≤ ho
 none_made f g None same none = λ y start low. omega (arith, none y start low, same y low)
 none_made f g (Some t) same none = none
 
-pub made : (v : Flags) (table lines : List Line) (from_below : ℕ) (busy : Option ℕ) → length v.flags ≡ length v.streams → length v.streams ≤ 1100 → AreLinesOf v.rate v.streams table
+pub made : (v : Flags) (table lines : List Line) (from_below first : ℕ) (busy : Option ℕ) → length v.flags ≡ length v.streams → length v.streams ≤ 1100 → AreLinesOf v.rate v.streams table
     → length lines ≤ length table
     → ((t : ℕ) → sum_by (load_in t) lines ≡ sum_where (is_flagged v.flags) (of_line (load_in t) table) (length table))
     → from_below ≡ max_where (is_unflagged v.flags) (of_line (λ line. line.cost) table) (length table) → from_below ≤ 54000
+    → first ≡ sum_by (load_in (ticks_of v.rate)) lines → first ≤ 2 ^ 55
     → IfSome busy (IsLeastReached (λ t. from_below + sum_by (load_in t) lines) 1) → IfSome busy (λ t. t ≤ horizon)
-    → IfNone busy (NoneReached (λ t. from_below + sum_by (load_in t) lines) 1 horizon) → IsLevel v table lines from_below busy
-made v table lines from_below busy size few are count sums below most found within none = record {
+    → IfNone busy (NoneReached (λ t. from_below + sum_by (load_in t) lines) 1 horizon) → IsLevel v table lines from_below first busy
+made v table lines from_below first busy size few are count sums below most begins begins_most found within none = record {
   size = size;
   few = omega (arith, count, are.count, few);
   few_streams = few;
@@ -248,6 +255,8 @@ made v table lines from_below busy size few are count sums below most found with
   sums = all;
   blocking = longest;
   most = most;
+  begins = begins;
+  begins_most = begins_most;
   found = busy_made (λ t. from_below + sum_by (load_in t) lines) (busy_of v.rate v.streams v.flags) busy same within found;
   within = within;
   none = none_made (λ t. from_below + sum_by (load_in t) lines) (busy_of v.rate v.streams v.flags) busy same none;

@@ -38,6 +38,8 @@ pub(crate) struct Level<'a> {
     // The lines that are flagged.
     lines: Vec<Line>,
     from_below: u64,
+    // What these take within a bit: each wait begins from it.
+    first: u64,
     // The busy time of each flagged stream, if it is within the horizon.
     busy: Option<u64>,
 }
@@ -49,7 +51,7 @@ impl<'a> Model for Level<'a> {
 
     ghost view = { λ l. record { streams = l.set.now; flags = l.above.now; rate = l.rate } };
 
-    ghost invariant = { λ l. IsLevel (record { streams = l.set.now; flags = l.above.now; rate = l.rate }) l.table.now l.lines.items l.from_below l.busy };
+    ghost invariant = { λ l. IsLevel (record { streams = l.set.now; flags = l.above.now; rate = l.rate }) l.table.now l.lines.items l.from_below l.first l.busy };
 }
 
 impl<'a> Level<'a> {
@@ -68,6 +70,7 @@ impl<'a> Level<'a> {
     {
         let lines = flagged_lines(alloc, table, above)?;
         let from_below = longest_unflagged(table, above);
+        let first = total(&lines, u64::from(rate.ticks_per_bit()));
         let busy = busy_time(&lines, from_below);
         Ok(Level {
             set,
@@ -76,6 +79,7 @@ impl<'a> Level<'a> {
             rate,
             lines,
             from_below,
+            first,
             busy,
         })
     }
@@ -92,6 +96,18 @@ impl<'a> Level<'a> {
         let own = &table[pdo];
         let time = wait + u64::from(self.rate.ticks_per_bit());
         self.from_below + q * own.cost + (total(&self.lines, time) - own.load(time))
+    }
+
+    /// What the queueing equation of the first instance of a flagged stream gives at 0.
+    fn first_asked(&self, pdo: usize) -> u64
+        requires index { pdo < length self.now.streams }
+        requires flagged { is_flagged self.now.flags pdo ≡ true }
+        ensures { result ≡ queueing_at (place_in self.now pdo) 0 0 }
+    {
+        let table = self.table;
+        let own = &table[pdo];
+        let bit = u64::from(self.rate.ticks_per_bit());
+        self.from_below + (self.first - own.load(bit))
     }
 
     /// The least wait of an instance of a flagged stream, which is at least `from`, if it is at most `most`.
@@ -134,7 +150,7 @@ impl<'a> Level<'a> {
         }
         let table = self.table;
         let own = &table[pdo];
-        let mut from = 0;
+        let mut from = self.first_asked(pdo);
         for q in 0..own.instances(busy) {
             let Some(most) = latest(stream, own.cost, deadline, q) else {
                 return false;
