@@ -184,7 +184,7 @@ module _ (v : Flags) (own : ℕ) (inside : own < length v.streams) (flag : is_fl
 
 -- ---- and its line
 
-module _ (v : Flags) (table lines : List Line) (from_below first : ℕ) (busy : Option ℕ) (is : IsLevel v table lines from_below first busy) (own : ℕ) (inside : own < length v.streams) (line : Line) (here : line ≡ get_or table own line) where
+module _ (v : Flags) (table lines : List Line) (from_below first ends : ℕ) (busy : Option ℕ) (is : IsLevel v table lines from_below first ends busy) (own : ℕ) (inside : own < length v.streams) (line : Line) (here : line ≡ get_or table own line) where
   pub stream_here : (s : Stream) → slice_get v.streams own ≡ Some s → IsLineOf v.rate s line
   stream_here s there = is.lines_are.each own s line there (slice_get_read table (length table) own line refl (omega (arith, inside, is.lines_are.count)) here)
 
@@ -240,14 +240,15 @@ pub none_made : (f g : ℕ → ℕ) (o : Option ℕ) → ((t : ℕ) → t ≤ ho
 none_made f g None same none = λ y start low. omega (arith, none y start low, same y low)
 none_made f g (Some t) same none = none
 
-pub made : (v : Flags) (table lines : List Line) (from_below first : ℕ) (busy : Option ℕ) → length v.flags ≡ length v.streams → length v.streams ≤ 1100 → AreLinesOf v.rate v.streams table
+pub made : (v : Flags) (table lines : List Line) (from_below first ends : ℕ) (busy : Option ℕ) → length v.flags ≡ length v.streams → length v.streams ≤ 1100 → AreLinesOf v.rate v.streams table
     → length lines ≤ length table
     → ((t : ℕ) → sum_by (load_in t) lines ≡ sum_where (is_flagged v.flags) (of_line (load_in t) table) (length table))
     → from_below ≡ max_where (is_unflagged v.flags) (of_line (λ line. line.cost) table) (length table) → from_below ≤ 54000
     → first ≡ sum_by (load_in (ticks_of v.rate)) lines → first ≤ 2 ^ 55
+    → ((y : ℕ) → from_below + sum_by (load_in (y - 135 * ticks_of v.rate + ticks_of v.rate)) lines ≤ y → ends ≤ y)
     → IfSome busy (IsLeastReached (λ t. from_below + sum_by (load_in t) lines) 1) → IfSome busy (λ t. t ≤ horizon)
-    → IfNone busy (NoneReached (λ t. from_below + sum_by (load_in t) lines) 1 horizon) → IsLevel v table lines from_below first busy
-made v table lines from_below first busy size few are count sums below most begins begins_most found within none = record {
+    → IfNone busy (NoneReached (λ t. from_below + sum_by (load_in t) lines) 1 horizon) → IsLevel v table lines from_below first ends busy
+made v table lines from_below first ends busy size few are count sums below most begins begins_most ends_least found within none = record {
   size = size;
   few = omega (arith, count, are.count, few);
   few_streams = few;
@@ -257,6 +258,7 @@ made v table lines from_below first busy size few are count sums below most begi
   most = most;
   begins = begins;
   begins_most = begins_most;
+  ends_least = ends_least;
   found = busy_made (λ t. from_below + sum_by (load_in t) lines) (busy_of v.rate v.streams v.flags) busy same within found;
   within = within;
   none = none_made (λ t. from_below + sum_by (load_in t) lines) (busy_of v.rate v.streams v.flags) busy same none;

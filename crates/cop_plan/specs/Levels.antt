@@ -1,5 +1,5 @@
 -- The streams flagged at a place of an order: each of them has the same busy equation there.
-use Rattle.std.specs.Prelude.{ℕ, ◌≡◌, ◌+◌, ◌^◌, ◌<◌, ◌≤◌, Bool, not, List, length, slice_get, Option, IfSome, IfNone, sum_by}
+use Rattle.std.specs.Prelude.{ℕ, ◌≡◌, ◌+◌, ◌-◌, ◌*◌, ◌^◌, ◌<◌, ◌≤◌, Bool, not, List, length, slice_get, Option, IfSome, IfNone, sum_by}
 use Rattle.std.specs.Option.{option_map_or}
 use Rattle.cop_frame.specs.declared.rates.Rate.{Rate}
 use Rattle.cop_frame.specs.Rate.{ticks_of}
@@ -44,7 +44,7 @@ abbrev pub place_in : Flags → ℕ → Place
 place_in level index = flagged_place level.streams level.flags index level.rate
 
 -- what is made once for all streams that are flagged
-pub record IsLevel (level : Flags) (table lines : List Line) (from_below first : ℕ) (time : Option ℕ) : Type 0 where
+pub record IsLevel (level : Flags) (table lines : List Line) (from_below first ends : ℕ) (time : Option ℕ) : Type 0 where
   pub size : length level.flags ≡ length level.streams
   pub few : length lines ≤ 1100
   pub few_streams : length level.streams ≤ 1100
@@ -54,6 +54,7 @@ pub record IsLevel (level : Flags) (table lines : List Line) (from_below first :
   pub most : from_below ≤ 54000
   pub begins : first ≡ sum_by (load_in (ticks_of level.rate)) lines
   pub begins_most : first ≤ 2 ^ 55
+  pub ends_least : (y : ℕ) → from_below + sum_by (load_in (y - 135 * ticks_of level.rate + ticks_of level.rate)) lines ≤ y → ends ≤ y
   pub found : IfSome time (IsLeastReached (busy_of level.rate level.streams level.flags) 1)
   pub within : IfSome time (λ t. t ≤ horizon)
   pub none : IfNone time (NoneReached (busy_of level.rate level.streams level.flags) 1 horizon)

@@ -1,6 +1,6 @@
 //! The streams flagged at a place of an order.
 
-ghost use Rattle.std.specs.Prelude.{◌≡◌, ◌+◌, ◌*◌, ◌^◌, ◌<◌, ◌≤◌, ℕ, length, sum_by, IfOk, IfSome, IfNone};
+ghost use Rattle.std.specs.Prelude.{◌≡◌, ◌+◌, ◌-◌, ◌*◌, ◌^◌, ◌<◌, ◌≤◌, ℕ, length, sum_by, IfOk, IfSome, IfNone};
 ghost use Rattle.cop_frame.specs.Rate.{ticks_of};
 ghost use Rattle.cop_rta.specs.Sums.{sum_where, max_where};
 ghost use Rattle.cop_rta.specs.Test.{is_flagged, horizon};
@@ -94,4 +94,23 @@ pub(crate) fn busy_time(lines: &[Line], from_below: u64) -> Option<u64>
         time = next;
     }
     None
+}
+
+/// A time before which no first transfer ends of a flagged stream that has one instance in the busy time: the least at
+/// which all is done that was asked for until one longest transfer before it.
+pub(crate) fn earliest_end(lines: &[Line], from_below: u64, longest: u64, bit: u64) -> u64
+    requires few { length lines.now ≤ 1100 }
+    requires below { from_below ≤ 54000 }
+    requires bit { bit ≤ 400 }
+    ensures { (y : ℕ) → from_below + sum_by (load_in (y - longest + bit)) lines.now ≤ y → result ≤ y }
+{
+    let mut time = 0;
+    while time <= HORIZON {
+        let next = from_below + total(lines, time.saturating_sub(longest) + bit);
+        if next <= time {
+            return time;
+        }
+        time = next;
+    }
+    time
 }

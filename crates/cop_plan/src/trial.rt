@@ -2,16 +2,19 @@
 
 ghost use Rattle.std.specs.Prelude.{◌≡◌, ◌↔◌, ◌+◌, ◌*◌, ◌^◌, ◌<◌, ◌≤◌, ℕ, length, true, IsTrue, IfSome, IfNone, IfOk};
 ghost use Rattle.cop_rta.specs.Solutions.{IsLeastSolution};
-ghost use Rattle.cop_rta.specs.Test.{Passes, is_flagged, queueing_at};
+ghost use Rattle.cop_rta.specs.Test.{Passes, is_flagged, queueing_at, horizon};
 ghost use Rattle.cop_plan.specs.Lines.{AreLinesOf};
 ghost use Rattle.cop_plan.specs.Levels.{place_in, NoneReached};
 
-use crate::levels::{busy_time, flagged_lines, longest_unflagged, total};
+use crate::levels::{busy_time, earliest_end, flagged_lines, longest_unflagged, total};
 use crate::lines::Line;
 use cop_frame::Rate;
 use cop_rta::{Stream, StreamSet};
 use std::alloc::{AllocError, Global};
 use std::marker::Model;
+
+/// The bits of the longest frame.
+const MOST_BITS: u64 = 135;
 
 /// The longest wait with which instance q of a stream of some cost meets a deadline, if any does.
 fn latest(stream: &Stream, cost: u64, deadline: u64, q: u64) -> Option<u64>
@@ -40,6 +43,8 @@ pub(crate) struct Level<'a> {
     from_below: u64,
     // What these take within a bit: each wait begins from it.
     first: u64,
+    // No stream with one instance in the busy time ends its transfer before.
+    ends: u64,
     // The busy time of each flagged stream, if it is within the horizon.
     busy: Option<u64>,
 }
@@ -51,7 +56,7 @@ impl<'a> Model for Level<'a> {
 
     ghost view = { λ l. record { streams = l.set.now; flags = l.above.now; rate = l.rate } };
 
-    ghost invariant = { λ l. IsLevel (record { streams = l.set.now; flags = l.above.now; rate = l.rate }) l.table.now l.lines.items l.from_below l.first l.busy };
+    ghost invariant = { λ l. IsLevel (record { streams = l.set.now; flags = l.above.now; rate = l.rate }) l.table.now l.lines.items l.from_below l.first l.ends l.busy };
 }
 
 impl<'a> Level<'a> {
@@ -70,7 +75,9 @@ impl<'a> Level<'a> {
     {
         let lines = flagged_lines(alloc, table, above)?;
         let from_below = longest_unflagged(table, above);
-        let first = total(&lines, u64::from(rate.ticks_per_bit()));
+        let bit = u64::from(rate.ticks_per_bit());
+        let first = total(&lines, bit);
+        let ends = earliest_end(&lines, from_below, MOST_BITS * bit, bit);
         let busy = busy_time(&lines, from_below);
         Ok(Level {
             set,
@@ -80,6 +87,7 @@ impl<'a> Level<'a> {
             lines,
             from_below,
             first,
+            ends,
             busy,
         })
     }
@@ -108,6 +116,22 @@ impl<'a> Level<'a> {
         let own = &table[pdo];
         let bit = u64::from(self.rate.ticks_per_bit());
         self.from_below + (self.first - own.load(bit))
+    }
+
+    /// A number that the wait of the first instance of a flagged stream is not below.
+    fn least_wait(&self, pdo: usize, busy: u64) -> u64
+        requires index { pdo < length self.now.streams }
+        requires flagged { is_flagged self.now.flags pdo ≡ true }
+        requires within { busy ≤ horizon }
+        ensures { (y : ℕ) → queueing_at (place_in self.now pdo) 0 y ≤ y → result ≤ y }
+    {
+        let table = self.table;
+        let own = &table[pdo];
+        if own.instances(busy) == 1 {
+            self.ends.min(busy).saturating_sub(own.cost)
+        } else {
+            self.first_asked(pdo)
+        }
     }
 
     /// The least wait of an instance of a flagged stream, which is at least `from`, if it is at most `most`.
@@ -150,7 +174,7 @@ impl<'a> Level<'a> {
         }
         let table = self.table;
         let own = &table[pdo];
-        let mut from = self.first_asked(pdo);
+        let mut from = self.least_wait(pdo, busy);
         for q in 0..own.instances(busy) {
             let Some(most) = latest(stream, own.cost, deadline, q) else {
                 return false;

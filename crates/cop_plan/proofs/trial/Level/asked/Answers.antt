@@ -9,11 +9,11 @@ same_total c = rw c.deref.ensures.value at c.total.ensures.value
 pub overflow_sub-result : goal.overflow_sub-result
 overflow_sub-result c =
     rw (same_total c, c.load.ensures.value)
-    (level_own _ _ _ _ _ _ c.self.invariant c.args.pdo (rw (← c.self.view_is) at c.requires.index) c.index-table-pdo.result c.index-table-pdo.is (rw (← c.self.view_is) at c.requires.flagged) _ (omega arith))
+    (level_own _ _ _ _ _ _ _ c.self.invariant c.args.pdo (rw (← c.self.view_is) at c.requires.index) c.index-table-pdo.result c.index-table-pdo.is (rw (← c.self.view_is) at c.requires.flagged) _ (omega arith))
 
 pub returns : goal.returns
 returns c =
     rw (← c.self.view_is)
-    (level_asked _ _ _ _ _ _ c.self.invariant c.args.pdo (rw (← c.self.view_is) at c.requires.index) c.index-table-pdo.result c.index-table-pdo.is (rw (← c.self.view_is) at c.requires.flagged) c.args.q c.args.wait
+    (level_asked _ _ _ _ _ _ _ c.self.invariant c.args.pdo (rw (← c.self.view_is) at c.requires.index) c.index-table-pdo.result c.index-table-pdo.is (rw (← c.self.view_is) at c.requires.flagged) c.args.q c.args.wait
     (c.args.wait + c.from.result) c.total.result c.load.result
     (ap (λ n. c.args.wait + n) (c.from.ensures ∙ c.ticks_per_bit.ensures.ticks)) (omega arith) (same_total c) c.load.ensures.value)

@@ -10,12 +10,12 @@ same_load c = rw (c.from-bit.ensures, c.ticks_per_bit.ensures.ticks) at c.load.e
 pub overflow_sub-result : goal.overflow_sub-result
 overflow_sub-result c =
     rw (same_load c, c.self.invariant.begins)
-    (level_own _ _ _ _ _ _ c.self.invariant c.args.pdo (rw (← c.self.view_is) at c.requires.index) c.index-table-pdo.result c.index-table-pdo.is (rw (← c.self.view_is) at c.requires.flagged) _ (omega (arith, c.ticks_per_bit.ensures.ticks)))
+    (level_own _ _ _ _ _ _ _ c.self.invariant c.args.pdo (rw (← c.self.view_is) at c.requires.index) c.index-table-pdo.result c.index-table-pdo.is (rw (← c.self.view_is) at c.requires.flagged) _ (omega (arith, c.ticks_per_bit.ensures.ticks)))
 
 pub returns : goal.returns
 returns c =
     rw (← c.self.view_is)
-    (level_first _ _ _ _ _ _ c.self.invariant c.args.pdo (rw (← c.self.view_is) at c.requires.index) c.index-table-pdo.result c.index-table-pdo.is (rw (← c.self.view_is) at c.requires.flagged) c.load.result (same_load c) (omega (arith, c.ticks_per_bit.ensures.ticks)))
+    (level_first _ _ _ _ _ _ _ c.self.invariant c.args.pdo (rw (← c.self.view_is) at c.requires.index) c.index-table-pdo.result c.index-table-pdo.is (rw (← c.self.view_is) at c.requires.flagged) c.load.result (same_load c) (omega (arith, c.ticks_per_bit.ensures.ticks)))
 
 pub overflow_add-result : goal.overflow_add-result
 overflow_add-result c = omega (arith, c.self.invariant.most, c.self.invariant.begins_most)
