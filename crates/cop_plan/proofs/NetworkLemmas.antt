@@ -1,12 +1,11 @@
 -- Networks can be planned, and candidates are a set of rates.
-use Rattle.std.proofs.Common.{◌≡◌, ◌↔◌, ℕ, ◌<◌, ◌≤◌, List, length, Option, Some, None, IsSome, Contains, refl, false}
+use Rattle.std.proofs.Common.{◌≡◌, ◌↔◌, ℕ, ◌≤◌, List, length, Option, Some, None, IsSome, Contains, refl, false}
 use Rattle.cop_frame.specs.declared.rates.Rate.{Rate}
-use Rattle.cop_frame.specs.Rate.{kbits_of}
 use Rattle.cop_rta.specs.declared.streams.Stream.{Stream}
 use Rattle.cop_net.specs.Network.{Net, IsNetwork}
 use Rattle.cop_plan.specs.declared.assigning.Outcome.{Outcome}
 use Rattle.cop_plan.specs.declared.assigning.Outcome.TheVariants.{Planned, Refused}
-use Rattle.cop_plan.specs.Plans.{CanAssign, IsSlower, IsPlan, AreAllRefused, IsOutcome}
+use Rattle.cop_plan.specs.Plans.{CanAssign, IsSlower, IsPlan, IsOutcome}
 use Rattle.cop_plan.specs.Values.{PlanValue}
 use Rattle.cop_plan.proofs.FillingLemmas.{no_bit}
 use Rattle.cop_plan.proofs.AssignLemmas.{also}

@@ -1,16 +1,20 @@
 //! Places filled from the lowest on.
 
-ghost use Rattle.std.specs.Prelude.{◌≡◌, ◌↔◌, ◌<◌, ◌≤◌, ◌+◌, ◌*◌, ◌^◌, ℕ, true, length, IsTrue, IfSome, IfNone, IfOk, nat_lt, ◌&&◌, All, AllPairs};
+ghost use Rattle.std.specs.Prelude.{◌≡◌, ◌<◌, ◌≤◌, ◌+◌, ◌*◌, ◌^◌, ℕ, true, length, IfSome, IfNone, IfOk, nat_lt, ◌&&◌, All, AllPairs};
 ghost use Rattle.cop_rta.specs.Test.{Passes, flagged_place, is_flagged};
 ghost use Rattle.cop_rta.specs.Sums.{sum_where};
 ghost use Rattle.cop_cert.specs.Assignments.{least_id};
 ghost use Rattle.cop_cert.specs.Evidence.{is_listed};
 ghost use Rattle.cop_cert.specs.Sets.{is_in_trial};
 ghost use Rattle.cop_plan.specs.Fillings.{IsFound};
+ghost use Rattle.cop_plan.specs.Lines.{AreLinesOf};
 
+use crate::levels::lines_of;
+use crate::lines::Line;
 use crate::plans::LEAST_ID;
+use crate::trial::Level;
 use cop_frame::Rate;
-use cop_rta::{StreamSet, Verdict, verdict};
+use cop_rta::StreamSet;
 use std::alloc::{AllocError, Global};
 
 /// How many trials were made. A trial is the judging of one PDO for one place.
@@ -28,44 +32,40 @@ pub(crate) enum Filling {
     Stuck(Vec<usize>),
 }
 
-/// Whether a PDO passes with the flagged streams above it.
-fn passes(set: &StreamSet, above: &[bool], pdo: usize, rate: Rate) -> bool
-    requires flags { length above.now ≡ length set.now }
-    requires index { pdo < length set.now }
-    ensures { IsTrue result ↔ Passes (flagged_place set.now above.now pdo rate) }
-{
-    matches!(verdict(set, above, pdo, rate), Verdict::Pass { .. })
-}
-
 /// The last of the flagged PDOs that passes with the other flagged streams above it.
 fn last_passing(
+    alloc: Global,
     set: &StreamSet,
+    table: &[Line],
     above: &[bool],
     pdos: usize,
     rate: Rate,
     count: &mut Count,
-) -> Option<usize>
+) -> Result<Option<usize>, AllocError>
+    requires table { AreLinesOf rate set.now table.now }
+    requires few { length set.now ≤ 1100 }
     requires flags { length above.now ≡ length set.now }
     requires pdos { pdos ≤ length set.now }
     requires room { count.old.trials + pdos < 2 ^ 64 }
     ensures rises { count.old.trials ≤ count.new.trials }
     ensures trials { count.new.trials ≤ count.old.trials + sum_where (is_flagged above.now) (λ _. 1) pdos }
-    ensures inside { IfSome result (λ p. p < pdos) }
-    ensures flagged { IfSome result (λ p. is_flagged above.now p ≡ true) }
-    ensures passes { IfSome result (λ p. Passes (flagged_place set.now above.now p rate)) }
-    ensures last { IfSome result (λ p. (r : ℕ) → r < pdos → p < r → is_flagged above.now r ≡ true → Passes (flagged_place set.now above.now r rate) → ⊥) }
-    ensures none { IfNone result ((r : ℕ) → r < pdos → is_flagged above.now r ≡ true → Passes (flagged_place set.now above.now r rate) → ⊥) }
+    ensures inside { IfOk result (λ found. IfSome found (λ p. p < pdos)) }
+    ensures flagged { IfOk result (λ found. IfSome found (λ p. is_flagged above.now p ≡ true)) }
+    ensures passes { IfOk result (λ found. IfSome found (λ p. Passes (flagged_place set.now above.now p rate))) }
+    ensures last { IfOk result (λ found. IfSome found (λ p. (r : ℕ) → r < pdos → p < r → is_flagged above.now r ≡ true → Passes (flagged_place set.now above.now r rate) → ⊥)) }
+    ensures none { IfOk result (λ found. IfNone found ((r : ℕ) → r < pdos → is_flagged above.now r ≡ true → Passes (flagged_place set.now above.now r rate) → ⊥)) }
 {
+    let level = Level::new(alloc, set, table, above, rate)?;
     for done in 0..pdos {
         let pdo = pdos - 1 - done;
         if above[pdo] {
             count.trials += 1;
-            if passes(set, above, pdo, rate) {
-                return Some(pdo);
+            if level.passes(pdo) {
+                return Ok(Some(pdo));
             }
         }
     }
-    None
+    Ok(None)
 }
 
 /// Flags all PDOs, and the fixed frames that are above each PDO.
@@ -114,11 +114,12 @@ pub(crate) fn fill(
 {
     let mut flags = [false; StreamSet::MOST];
     let streams = set.streams();
+    let table = lines_of(alloc, streams, rate)?;
     let above = &mut flags[..streams.len()];
     flag_all(set, pdos, above);
     let mut fill = Vec::new(alloc);
     for _placed in 0..pdos {
-        let Some(pdo) = last_passing(set, above, pdos, rate, count) else {
+        let Some(pdo) = last_passing(alloc, set, &table, above, pdos, rate, count)? else {
             return Ok(Filling::Stuck(flagged(alloc, above, pdos)?));
         };
         fill.push(pdo)?;

@@ -24,33 +24,33 @@ returns-in_default c = record {
         goes_no_further c.args.rate c.args.set.now c.args.pdos c.loop-placed.fill.items c.in_ok-flagged.field-0.items (left_of c.args.pdos c.loop-placed.above) c.loop-placed.invariant.goes
         (omega (arith, c.loop-placed.invariant.placed, c.loop-placed-test.true))
         c.in_ok-flagged.ensures.exact
-        (λ r below left passes. c.in_default.ensures.none r below (left_is_flagged c.args.pdos r c.loop-placed.above left) (trial_was c.args.rate c.args.set.now c.args.pdos r c.loop-placed.above c.loop-placed.invariant.flags passes));
+        (λ r below left passes. (rw c.in_default.is at c.in_ok-pdo.ensures.none) r below (left_is_flagged c.args.pdos r c.loop-placed.above left) (trial_was c.args.rate c.args.set.now c.args.pdos r c.loop-placed.above c.loop-placed.invariant.flags passes));
     rise = c.in_ok-flagged.ensures.rise;
     inside = c.in_ok-flagged.ensures.inside;
   };
-  rises = omega (arith, c.loop-placed.invariant.rises, c.in_default.ensures.rises);
+  rises = omega (arith, c.loop-placed.invariant.rises, c.in_ok-pdo.ensures.rises);
   trials =
       trials_end c.last_passing.new.count.trials _ _
       (place_trials c.args.pdos c.loop-placed._placed c.loop-placed.count.trials c.last_passing.new.count.trials c.args.count.now.trials _ c.loop-placed-test.true
       (flagged_left c.args.rate c.args.set.now c.args.pdos c.loop-placed._placed c.loop-placed.fill.items c.loop-placed.above c.loop-placed.invariant.goes c.loop-placed.invariant.placed)
-      c.in_default.ensures.trials c.loop-placed.invariant.trials);
+      c.in_ok-pdo.ensures.trials c.loop-placed.invariant.trials);
 }
 
 pub loop-placed-preserved : goal.loop-placed-preserved
 loop-placed-preserved c =
-    let few : c.in-Some.pdo < length c.loop-placed.above = omega (arith, c.in-Some.ensures.inside, c.loop-placed.invariant.size, c.requires.pdos) in
+    let few : c.in-Some.pdo < length c.loop-placed.above = omega (arith, (rw c.in-Some.is at c.in_ok-pdo.ensures.inside), c.loop-placed.invariant.size, c.requires.pdos) in
     record {
       size = length-set c.loop-placed.above c.in-Some.pdo false ∙ c.loop-placed.invariant.size;
-      flags = trial_next c.args.set.now c.args.pdos c.in-Some.pdo c.loop-placed.above c.in-Some.ensures.inside few c.loop-placed.invariant.flags;
+      flags = trial_next c.args.set.now c.args.pdos c.in-Some.pdo c.loop-placed.above (rw c.in-Some.is at c.in_ok-pdo.ensures.inside) few c.loop-placed.invariant.flags;
       goes = rw c.in_ok-push.ensures.items
-          (goes_next c.args.rate c.args.set.now c.args.pdos c.in-Some.pdo c.loop-placed.fill.items c.loop-placed.above c.requires.pdos c.in-Some.ensures.inside few c.loop-placed.invariant.flags
-          c.loop-placed.invariant.goes c.in-Some.ensures.flagged c.in-Some.ensures.passes c.in-Some.ensures.last);
+          (goes_next c.args.rate c.args.set.now c.args.pdos c.in-Some.pdo c.loop-placed.fill.items c.loop-placed.above c.requires.pdos (rw c.in-Some.is at c.in_ok-pdo.ensures.inside) few c.loop-placed.invariant.flags
+          c.loop-placed.invariant.goes (rw c.in-Some.is at c.in_ok-pdo.ensures.flagged) (rw c.in-Some.is at c.in_ok-pdo.ensures.passes) (rw c.in-Some.is at c.in_ok-pdo.ensures.last));
       placed = rw c.in_ok-push.ensures.items (simp length-append (omega (arith, c.loop-placed.invariant.placed)));
-      rises = omega (arith, c.loop-placed.invariant.rises, c.in-Some.ensures.rises);
+      rises = omega (arith, c.loop-placed.invariant.rises, c.in_ok-pdo.ensures.rises);
       trials =
           place_trials c.args.pdos c.loop-placed._placed c.loop-placed.count.trials c.last_passing.new.count.trials c.args.count.now.trials _ c.loop-placed-test.true
           (flagged_left c.args.rate c.args.set.now c.args.pdos c.loop-placed._placed c.loop-placed.fill.items c.loop-placed.above c.loop-placed.invariant.goes c.loop-placed.invariant.placed)
-          c.in-Some.ensures.trials c.loop-placed.invariant.trials;
+          c.in_ok-pdo.ensures.trials c.loop-placed.invariant.trials;
     }
 
 pub returns : goal.returns
@@ -67,11 +67,18 @@ returns-in_err-flagged-clause-trials c =
     trials_end c.last_passing.new.count.trials _ _
     (place_trials c.args.pdos c.loop-placed._placed c.loop-placed.count.trials c.last_passing.new.count.trials c.args.count.now.trials _ c.loop-placed-test.true
     (flagged_left c.args.rate c.args.set.now c.args.pdos c.loop-placed._placed c.loop-placed.fill.items c.loop-placed.above c.loop-placed.invariant.goes c.loop-placed.invariant.placed)
-    c.in_default.ensures.trials c.loop-placed.invariant.trials)
+    c.in_ok-pdo.ensures.trials c.loop-placed.invariant.trials)
 
 pub returns-in_err-push-clause-trials : goal.returns-in_err-push-clause-trials
 returns-in_err-push-clause-trials c =
     trials_end c.last_passing.new.count.trials _ _
     (place_trials c.args.pdos c.loop-placed._placed c.loop-placed.count.trials c.last_passing.new.count.trials c.args.count.now.trials _ c.loop-placed-test.true
     (flagged_left c.args.rate c.args.set.now c.args.pdos c.loop-placed._placed c.loop-placed.fill.items c.loop-placed.above c.loop-placed.invariant.goes c.loop-placed.invariant.placed)
-    c.in-Some.ensures.trials c.loop-placed.invariant.trials)
+    c.in_ok-pdo.ensures.trials c.loop-placed.invariant.trials)
+
+pub returns-in_err-pdo-clause-trials : goal.returns-in_err-pdo-clause-trials
+returns-in_err-pdo-clause-trials c =
+    trials_end c.last_passing.new.count.trials _ _
+    (place_trials c.args.pdos c.loop-placed._placed c.loop-placed.count.trials c.last_passing.new.count.trials c.args.count.now.trials _ c.loop-placed-test.true
+    (flagged_left c.args.rate c.args.set.now c.args.pdos c.loop-placed._placed c.loop-placed.fill.items c.loop-placed.above c.loop-placed.invariant.goes c.loop-placed.invariant.placed)
+    c.in_err-pdo.ensures.trials c.loop-placed.invariant.trials)

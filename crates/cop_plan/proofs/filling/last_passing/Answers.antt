@@ -1,7 +1,8 @@
-use Rattle.std.proofs.Common.{◌≡◌, ◌∙◌, ◌-◌, arith, false, ⊎_elim}
+use Rattle.std.proofs.Common.{◌≡◌, ◌∙◌, ◌-◌, arith, false, ⊎_elim, subst, sym}
 use Rattle.std.proofs.lemmas.Bool.{cases_eq}
 use Rattle.std.proofs.lemmas.Option.{unwrap_or-slice_get}
-use Rattle.cop_rta.specs.Test.{is_flagged}
+use Rattle.cop_rta.specs.Test.{is_flagged, Passes}
+use Rattle.cop_plan.specs.Levels.{Flags, place_in}
 use Rattle.cop_plan.proofs.GreedyLemmas.{count_here, count_grows}
 use Rattle.cop_plan.proofs.FillingLemmas.{no_bit}
 use Rattle.cop_plan.proofs.filling.last_passing.Goals as goal
@@ -29,7 +30,7 @@ pub loop-done-preserved : goal.loop-done-preserved
 loop-done-preserved c = elim c.if-above-pdo.branch [
   | then-above-pdo+else-passes w ↦ rw w.count-is (record {
     failed = λ r inside here flagged passes. ⊎_elim
-        (λ (same : r ≡ c.args.pdos - 1 - c.loop-done.done). absurd (no_bit w.passes.result (w.passes.ensures.1 (rw same at passes)) w.if-passes.false))
+        (λ (same : r ≡ c.args.pdos - 1 - c.loop-done.done). absurd (no_bit w.passes.result (w.passes.ensures.1 (subst (λ (v : Flags). Passes (place_in v (c.args.pdos - 1 - c.loop-done.done))) (sym c.in_ok-level.ensures) (rw same at passes))) w.if-passes.false))
         (λ other. c.loop-done.invariant.failed r inside (omega (arith, here, other)) flagged passes)
         (cases_eq r (c.args.pdos - 1 - c.loop-done.done));
     rises = omega (arith, c.loop-done.invariant.rises);
