@@ -97,8 +97,8 @@ def calls_of_program(out):
 def report(name, found):
     count, faults = found
     print(f"{name}: {count} allocations, {f'{len(faults)} WRONG' if faults else 'ok'}", flush=True)
-    # One example of each way to end.
-    for end in dict.fromkeys(end for _, end in faults):
+    # One example of each way to end, three at most.
+    for end in list(dict.fromkeys(end for _, end in faults))[:3]:
         first = next(n for n, it in faults if it == end)
         print(f"    at {first}: {' '.join(end.split())}")
     return len(faults)

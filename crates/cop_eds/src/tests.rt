@@ -75,11 +75,11 @@ AccessType=ro\n\
 PDOMapping=1\n";
 
 // What a text is refused for, and the line; `(0, 0)` where it is read.
-fn refused(alloc: Global, text: &[u8]) -> (u8, usize) {
+fn refused(alloc: Global, text: &[u8]) -> Result<(u8, usize), Fail> {
     match parse(alloc, text) {
-        Err(EdsFault::Refused(refusal)) => (refusal.rule.number(), refusal.line),
-        Err(EdsFault::Memory) => (1, 0),
-        Ok(_) => (0, 0),
+        Err(EdsFault::Refused(refusal)) => Ok((refusal.rule.number(), refusal.line)),
+        Err(fault) => Err(Fail::from(fault)),
+        Ok(_) => Ok((0, 0)),
     }
 }
 
@@ -106,101 +106,105 @@ fn the_sample_is_read(rt: HostRuntime) -> Result<(), Fail> {
 }
 
 #[test]
-fn every_prefix_returns(rt: HostRuntime) {
+fn every_prefix_returns(rt: HostRuntime) -> Result<(), Fail> {
     let alloc = rt.alloc();
     for end in 0..UNIT.len() {
-        let _ = parse(alloc, &UNIT[..end]);
+        let _ = refused(alloc, &UNIT[..end])?;
     }
-    assert_eq!(rt; refused(alloc, b""), (0, 0));
-    assert_eq!(rt; refused(alloc, b"[FileInfo"), (10, 1));
-    assert_eq!(rt; refused(alloc, b"[FileInfo]\nFileName=a\n[Devi"), (10, 3));
+    assert_eq!(rt; refused(alloc, b"")?, (0, 0));
+    assert_eq!(rt; refused(alloc, b"[FileInfo")?, (10, 1));
+    assert_eq!(rt; refused(alloc, b"[FileInfo]\nFileName=a\n[Devi")?, (10, 3));
+    Ok(())
 }
 
+// A text, the rule that it breaks, and where.
+const ROWS: [(&[u8], u8, usize); 26] = [
+    (b"a=1\n", 10, 1),
+    (b" [a]\n", 10, 1),
+    (b"[a]\nb\n[A]\n", 10, 2),
+    (b"[a]\n=1\n", 10, 2),
+    (b"[a]\n\n[A] ; x", 11, 3),
+    (b"[1800sub1]\n[1800SUB01]\n", 11, 2),
+    (b"[a]\n b=\nB = 2\n[A]", 12, 3),
+    (b"[DeviceInfo]\nBaudRate_20=010\nBaudRate_10=x\n", 13, 3),
+    (b"[DeviceInfo]\nBaudRate_20=010\nBaudRate_10=08\n", 14, 2),
+    (b"[DeviceInfo]\nBaudRate_20=0x10000000000000000\n", 13, 2),
+    (b"[OptionalObjects]\n", 15, 1),
+    (b"[OptionalObjects]\nSupportedObjects=1\n1=0x1000\n", 15, 3),
+    (
+        b"[OptionalObjects]\nSupportedObjects=2\n1=0x1000\n[1000]\nDataType=7\nAccessType=ro\n",
+        15,
+        1,
+    ),
+    (
+        b"[OptionalObjects]\nSupportedObjects=1\n1=0x11000\n[1000]\n",
+        15,
+        3,
+    ),
+    (
+        b"[OptionalObjects]\nSupportedObjects=1\n1=0x1000\n[1000]\nAccessType=ro\n",
+        16,
+        4,
+    ),
+    (
+        b"[OptionalObjects]\nSupportedObjects=1\n1=0x1000\n[1000]\nDataType=7\n",
+        16,
+        4,
+    ),
+    (
+        b"[OptionalObjects]\nSupportedObjects=1\n1=0x1000\n[1000]\nDataType=7\nAccessType=r\n",
+        16,
+        6,
+    ),
+    (
+        b"[OptionalObjects]\nSupportedObjects=1\n1=0x1000\n[1000]\nObjectType=3\n",
+        16,
+        5,
+    ),
+    (
+        b"[OptionalObjects]\nSupportedObjects=1\n1=0x1000\n[1000]\nObjectType=8\nCompactSubObj=3\n",
+        17,
+        6,
+    ),
+    (
+        b"[OptionalObjects]\nSupportedObjects=1\n1=0x1000\n[1000]\nObjectType=8\nSubNumber=010\n",
+        14,
+        6,
+    ),
+    (
+        b"[OptionalObjects]\nSupportedObjects=1\n1=0x1000\n[1000]\nObjectType=8\nSubNumber=08\n",
+        0,
+        0,
+    ),
+    (
+        b"[OptionalObjects]\nSupportedObjects=1\n1=0x1000\n[1000]\nObjectType=9\n[1000subA]\nDataType=7\n",
+        16,
+        6,
+    ),
+    (
+        b"[OptionalObjects]\nSupportedObjects=1\n1=0x1000\n[1000]\nDataType=7\nAccessType=RW\n[1000sub1]\nPDOMapping=x\nDataType=5\nAccessType=wo\n",
+        13,
+        8,
+    ),
+    (
+        b"[OptionalObjects]\nSupportedObjects=1\n1=0x1000\n[1000]\nObjectType=2\nAccessType=const\n",
+        0,
+        0,
+    ),
+    (b"[1000]\nObjectType=x\n", 0, 0),
+    (
+        b"[ManufacturerObjects]\nSupportedObjects=x\n[MandatoryObjects]\n",
+        15,
+        3,
+    ),
+];
+
 #[test]
-fn the_first_broken_rule_is_named(rt: HostRuntime) {
-    let rows: [(&[u8], u8, usize); 26] = [
-        (b"a=1\n", 10, 1),
-        (b" [a]\n", 10, 1),
-        (b"[a]\nb\n[A]\n", 10, 2),
-        (b"[a]\n=1\n", 10, 2),
-        (b"[a]\n\n[A] ; x", 11, 3),
-        (b"[1800sub1]\n[1800SUB01]\n", 11, 2),
-        (b"[a]\n b=\nB = 2\n[A]", 12, 3),
-        (b"[DeviceInfo]\nBaudRate_20=010\nBaudRate_10=x\n", 13, 3),
-        (b"[DeviceInfo]\nBaudRate_20=010\nBaudRate_10=08\n", 14, 2),
-        (b"[DeviceInfo]\nBaudRate_20=0x10000000000000000\n", 13, 2),
-        (b"[OptionalObjects]\n", 15, 1),
-        (b"[OptionalObjects]\nSupportedObjects=1\n1=0x1000\n", 15, 3),
-        (
-            b"[OptionalObjects]\nSupportedObjects=2\n1=0x1000\n[1000]\nDataType=7\nAccessType=ro\n",
-            15,
-            1,
-        ),
-        (
-            b"[OptionalObjects]\nSupportedObjects=1\n1=0x11000\n[1000]\n",
-            15,
-            3,
-        ),
-        (
-            b"[OptionalObjects]\nSupportedObjects=1\n1=0x1000\n[1000]\nAccessType=ro\n",
-            16,
-            4,
-        ),
-        (
-            b"[OptionalObjects]\nSupportedObjects=1\n1=0x1000\n[1000]\nDataType=7\n",
-            16,
-            4,
-        ),
-        (
-            b"[OptionalObjects]\nSupportedObjects=1\n1=0x1000\n[1000]\nDataType=7\nAccessType=r\n",
-            16,
-            6,
-        ),
-        (
-            b"[OptionalObjects]\nSupportedObjects=1\n1=0x1000\n[1000]\nObjectType=3\n",
-            16,
-            5,
-        ),
-        (
-            b"[OptionalObjects]\nSupportedObjects=1\n1=0x1000\n[1000]\nObjectType=8\nCompactSubObj=3\n",
-            17,
-            6,
-        ),
-        (
-            b"[OptionalObjects]\nSupportedObjects=1\n1=0x1000\n[1000]\nObjectType=8\nSubNumber=010\n",
-            14,
-            6,
-        ),
-        (
-            b"[OptionalObjects]\nSupportedObjects=1\n1=0x1000\n[1000]\nObjectType=8\nSubNumber=08\n",
-            0,
-            0,
-        ),
-        (
-            b"[OptionalObjects]\nSupportedObjects=1\n1=0x1000\n[1000]\nObjectType=9\n[1000subA]\nDataType=7\n",
-            16,
-            6,
-        ),
-        (
-            b"[OptionalObjects]\nSupportedObjects=1\n1=0x1000\n[1000]\nDataType=7\nAccessType=RW\n[1000sub1]\nPDOMapping=x\nDataType=5\nAccessType=wo\n",
-            13,
-            8,
-        ),
-        (
-            b"[OptionalObjects]\nSupportedObjects=1\n1=0x1000\n[1000]\nObjectType=2\nAccessType=const\n",
-            0,
-            0,
-        ),
-        (b"[1000]\nObjectType=x\n", 0, 0),
-        (
-            b"[ManufacturerObjects]\nSupportedObjects=x\n[MandatoryObjects]\n",
-            15,
-            3,
-        ),
-    ];
-    for (text, number, line) in rows {
-        assert_eq!(rt; refused(rt.alloc(), text), (number, line));
+fn the_first_broken_rule_is_named(rt: HostRuntime) -> Result<(), Fail> {
+    for (text, number, line) in ROWS {
+        assert_eq!(rt; refused(rt.alloc(), text)?, (number, line));
     }
+    Ok(())
 }
 
 #[test]

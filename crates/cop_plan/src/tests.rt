@@ -3,6 +3,7 @@ use cop_cert::{Evidence, Refusal};
 use cop_frame::{Rate, RateSet};
 use cop_rta::{Stream, StreamSet, Verdict, above_by_id, read_streams, verdict};
 use std::alloc::Global;
+use std::test::Fail;
 
 const ALL: &[Rate] = &Rate::ALL;
 
@@ -28,23 +29,31 @@ const TOO_BUSY: &[u8] = b"id,bytes,period,jitter,deadline\n0x181,8,500,0,500\n";
 const NONE: &[u8] = b"id,bytes,period,jitter,deadline\n";
 
 // What is planned for a table all of whose streams are PDOs, and how many trials it took.
-fn answer(alloc: Global, table: &[u8], candidates: &[Rate]) -> Option<(Outcome, u64)> {
-    let set = read_streams(alloc, table).ok()?;
+fn answer(alloc: Global, table: &[u8], candidates: &[Rate]) -> Result<(Outcome, u64), Fail> {
+    let set = read_streams(alloc, table)?;
     let mut rates = RateSet::new();
     for rate in candidates {
         rates.insert(*rate);
     }
     let pdos = set.len();
     if !can_assign(&set, pdos) {
-        return None;
+        return Err(Fail::from("not to be assigned"));
     }
     let mut count = Count { trials: 0 };
-    let outcome = assign(alloc, &set, pdos, &rates, &mut count).ok()?;
-    Some((outcome, count.trials))
+    let outcome = assign(alloc, &set, pdos, &rates, &mut count)?;
+    Ok((outcome, count.trials))
+}
+
+// The plan of an outcome.
+fn plan_of(outcome: Outcome) -> Result<Plan, Fail> {
+    match outcome {
+        Outcome::Planned(plan) => Ok(plan),
+        Outcome::Refused(_) => Err(Fail::from("no rate passes")),
+    }
 }
 
 // The response of each PDO of a plan, in ticks.
-fn responses(alloc: Global, plan: &Plan) -> Option<Vec<u64>> {
+fn responses(alloc: Global, plan: &Plan) -> Result<Vec<u64>, Fail> {
     let set = plan.streams();
     let mut above = [false; StreamSet::MOST];
     let above = &mut above[..set.streams().len()];
@@ -52,11 +61,11 @@ fn responses(alloc: Global, plan: &Plan) -> Option<Vec<u64>> {
     for pdo in 0..plan.ids().len().min(set.len()) {
         above_by_id(set, pdo, above);
         match verdict(set, above, pdo, plan.rate()) {
-            Verdict::Pass { response } => found.push(response).ok()?,
-            _ => return None,
+            Verdict::Pass { response } => found.push(response)?,
+            _ => return Err(Fail::from("late")),
         }
     }
-    Some(found)
+    Ok(found)
 }
 
 // A table, the candidates, the rate, the identifiers, the responses, and the rates and members of the refusals.
@@ -160,48 +169,28 @@ fn is_long(refusal: &Refusal) -> bool {
 }
 
 #[test]
-fn slowest_rates_are_planned(rt: HostRuntime) {
+fn slowest_rates_are_planned(rt: HostRuntime) -> Result<(), Fail> {
     for row in ROWS {
-        let Some((outcome, trials)) = answer(rt.alloc(), row.table, row.candidates) else {
-            assert!(rt; false);
-            return;
-        };
-        let Outcome::Planned(plan) = outcome else {
-            assert!(rt; false);
-            return;
-        };
+        let (outcome, trials) = answer(rt.alloc(), row.table, row.candidates)?;
+        let plan = plan_of(outcome)?;
         assert_eq!(rt; plan.rate(), row.rate);
         assert_eq!(rt; plan.ids(), row.ids);
         assert!(rt; are_refused(plan.refusals(), row.refused));
         assert!(rt; trials <= row.trials);
-        match responses(rt.alloc(), &plan) {
-            Some(list) => assert_eq!(rt; list.as_slice(), row.responses),
-            None => assert!(rt; false),
-        }
+        assert_eq!(rt; responses(rt.alloc(), &plan)?.as_slice(), row.responses);
     }
+    Ok(())
 }
 
 #[test]
-fn one_pdo_past_its_deadline(rt: HostRuntime) {
-    let Some((outcome, _)) = answer(rt.alloc(), PAST_THE_DEADLINE, ALL) else {
-        assert!(rt; false);
-        return;
-    };
-    let Outcome::Planned(plan) = outcome else {
-        assert!(rt; false);
-        return;
-    };
+fn one_pdo_past_its_deadline(rt: HostRuntime) -> Result<(), Fail> {
+    let (outcome, _) = answer(rt.alloc(), PAST_THE_DEADLINE, ALL)?;
+    let plan = plan_of(outcome)?;
     assert_eq!(rt; plan.rate(), Rate::Kbit250);
     let refusals = plan.refusals();
     assert_eq!(rt; refusals.len(), 4);
-    let Some(refusal) = refusals.last() else {
-        assert!(rt; false);
-        return;
-    };
-    let Some(member) = refusal.members.as_slice().first() else {
-        assert!(rt; false);
-        return;
-    };
+    let refusal = refusals.last().ok_or("no refusal")?;
+    let member = refusal.members.as_slice().first().ok_or("no member")?;
     match &member.evidence {
         Evidence::Late { q, busy, queue } => {
             assert_eq!(rt; *q, 0);
@@ -210,26 +199,26 @@ fn one_pdo_past_its_deadline(rt: HostRuntime) {
         }
         Evidence::Long { .. } => assert!(rt; false),
     }
+    Ok(())
 }
 
 #[test]
-fn no_rate_passes(rt: HostRuntime) {
-    let Some((outcome, trials)) = answer(rt.alloc(), TOO_BUSY, &[Rate::Kbit125]) else {
-        assert!(rt; false);
-        return;
-    };
-    let Outcome::Refused(refusals) = outcome else {
-        assert!(rt; false);
-        return;
-    };
-    let refusals = refusals.as_slice();
-    assert!(rt; are_refused(refusals, &[(Rate::Kbit125, 1)]));
-    assert!(rt; refusals.iter().all(|refusal| is_long(refusal)));
+fn no_rate_passes(rt: HostRuntime) -> Result<(), Fail> {
+    let (outcome, trials) = answer(rt.alloc(), TOO_BUSY, &[Rate::Kbit125])?;
+    match outcome {
+        Outcome::Refused(refusals) => {
+            let refusals = refusals.as_slice();
+            assert!(rt; are_refused(refusals, &[(Rate::Kbit125, 1)]));
+            assert!(rt; refusals.iter().all(|refusal| is_long(refusal)));
+        }
+        Outcome::Planned(_) => assert!(rt; false),
+    }
     assert_eq!(rt; trials, 1);
+    Ok(())
 }
 
 // 512 PDOs of 8 bytes, each with a period and a deadline of a second.
-fn largest(alloc: Global) -> Option<StreamSet> {
+fn largest(alloc: Global) -> Result<StreamSet, Fail> {
     let mut set = StreamSet::new(alloc);
     for k in 0..512u16 {
         set.push(Stream {
@@ -238,30 +227,19 @@ fn largest(alloc: Global) -> Option<StreamSet> {
             period: 4_000_000,
             jitter: 0,
             deadline: Some(4_000_000),
-        })
-        .ok()?;
+        })?;
     }
-    Some(set)
+    Ok(set)
 }
 
 #[test]
-fn the_largest_table_keeps_its_order(rt: HostRuntime) {
-    let Some(set) = largest(rt.alloc()) else {
-        assert!(rt; false);
-        return;
-    };
+fn the_largest_table_keeps_its_order(rt: HostRuntime) -> Result<(), Fail> {
+    let set = largest(rt.alloc())?;
     let mut rates = RateSet::new();
     rates.insert(Rate::Kbit1000);
     let mut count = Count { trials: 0 };
     assert!(rt; can_assign(&set, 512));
-    let Ok(outcome) = assign(rt.alloc(), &set, 512, &rates, &mut count) else {
-        assert!(rt; false);
-        return;
-    };
-    let Outcome::Planned(plan) = outcome else {
-        assert!(rt; false);
-        return;
-    };
+    let plan = plan_of(assign(rt.alloc(), &set, 512, &rates, &mut count)?)?;
     assert!(rt;
         plan.ids()
             .iter()
@@ -269,36 +247,27 @@ fn the_largest_table_keeps_its_order(rt: HostRuntime) {
             .all(|(k, id)| usize::from(*id) == 0x181 + k)
     );
     assert!(rt; plan.order().iter().enumerate().all(|(k, pdo)| *pdo == k));
-    match responses(rt.alloc(), &plan) {
-        Some(list) => {
-            assert_eq!(rt; list.first().copied(), Some(1080));
-            assert_eq!(rt; list.get(1).copied(), Some(1620));
-            assert_eq!(rt; list.get(510).copied(), Some(276_480));
-            assert_eq!(rt; list.get(511).copied(), Some(276_480));
-        }
-        None => assert!(rt; false),
-    }
+    let list = responses(rt.alloc(), &plan)?;
+    assert_eq!(rt; list.first().copied(), Some(1080));
+    assert_eq!(rt; list.get(1).copied(), Some(1620));
+    assert_eq!(rt; list.get(510).copied(), Some(276_480));
+    assert_eq!(rt; list.get(511).copied(), Some(276_480));
+    Ok(())
 }
 
 #[test]
-fn what_can_be_assigned(rt: HostRuntime) {
+fn what_can_be_assigned(rt: HostRuntime) -> Result<(), Fail> {
     let table: &[u8] =
         b"id,bytes,period,jitter,deadline\n0x181,8,1000,0,1000\n0x182,8,1000,0,\n0x81,8,1000,0,\n";
-    let Ok(set) = read_streams(rt.alloc(), table) else {
-        assert!(rt; false);
-        return;
-    };
+    let set = read_streams(rt.alloc(), table)?;
     let cases = [(0, false), (1, false), (2, false), (4, false)];
     for (pdos, can) in cases {
         assert_eq!(rt; can_assign(&set, pdos), can);
     }
     let outside: &[u8] =
         b"id,bytes,period,jitter,deadline\n0x181,8,1000,0,1000\n0x81,8,1000,0,\n0x580,8,1000,0,\n";
-    match read_streams(rt.alloc(), outside) {
-        Ok(set) => {
-            assert!(rt; can_assign(&set, 1));
-            assert!(rt; !can_assign(&set, 2));
-        }
-        Err(_) => assert!(rt; false),
-    }
+    let set = read_streams(rt.alloc(), outside)?;
+    assert!(rt; can_assign(&set, 1));
+    assert!(rt; !can_assign(&set, 2));
+    Ok(())
 }
