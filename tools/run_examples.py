@@ -1,0 +1,75 @@
+#!/usr/bin/env python3
+"""Runs the program on each example and compares what it answers with the files stored there, byte for byte.
+
+    python3 tools/run_examples.py
+
+Each plan also has to stand in examples/README.md, each stored refusal has to hold, and one that is altered to fail.
+"""
+import os
+import subprocess
+import sys
+import tempfile
+
+HERE = os.path.dirname(os.path.dirname(os.path.realpath(__file__)))
+EXAMPLES = f"{HERE}/examples"
+PROGRAM = f"{HERE}/bin/canplan"
+
+
+def bytes_of(file):
+    with open(file, "rb") as it:
+        return it.read()
+
+
+def run(*words):
+    it = subprocess.run([PROGRAM, *words], capture_output=True, cwd="/")
+    return it.returncode, it.stdout
+
+
+def indented(text):
+    """The text as it stands in a page."""
+    return b"".join(b"    " + line + b"\n" for line in text.splitlines())
+
+
+def altered(refusals):
+    """The refusals, the last number of which is one more."""
+    begin, _, last = refusals.rstrip(b"\n").rpartition(b",")
+    return begin + b",%d\n" % (int(last) + 1)
+
+
+def faults_of(name):
+    """What differs in an example network."""
+    folder, page = f"{EXAMPLES}/{name}", bytes_of(f"{EXAMPLES}/README.md")
+    tables = [f"{folder}/nodes.csv", f"{folder}/pdos.csv"]
+    plan, refusals = bytes_of(f"{folder}/plan.txt"), bytes_of(f"{folder}/refusals.csv")
+    with tempfile.TemporaryDirectory() as out:
+        if run("plan", *tables, out) != (0, plan):
+            yield "what plan prints"
+        if bytes_of(f"{out}/plan.txt") != plan or bytes_of(f"{out}/refusals.csv") != refusals:
+            yield "the files that plan writes"
+        with open(f"{out}/altered.csv", "wb") as it:
+            it.write(altered(refusals))
+        status, said = run("check", *tables, f"{out}/altered.csv")
+        if status != 3 or b" fails\n" not in said:
+            yield "the check of altered refusals"
+    status, said = run("check", *tables, f"{folder}/refusals.csv")
+    if status != 0 or b" fails\n" in said:
+        yield "the check of the stored refusals"
+    if indented(plan) not in page:
+        yield "the plan in examples/README.md"
+
+
+def main():
+    wrong = 0
+    for name in sorted(it for it in os.listdir(EXAMPLES) if os.path.isdir(f"{EXAMPLES}/{it}")):
+        faults = list(faults_of(name))
+        wrong += len(faults)
+        print(f"{name}: {'differs: ' + ', '.join(faults) if faults else 'ok'}")
+    wanted = b"181h pass 8000\n182h pass 12000\n183h late 1 14000\n"
+    if run("test", "--rate", "125", f"{EXAMPLES}/three-frames.csv") != (0, wanted):
+        wrong += 1
+        print("three-frames: differs")
+    return 1 if wrong else 0
+
+
+if __name__ == "__main__":
+    sys.exit(main())
