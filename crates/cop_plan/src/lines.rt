@@ -5,8 +5,8 @@ ghost use Rattle.std.specs.Prelude.{◌≡◌, ◌^◌, ◌≤◌};
 use cop_frame::{Rate, worst_bits};
 use cop_rta::Stream;
 
-/// A stream at some rate. Its instances within a time are the high half of one product, where a quotient by the period
-/// would take ten times as long and two of them.
+/// A stream at some rate. How many instances it has within a time is the high half of one product, which takes a small
+/// part of the time of a quotient by the period.
 #[derive(Clone, Copy)]
 pub(crate) struct Line {
     /// The longest transfer.
