@@ -19,7 +19,7 @@ HERE = os.path.dirname(os.path.dirname(os.path.realpath(__file__)))
 # As an SDO abort code it is 05040005h, which is 84148229 or the bytes 5, 0, 4, 5.
 MEMORY = re.compile(rb"(error|left): .*(Memory|Alloc|out of memory|84148229|5, 0, 4, 5\])")
 # The allocations of a process that fail in turn; above as many, these many spread over all.
-MOST = 2000
+MOST = 20000
 
 SHIM = r"""
 #include <errno.h>
