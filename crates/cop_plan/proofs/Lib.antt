@@ -12,9 +12,3 @@ pub mod NetworkLemmas
 pub mod OnceLemmas
 pub mod ListsOnce
 pub mod OutcomeOnce
-pub mod TrialLemmas
-pub mod InverseLemmas
-pub mod LineLemmas
-pub mod LevelLemmas
-pub mod PlaceEquations
-pub mod LevelTrial

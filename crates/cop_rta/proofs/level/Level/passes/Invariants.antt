@@ -1,0 +1,11 @@
+use Rattle.std.proofs.Common.{◌≤◌, ℕ}
+use Rattle.cop_rta.specs.Test.{queueing_at}
+use Rattle.cop_rta.specs.Levels.{place_in}
+use Rattle.cop_rta.proofs.TrialLemmas.{AreOnTimeBelow}
+use Rattle.cop_rta.proofs.level.Level.passes.Given as goal
+
+abbrev pub invariant-loop-q : goal.invariant-loop-q
+invariant-loop-q l = record {
+  on_time : AreOnTimeBelow (place_in l.self l.index) l.q;
+  from : (y : ℕ) → queueing_at (place_in l.self l.index) l.q y ≤ y → l.from ≤ y;
+}
