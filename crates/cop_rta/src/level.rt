@@ -137,7 +137,8 @@ impl<'a> Level<'a> {
         ensures { result ≡ blocking (place_in self.now index) + q * cost_at (place_in self.now index) }
     {
         let table = self.table;
-        self.from_below + q * table[index].cost
+        let own = &table[index];
+        self.from_below + q * own.cost
     }
 
     /// What the queueing equation of an instance of a flagged stream gives at a wait.
