@@ -7,6 +7,7 @@ use Rattle.cop_rta.specs.declared.streams.Stream.{Stream}
 use Rattle.cop_rta.specs.Streams.{AreDistinct, has_id}
 use Rattle.cop_frame.specs.declared.rates.Rate.{Rate}
 use Rattle.cop_rta.specs.Test.{of_stream, Passes, has_lower_id, place_by_id}
+use Rattle.cop_rta.proofs.IdentifierLemmas.{of_stream_at, two_apart}
 use Rattle.cop_rta.proofs.MoreAbove.{passes_under_fewer}
 use Rattle.cop_cert.specs.Assignments.{least_id, greatest_id, AreFixedOutside, id_under, is_lower, place_under, AllPass}
 use Rattle.cop_cert.proofs.AboveLemmas.{more_above}
@@ -25,11 +26,6 @@ pub record AreRenamed (streams : List Stream) (pdos : ℕ) (ids : ℕ → ℕ) (
 abbrev pub AreApart : List Stream → ℕ → (ℕ → ℕ) → Type 0
 AreApart streams pdos ids = (p k : ℕ) → p < pdos → k < length streams → p ≢ k → ids p ≢ id_under streams pdos ids k
 
-pub of_stream_at : (streams : List Stream) (k : ℕ) (d : Stream) → k < length streams → of_stream (λ s. s.id) streams k ≡ (get_or streams k d).id
-of_stream_at [] k d h = absurd (omega arith)
-of_stream_at (s ∷ ss) zero d h = refl
-of_stream_at (s ∷ ss) (suc k) d h = of_stream_at ss k d (omega arith)
-
 pub of_stream_left : (streams more : List Stream) (k : ℕ) → k < length streams → of_stream (λ s. s.id) (streams ++ more) k ≡ of_stream (λ s. s.id) streams k
 of_stream_left [] more k h = absurd (omega arith)
 of_stream_left (s ∷ ss) more zero h = refl
@@ -38,12 +34,6 @@ of_stream_left (s ∷ ss) more (suc k) h = of_stream_left ss more k (omega arith
 pub of_stream_last : (streams : List Stream) (s : Stream) → of_stream (λ s. s.id) (streams ++ s ∷ []) (length streams) ≡ s.id
 of_stream_last [] s = refl
 of_stream_last (x ∷ xs) s = of_stream_last xs s
-
--- two streams of a set have two identifiers
-two_apart : (streams : List Stream) → AreDistinct streams → (j k : ℕ) → j < k → k < length streams → of_stream (λ s. s.id) streams j ≢ of_stream (λ s. s.id) streams k
-two_apart [] distinct j k lt h same = absurd (omega arith)
-two_apart (s ∷ ss) distinct j k lt h same =
-    distinct j k s lt h (sym (of_stream_at (s ∷ ss) j s (omega (arith, lt, h))) ∙ same ∙ of_stream_at (s ∷ ss) k s h)
 
 module _ (streams : List Stream) (pdos : ℕ) (ids : ℕ → ℕ) where
   pub id_of_pdo : (k : ℕ) → k < pdos → id_under streams pdos ids k ≡ ids k

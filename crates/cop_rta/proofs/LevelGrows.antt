@@ -1,5 +1,5 @@
 -- One more flagged stream at a level.
-use Rattle.std.proofs.Common.{◌≡◌, ℕ, ◌+◌, ◌-◌, ◌*◌, ◌^◌, ◌<◌, ◌≤◌, ◌⊎◌, inl, inr, max, Bool, true, false, List, [], ◌∷◌, ◌++◌, length, length-append, get_or, set, slice_get, Option, Some, None, IfSome, IfNone, sum_by, refl, sym, ap, ◌∙◌, arith, le_trans, mul-le-mul_right, lit<, ⊎_elim}
+use Rattle.std.proofs.Common.{◌≡◌, ℕ, ◌+◌, ◌-◌, ◌*◌, ◌^◌, ◌<◌, ◌≤◌, ◌⊎◌, inl, inr, max, true, false, List, [], ◌∷◌, ◌++◌, length, length-append, get_or, set, slice_get, Option, Some, None, IfSome, IfNone, sum_by, ◌∙◌, arith, mul-le-mul_right, lit<, ⊎_elim}
 use Rattle.std.specs.Int.{div_ceil}
 use Rattle.std.proofs.lemmas.Bool.{cases_lt}
 use Rattle.std.proofs.lemmas.List.{length-set}

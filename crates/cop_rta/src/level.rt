@@ -68,11 +68,7 @@ impl<'a> Model for Level<'a> {
 
 impl<'a> Level<'a> {
     /// The level of the flagged streams.
-    pub fn new(
-        alloc: Global,
-        loads: &'a Loads<'a>,
-        above: &[bool],
-    ) -> Result<Level<'a>, AllocError>
+    pub fn new(alloc: Global, loads: &'a Loads<'a>, above: &[bool]) -> Result<Level<'a>, AllocError>
         requires { length above.now ≡ length loads.now.streams }
         ensures { IfOk result (λ level. level ≡ record { streams = loads.now.streams; flags = above.now; rate = loads.now.rate }) }
     {
@@ -115,7 +111,13 @@ impl<'a> Level<'a> {
         self.from_below = longest_unflagged(table, &self.above);
         let bit = u64::from(self.rate.ticks_per_bit());
         self.first += own.load(bit);
-        self.ends = earliest_end(&self.lines, self.from_below, MOST_BITS * bit, bit, self.ends);
+        self.ends = earliest_end(
+            &self.lines,
+            self.from_below,
+            MOST_BITS * bit,
+            bit,
+            self.ends,
+        );
         self.busy = later_busy_time(&self.lines, self.from_below, self.busy);
         Ok(())
     }

@@ -102,11 +102,7 @@ pub(crate) fn busy_time(lines: &[Line], from_below: u64, from: u64) -> Option<u6
 }
 
 /// The busy time after one more line, which is not below that before it.
-pub(crate) fn later_busy_time(
-    lines: &[Line],
-    from_below: u64,
-    before: Option<u64>,
-) -> Option<u64>
+pub(crate) fn later_busy_time(lines: &[Line], from_below: u64, before: Option<u64>) -> Option<u64>
     requires few { length lines.now ≤ 1100 }
     requires below { from_below ≤ 54000 }
     requires started { IfSome before (λ time. 1 ≤ time) }

@@ -2,8 +2,8 @@
 
 ghost use Rattle.std.specs.Prelude.{◌≡◌, ◌^◌, ◌≤◌};
 
-use cop_frame::{Rate, worst_bits};
 use crate::streams::Stream;
+use cop_frame::{Rate, worst_bits};
 
 /// A stream at some rate. How many instances it has within a time is the high half of one product, which takes a small
 /// part of the time of a quotient by the period.

@@ -25,9 +25,10 @@ pub fn verdicts_by_id(
     ensures judged { IfOk result (λ verdicts. (k : ℕ) → k < length set.now → IsJudged (place_by_id set.now k rate) (get_or verdicts.items k Long)) }
 {
     let loads = Loads::new(alloc, set, rate)?;
-    let none = vec![in alloc; false; set.len()]?;
+    let count = set.streams().len();
+    let none = vec![in alloc; false; count]?;
     let mut level = Level::new(alloc, &loads, &none)?;
-    let mut verdicts = vec![in alloc; Verdict::Long; set.len()]?;
+    let mut verdicts = vec![in alloc; Verdict::Long; count]?;
     for id in 0..2048 {
         if let Some(k) = set.place_of(id) {
             level.add(k)?;

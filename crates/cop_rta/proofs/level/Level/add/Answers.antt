@@ -1,5 +1,5 @@
 use Rattle.std.proofs.Common.{◌+◌, ap}
-use Rattle.cop_rta.proofs.LevelGrows.{few, ends_later, busy_later, busy_starts, long_still, grown}
+use Rattle.cop_rta.proofs.LevelGrows.{few, ends_later, busy_later, long_still, grown}
 use Rattle.cop_rta.proofs.level.Level.add.Goals as goal
 
 pub invariant_of-self : goal.invariant_of-self

@@ -1,4 +1,4 @@
-use Rattle.std.proofs.Common.{◌≡◌, ◌≤◌, ◌∙◌, ap, ◌++◌, List, Bool, length, arith}
+use Rattle.std.proofs.Common.{◌≡◌, ◌∙◌, ap, ◌++◌, List, Bool, arith}
 use Rattle.cop_rta.proofs.PlaceEquations.{made}
 use Rattle.cop_rta.proofs.level.Level.new.Goals as goal
 

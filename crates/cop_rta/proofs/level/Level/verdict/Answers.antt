@@ -1,11 +1,11 @@
-use Rattle.std.proofs.Common.{◌≡◌, ◌+◌, ◌-◌, ◌*◌, ◌<◌, ◌∙◌, max, sym, arith, refl, subst, ap, Some, slice_get}
+use Rattle.std.proofs.Common.{◌≡◌, ◌+◌, ◌-◌, ◌*◌, ◌∙◌, max, arith, subst, ap}
 use Rattle.std.proofs.lemmas.Grind.{common_steps}
 use Rattle.cop_rta.specs.Levels.{Flags, IsLevel, place_in}
-use Rattle.cop_rta.specs.Test.{cost_of, IsResponse}
+use Rattle.cop_rta.specs.Test.{IsResponse}
 use Rattle.cop_rta.specs.declared.verdicts.Verdict.TheVariants.{Pass, Late, Long}
-use Rattle.cop_rta.proofs.VerdictLemmas.{Surveyed, Surveyed-none, first_late, one_more, passes_by, pass_iff}
+use Rattle.cop_rta.proofs.VerdictLemmas.{Surveyed-none, first_late, one_more, passes_by, pass_iff}
 use Rattle.cop_rta.proofs.WaitLemmas.{responds}
-use Rattle.cop_rta.proofs.LevelTrial.{read_here, is_long, busy_here, early, all, within_busy, queued_most, queued_few, cost_here, next_waits}
+use Rattle.cop_rta.proofs.LevelTrial.{read_here, is_long, busy_here, early, all, within_busy, queued_few, cost_here, next_waits}
 use Rattle.cop_rta.proofs.level.Level.verdict.Goals as goal
 use Rattle.cop_rta.proofs.level.Level.verdict.Goals.{In-Some, After-saturating_sub-response}
 
@@ -57,8 +57,8 @@ loop-q-preserved c =
     record {
       survey = rw e (one_more (place_in c.args.self.now c.args.index) c.index-streams-index.result c.loop-q.q c.loop-q.greatest c.saturating_sub-response.result (read_here c.args.self.now c.self.inside.set.now c.streams.result.now c.args.index c.index-streams-index.result c.requires.index (ap (λ (v : Flags). v.streams) c.self.view_is) c.streams.ensures.items c.index-streams-index.is) c.loop-q.invariant.survey (answers (goal.at.loop-q-preserved c).After-saturating_sub-response) c.if-is_late.ensures.on_time);
       from = λ y closed. next_waits c.args.self.now c.self.inside.table.now c.self.inside.lines.items c.self.inside.from_below c.self.inside.first c.self.inside.ends c.self.inside.busy (subst (λ (v : Flags). IsLevel v c.self.inside.table.now c.self.inside.lines.items c.self.inside.from_below c.self.inside.first c.self.inside.ends c.self.inside.busy) c.self.view_is c.self.invariant) c.args.index c.requires.index c.requires.flagged
-    c.index-table-index.result c.index-table-index.is c.index-streams-index.result (read_here c.args.self.now c.self.inside.set.now c.streams.result.now c.args.index c.index-streams-index.result c.requires.index (ap (λ (v : Flags). v.streams) c.self.view_is) c.streams.ensures.items c.index-streams-index.is) c.in-Some.busy c.instances-instances.result c.in-Some.is c.instances-instances.ensures.value
-      c.loop-q.q c.queued_wait-wait.result y c.queued_wait-wait.ensures.wait closed;
+          c.index-table-index.result c.index-table-index.is c.index-streams-index.result (read_here c.args.self.now c.self.inside.set.now c.streams.result.now c.args.index c.index-streams-index.result c.requires.index (ap (λ (v : Flags). v.streams) c.self.view_is) c.streams.ensures.items c.index-streams-index.is) c.in-Some.busy c.instances-instances.result c.in-Some.is c.instances-instances.ensures.value
+          c.loop-q.q c.queued_wait-wait.result y c.queued_wait-wait.ensures.wait closed;
     }
 
 pub returns-then-is_late-clause-judged : goal.returns-then-is_late-clause-judged
