@@ -7,14 +7,10 @@ ghost use Rattle.cop_cert.specs.Assignments.{least_id};
 ghost use Rattle.cop_cert.specs.Evidence.{is_listed};
 ghost use Rattle.cop_cert.specs.Sets.{is_in_trial};
 ghost use Rattle.cop_plan.specs.Fillings.{IsFound};
-ghost use Rattle.cop_plan.specs.Lines.{AreLinesOf};
 
-use crate::levels::lines_of;
-use crate::lines::Line;
 use crate::plans::LEAST_ID;
-use crate::trial::Level;
 use cop_frame::Rate;
-use cop_rta::StreamSet;
+use cop_rta::{Level, Loads, StreamSet};
 use std::alloc::{AllocError, Global};
 
 /// How many trials were made. A trial is the judging of one PDO for one place.
@@ -35,27 +31,23 @@ pub(crate) enum Filling {
 /// The last of the flagged PDOs that passes with the other flagged streams above it.
 fn last_passing(
     alloc: Global,
-    set: &StreamSet,
-    table: &[Line],
+    loads: &Loads<'_>,
     above: &[bool],
     pdos: usize,
-    rate: Rate,
     count: &mut Count,
 ) -> Result<Option<usize>, AllocError>
-    requires table { AreLinesOf rate set.now table.now }
-    requires few { length set.now ≤ 1100 }
-    requires flags { length above.now ≡ length set.now }
-    requires pdos { pdos ≤ length set.now }
+    requires flags { length above.now ≡ length loads.now.streams }
+    requires pdos { pdos ≤ length loads.now.streams }
     requires room { count.old.trials + pdos < 2 ^ 64 }
     ensures rises { count.old.trials ≤ count.new.trials }
     ensures trials { count.new.trials ≤ count.old.trials + sum_where (is_flagged above.now) (λ _. 1) pdos }
     ensures inside { IfOk result (λ found. IfSome found (λ p. p < pdos)) }
     ensures flagged { IfOk result (λ found. IfSome found (λ p. is_flagged above.now p ≡ true)) }
-    ensures passes { IfOk result (λ found. IfSome found (λ p. Passes (flagged_place set.now above.now p rate))) }
-    ensures last { IfOk result (λ found. IfSome found (λ p. (r : ℕ) → r < pdos → p < r → is_flagged above.now r ≡ true → Passes (flagged_place set.now above.now r rate) → ⊥)) }
-    ensures none { IfOk result (λ found. IfNone found ((r : ℕ) → r < pdos → is_flagged above.now r ≡ true → Passes (flagged_place set.now above.now r rate) → ⊥)) }
+    ensures passes { IfOk result (λ found. IfSome found (λ p. Passes (flagged_place loads.now.streams above.now p loads.now.rate))) }
+    ensures last { IfOk result (λ found. IfSome found (λ p. (r : ℕ) → r < pdos → p < r → is_flagged above.now r ≡ true → Passes (flagged_place loads.now.streams above.now r loads.now.rate) → ⊥)) }
+    ensures none { IfOk result (λ found. IfNone found ((r : ℕ) → r < pdos → is_flagged above.now r ≡ true → Passes (flagged_place loads.now.streams above.now r loads.now.rate) → ⊥)) }
 {
-    let level = Level::new(alloc, set, table, above, rate)?;
+    let level = Level::new(alloc, loads, above)?;
     for done in 0..pdos {
         let pdo = pdos - 1 - done;
         if above[pdo] {
@@ -114,12 +106,12 @@ pub(crate) fn fill(
 {
     let mut flags = [false; StreamSet::MOST];
     let streams = set.streams();
-    let table = lines_of(alloc, streams, rate)?;
+    let loads = Loads::new(alloc, set, rate)?;
     let above = &mut flags[..streams.len()];
     flag_all(set, pdos, above);
     let mut fill = Vec::new(alloc);
     for _placed in 0..pdos {
-        let Some(pdo) = last_passing(alloc, set, &table, above, pdos, rate, count)? else {
+        let Some(pdo) = last_passing(alloc, &loads, above, pdos, count)? else {
             return Ok(Filling::Stuck(flagged(alloc, above, pdos)?));
         };
         fill.push(pdo)?;

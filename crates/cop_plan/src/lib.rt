@@ -4,11 +4,8 @@
 mod assigning;
 mod filling;
 mod laws;
-mod levels;
-mod lines;
 mod planning;
 mod plans;
-mod trial;
 
 pub use assigning::{Outcome, assign, can_assign};
 pub use filling::Count;

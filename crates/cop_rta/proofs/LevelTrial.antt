@@ -1,5 +1,5 @@
 -- The trial of a flagged stream, by what is made once for all that are flagged.
-use Rattle.std.proofs.Common.{◌-◌, ◌⊎◌, inl, inr, ◌≡◌, ℕ, ◌+◌, ◌*◌, ◌^◌, ◌<◌, ◌≤◌, true, List, length, get_or, slice_get, Option, Some, None, refl, ◌∙◌, arith, mul-le-mul_left, mul-le-mul_right, min, sum_by, ⊎_elim, le_trans, zero-le}
+use Rattle.std.proofs.Common.{◌-◌, ◌⊎◌, inl, inr, ◌≡◌, ℕ, ◌+◌, ◌*◌, ◌^◌, ◌<◌, ◌≤◌, true, List, length, get_or, slice_get, Option, Some, None, refl, ◌∙◌, arith, mul-le-mul_left, mul-le-mul_right, min, sum_by, ⊎_elim, zero-le}
 use Rattle.std.specs.Int.{div_ceil}
 use Rattle.std.specs.Option.{ForSome}
 use Rattle.std.proofs.lemmas.Option.{slice_get_read, slice_get_cases}
@@ -7,18 +7,18 @@ use Rattle.std.proofs.lemmas.Bool.{cases_lt}
 use Rattle.cop_frame.specs.Rate.{ticks_of}
 use Rattle.cop_rta.specs.declared.streams.Stream.{Stream}
 use Rattle.cop_rta.specs.Solutions.{IsLeastSolution}
-use Rattle.cop_rta.specs.Test.{Place, Passes, is_flagged, cost_of, cost_at, queueing_at, IsBusyTime, IsQueuedWithin, horizon}
+use Rattle.cop_rta.specs.Test.{Place, Passes, is_flagged, cost_of, queueing_at, IsBusyTime, IsQueuedWithin, horizon}
 use Rattle.cop_rta.specs.Verdict.{IsLong}
+use Rattle.cop_rta.specs.Waits.{IsBelowWait}
 use Rattle.cop_rta.proofs.QueueLemmas.{wait_exists_at}
 use Rattle.cop_rta.specs.CeilLemmas.{below_div_ceil, div_ceil-reaches, div_ceil-least}
-use Rattle.cop_rta.specs.TestLemmas.{queueing_at-mono}
-use Rattle.cop_rta.proofs.LeastLemmas.{least_exists}
 use Rattle.cop_rta.specs.declared.lines.Line.{Line}
 use Rattle.cop_rta.specs.Lines.{instances_in, load_in}
 use Rattle.cop_rta.specs.Levels.{Flags, place_in, IsLevel, NoneReached}
 use Rattle.cop_rta.proofs.LevelLemmas.{sums_mono}
 use Rattle.cop_rta.proofs.TrialLemmas.{AreOnTimeBelow, slack, late, one_more, all_on_time}
-use Rattle.cop_rta.proofs.PlaceEquations.{level_asked, level_busy, level_long, level_is_long, stream_here, cost_of_own, instances_here, next_from}
+use Rattle.cop_rta.proofs.PlaceEquations.{level_asked, level_busy, level_long, level_is_long, stream_here, cost_of_own, instances_here}
+use Rattle.cop_rta.proofs.WaitLemmas.{wait_below, next_below}
 
 bit_within : (bytes ticks : ℕ) → ticks ≤ (55 + 10 * bytes) * ticks
 bit_within bytes ticks = grind arith
@@ -78,7 +78,7 @@ module _ (v : Flags) (table lines : List Line) (from_below first ends : ℕ) (bu
     cost_most = rw cost_is (mul-le-mul_right (ticks_of v.rate) (omega (arith, s.bytes_in_range)))
 
     -- the wait of the first instance, where there is no other
-    waits_of_one : n ≡ 1 → (y : ℕ) → queueing_at (place_in v own) 0 y ≤ y → min ends t - line.cost ≤ y
+    waits_of_one : n ≡ 1 → IsBelowWait (place_in v own) 0 (min ends t - line.cost)
     waits_of_one one y closed = ⊎_elim
         (λ (late : t < y + ticks_of v.rate). omega (arith, late, cost_least))
         (λ (low : y + ticks_of v.rate ≤ t).
@@ -90,7 +90,7 @@ module _ (v : Flags) (table lines : List Line) (from_below first ends : ℕ) (bu
         omega (arith, end))
         (cases_lt t (y + ticks_of v.rate))
 
-  pub waits_alone : (line : Line) → line ≡ get_or table own line → (t n : ℕ) → t ≤ horizon → n ≡ instances_in t line → n ≡ 1 → (y : ℕ) → queueing_at (place_in v own) 0 y ≤ y → min ends t - line.cost ≤ y
+  pub waits_alone : (line : Line) → line ≡ get_or table own line → (t n : ℕ) → t ≤ horizon → n ≡ instances_in t line → n ≡ 1 → IsBelowWait (place_in v own) 0 (min ends t - line.cost)
   waits_alone line here t n low count one y closed = go (slice_get_cases v.streams own).1
     where
       go : ((s : Stream) × (own < length v.streams) × (slice_get v.streams own ≡ Some s) × (get_or v.streams own s ≡ s)) ⊎ ((length v.streams ≤ own) × (slice_get v.streams own ≡ None)) → min ends t - line.cost ≤ y
@@ -138,15 +138,9 @@ module _ (v : Flags) (table lines : List Line) (from_below first ends : ℕ) (bu
     met q d w most due latest waits low before = one_more (place_in v own) s there q d w most due (rw cost_here at latest) waits low before
 
     -- the wait of the next instance
-    pub next_waits : (q w y : ℕ) → IsLeastSolution (queueing_at (place_in v own) q) 0 w → queueing_at (place_in v own) (q + 1) y ≤ y → w + line.cost ≤ y
-    next_waits q w y waits closed =
-        let more : w + cost_at (place_in v own) ≤ y = next_from v own inside flag q w y least closed in
-        omega (arith, more, cost_of_own v table lines from_below first ends busy is own inside line here)
-      where
-        least : (y : ℕ) → queueing_at (place_in v own) q y ≤ y → w ≤ y
-        least y closed =
-            let found = least_exists (queueing_at (place_in v own) q) y (record { mono = queueing_at-mono (place_in v own) q }) closed in
-            le_trans (waits.least found.0 zero-le found.1.solves) found.2
+    pub next_waits : (q w : ℕ) → IsLeastSolution (queueing_at (place_in v own) q) 0 w → IsBelowWait (place_in v own) (q + 1) (w + line.cost)
+    next_waits q w waits =
+        rw (cost_of_own v table lines from_below first ends busy is own inside line here) (next_below (place_in v own) q w (wait_below (place_in v own) q w waits))
 
     pub all_met : AreOnTimeBelow (place_in v own) n → Passes (place_in v own)
     all_met on_time = all_on_time (place_in v own) s there t n (busy_here t some) (early t some) all on_time

@@ -11,6 +11,7 @@ use Rattle.cop_rta.specs.Solutions.{IsLeastSolution}
 use Rattle.cop_rta.specs.Test.{Passes, is_flagged, is_below, of_stream, cost_of, cost_at, load_of, blocking, interference, busy_at, queueing_at, IsBusyTime, horizon}
 use Rattle.cop_rta.specs.TestLemmas.{busy_at-mono, queueing_at-mono}
 use Rattle.cop_rta.specs.Verdict.{IsLong}
+use Rattle.cop_rta.specs.Waits.{IsBelowWait}
 use Rattle.cop_rta.proofs.QueueLemmas.{busy_at_pos}
 use Rattle.cop_rta.specs.declared.lines.Line.{Line}
 use Rattle.cop_rta.specs.Lines.{latest_time, instances_in, load_in, IsLineOf, AreLinesOf}
@@ -123,9 +124,6 @@ reached_there f g from x limit low same r = record {
 
 -- ---- one flagged stream
 
-times_next : (q c : ℕ) → (q + 1) * c ≡ q * c + c
-times_next q c = grind arith
-
 module _ (v : Flags) (own : ℕ) (inside : own < length v.streams) (flag : is_flagged v.flags own ≡ true) where
   below_alike : (k : ℕ) → is_below (place_in v own) k ≡ is_unflagged v.flags k
   below_alike k = go (cases_eq k own)
@@ -174,21 +172,9 @@ module _ (v : Flags) (own : ℕ) (inside : own < length v.streams) (flag : is_fl
       (cases_lt horizon t)
 
   -- a wait that is reached first
-  pub level_wait : (q w : ℕ) → queueing_at (place_in v own) q w ≤ w → ((y : ℕ) → queueing_at (place_in v own) q y ≤ y → w ≤ y) → IsLeastSolution (queueing_at (place_in v own) q) 0 w
+  pub level_wait : (q w : ℕ) → queueing_at (place_in v own) q w ≤ w → IsBelowWait (place_in v own) q w → IsLeastSolution (queueing_at (place_in v own) q) 0 w
   level_wait q w closed least =
       reached_solves (queueing_at (place_in v own) q) 0 w (queueing_at-mono (place_in v own) q) zero-le (record { within = zero-le; reached = closed; least = λ y _ e. least y e })
-
-  one_instance : (q y : ℕ) → queueing_at (place_in v own) (q + 1) y ≡ queueing_at (place_in v own) q y + cost_at (place_in v own)
-  unfolding queueing_at
-  one_instance q y = omega (arith, times_next q (cost_at (place_in v own)))
-
-  -- the next instance waits for one transfer more
-  pub next_from : (q w y : ℕ) → ((y : ℕ) → queueing_at (place_in v own) q y ≤ y → w ≤ y) → queueing_at (place_in v own) (q + 1) y ≤ y → w + cost_at (place_in v own) ≤ y
-  next_from q w y least closed =
-      let more : queueing_at (place_in v own) (q + 1) y ≡ queueing_at (place_in v own) q y + cost_at (place_in v own) = one_instance q y in
-      let low : queueing_at (place_in v own) q (y - cost_at (place_in v own)) ≤ queueing_at (place_in v own) q y = queueing_at-mono (place_in v own) q (y - cost_at (place_in v own)) y (omega arith) in
-      let before : w ≤ y - cost_at (place_in v own) = least (y - cost_at (place_in v own)) (omega (arith, more, low, closed)) in
-      omega (arith, before, more, closed)
 
 -- ---- and its line
 

@@ -1,5 +1,6 @@
 -- Where the search for a wait begins.
-use Rattle.std.proofs.Common.{ℕ, ◌+◌, ◌-◌, ◌*◌, ◌<◌, ◌≤◌, ◌≡◌, ◌^◌, min, arith, slice_get, length, Some, sym, ◌∙◌, subst, zero-le}
+use Rattle.std.proofs.Common.{ℕ, ◌+◌, ◌-◌, ◌*◌, ◌<◌, ◌≤◌, ◌≡◌, ◌^◌, min, arith, slice_get, length, Some, sym, subst, zero-le, le_of_eq, ⊎_elim}
+use Rattle.std.proofs.lemmas.Bool.{cases_lt}
 use Rattle.cop_rta.specs.declared.streams.Stream.{Stream}
 use Rattle.cop_rta.specs.Solutions.{IsLeastSolution}
 use Rattle.cop_rta.specs.Test.{Place, cost_at, cost_of, queueing_at, IsBusyTime, IsQueuedWithin, IsResponse}
@@ -9,7 +10,7 @@ use Rattle.cop_rta.proofs.LeastLemmas.{least_exists, same_least, uncapped}
 use Rattle.cop_rta.proofs.QueueLemmas.{wait_exists_at}
 
 pub none_below : (p : Place) → IsBelowWait p 0 0
-none_below p = record { rises = zero-le; below = λ y e. zero-le }
+none_below p = λ y closed. zero-le
 
 -- one instance more takes its cost more
 next_asks : (p : Place) (q x : ℕ) → queueing_at p (q + 1) x ≡ queueing_at p q x + cost_at p
@@ -17,24 +18,28 @@ unfolding queueing_at
 next_asks p q x = grind arith
 
 -- what the equation does not lead past, the wait is not past
-wait_least : (p : Place) (q w top : ℕ) → IsLeastSolution (queueing_at p q) 0 w → queueing_at p q top ≤ top → w ≤ top
-wait_least p q w top s closed =
-    let found = least_exists (queueing_at p q) top (record { mono = queueing_at-mono p q }) closed in
+pub wait_below : (p : Place) (q w : ℕ) → IsLeastSolution (queueing_at p q) 0 w → IsBelowWait p q w
+wait_below p q w s y closed =
+    let found = least_exists (queueing_at p q) y (record { mono = queueing_at-mono p q }) closed in
     let same : w ≡ found.0 = same_least (queueing_at p q) 0 w found.0 s found.1 in
     omega (arith, same, found.2)
 
 -- the next instance does not wait less than until this one is sent
-pub next_below : (p : Place) (q w : ℕ) → IsLeastSolution (queueing_at p q) 0 w → IsBelowWait p (q + 1) (w + cost_at p)
-next_below p q w s = record {
-  rises =
-      let up : queueing_at p q w ≤ queueing_at p q (w + cost_at p) = queueing_at-mono p q w (w + cost_at p) (omega arith) in
-      omega (arith, up, s.solves, next_asks p q (w + cost_at p));
-  below = λ y e.
-      let asked : y ≡ queueing_at p q y + cost_at p = e ∙ next_asks p q y in
-      let up : queueing_at p q (y - cost_at p) ≤ queueing_at p q y = queueing_at-mono p q (y - cost_at p) y (omega arith) in
-      let w_low : w ≤ y - cost_at p = wait_least p q w (y - cost_at p) s (omega (arith, up, asked)) in
-      omega (arith, w_low, asked);
-}
+pub next_below : (p : Place) (q w : ℕ) → IsBelowWait p q w → IsBelowWait p (q + 1) (w + cost_at p)
+next_below p q w below y closed =
+    let asked : queueing_at p (q + 1) y ≡ queueing_at p q y + cost_at p = next_asks p q y in
+    let up : queueing_at p q (y - cost_at p) ≤ queueing_at p q y = queueing_at-mono p q (y - cost_at p) y (omega arith) in
+    let before : w ≤ y - cost_at p = below (y - cost_at p) (omega (arith, up, asked, closed)) in
+    omega (arith, before, asked, closed)
+
+-- the equation does not fall there
+pub rises : (p : Place) (q from : ℕ) → IsBelowWait p q from → from ≤ queueing_at p q from
+rises p q from below = ⊎_elim
+    (λ (lt : queueing_at p q from < from).
+    let again : queueing_at p q (queueing_at p q from) ≤ queueing_at p q from = queueing_at-mono p q (queueing_at p q from) from (omega (arith, lt)) in
+    absurd (omega (arith, lt, below (queueing_at p q from) again)))
+    (λ (le : from ≤ queueing_at p q from). le)
+    (cases_lt (queueing_at p q from) from)
 
 -- what is found from such a number on is the wait
 pub wait_from : (p : Place) (q from w : ℕ) → IsBelowWait p q from → w < 2 ^ 64 - 1 → IsLeastSolution (λ t. min (queueing_at p q t) (2 ^ 64 - 1)) from w → IsLeastSolution (queueing_at p q) 0 w
@@ -43,7 +48,7 @@ wait_from p q from w b low s =
     record {
       within = zero-le;
       solves = here.solves;
-      least = λ y start e. here.least y (b.below y e) e;
+      least = λ y start e. here.least y (b y (le_of_eq (sym e))) e;
     }
 
 -- where none is found within the horizon, the instance is of no busy time
@@ -53,7 +58,7 @@ no_wait_from p t q from limit inside b busy within small queued none =
     let w = wait_exists_at p t q inside busy queued in
     let solves : w.0 ≡ queueing_at p q w.0 = w.1.solves in
     let low : w.0 ≤ t = omega (arith, w.2) in
-    none w.0 (b.below w.0 solves) (omega arith) (omega arith)
+    none w.0 (b w.0 (le_of_eq (sym solves))) (omega arith) (omega arith)
 
 -- the response of an instance that waits so long
 pub responds : (p : Place) (s : Stream) (q w cost r : ℕ) → slice_get p.streams p.index ≡ Some s → cost ≡ cost_of p.rate s → IsLeastSolution (queueing_at p q) 0 w → r ≡ s.jitter + w + cost - q * s.period → IsResponse p q r
@@ -67,4 +72,4 @@ responds p s q w cost r is c least e = record {
 pub next_from : (p : Place) (s : Stream) (q w cost : ℕ) → slice_get p.streams p.index ≡ Some s → cost ≡ cost_of p.rate s → IsLeastSolution (queueing_at p q) 0 w → IsBelowWait p (q + 1) (w + cost)
 next_from p s q w cost is c least =
     let e : cost_at p ≡ cost = rw is (sym c) in
-    subst (λ (n : ℕ). IsBelowWait p (q + 1) (w + n)) e (next_below p q w least)
+    subst (λ (n : ℕ). IsBelowWait p (q + 1) (w + n)) e (next_below p q w (wait_below p q w least))

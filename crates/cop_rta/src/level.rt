@@ -4,6 +4,7 @@ ghost use Rattle.std.specs.Prelude.{◌≡◌, ◌↔◌, ◌+◌, ◌*◌, ◌^
 ghost use Rattle.cop_rta.specs.Solutions.{IsLeastSolution};
 ghost use Rattle.cop_rta.specs.Test.{Passes, is_flagged, blocking, cost_at, busy_at, queueing_at, horizon, IsBusyTime, IsQueuedWithin};
 ghost use Rattle.cop_rta.specs.Verdict.{IsJudged, IsPass};
+ghost use Rattle.cop_rta.specs.Waits.{IsBelowWait};
 ghost use Rattle.cop_rta.specs.Levels.{place_in, latest_wait, most_instances, NoneReached};
 
 use crate::demands::HORIZON;
@@ -174,7 +175,7 @@ impl<'a> Level<'a> {
         requires index { index < length self.now.streams }
         requires flagged { is_flagged self.now.flags index ≡ true }
         requires within { busy ≤ horizon }
-        ensures { (y : ℕ) → queueing_at (place_in self.now index) 0 y ≤ y → result ≤ y }
+        ensures { IsBelowWait (place_in self.now index) 0 result }
     {
         let table = self.table;
         let own = &table[index];
@@ -190,7 +191,7 @@ impl<'a> Level<'a> {
         requires index { index < length self.now.streams }
         requires flagged { is_flagged self.now.flags index ≡ true }
         requires queued { q ≤ most_instances }
-        requires from { (y : ℕ) → queueing_at (place_in self.now index) q y ≤ y → from ≤ y }
+        requires from { IsBelowWait (place_in self.now index) q from }
         requires most { most ≤ latest_wait }
         ensures found { IfSome result (IsLeastSolution (queueing_at (place_in self.now index) q) 0) }
         ensures within { IfSome result (λ wait. wait ≤ most) }
@@ -247,7 +248,7 @@ impl<'a> Level<'a> {
         requires within { busy ≤ horizon }
         requires queued { IsQueuedWithin (place_in self.now index) busy q }
         requires few { q ≤ most_instances }
-        requires from { (y : ℕ) → queueing_at (place_in self.now index) q y ≤ y → from ≤ y }
+        requires from { IsBelowWait (place_in self.now index) q from }
         ensures wait { IsLeastSolution (queueing_at (place_in self.now index) q) 0 result }
         ensures within { result ≤ horizon }
     {

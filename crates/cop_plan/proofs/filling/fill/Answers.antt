@@ -24,7 +24,7 @@ returns-in_default c = record {
         goes_no_further c.args.rate c.args.set.now c.args.pdos c.loop-placed.fill.items c.in_ok-flagged.field-0.items (left_of c.args.pdos c.loop-placed.above) c.loop-placed.invariant.goes
         (omega (arith, c.loop-placed.invariant.placed, c.loop-placed-test.true))
         c.in_ok-flagged.ensures.exact
-        (λ r below left passes. (rw c.in_default.is at c.in_ok-pdo.ensures.none) r below (left_is_flagged c.args.pdos r c.loop-placed.above left) (trial_was c.args.rate c.args.set.now c.args.pdos r c.loop-placed.above c.loop-placed.invariant.flags passes));
+        (λ r below left passes. (rw (c.in_default.is, c.in_ok-loads.ensures) at c.in_ok-pdo.ensures.none) r below (left_is_flagged c.args.pdos r c.loop-placed.above left) (trial_was c.args.rate c.args.set.now c.args.pdos r c.loop-placed.above c.loop-placed.invariant.flags passes));
     rise = c.in_ok-flagged.ensures.rise;
     inside = c.in_ok-flagged.ensures.inside;
   };
@@ -44,7 +44,7 @@ loop-placed-preserved c =
       flags = trial_next c.args.set.now c.args.pdos c.in-Some.pdo c.loop-placed.above (rw c.in-Some.is at c.in_ok-pdo.ensures.inside) few c.loop-placed.invariant.flags;
       goes = rw c.in_ok-push.ensures.items
           (goes_next c.args.rate c.args.set.now c.args.pdos c.in-Some.pdo c.loop-placed.fill.items c.loop-placed.above c.requires.pdos (rw c.in-Some.is at c.in_ok-pdo.ensures.inside) few c.loop-placed.invariant.flags
-          c.loop-placed.invariant.goes (rw c.in-Some.is at c.in_ok-pdo.ensures.flagged) (rw c.in-Some.is at c.in_ok-pdo.ensures.passes) (rw c.in-Some.is at c.in_ok-pdo.ensures.last));
+          c.loop-placed.invariant.goes (rw c.in-Some.is at c.in_ok-pdo.ensures.flagged) (rw (c.in-Some.is, c.in_ok-loads.ensures) at c.in_ok-pdo.ensures.passes) (rw (c.in-Some.is, c.in_ok-loads.ensures) at c.in_ok-pdo.ensures.last));
       placed = rw c.in_ok-push.ensures.items (simp length-append (omega (arith, c.loop-placed.invariant.placed)));
       rises = omega (arith, c.loop-placed.invariant.rises, c.in_ok-pdo.ensures.rises);
       trials =

@@ -2,7 +2,7 @@ use Rattle.std.proofs.Common.{◌≡◌, ◌∙◌, ◌-◌, arith, false, ⊎_e
 use Rattle.std.proofs.lemmas.Bool.{cases_eq}
 use Rattle.std.proofs.lemmas.Option.{unwrap_or-slice_get}
 use Rattle.cop_rta.specs.Test.{is_flagged, Passes}
-use Rattle.cop_plan.specs.Levels.{Flags, place_in}
+use Rattle.cop_rta.specs.Levels.{Flags, place_in}
 use Rattle.cop_plan.proofs.GreedyLemmas.{count_here, count_grows}
 use Rattle.cop_plan.proofs.FillingLemmas.{no_bit}
 use Rattle.cop_plan.proofs.filling.last_passing.Goals as goal

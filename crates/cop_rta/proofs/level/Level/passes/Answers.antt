@@ -75,9 +75,9 @@ loop-q-preserved c = record {
   on_time = met c.args.self.now c.self.inside.table.now c.self.inside.lines.items c.self.inside.from_below c.self.inside.first c.self.inside.ends c.self.inside.busy (level (goal.at.loop-q-preserved c).In-Some) c.args.index c.requires.index c.requires.flagged
       c.index-table-index.result c.index-table-index.is c.index-streams-index.result (there (goal.at.loop-q-preserved c).In-Some-deadline) c.in-Some.busy c.instances-q-end.result c.in-Some.is c.instances-q-end.ensures.value
       c.loop-q.q c.in-Some-deadline.deadline c.in-Some-wait.wait c.in-Some-latest.most c.in-Some-deadline.is c.in-Some-latest.ensures.some c.in-Some-wait.ensures.found c.in-Some-wait.ensures.within c.loop-q.invariant.on_time;
-  from = λ y closed. next_waits c.args.self.now c.self.inside.table.now c.self.inside.lines.items c.self.inside.from_below c.self.inside.first c.self.inside.ends c.self.inside.busy (level (goal.at.loop-q-preserved c).In-Some) c.args.index c.requires.index c.requires.flagged
+  from = next_waits c.args.self.now c.self.inside.table.now c.self.inside.lines.items c.self.inside.from_below c.self.inside.first c.self.inside.ends c.self.inside.busy (level (goal.at.loop-q-preserved c).In-Some) c.args.index c.requires.index c.requires.flagged
       c.index-table-index.result c.index-table-index.is c.index-streams-index.result (there (goal.at.loop-q-preserved c).In-Some-deadline) c.in-Some.busy c.instances-q-end.result c.in-Some.is c.instances-q-end.ensures.value
-      c.loop-q.q c.in-Some-wait.wait y c.in-Some-wait.ensures.found closed;
+      c.loop-q.q c.in-Some-wait.wait c.in-Some-wait.ensures.found;
 }
 
 pub returns : goal.returns

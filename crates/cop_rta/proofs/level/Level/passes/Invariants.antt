@@ -1,5 +1,4 @@
-use Rattle.std.proofs.Common.{◌≤◌, ℕ}
-use Rattle.cop_rta.specs.Test.{queueing_at}
+use Rattle.cop_rta.specs.Waits.{IsBelowWait}
 use Rattle.cop_rta.specs.Levels.{place_in}
 use Rattle.cop_rta.proofs.TrialLemmas.{AreOnTimeBelow}
 use Rattle.cop_rta.proofs.level.Level.passes.Given as goal
@@ -7,5 +6,5 @@ use Rattle.cop_rta.proofs.level.Level.passes.Given as goal
 abbrev pub invariant-loop-q : goal.invariant-loop-q
 invariant-loop-q l = record {
   on_time : AreOnTimeBelow (place_in l.self l.index) l.q;
-  from : (y : ℕ) → queueing_at (place_in l.self l.index) l.q y ≤ y → l.from ≤ y;
+  from : IsBelowWait (place_in l.self l.index) l.q l.from;
 }

@@ -56,9 +56,9 @@ loop-q-preserved c =
     let e : c.max-greatest.result ≡ max c.loop-q.greatest c.saturating_sub-response.result = grind (arith, common_steps) in
     record {
       survey = rw e (one_more (place_in c.args.self.now c.args.index) c.index-streams-index.result c.loop-q.q c.loop-q.greatest c.saturating_sub-response.result (read_here c.args.self.now c.self.inside.set.now c.streams.result.now c.args.index c.index-streams-index.result c.requires.index (ap (λ (v : Flags). v.streams) c.self.view_is) c.streams.ensures.items c.index-streams-index.is) c.loop-q.invariant.survey (answers (goal.at.loop-q-preserved c).After-saturating_sub-response) c.if-is_late.ensures.on_time);
-      from = λ y closed. next_waits c.args.self.now c.self.inside.table.now c.self.inside.lines.items c.self.inside.from_below c.self.inside.first c.self.inside.ends c.self.inside.busy (subst (λ (v : Flags). IsLevel v c.self.inside.table.now c.self.inside.lines.items c.self.inside.from_below c.self.inside.first c.self.inside.ends c.self.inside.busy) c.self.view_is c.self.invariant) c.args.index c.requires.index c.requires.flagged
+      from = next_waits c.args.self.now c.self.inside.table.now c.self.inside.lines.items c.self.inside.from_below c.self.inside.first c.self.inside.ends c.self.inside.busy (subst (λ (v : Flags). IsLevel v c.self.inside.table.now c.self.inside.lines.items c.self.inside.from_below c.self.inside.first c.self.inside.ends c.self.inside.busy) c.self.view_is c.self.invariant) c.args.index c.requires.index c.requires.flagged
           c.index-table-index.result c.index-table-index.is c.index-streams-index.result (read_here c.args.self.now c.self.inside.set.now c.streams.result.now c.args.index c.index-streams-index.result c.requires.index (ap (λ (v : Flags). v.streams) c.self.view_is) c.streams.ensures.items c.index-streams-index.is) c.in-Some.busy c.instances-instances.result c.in-Some.is c.instances-instances.ensures.value
-          c.loop-q.q c.queued_wait-wait.result y c.queued_wait-wait.ensures.wait closed;
+          c.loop-q.q c.queued_wait-wait.result c.queued_wait-wait.ensures.wait;
     }
 
 pub returns-then-is_late-clause-judged : goal.returns-then-is_late-clause-judged
