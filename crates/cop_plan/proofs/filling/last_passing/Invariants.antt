@@ -5,7 +5,7 @@ use Rattle.cop_plan.proofs.filling.last_passing.Given as goal
 
 abbrev pub invariant-loop-done : goal.invariant-loop-done
 invariant-loop-done l = record {
-  failed : (r : ℕ) → r < l.pdos → l.pdos ≤ r + l.done → is_flagged l.above r ≡ true → Passes (flagged_place l.loads.streams l.above r l.loads.rate) → ⊥;
+  failed : (r : ℕ) → r < l.pdos → l.pdos ≤ r + l.done → is_flagged l.above r ≡ true → Passes (flagged_place l.fn.loads.streams l.above r l.fn.loads.rate) → ⊥;
   rises : l.fn.count.trials ≤ l.count.trials;
   few : l.count.trials ≤ l.fn.count.trials + l.done;
   trials : l.count.trials + sum_where (is_flagged l.above) (λ _. 1) (l.pdos - l.done) ≤ l.fn.count.trials + sum_where (is_flagged l.above) (λ _. 1) l.pdos;
