@@ -11,7 +11,7 @@ pub mod RisingLemmas
 pub mod MemberLemmas
 pub mod CheckLemmas
 pub mod ChainLemmas
-pub mod BoundLemmas
 pub mod MakeLemmas
 pub mod GapLemmas
 pub mod MadeLemmas
+pub mod TrialLemmas

@@ -1,16 +1,18 @@
 -- The chains that are made are whole, and they are evidence.
 use Rattle.std.specs.declared.alloc.AllocError.{AllocError}
-use Rattle.std.proofs.Common.{Result, Ok, Err, IfOk, ◌≡◌, ℕ, ◌+◌, ◌-◌, ◌*◌, ◌^◌, ◌<◌, ◌≤◌, ◌⊎◌, inl, inr, min, List, [], ◌∷◌, length, sym, arith, le_antisymm, le_of_eq, zero-le, ⊎_elim}
+use Rattle.std.proofs.Common.{Result, Ok, Err, IfOk, ◌≡◌, ℕ, ◌+◌, ◌*◌, ◌<◌, ◌≤◌, ◌⊎◌, inl, inr, List, [], ◌∷◌, length, get_or, slice_get, Some, None, sym, arith, le_antisymm, le_of_eq, zero-le, mul-le-mul_left, ⊎_elim}
 use Rattle.std.proofs.lemmas.Bool.{cases_lt}
-use Rattle.cop_rta.specs.Test.{Place, busy_at, queueing_at, blocking, cost_at, horizon, IsBusyTime}
+use Rattle.std.proofs.lemmas.Option.{slice_get_cases}
+use Rattle.cop_rta.specs.declared.streams.Stream.{Stream}
+use Rattle.cop_rta.specs.Test.{Place, busy_at, queueing_at, blocking, cost_at, horizon, IsBusyTime, IsQueuedWithin}
+use Rattle.cop_rta.specs.Levels.{most_instances}
 use Rattle.cop_rta.specs.TestLemmas.{busy_at-mono, queueing_at-mono}
 use Rattle.cop_rta.specs.Verdict.{IsLong, IsFirstLate}
 use Rattle.cop_rta.proofs.LeastLemmas.{same_least}
 use Rattle.cop_rta.proofs.QueueLemmas.{wait_exists_at}
 use Rattle.cop_cert.specs.Evidence.{Climbs, IsClimb, first_of, last_after, last_of}
-use Rattle.cop_cert.specs.Chains.{Follows, IsRun, IsChain, EndsAbove, EndsSolved, IsQueueOf}
+use Rattle.cop_cert.specs.Chains.{Follows, IsRun, IsChain, IsWholeChain, EndsAbove, EndsSolved, IsQueueOf}
 use Rattle.cop_cert.proofs.EvidenceLemmas.{climb_below}
-use Rattle.cop_cert.proofs.BoundLemmas.{busy_fits, queueing_fits}
 
 module _ (f : ℕ → ℕ) (limit : ℕ) where
   follows_climbs : (a : ℕ) (rest : List ℕ) → Follows f limit a rest → Climbs f a rest
@@ -31,22 +33,6 @@ module _ (f : ℕ → ℕ) (limit : ℕ) where
   first_least [] h = absurd h
   first_least (a ∷ rest) h = rises_from a rest h
 
-  module _ (cap : ℕ) (fits : (x : ℕ) → x ≤ limit → f x < cap) where
-    uncapped : (a : ℕ) (rest : List ℕ) → Follows (λ t. min (f t) cap) limit a rest → Follows f limit a rest
-    unfolding Follows
-    uncapped a [] h = tt
-    uncapped a (b ∷ rest) h = (h.0, h.1, omega (arith, h.2, fits a h.0), uncapped b rest h.3)
-
-    run_uncapped : (numbers : List ℕ) → IsRun (λ t. min (f t) cap) limit numbers → IsRun f limit numbers
-    run_uncapped [] h = h
-    run_uncapped (a ∷ rest) h = uncapped a rest h
-
-    pub chain_uncapped : (from : ℕ) (numbers : List ℕ) → IsChain (λ t. min (f t) cap) from limit numbers → IsChain f from limit numbers
-    chain_uncapped from numbers c = record { begins = c.begins; follows = run_uncapped numbers c.follows }
-
-    pub solved : (last : ℕ) → last ≤ limit → last ≡ min (f last) cap → last ≡ f last
-    solved last h e = omega (arith, e, fits last h)
-
   -- a chain to a solution, where one is within the limit
   pub to_solution : (from : ℕ) (numbers : List ℕ) (top : ℕ) → ((x y : ℕ) → x ≤ y → f x ≤ f y) → IsChain f from limit numbers → from ≤ top → f top ≤ top → top ≤ limit
       → ((last_of numbers ≤ limit) → last_of numbers ≡ f (last_of numbers)) → EndsSolved f from limit numbers
@@ -54,12 +40,21 @@ module _ (f : ℕ → ℕ) (limit : ℕ) where
       let le = climb_below f rises top closed numbers (omega (arith, c.begins, low)) (run_climbs numbers c.follows) in
       record { chain = c; within = omega (arith, le, within); solves = ends (omega (arith, le, within)) }
 
-end_solves : (f : ℕ → ℕ) (cap limit last : ℕ) → ((x : ℕ) → x ≤ limit → f x < cap) → (limit < last) ⊎ (last ≡ min (f last) cap) → last ≤ limit → last ≡ f last
-end_solves f cap limit last fits (inl above) h = absurd (omega arith)
-end_solves f cap limit last fits (inr e) h = solved f limit cap fits last h e
+end_solves : (f : ℕ → ℕ) (limit last : ℕ) → (limit < last) ⊎ (last ≡ f last) → last ≤ limit → last ≡ f last
+end_solves f limit last (inl above) h = absurd (omega arith)
+end_solves f limit last (inr e) h = e
 
-abbrev pub cap : ℕ
-cap = 2 ^ 64 - 1
+-- few instances are queued within the horizon
+few_queued : (p : Place) (t q : ℕ) → p.index < length p.streams → t ≤ horizon → IsQueuedWithin p t q → q ≤ most_instances
+few_queued p t q inside within queued = go (slice_get_cases p.streams p.index).1
+  where
+    go : ((s : Stream) × (p.index < length p.streams) × (slice_get p.streams p.index ≡ Some s) × (get_or p.streams p.index s ≡ s)) ⊎ ((length p.streams ≤ p.index) × (slice_get p.streams p.index ≡ None))
+        → q ≤ most_instances
+    go (inl s) =
+        let low : q * s.0.period < t + s.0.jitter = rw s.2 at queued in
+        let more : q * 400 ≤ q * s.0.period = mul-le-mul_left q s.0.period_least in
+        omega (arith, more, low, within, s.0.jitter_in_range)
+    go (inr past) = absurd (omega (arith, past.0, inside))
 
 -- where the chain of the busy equation ends at a solution, that is the busy time
 pub is_busy_time : (p : Place) (numbers : List ℕ) → IsChain (busy_at p) 1 horizon numbers → last_of numbers ≡ busy_at p (last_of numbers) → IsBusyTime p (last_of numbers)
@@ -69,24 +64,19 @@ is_busy_time p numbers c solves = record {
   least = λ y start e. climb_below (busy_at p) (busy_at-mono p) y (le_of_eq (sym e)) numbers (omega (arith, c.begins, start)) (run_climbs (busy_at p) horizon numbers c.follows);
 }
 
-module _ (p : Place) (count : length p.streams ≤ 1100) where
-  pub busy_solved : (numbers : List ℕ) (t : ℕ) → IsChain (λ t. min (busy_at p t) cap) 1 horizon numbers → (horizon < last_of numbers) ⊎ (last_of numbers ≡ min (busy_at p (last_of numbers)) cap)
-      → IsBusyTime p t → t ≤ horizon → EndsSolved (busy_at p) 1 horizon numbers
-  busy_solved numbers t c ends busy within =
-      to_solution (busy_at p) horizon 1 numbers t (busy_at-mono p) (chain_uncapped (busy_at p) horizon cap (λ x h. busy_fits p x count h) 1 numbers c)
-      busy.within (le_of_eq (sym busy.solves)) within (end_solves (busy_at p) cap horizon (last_of numbers) (λ x h. busy_fits p x count h) ends)
+module _ (p : Place) where
+  pub busy_solved : (numbers : List ℕ) (t : ℕ) → IsWholeChain (busy_at p) 1 horizon numbers → IsBusyTime p t → t ≤ horizon → EndsSolved (busy_at p) 1 horizon numbers
+  busy_solved numbers t whole busy within =
+      to_solution (busy_at p) horizon 1 numbers t (busy_at-mono p) whole.chain busy.within (le_of_eq (sym busy.solves)) within (end_solves (busy_at p) horizon (last_of numbers) whole.ends)
 
-  pub busy_above : (numbers : List ℕ) → IsChain (λ t. min (busy_at p t) cap) 1 horizon numbers → (horizon < last_of numbers) ⊎ (last_of numbers ≡ min (busy_at p (last_of numbers)) cap)
-      → IsLong p → EndsAbove (busy_at p) 1 horizon numbers
-  busy_above numbers c ends long =
-      let whole = chain_uncapped (busy_at p) horizon cap (λ x h. busy_fits p x count h) 1 numbers c in
-      record {
-        chain = whole;
-        above = ⊎_elim
-            (λ (above : horizon < last_of numbers). above)
-            (λ (within : last_of numbers ≤ horizon). long (last_of numbers) (is_busy_time p numbers whole (end_solves (busy_at p) cap horizon (last_of numbers) (λ x h. busy_fits p x count h) ends within)))
-            (cases_lt horizon (last_of numbers));
-      }
+  pub busy_above : (numbers : List ℕ) → IsWholeChain (busy_at p) 1 horizon numbers → IsLong p → EndsAbove (busy_at p) 1 horizon numbers
+  busy_above numbers whole long = record {
+    chain = whole.chain;
+    above = ⊎_elim
+        (λ (above : horizon < last_of numbers). above)
+        (λ (within : last_of numbers ≤ horizon). long (last_of numbers) (is_busy_time p numbers whole.chain (end_solves (busy_at p) horizon (last_of numbers) whole.ends within)))
+        (cases_lt horizon (last_of numbers));
+  }
 
   module _ (inside : p.index < length p.streams) (q r : ℕ) (late : IsFirstLate p q r) where
     wait_within : late.answers.wait ≤ horizon
@@ -98,40 +88,27 @@ module _ (p : Place) (count : length p.streams ≤ 1100) where
     unfolding queueing_at
     wait_starts = omega (arith, late.answers.queueing.solves)
 
-    pub starts_within : blocking p + q * cost_at p ≤ horizon
-    starts_within = omega (arith, wait_within, wait_starts)
-
-    pub start_rises : blocking p + q * cost_at p ≤ min (queueing_at p q (blocking p + q * cost_at p)) cap
+    pub start_rises : blocking p + q * cost_at p ≤ queueing_at p q (blocking p + q * cost_at p)
     unfolding queueing_at
-    start_rises = omega (arith, starts_within)
+    start_rises = omega arith
 
-    pub queue_made : (numbers : List ℕ) → IsChain (λ t. min (queueing_at p q t) cap) (blocking p + q * cost_at p) horizon numbers
-        → (horizon < last_of numbers) ⊎ (last_of numbers ≡ min (queueing_at p q (last_of numbers)) cap) → IsQueueOf p q numbers
-    queue_made numbers c ends =
-        let fits : (x : ℕ) → x ≤ horizon → queueing_at p q x < cap = λ x h. queueing_fits p q x count starts_within h in
+    pub few_instances : q ≤ most_instances
+    few_instances = few_queued p late.time q inside late.within late.queued
+
+    queue_made : (numbers : List ℕ) → IsWholeChain (queueing_at p q) (blocking p + q * cost_at p) horizon numbers → IsQueueOf p q numbers
+    queue_made numbers whole =
         let w : ℕ = late.answers.wait in
         let closed : queueing_at p q w ≤ w = le_of_eq (sym late.answers.queueing.solves) in
-        let whole = chain_uncapped (queueing_at p q) horizon cap fits (blocking p + q * cost_at p) numbers c in
-        let solved = to_solution (queueing_at p q) horizon (blocking p + q * cost_at p) numbers w (queueing_at-mono p q) whole wait_starts closed wait_within
-        (end_solves (queueing_at p q) cap horizon (last_of numbers) fits ends) in
-        let below = climb_below (queueing_at p q) (queueing_at-mono p q) w closed numbers (omega (arith, whole.begins, wait_starts)) (run_climbs (queueing_at p q) horizon numbers whole.follows) in
+        let solved = to_solution (queueing_at p q) horizon (blocking p + q * cost_at p) numbers w (queueing_at-mono p q) whole.chain wait_starts closed wait_within
+        (end_solves (queueing_at p q) horizon (last_of numbers) whole.ends) in
+        let below = climb_below (queueing_at p q) (queueing_at-mono p q) w closed numbers (omega (arith, whole.chain.begins, wait_starts)) (run_climbs (queueing_at p q) horizon numbers whole.chain.follows) in
         let same : w ≡ last_of numbers = le_antisymm (late.answers.queueing.least (last_of numbers) zero-le solved.solves) below in
         record {
           waits = solved;
           first = rw (← same, ← late.answers.response) late;
         }
 
--- what the code has made, where memory was there
-pub busy_all : (p : Place) → length p.streams ≤ 1100 → (r : Result (List ℕ) AllocError) → IfOk r (λ numbers. IsChain (λ t. min (busy_at p t) cap) 1 horizon numbers)
-    → IfOk r (λ numbers. (horizon < last_of numbers) ⊎ (last_of numbers ≡ min (busy_at p (last_of numbers)) cap))
-    → IfOk r (λ numbers. IsLong p → EndsAbove (busy_at p) 1 horizon numbers)
-    × IfOk r (λ numbers. (t : ℕ) → IsBusyTime p t → t ≤ horizon → EndsSolved (busy_at p) 1 horizon numbers)
-busy_all p count (Ok numbers) c ends = (busy_above p count numbers c ends, λ t busy within. busy_solved p count numbers t c ends busy within)
-busy_all p count (Err e) c ends = (tt, tt)
-
-pub queue_all : (p : Place) → length p.streams ≤ 1100 → p.index < length p.streams → (q r : ℕ) → IsFirstLate p q r → (result : Result (List ℕ) AllocError)
-    → IfOk result (λ numbers. IsChain (λ t. min (queueing_at p q t) cap) (blocking p + q * cost_at p) horizon numbers)
-    → IfOk result (λ numbers. (horizon < last_of numbers) ⊎ (last_of numbers ≡ min (queueing_at p q (last_of numbers)) cap))
-    → IfOk result (IsQueueOf p q)
-queue_all p count inside q r late (Ok numbers) c ends = queue_made p count inside q r late numbers c ends
-queue_all p count inside q r late (Err e) c ends = tt
+    -- what the code has made, where memory was there
+    pub queue_all : (result : Result (List ℕ) AllocError) → IfOk result (IsWholeChain (queueing_at p q) (blocking p + q * cost_at p) horizon) → IfOk result (IsQueueOf p q)
+    queue_all (Ok numbers) whole = queue_made numbers whole
+    queue_all (Err e) whole = tt

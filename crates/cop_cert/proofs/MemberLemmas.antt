@@ -1,14 +1,16 @@
 -- Lists of members: that they rise, one of them, and which are marked.
-use Rattle.std.proofs.Common.{◌≡◌, ◌≢◌, ◌⊎◌, inl, inr, ℕ, zero, suc, ◌+◌, ◌<◌, ◌≤◌, Bool, true, false, ◌||◌, ◌==◌, List, [], ◌∷◌, length, get_or, drop, All, refl, ap, arith, add-one, drop-cons, drop_of_length-le, ne_eqb, set, sym, ◌∙◌, eq-eqb}
-use Rattle.std.proofs.lemmas.List.{get_or-set_same, get_or-set_other}
+use Rattle.std.proofs.Common.{◌≡◌, ◌≢◌, ◌⊎◌, inl, inr, ℕ, zero, suc, ◌+◌, ◌<◌, ◌≤◌, Bool, true, false, ◌||◌, ◌==◌, List, [], ◌∷◌, length, get_or, drop, All, refl, ap, arith, add-one, drop-cons, drop_of_length-le, ne_eqb, set, ◌∙◌, eq-eqb}
 use Rattle.cop_rta.specs.Test.{is_flagged}
-use Rattle.std.proofs.lemmas.Bool.{cases_lt, cases_eq}
+use Rattle.std.proofs.lemmas.Bool.{cases_lt, or_left, or_right}
 use Rattle.cop_rta.specs.declared.streams.Stream.{Stream}
+use Rattle.cop_rta.proofs.FlagLemmas.{flag_set}
+use Rattle.std.proofs.lemmas.List.{length-map}
 use Rattle.std.proofs.lemmas.List.Elements.{All-head, All-tail}
 use Rattle.cop_cert.specs.declared.refusals.Member.{Member}
 use Rattle.cop_cert.specs.Sets.{is_in_trial}
-use Rattle.cop_cert.specs.Evidence.{is_member, is_listed}
+use Rattle.cop_cert.specs.Evidence.{is_member, is_listed, pdos_of}
 use Rattle.cop_cert.proofs.AboveLemmas.{trial_of_pdo, trial_of_fixed}
+use Rattle.cop_cert.proofs.RisingLemmas.{at_member}
 
 split_at : (xs : List Member) (i : ℕ) (d : Member) → i < length xs → drop i xs ≡ get_or xs i d ∷ drop (i + 1) xs
 split_at xs i d h = rw add-one (drop-cons xs i d h)
@@ -39,20 +41,6 @@ flags bound streams pdos ms k inside = go (cases_lt k pdos)
     go : (k < pdos) ⊎ (pdos ≤ k) → (is_in_trial bound streams pdos (λ _. false) k || is_member ms k) ≡ is_in_trial bound streams pdos (is_member ms) k
     go (inl pdo) = rw (trial_of_pdo streams pdos bound (λ _. false) k pdo, trial_of_pdo streams pdos bound (is_member ms) k pdo) refl
     go (inr fixed) = rw (trial_of_fixed streams pdos bound (λ _. false) k fixed, trial_of_fixed streams pdos bound (is_member ms) k fixed, none_of k ms (λ i d h e. omega (arith, inside i d h, e))) (or_false _)
-
--- flags, by index
-flag_at : (xs : List Bool) (k : ℕ) → is_flagged xs k ≡ get_or xs k false
-flag_at [] k = refl
-flag_at (x ∷ xs) zero = refl
-flag_at (x ∷ xs) (suc k) = flag_at xs k
-
--- one member's flag
-flag_set : (out : List Bool) (p k : ℕ) → p < length out → is_flagged (set out p true) k ≡ ((p == k) || is_flagged out k)
-flag_set out p k inside = rw (flag_at (set out p true) k, flag_at out k) (go (cases_eq p k))
-  where
-    go : (p ≡ k) ⊎ (p ≢ k) → get_or (set out p true) k false ≡ ((p == k) || get_or out k false)
-    go (inl same) = rw (eq-eqb p k same, ← same) (get_or-set_same out p true false inside)
-    go (inr other) = rw (ne_eqb p k other) (get_or-set_other out p k true false (λ e. other (sym e)))
 
 swap_or : (a b c : Bool) → ((a || b) || c) ≡ (b || (a || c))
 swap_or true true c = refl
@@ -90,3 +78,20 @@ pub flag_number : (out : List Bool) (ps : List ℕ) (i k : ℕ) → i < length p
 flag_number out ps i k below inside =
     let next : is_listed (drop i ps) k ≡ ((get_or ps i 0 == k) || is_listed (drop (i + 1) ps) k) = ap (λ l. is_listed l k) (drop_next ps i below) in
     rw (flag_set out (get_or ps i 0) k inside, next) (swap_or (get_or ps i 0 == k) (is_flagged out k) (is_listed (drop (i + 1) ps) k))
+
+-- those that are listed are above in their trial
+listed_at : (ps : List ℕ) (i d : ℕ) → i < length ps → is_listed ps (get_or ps i d) ≡ true
+listed_at [] i d h = absurd (omega arith)
+listed_at (p ∷ ps) zero d h = or_left (p == p) (is_listed ps p) (eq-eqb p p refl)
+listed_at (p ∷ ps) (suc i) d h = or_right (p == get_or ps i d) (is_listed ps (get_or ps i d)) (listed_at ps i d (omega arith))
+
+pub listed_flagged : (bound : ℕ) (streams : List Stream) (pdos : ℕ) (ps : List ℕ) (flags : List Bool)
+    → ((k : ℕ) → is_flagged flags k ≡ is_in_trial bound streams pdos (is_listed ps) k) → All (λ p. p < pdos) ps → All (λ p. is_flagged flags p ≡ true) ps
+listed_flagged bound streams pdos ps flags same inside i d below =
+    same (get_or ps i d) ∙ trial_of_pdo streams pdos bound (is_listed ps) (get_or ps i d) (inside i d below) ∙ listed_at ps i d below
+
+pub members_flagged : (bound : ℕ) (streams : List Stream) (pdos : ℕ) (ms : List Member) (flags : List Bool)
+    → ((k : ℕ) → is_flagged flags k ≡ is_in_trial bound streams pdos (is_member ms) k) → All (λ p. p < pdos) (pdos_of ms) → All (λ m. is_flagged flags m.pdo ≡ true) ms
+members_flagged bound streams pdos ms flags same inside i d below =
+    let count : length (pdos_of ms) ≡ length ms = length-map ms (λ m. m.pdo) in
+    rw (at_member ms i d below) (listed_flagged bound streams pdos (pdos_of ms) flags same inside i d.pdo (omega (arith, count, below)))

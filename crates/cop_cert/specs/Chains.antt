@@ -1,5 +1,5 @@
 -- The lists that are made: whole chains of an equation's values.
-use Rattle.std.specs.Prelude.{◌≡◌, ℕ, ◌+◌, ◌-◌, ◌*◌, ◌<◌, ◌≤◌, Bool, List, [], ◌∷◌, All, AllPairs, length}
+use Rattle.std.specs.Prelude.{◌≡◌, ℕ, ◌+◌, ◌-◌, ◌*◌, ◌<◌, ◌≤◌, ◌⊎◌, Bool, List, [], ◌∷◌, All, AllPairs, length}
 use Rattle.cop_frame.specs.declared.rates.Rate.{Rate}
 use Rattle.cop_rta.specs.declared.streams.Stream.{Stream}
 use Rattle.cop_rta.specs.Test.{Place, Passes, busy_at, queueing_at, blocking, cost_at, jitter_at, period_at, horizon}
@@ -24,6 +24,11 @@ IsRun f limit (a ∷ rest) = Follows f limit a rest
 pub record IsChain (f : ℕ → ℕ) (from limit : ℕ) (numbers : List ℕ) : Type 0 where
   pub begins : first_of numbers ≡ from
   pub follows : IsRun f limit numbers
+
+-- a chain that is as long as can be: it ends above the limit or at a solution
+pub record IsWholeChain (f : ℕ → ℕ) (from limit : ℕ) (numbers : List ℕ) : Type 0 where
+  pub chain : IsChain f from limit numbers
+  pub ends : (limit < last_of numbers) ⊎ (last_of numbers ≡ f (last_of numbers))
 
 -- the chain ends above the limit
 pub record EndsAbove (f : ℕ → ℕ) (from limit : ℕ) (numbers : List ℕ) : Type 0 where

@@ -1,5 +1,5 @@
 -- Lists of numbers that show that a stream fails.
-use Rattle.std.specs.Prelude.{◌≡◌, ℕ, ◌+◌, ◌-◌, ◌*◌, ◌<◌, ◌≤◌, ◌==◌, ◌||◌, Bool, false, List, [], ◌∷◌, length, map, All, AllPairs}
+use Rattle.std.specs.Prelude.{◌≡◌, ℕ, ◌+◌, ◌-◌, ◌*◌, ◌<◌, ◌≤◌, ◌==◌, ◌||◌, Bool, false, List, [], ◌∷◌, length, map, All, AllPairs, Option, MatchOption}
 use Rattle.cop_rta.specs.declared.streams.Stream.{Stream}
 use Rattle.cop_rta.specs.Test.{Place, busy_at, queueing_at, blocking, cost_at, jitter_at, period_at, horizon, IsQueuedWithin, IsLate}
 use Rattle.cop_cert.specs.declared.refusals.Evidence.{Evidence}
@@ -36,6 +36,10 @@ pub record IsBusyList (p : Place) (numbers : List ℕ) : Type 0 where
   pub climbs : IsClimb (busy_at p) numbers
   pub begins : first_of numbers ≡ 1
 
+-- where a list ends, if it is a busy list
+abbrev pub IsBusyEnd : Place → List ℕ → Option ℕ → Type 0
+IsBusyEnd p numbers end = MatchOption end (IsBusyList p numbers → ⊥) (λ last. IsBusyList p numbers × (last ≡ last_of numbers))
+
 -- a queue list of instance q climbs by its queueing equation from B + q C at most
 pub record IsQueueList (p : Place) (q : ℕ) (numbers : List ℕ) : Type 0 where
   pub climbs : IsClimb (queueing_at p q) numbers
@@ -52,6 +56,10 @@ pub record ShowsLate (p : Place) (q : ℕ) (busy queue : List ℕ) : Type 0 wher
   pub reached : IsQueuedWithin p (last_of busy) q
   pub waits : IsQueueList p q queue
   pub late : IsLate p (jitter_at p + last_of queue + cost_at p - q * period_at p)
+
+abbrev pub busy_list_of : Evidence → List ℕ
+busy_list_of (Long busy) = busy
+busy_list_of (Late q busy queue) = busy
 
 -- what shows that the stream of a place fails
 abbrev pub IsEvidence : Place → Evidence → Type 0

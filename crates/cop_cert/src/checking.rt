@@ -1,14 +1,15 @@
 //! Checking a refusal.
 
-ghost use Rattle.std.specs.Prelude.{◌≡◌, ◌↔◌, ℕ, ◌+◌, ◌-◌, ◌*◌, ◌<◌, ◌≤◌, ◌||◌, IsTrue, MatchOption, length, slice_get, Some, All, AllPairs, false};
+ghost use Rattle.std.specs.Prelude.{◌≡◌, ◌↔◌, ℕ, ◌+◌, ◌-◌, ◌*◌, ◌<◌, ◌≤◌, ◌||◌, IsTrue, MatchOption, length, slice_get, Some, All, AllPairs, true, false};
 ghost use Rattle.std.specs.Option.{IsSomeAnd};
 ghost use Rattle.cop_rta.specs.Test.{place_of, flagged_place, is_flagged, blocking, cost_at, cost_of};
+ghost use Rattle.cop_rta.specs.Levels.{place_in};
 ghost use Rattle.cop_cert.specs.Assignments.{least_id, NoAssignmentPasses};
 ghost use Rattle.cop_cert.specs.Sets.{is_in_trial};
-ghost use Rattle.cop_cert.specs.Evidence.{IsClimb, first_of, last_of, IsBusyList, IsQueueList, IsEvidence, is_member, pdos_of, IsRefusal};
+ghost use Rattle.cop_cert.specs.Evidence.{IsClimb, first_of, last_of, IsBusyEnd, busy_list_of, IsQueueList, IsEvidence, is_member, pdos_of, IsRefusal};
 ghost use Rattle.cop_cert.specs.Rising.{RiseFrom};
 
-use crate::demands::{cost, start_of};
+use crate::demands::{Trial, cost};
 use crate::refusals::{Evidence, Member, Refusal};
 use crate::trials::flag_fixed;
 use cop_frame::Rate;
@@ -41,12 +42,31 @@ fn first_of(numbers: &[u64]) -> u64
 
 /// Where a busy list ends, if it is one.
 fn busy_end(busy: &Busy<'_>, numbers: &[u64]) -> Option<u64>
-    ensures { MatchOption result (IsBusyList (place_of busy.now) numbers.now → ⊥) (λ last. IsBusyList (place_of busy.now) numbers.now × (last ≡ last_of numbers.now)) }
+    ensures { IsBusyEnd (place_of busy.now) numbers.now result }
 {
     if first_of(numbers) != 1 {
         return None;
     }
     climb(busy, numbers)
+}
+
+/// Where a list of a flagged stream ends, if it is a busy list. `end` says the same of another list, `before`: flagged
+/// streams share one busy equation, so an equal list is not gone through again.
+fn busy_end_after(
+    trial: &Trial<'_>,
+    index: usize,
+    numbers: &[u64],
+    before: &[u64],
+    end: Option<u64>,
+) -> Option<u64>
+    requires index { index < length trial.now.streams }
+    requires before { IsBusyEnd (place_in trial.now index) before.now end }
+    ensures { IsBusyEnd (place_in trial.now index) numbers.now result }
+{
+    if numbers == before {
+        return end;
+    }
+    busy_end(&trial.busy(index), numbers)
 }
 
 /// Where a queue list of instance `q` ends, if it is one. `start` is B + q C.
@@ -80,28 +100,26 @@ fn is_queued_within(stream: &Stream, busy_time: u64, q: u64) -> bool
     u128::from(q) * u128::from(stream.period) < u128::from(busy_time) + u128::from(stream.jitter)
 }
 
-/// Whether the evidence shows that the stream of a place fails.
-fn is_evidence(set: &StreamSet, above: &[bool], pdo: usize, rate: Rate, evidence: &Evidence) -> bool
-    requires flags { length above.now ≡ length set.now }
-    requires index { pdo < length set.now }
-    ensures { IsTrue result ↔ IsEvidence (flagged_place set.now above.now pdo rate) evidence.now }
+/// Whether the evidence shows that a flagged stream fails. `end` is where its busy list ends, if it is one.
+fn is_evidence(trial: &Trial<'_>, index: usize, evidence: &Evidence, end: Option<u64>) -> bool
+    requires index { index < length trial.now.streams }
+    requires flagged { is_flagged trial.now.flags index ≡ true }
+    requires end { IsBusyEnd (place_in trial.now index) (busy_list_of evidence.now) end }
+    ensures { IsTrue result ↔ IsEvidence (place_in trial.now index) evidence.now }
 {
-    let place = Busy::new(set, above, pdo, rate);
+    let Some(last) = end else {
+        return false;
+    };
     match evidence {
-        Evidence::Long { busy } => match busy_end(&place, busy.as_slice()) {
-            Some(last) => last > HORIZON,
-            None => false,
-        },
-        Evidence::Late { q, busy, queue } => {
-            let Some(last) = busy_end(&place, busy.as_slice()) else {
+        Evidence::Long { .. } => last > HORIZON,
+        Evidence::Late { q, queue, .. } => {
+            let busy = trial.busy(index);
+            let start = trial.start_of(index, *q);
+            let Some(wait) = queue_end(&busy, *q, start, queue.as_slice()) else {
                 return false;
             };
-            let start = start_of(set, above, pdo, rate, *q);
-            let Some(wait) = queue_end(&place, *q, start, queue.as_slice()) else {
-                return false;
-            };
-            let stream = &set.streams()[pdo];
-            is_queued_within(stream, last, *q) && is_late(stream, rate, *q, wait)
+            let stream = trial.stream(index);
+            is_queued_within(stream, last, *q) && is_late(stream, trial.rate(), *q, wait)
         }
     }
 }
@@ -151,12 +169,22 @@ fn flag_trial(streams: &[Stream], pdos: usize, members: &[Member], out: &mut [bo
 }
 
 /// Whether each member has evidence.
-fn have_evidence(set: &StreamSet, above: &[bool], rate: Rate, members: &[Member]) -> bool
-    requires flags { length above.now ≡ length set.now }
-    requires inside { All (λ m. m.pdo < length set.now) members.now }
-    ensures { IsTrue result ↔ All (λ m. IsEvidence (flagged_place set.now above.now m.pdo rate) m.evidence) members.now }
+fn have_evidence(trial: &Trial<'_>, members: &[Member]) -> bool
+    requires inside { All (λ m. m.pdo < length trial.now.streams) members.now }
+    requires flagged { All (λ m. is_flagged trial.now.flags m.pdo ≡ true) members.now }
+    ensures { IsTrue result ↔ All (λ m. IsEvidence (place_in trial.now m.pdo) m.evidence) members.now }
 {
-    members.iter().all(|member| is_evidence(set, above, member.pdo, rate, &member.evidence))
+    let mut before: &[u64] = &[];
+    let mut end = None;
+    for member in members {
+        let numbers = member.evidence.busy();
+        end = busy_end_after(trial, member.pdo, numbers, before, end);
+        before = numbers;
+        if !is_evidence(trial, member.pdo, &member.evidence, end) {
+            return false;
+        }
+    }
+    true
 }
 
 /// Whether a refusal holds: its members, one at least, rise and are PDOs, and each has evidence that it fails with
@@ -180,5 +208,5 @@ pub fn check(set: &StreamSet, pdos: usize, refusal: &Refusal) -> bool
     let mut flags = [false; StreamSet::MOST];
     let above = &mut flags[..streams.len()];
     flag_trial(streams, pdos, members, above);
-    have_evidence(set, above, refusal.rate, members)
+    have_evidence(&Trial::new(set, above, refusal.rate), members)
 }

@@ -1,6 +1,6 @@
 //! Lists that contracts see as lists.
 
-ghost use Rattle.std.specs.Prelude.{◌≡◌, [], ◌∷◌, ◌++◌, OnOk, OnErr, List};
+ghost use Rattle.std.specs.Prelude.{◌≡◌, [], ◌∷◌, ◌++◌, OnOk, OnErr, IfOk, List};
 
 use std::alloc::{AllocError, Global};
 use std::marker::Model;
@@ -52,6 +52,17 @@ impl<T: Drop> Items<T> {
     {
         self.values.push(value)?;
         Ok(())
+    }
+}
+
+impl Items<u64> {
+    /// A copy of some numbers.
+    pub(crate) fn copied(alloc: Global, numbers: &[u64]) -> Result<Items<u64>, AllocError>
+        ensures { IfOk result (λ items. items ≡ numbers.now) }
+    {
+        let mut values = Vec::new(alloc);
+        values.extend_from_slice(numbers)?;
+        Ok(Items { values })
     }
 }
 

@@ -5,6 +5,7 @@ mod checking;
 mod demands;
 mod drafts;
 mod entries;
+mod equations;
 mod faults;
 mod items;
 mod laws;

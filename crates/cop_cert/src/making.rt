@@ -1,38 +1,33 @@
 //! Making a refusal.
 
-ghost use Rattle.std.specs.Prelude.{◌≡◌, ℕ, ◌+◌, ◌*◌, ◌^◌, ◌<◌, ◌≤◌, ◌||◌, ◌⊎◌, ◌↔◌, IsTrue, IfOk, length, All, AllPairs};
-ghost use Rattle.cop_rta.specs.Test.{place_of, flagged_place, is_flagged, busy_at, queueing_at, blocking, cost_at, horizon, IsBusyTime, Passes};
-ghost use Rattle.cop_rta.specs.Verdict.{IsLong, IsFirstLate};
+ghost use Rattle.std.specs.Prelude.{◌≡◌, ℕ, ◌+◌, ◌*◌, ◌<◌, ◌≤◌, ◌||◌, ◌↔◌, true, IsTrue, IfOk, length, All, AllPairs};
+ghost use Rattle.cop_rta.specs.Test.{flagged_place, is_flagged, busy_at, horizon, Passes};
+ghost use Rattle.cop_rta.specs.Levels.{place_in};
+ghost use Rattle.cop_rta.specs.Verdict.{IsFirstLate};
 ghost use Rattle.cop_cert.specs.Assignments.{least_id};
 ghost use Rattle.cop_cert.specs.Sets.{is_in_trial};
 ghost use Rattle.cop_cert.specs.Rising.{RiseFrom};
-ghost use Rattle.cop_cert.specs.Evidence.{last_of, is_listed, IsRefusal};
-ghost use Rattle.cop_cert.specs.Chains.{AllFail, FailTogether, IsChain, EndsAbove, EndsSolved, IsQueueOf, IsWholeEvidence, AreMade, IsMade, HasAtMost};
+ghost use Rattle.cop_cert.specs.Evidence.{is_listed, IsRefusal};
+ghost use Rattle.cop_cert.specs.Chains.{AllFail, FailTogether, IsWholeChain, IsQueueOf, IsWholeEvidence, AreMade, IsMade, HasAtMost};
 
-use crate::demands::start_of;
+use crate::equations::{BusyOf, Equation, QueueOf};
 use crate::items::Items;
 use crate::refusals::{Evidence, Member, Refusal};
 use crate::trials::flag_fixed;
 use cop_frame::Rate;
-use cop_rta::{Busy, Demand, HORIZON, Stream, StreamSet, Verdict, verdict};
+use cop_rta::{HORIZON, Level, Loads, Stream, StreamSet, Verdict, verdict};
 use std::alloc::{AllocError, Global};
 
-/// An equation's values from a number on, up to its solution or to the first number above a limit.
-fn chain<D: Demand>(
-    alloc: Global,
-    demand: &D,
-    from: u64,
-    limit: u64,
-) -> Result<Items<u64>, AllocError>
-    requires { from ≤ D.demand demand.now from }
-    ensures chain { IfOk result (λ numbers. IsChain (D.demand demand.now) from limit numbers) }
-    ensures end { IfOk result (λ numbers. (limit < last_of numbers) ⊎ (last_of numbers ≡ D.demand demand.now (last_of numbers))) }
+/// An equation's values from a number on, up to its solution or to the first number above the horizon.
+fn chain<E: Equation>(alloc: Global, equation: &E, from: u64) -> Result<Items<u64>, AllocError>
+    requires { from ≤ E.equation equation.now from }
+    ensures { IfOk result (IsWholeChain (E.equation equation.now) from horizon) }
 {
     let mut numbers = Items::new(alloc);
     numbers.push(from)?;
     let mut last = from;
-    while last <= limit {
-        let next = demand.at(last);
+    while last <= HORIZON {
+        let next = equation.at(last);
         if next == last {
             return Ok(numbers);
         }
@@ -42,77 +37,94 @@ fn chain<D: Demand>(
     Ok(numbers)
 }
 
-/// The chain of the busy equation.
-fn busy_list(alloc: Global, busy: &Busy<'_>) -> Result<Items<u64>, AllocError>
-    requires count { length busy.now.streams ≤ 1100 }
-    requires index { busy.now.index < length busy.now.streams }
-    ensures long { IfOk result (λ numbers. IsLong (place_of busy.now) → EndsAbove (busy_at (place_of busy.now)) 1 horizon numbers) }
-    ensures late { IfOk result (λ numbers. (t : ℕ) → IsBusyTime (place_of busy.now) t → t ≤ horizon → EndsSolved (busy_at (place_of busy.now)) 1 horizon numbers) }
+/// The chain of the busy equation, which the flagged streams share. One of them is at the index.
+fn busy_list(alloc: Global, level: &Level<'_>, index: usize) -> Result<Items<u64>, AllocError>
+    requires index { index < length level.now.streams }
+    requires flagged { is_flagged level.now.flags index ≡ true }
+    ensures { IfOk result (λ numbers. (k : ℕ) → k < length level.now.streams → is_flagged level.now.flags k ≡ true → IsWholeChain (busy_at (place_in level.now k)) 1 horizon numbers) }
 {
-    chain(alloc, busy, 1, HORIZON)
+    chain(alloc, &BusyOf::new(level, index), 1)
 }
 
-/// The chain of the queueing equation of an instance that is late, from `start`, B + q C.
-fn queue_list(alloc: Global, busy: &Busy<'_>, q: u64, start: u64) -> Result<Items<u64>, AllocError>
-    requires count { length busy.now.streams ≤ 1100 }
-    requires index { busy.now.index < length busy.now.streams }
-    requires start { start ≡ blocking (place_of busy.now) + q * cost_at (place_of busy.now) }
-    requires late { (r : ℕ) × IsFirstLate (place_of busy.now) q r }
-    ensures { IfOk result (IsQueueOf (place_of busy.now) q) }
+/// The chain of the queueing equation of an instance that is late, from B + q C.
+fn queue_list(
+    alloc: Global,
+    level: &Level<'_>,
+    index: usize,
+    q: u64,
+) -> Result<Items<u64>, AllocError>
+    requires index { index < length level.now.streams }
+    requires flagged { is_flagged level.now.flags index ≡ true }
+    requires late { (r : ℕ) × IsFirstLate (place_in level.now index) q r }
+    ensures { IfOk result (IsQueueOf (place_in level.now index) q) }
 {
-    chain(alloc, &busy.queueing(q), start, HORIZON)
+    let start = level.start_of(index, q);
+    chain(alloc, &QueueOf::new(level, index, q), start)
 }
 
-/// The evidence that a stream fails, with the whole chains.
+/// The evidence that a flagged stream fails, with the whole chains. `busy` is the chain of the busy equation.
 fn evidence_of(
     alloc: Global,
-    set: &StreamSet,
-    above: &[bool],
-    pdo: usize,
-    rate: Rate,
+    level: &Level<'_>,
+    index: usize,
+    busy: &[u64],
 ) -> Result<Evidence, AllocError>
-    requires count { length set.now ≤ 1100 }
-    requires flags { length above.now ≡ length set.now }
-    requires index { pdo < length set.now }
-    requires fails { Passes (flagged_place set.now above.now pdo rate) → ⊥ }
-    ensures { IfOk result (IsWholeEvidence (flagged_place set.now above.now pdo rate)) }
+    requires index { index < length level.now.streams }
+    requires flagged { is_flagged level.now.flags index ≡ true }
+    requires busy { IsWholeChain (busy_at (place_in level.now index)) 1 horizon busy.now }
+    requires fails { Passes (place_in level.now index) → ⊥ }
+    ensures { IfOk result (IsWholeEvidence (place_in level.now index)) }
 {
-    let place = Busy::new(set, above, pdo, rate);
-    let busy = busy_list(alloc, &place)?;
-    match verdict(set, above, pdo, rate) {
+    match level.verdict(index) {
         Verdict::Pass { .. } => unreachable!(),
-        Verdict::Long => Ok(Evidence::Long { busy }),
+        Verdict::Long => {
+            let busy = Items::copied(alloc, busy)?;
+            Ok(Evidence::Long { busy })
+        }
         Verdict::Late { q, .. } => {
-            let start = start_of(set, above, pdo, rate, q) as u64;
-            let queue = queue_list(alloc, &place, q, start)?;
+            let queue = queue_list(alloc, level, index, q)?;
+            let busy = Items::copied(alloc, busy)?;
             Ok(Evidence::Late { q, busy, queue })
         }
     }
 }
 
-/// The members with the evidence of each.
-fn members_of(
+/// The members with the evidence of each. `busy` is the chain of the busy equation, which they share.
+fn members_with(
     alloc: Global,
-    set: &StreamSet,
-    above: &[bool],
-    rate: Rate,
+    level: &Level<'_>,
     pdos: &[usize],
+    busy: &[u64],
 ) -> Result<Items<Member>, AllocError>
-    requires count { length set.now ≤ 1100 }
-    requires flags { length above.now ≡ length set.now }
-    requires inside { All (λ p. p < length set.now) pdos.now }
-    requires fails { All (λ p. Passes (flagged_place set.now above.now p rate) → ⊥) pdos.now }
-    ensures { IfOk result (AreMade set.now (is_flagged above.now) rate pdos.now) }
+    requires inside { All (λ p. p < length level.now.streams) pdos.now }
+    requires flagged { All (λ p. is_flagged level.now.flags p ≡ true) pdos.now }
+    requires fails { All (λ p. Passes (place_in level.now p) → ⊥) pdos.now }
+    requires busy { (k : ℕ) → k < length level.now.streams → is_flagged level.now.flags k ≡ true → IsWholeChain (busy_at (place_in level.now k)) 1 horizon busy.now }
+    ensures { IfOk result (AreMade level.now.streams (is_flagged level.now.flags) level.now.rate pdos.now) }
 {
     let mut members = Items::new(alloc);
     for pdo in pdos {
-        let evidence = evidence_of(alloc, set, above, *pdo, rate)?;
+        let evidence = evidence_of(alloc, level, *pdo, busy)?;
         members.push(Member {
             pdo: *pdo,
             evidence,
         })?;
     }
     Ok(members)
+}
+
+/// The members with the evidence of each.
+fn members_of(alloc: Global, level: &Level<'_>, pdos: &[usize]) -> Result<Items<Member>, AllocError>
+    requires inside { All (λ p. p < length level.now.streams) pdos.now }
+    requires flagged { All (λ p. is_flagged level.now.flags p ≡ true) pdos.now }
+    requires fails { All (λ p. Passes (place_in level.now p) → ⊥) pdos.now }
+    ensures { IfOk result (AreMade level.now.streams (is_flagged level.now.flags) level.now.rate pdos.now) }
+{
+    let Some(first) = pdos.first() else {
+        return Ok(Items::new(alloc));
+    };
+    let busy = busy_list(alloc, level, *first)?;
+    members_with(alloc, level, pdos, busy.as_slice())
 }
 
 #[tactic(auto, using(crate::proofs::MemberLemmas::flag_number))]
@@ -215,6 +227,8 @@ pub fn make(
     let mut flags = [false; StreamSet::MOST];
     let above = &mut flags[..streams.len()];
     flag_trial_of(streams, pdos, members, above);
-    let members = members_of(alloc, set, above, rate, members)?;
+    let loads = Loads::new(alloc, set, rate)?;
+    let level = Level::new(alloc, &loads, above)?;
+    let members = members_of(alloc, &level, members)?;
     Ok(Refusal { rate, members })
 }

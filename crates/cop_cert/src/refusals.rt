@@ -1,5 +1,8 @@
 //! Refusals and their evidence.
 
+ghost use Rattle.std.specs.Prelude.{◌≡◌};
+ghost use Rattle.cop_cert.specs.Evidence.{busy_list_of};
+
 use crate::items::Items;
 use cop_frame::Rate;
 
@@ -16,6 +19,17 @@ pub enum Evidence {
         busy: Items<u64>,
         queue: Items<u64>,
     },
+}
+
+impl Evidence {
+    /// The busy list.
+    pub(crate) fn busy(&self) -> &[u64]
+        ensures { result.now ≡ busy_list_of self.now }
+    {
+        match self {
+            Evidence::Long { busy } | Evidence::Late { busy, .. } => busy.as_slice(),
+        }
+    }
 }
 
 /// A PDO that fails where the other members and the lowest fixed frames are above it, and what shows that.

@@ -1,15 +1,16 @@
 use Rattle.std.proofs.Common.{ℕ, ◌≤◌, arith}
+use Rattle.cop_rta.specs.Test.{horizon}
 use Rattle.cop_cert.proofs.ChainLemmas.{chain_one, chain_more}
 use Rattle.cop_cert.proofs.making.chain.Goals as goal
 
 pub loop-last-init : goal.loop-last-init
 loop-last-init g c =
-    rw (c.in_ok-push.ensures.ok, c.new-numbers.ensures) (chain_one (g.D.Demand.demand c.args.demand.now) c.args.limit c.args.from c.requires)
+    rw (c.in_ok-push.ensures.ok, c.new-numbers.ensures) (chain_one (g.E.Equation.equation c.args.equation.now) horizon c.args.from c.requires)
 
 pub loop-last-preserved : goal.loop-last-preserved
 loop-last-preserved g c =
-    let f : ℕ → ℕ = g.D.Demand.demand c.args.demand.now in
+    let f : ℕ → ℕ = g.E.Equation.equation c.args.equation.now in
     let up : c.loop-last.last ≤ c.at-next.result = omega (arith, c.loop-last.invariant.rises, c.at-next.ensures) in
-    chain_more f c.args.limit c.args.from c.loop-last.last c.at-next.result c.loop-last.numbers c.push-in-loop-last.new.self c.loop-last.invariant
+    chain_more f horizon c.args.from c.loop-last.last c.at-next.result c.loop-last.numbers c.push-in-loop-last.new.self c.loop-last.invariant
     c.in_ok-push-2.ensures.ok (omega arith) c.if-next-last.false c.at-next.ensures
-    (g.met.D.Demand.never_falls c.args.demand.now c.loop-last.last c.at-next.result up c.at-next.type_inv)
+    (g.met.E.Equation.never_falls c.args.equation.now c.loop-last.last c.at-next.result up)

@@ -1,9 +1,14 @@
-use Rattle.std.proofs.Common.{arith}
-use Rattle.cop_rta.specs.Test.{flagged_place}
-use Rattle.cop_cert.proofs.MakeLemmas.{starts_within}
+use Rattle.cop_rta.specs.Levels.{place_in}
+use Rattle.cop_cert.proofs.MakeLemmas.{busy_above, busy_solved}
 use Rattle.cop_cert.proofs.making.evidence_of.Goals as goal
 
-pub overflow_cast-start : goal.overflow_cast-start
-overflow_cast-start c =
-    let start = starts_within (flagged_place c.args.set.now c.args.above.now c.args.pdo c.args.rate) c.requires.count c.requires.index c.in-Late.q c.in-Late.response c.in-Late.ensures.judged in
-    omega (arith, start, c.start_of-start.ensures)
+pub returns-in_ok-busy-in-Long : goal.returns-in_ok-busy-in-Long
+returns-in_ok-busy-in-Long c =
+    rw c.in_ok-busy-in-Long.ensures (busy_above (place_in c.args.level.now c.args.index) c.args.busy.now c.requires.busy c.in-Long.ensures.judged)
+
+pub returns-in_ok-busy-in-Late : goal.returns-in_ok-busy-in-Late
+returns-in_ok-busy-in-Late c = record {
+  busy_time = rw c.in_ok-busy-in-Late.ensures
+      (busy_solved (place_in c.args.level.now c.args.index) c.args.busy.now c.in-Late.ensures.judged.time c.requires.busy c.in-Late.ensures.judged.busy c.in-Late.ensures.judged.within);
+  queue_of = c.in_ok-queue-in-Late.ensures;
+}

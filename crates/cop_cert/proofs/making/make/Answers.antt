@@ -1,20 +1,29 @@
 use Rattle.std.proofs.Common.{sym}
 use Rattle.cop_rta.specs.Test.{is_flagged}
 use Rattle.cop_cert.specs.Assignments.{least_id}
+use Rattle.cop_cert.proofs.MemberLemmas.{listed_flagged}
 use Rattle.cop_cert.proofs.MadeLemmas.{fails_under, made_under, made_is_refusal, made_is_short}
 use Rattle.cop_cert.proofs.making.make.Goals as goal
 
+pub members_of-requires-clause-flagged : goal.members_of-requires-clause-flagged
+members_of-requires-clause-flagged c =
+    rw c.in_ok-level.ensures
+    (listed_flagged least_id c.args.set.now c.args.pdos c.args.members.now c.flag_trial_of.new.out
+    (λ k. rw c.streams-streams.ensures.items at (c.flag_trial_of.ensures k))
+    c.requires.fail.inside)
+
 pub members_of-requires-clause-fails : goal.members_of-requires-clause-fails
 members_of-requires-clause-fails c =
-    fails_under c.args.set.now c.args.rate c.args.members.now _ (is_flagged c.flag_trial_of.new.out)
+    rw (c.in_ok-level.ensures, c.in_ok-loads.ensures)
+    (fails_under c.args.set.now c.args.rate c.args.members.now _ (is_flagged c.flag_trial_of.new.out)
     (λ k. sym (rw c.streams-streams.ensures.items at (c.flag_trial_of.ensures k)))
-    c.requires.fail.fail
+    c.requires.fail.fail)
 
 pub returns-clause-made : goal.returns-clause-made
 returns-clause-made c =
     made_under c.args.set.now c.args.rate c.args.members.now c.in_ok-members.members least_id c.args.pdos (is_flagged c.flag_trial_of.new.out)
     (λ k. rw c.streams-streams.ensures.items at (c.flag_trial_of.ensures k))
-    c.in_ok-members.ensures
+    (rw (c.in_ok-level.ensures, c.in_ok-loads.ensures) at c.in_ok-members.ensures)
 
 pub returns-clause-short : goal.returns-clause-short
 returns-clause-short c =
