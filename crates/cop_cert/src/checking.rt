@@ -1,8 +1,8 @@
 //! Checking a refusal.
 
-ghost use Rattle.std.specs.Prelude.{◌≡◌, ◌↔◌, ℕ, ◌+◌, ◌-◌, ◌*◌, ◌<◌, ◌≤◌, ◌||◌, IsTrue, MatchOption, length, slice_get, Some, All, AllPairs, true, false};
+ghost use Rattle.std.specs.Prelude.{◌≡◌, ◌↔◌, ℕ, ◌+◌, ◌-◌, ◌*◌, ◌<◌, ◌≤◌, ◌||◌, IsTrue, MatchOption, length, All, AllPairs, true};
 ghost use Rattle.std.specs.Option.{IsSomeAnd};
-ghost use Rattle.cop_rta.specs.Test.{place_of, flagged_place, is_flagged, blocking, cost_at, cost_of};
+ghost use Rattle.cop_rta.specs.Test.{place_of, is_flagged, blocking, cost_at, cost_of};
 ghost use Rattle.cop_rta.specs.Levels.{place_in};
 ghost use Rattle.cop_cert.specs.Assignments.{least_id, NoAssignmentPasses};
 ghost use Rattle.cop_cert.specs.Sets.{is_in_trial};

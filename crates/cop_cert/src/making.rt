@@ -1,6 +1,6 @@
 //! Making a refusal.
 
-ghost use Rattle.std.specs.Prelude.{◌≡◌, ℕ, ◌+◌, ◌*◌, ◌<◌, ◌≤◌, ◌||◌, ◌↔◌, true, IsTrue, IfOk, length, All, AllPairs};
+ghost use Rattle.std.specs.Prelude.{◌≡◌, ℕ, ◌<◌, ◌≤◌, ◌||◌, ◌↔◌, true, IsTrue, IfOk, length, All, AllPairs};
 ghost use Rattle.cop_rta.specs.Test.{flagged_place, is_flagged, busy_at, horizon, Passes};
 ghost use Rattle.cop_rta.specs.Levels.{place_in};
 ghost use Rattle.cop_rta.specs.Verdict.{IsFirstLate};

@@ -51,20 +51,60 @@ fn valve(rt: &HostRuntime) -> Result<StreamSet, cop_rta::SetFault> {
     Ok(set)
 }
 
+/// Two PDOs of 8 bytes every 10 ms within 150 us.
+fn two_pdos(rt: &HostRuntime) -> Result<StreamSet, cop_rta::SetFault> {
+    let mut set = StreamSet::new(rt.alloc());
+    for id in [0x181, 0x182] {
+        set.push(Stream {
+            id,
+            bytes: 8,
+            period: 40_000,
+            jitter: 0,
+            deadline: Some(600),
+        })?;
+    }
+    Ok(set)
+}
+
+/// A member that is late at instance 0.
+fn late_member(
+    rt: &HostRuntime,
+    pdo: usize,
+    busy: &[u64],
+    queue: &[u64],
+) -> Result<Member, std::alloc::AllocError> {
+    let evidence = Evidence::Late {
+        q: 0,
+        busy: Items::from(Vec::from_slice(rt.alloc(), busy)?),
+        queue: Items::from(Vec::from_slice(rt.alloc(), queue)?),
+    };
+    Ok(Member { pdo, evidence })
+}
+
 fn late(
     rt: &HostRuntime,
     rate: Rate,
     busy: &[u64],
     queue: &[u64],
 ) -> Result<Refusal, std::alloc::AllocError> {
-    let evidence = Evidence::Late {
-        q: 0,
-        busy: Items::from(Vec::from_slice(rt.alloc(), busy)?),
-        queue: Items::from(Vec::from_slice(rt.alloc(), queue)?),
-    };
     let mut members = Items::new(rt.alloc());
-    members.push(Member { pdo: 0, evidence })?;
+    members.push(late_member(rt, 0, busy, queue)?)?;
     Ok(Refusal { rate, members })
+}
+
+/// Two members that are late at instance 0, with a busy list each.
+fn late_both(
+    rt: &HostRuntime,
+    first: &[u64],
+    second: &[u64],
+) -> Result<Refusal, std::alloc::AllocError> {
+    let mut members = Items::new(rt.alloc());
+    members.push(late_member(rt, 0, first, &[0, 540])?)?;
+    members.push(late_member(rt, 1, second, &[0, 540])?)?;
+    Ok(Refusal {
+        rate: Rate::Kbit1000,
+        members,
+    })
 }
 
 fn holds(rt: &impl Abort, set: &StreamSet, pdos: usize, refusal: &Refusal) -> bool {
@@ -145,6 +185,29 @@ fn chains_are_made(rt: HostRuntime) -> Result<(), Fail> {
     assert!(rt; set.len() > 0);
     let refusal = made(&rt, &set, 1, Rate::Kbit125, &[0])?.ok_or("passes")?;
     assert!(rt; is_late(&refusal, &[1, 4_320], &[0]));
+    Ok(())
+}
+
+#[test]
+fn members_have_one_busy_list_or_their_own(rt: HostRuntime) -> Result<(), Fail> {
+    let set = two_pdos(&rt)?;
+    assert!(rt; set.len() > 1);
+    let refusal = made(&rt, &set, 2, Rate::Kbit1000, &[0, 1])?.ok_or("passes")?;
+    assert!(rt; holds(&rt, &set, 2, &refusal));
+    assert_eq!(rt; refusal.members.as_slice().len(), 2);
+    for member in refusal.members.as_slice() {
+        assert_eq!(rt; member.evidence.busy(), [1, 1_080].as_slice());
+    }
+    for (first, second, want) in [
+        (1_080, 1_080, true),
+        (1_080, 540, true),
+        (1_080, 1_081, false),
+        (1_081, 1_080, false),
+        (1_081, 1_081, false),
+    ] {
+        let refusal = late_both(&rt, &[1, first], &[1, second])?;
+        assert_eq!(rt; holds(&rt, &set, 2, &refusal), want, "{first} {second}");
+    }
     Ok(())
 }
 
