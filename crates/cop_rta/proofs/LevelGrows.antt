@@ -15,7 +15,7 @@ use Rattle.cop_rta.specs.Lines.{latest_time, instances_in, load_in}
 use Rattle.cop_rta.specs.Levels.{of_line, is_unflagged, busy_of, IsLeastReached, NoneReached, Flags, IsLevel}
 use Rattle.cop_rta.proofs.QueueLemmas.{ticks_pos}
 use Rattle.cop_rta.proofs.LevelLemmas.{load_mono, count_within}
-use Rattle.cop_rta.proofs.FlagLemmas.{sum_more, longest_less}
+use Rattle.cop_rta.proofs.FlagLemmas.{sum_more, longest_less, longest_no_more}
 use Rattle.cop_rta.proofs.PlaceEquations.{stream_here, load_of_own, cost_of_own, longest_of_streams, busy_lines, busy_made, none_made}
 
 module _ (v : Flags) (table lines : List Line) (from_below first ends : ℕ) (busy : Option ℕ) (is : IsLevel v table lines from_below first ends busy)
@@ -50,6 +50,14 @@ module _ (v : Flags) (table lines : List Line) (from_below first ends : ℕ) (bu
     where
       counted : length longer ≡ sum_where (is_flagged more.flags) (λ _. 1) (length v.streams)
       counted = omega (arith, length-append lines (line ∷ []), is.count, sum_more v.flags own within_flags off (λ _. 1) (length v.streams) inside)
+
+  pub longest_within : max_where (is_unflagged more.flags) (of_line (λ line. line.cost) table) (length table) ≤ from_below
+  longest_within =
+      let lines : max_where (is_unflagged more.flags) (of_line (λ line. line.cost) table) (length table) ≡ max_where (is_unflagged more.flags) (of_stream (cost_of v.rate) v.streams) (length v.streams) =
+      longest_of_streams v.rate v.streams table is.lines_are more.flags in
+      let less : max_where (is_unflagged more.flags) (of_stream (cost_of v.rate) v.streams) (length v.streams) ≤ max_where (is_unflagged v.flags) (of_stream (cost_of v.rate) v.streams) (length v.streams) =
+      longest_no_more v.flags own within_flags (of_stream (cost_of v.rate) v.streams) (length v.streams) in
+      omega (arith, lines, less, is.blocking)
 
   module _ (below : ℕ) (below_is : below ≡ max_where (is_unflagged more.flags) (of_line (λ line. line.cost) table) (length table)) where
     longest : below ≡ max_where (is_unflagged more.flags) (of_stream (cost_of v.rate) v.streams) (length v.streams)

@@ -1,9 +1,10 @@
 -- Sums over the lines that are flagged.
-use Rattle.std.proofs.Common.{◌≡◌, ℕ, zero, suc, zero-le, if◌then◌else◌, ◌+◌, ◌*◌, ◌/◌, ◌^◌, ◌<◌, ◌≤◌, Bool, true, false, max, List, [], ◌∷◌, ◌++◌, length, get_or, slice_get, sum_by, refl, sym, ◌∙◌, arith, le_trans, le_refl, lit<, ap, length-append, ◌⊎◌, inl, inr, Some}
+use Rattle.std.proofs.Common.{◌≡◌, ℕ, ⊎_elim, zero, suc, zero-le, if◌then◌else◌, ◌+◌, ◌*◌, ◌/◌, ◌^◌, ◌<◌, ◌≤◌, Bool, true, false, max, List, [], ◌∷◌, ◌++◌, length, get_or, slice_get, sum_by, refl, sym, ◌∙◌, arith, le_trans, le_refl, lit<, ap, length-append, ◌⊎◌, inl, inr, Option, Some, None}
+use Rattle.std.specs.Option.{option_map_or}
 use Rattle.std.proofs.lemmas.Option.{slice_get_read, slice_get-get_or, unwrap_or-slice_get, slice_get_within, get_or_from_slice_get}
 use Rattle.std.proofs.lemmas.List.{get_or_append_left}
 use Rattle.std.proofs.lemmas.List.Sums.{sum_by-cons, sum_by_push}
-use Rattle.std.proofs.lemmas.Bool.{cases_eq}
+use Rattle.std.proofs.lemmas.Bool.{cases_eq, cases_lt}
 use Rattle.std.proofs.Math.Nat.{div-mul-le_self, le-div_iff_mul-le, mul-le-mul_right}
 use Rattle.std.proofs.Math.Seq.{get_or-append_seam}
 use Rattle.cop_frame.specs.declared.rates.Rate.{Rate}
@@ -58,6 +59,29 @@ sums_unflagged flags table lines k flag before t =
 
 pub quotient_mono : (a b k : ℕ) → 0 < k → a ≤ b → a / k ≤ b / k
 quotient_mono a b k pos le = (le-div_iff_mul-le {k = k} {x = a / k} {y = b} pos).1 (le_trans (div-mul-le_self a k) le)
+
+-- the greatest of some is no greater than that of more
+pub max_where-within : (p : ℕ → Bool) (f : ℕ → ℕ) (k n : ℕ) → k ≤ n → max_where p f k ≤ max_where p f n
+unfolding max_where
+max_where-within p f k zero within = let none : k ≡ 0 = omega (arith, within) in rw none (le_refl 0)
+max_where-within p f k (suc n) within = ⊎_elim
+    (λ (lt : k < suc n). let before : max_where p f k ≤ max_where p f n = max_where-within p f k n (omega (arith, lt)) in omega (arith, before))
+    (λ (ge : suc n ≤ k). let same : k ≡ suc n = omega (arith, within, ge) in rw same (le_refl _))
+    (cases_lt k (suc n))
+
+-- no line has a longer transfer than the longest frame at the slowest rate
+pub costs_within : (p : ℕ → Bool) (table : List Line) (n : ℕ) → max_where p (of_line (λ line. line.cost) table) n ≤ 54000
+unfolding max_where
+costs_within p table zero = zero-le
+costs_within p table (suc n) = omega (arith, costs_within p table n, choice (p n), at_most (slice_get table n))
+  where
+    choice : (b : Bool) → (if b then of_line (λ line. line.cost) table n else 0) ≤ of_line (λ line. line.cost) table n
+    choice true = le_refl _
+    choice false = zero-le
+
+    at_most : (o : Option Line) → option_map_or (λ line. line.cost) o 0 ≤ 54000
+    at_most None = zero-le
+    at_most (Some line) = line.cost_most
 
 -- the longest transfer of one more
 pub longest_more : (flags : List Bool) (table : List Line) (k : ℕ) (line : Line) → k < length table → line ≡ get_or table k line → get_or flags k false ≡ false

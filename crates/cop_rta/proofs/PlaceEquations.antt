@@ -137,7 +137,7 @@ module _ (v : Flags) (own : ℕ) (inside : own < length v.streams) (flag : is_fl
       let same : is_below (place_in v own) ≡ is_unflagged v.flags = λ i k. below_alike k i in
       ap (λ (test : ℕ → Bool). max_where test (of_stream (cost_of v.rate) v.streams) (length v.streams)) same
 
-  interference_is : (x : ℕ) → sum_where (is_flagged v.flags) (of_stream (load_of v.rate x) v.streams) (length v.streams) ≡ interference (place_in v own) x + of_stream (load_of v.rate x) v.streams own
+  pub interference_is : (x : ℕ) → sum_where (is_flagged v.flags) (of_stream (load_of v.rate x) v.streams) (length v.streams) ≡ interference (place_in v own) x + of_stream (load_of v.rate x) v.streams own
   interference_is x = sum_but (is_flagged v.flags) (of_stream (load_of v.rate x) v.streams) own (length v.streams) flag inside
 
   pub busy_is : (t : ℕ) → busy_at (place_in v own) t ≡ busy_of v.rate v.streams v.flags t

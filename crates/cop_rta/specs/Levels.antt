@@ -1,5 +1,5 @@
 -- The streams flagged at a place of an order: each of them has the same busy equation there.
-use Rattle.std.specs.Prelude.{ℕ, ◌≡◌, ◌+◌, ◌-◌, ◌*◌, ◌^◌, ◌<◌, ◌≤◌, Bool, not, List, length, slice_get, Option, IfSome, IfNone, sum_by}
+use Rattle.std.specs.Prelude.{ℕ, ◌≡◌, ◌+◌, ◌-◌, ◌*◌, ◌^◌, ◌<◌, ◌≤◌, Bool, true, not, List, length, slice_get, Option, IfSome, IfNone, sum_by}
 use Rattle.std.specs.Option.{option_map_or}
 use Rattle.cop_frame.specs.declared.rates.Rate.{Rate}
 use Rattle.cop_frame.specs.Rate.{ticks_of}
@@ -7,6 +7,8 @@ use Rattle.cop_rta.specs.declared.streams.Stream.{Stream}
 use Rattle.cop_rta.specs.Sums.{sum_where, max_where}
 use Rattle.cop_rta.specs.Test.{Place, flagged_place, is_flagged, of_stream, cost_of, load_of, horizon}
 use Rattle.cop_rta.specs.declared.lines.Line.{Line}
+use Rattle.cop_rta.specs.declared.level.FirstWait.{FirstWait}
+use Rattle.cop_rta.specs.Waits.{IsBelowWait}
 use Rattle.cop_rta.specs.Lines.{latest_time, load_in, AreLinesOf}
 
 -- a number of line k, and 0 where there is none
@@ -67,3 +69,10 @@ pub record IsLevel (level : Flags) (table lines : List Line) (from_below first e
   pub found : IfSome time (IsLeastReached (busy_of level.rate level.streams level.flags) 1)
   pub within : IfSome time (λ t. t ≤ horizon)
   pub none : IfNone time (NoneReached (busy_of level.rate level.streams level.flags) 1 horizon)
+
+-- a flagged stream, and a number that the wait of its first instance is not below
+pub record IsFirstWait (level : Flags) (first : FirstWait) : Type 0 where
+  pub inside : first.index < length level.streams
+  pub flagged : is_flagged level.flags first.index ≡ true
+  pub below : IsBelowWait (place_in level first.index) 0 first.wait
+  pub within : first.wait ≤ horizon

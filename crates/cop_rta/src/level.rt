@@ -4,8 +4,8 @@ ghost use Rattle.std.specs.Prelude.{◌≡◌, ◌↔◌, ◌+◌, ◌*◌, ◌^
 ghost use Rattle.cop_rta.specs.Solutions.{IsLeastSolution};
 ghost use Rattle.cop_rta.specs.Test.{Passes, is_flagged, blocking, cost_at, busy_at, queueing_at, horizon, IsBusyTime, IsQueuedWithin};
 ghost use Rattle.cop_rta.specs.Verdict.{IsJudged, IsPass};
-ghost use Rattle.cop_rta.specs.Waits.{IsBelowWait};
-ghost use Rattle.cop_rta.specs.Levels.{place_in, latest_wait, most_instances, NoneReached};
+ghost use Rattle.cop_rta.specs.Waits.{IsBelowWait, wait_after};
+ghost use Rattle.cop_rta.specs.Levels.{place_in, latest_wait, most_instances, NoneReached, IsFirstWait};
 
 use crate::demands::HORIZON;
 use crate::judging::is_late;
@@ -24,6 +24,9 @@ use std::marker::Model;
 /// The bits of the longest frame.
 const MOST_BITS: u64 = 135;
 
+/// The ticks of the longest frame at the slowest rate.
+const MOST_COST: u64 = 54_000;
+
 /// The longest wait with which instance q of a stream of some cost meets a deadline, if any does.
 fn latest(stream: &Stream, cost: u64, deadline: u64, q: u64) -> Option<u64>
     requires cost { cost ≤ 54000 }
@@ -35,6 +38,20 @@ fn latest(stream: &Stream, cost: u64, deadline: u64, q: u64) -> Option<u64>
 {
     let Stream { period, jitter, .. } = *stream;
     (deadline + q * period).checked_sub(jitter + cost)
+}
+
+/// What the test says of a stream, and a number that the wait of its first instance is not below.
+#[derive(Clone, Copy)]
+pub(crate) struct Judged {
+    pub(crate) verdict: Verdict,
+    pub(crate) wait: u64,
+}
+
+/// A flagged stream, and a number that the wait of its first instance is not below.
+#[derive(Clone, Copy)]
+pub(crate) struct FirstWait {
+    pub(crate) index: usize,
+    pub(crate) wait: u64,
 }
 
 /// The flagged streams at a place of an order: each is judged with the others above it and all other streams below.
@@ -79,7 +96,7 @@ impl<'a> Level<'a> {
         let mut flags = Vec::new(alloc);
         flags.extend_from_slice(above)?;
         let lines = flagged_lines(alloc, table, above)?;
-        let from_below = longest_unflagged(table, above);
+        let from_below = longest_unflagged(table, above, MOST_COST);
         let bit = u64::from(rate.ticks_per_bit());
         let first = total(&lines, bit);
         let ends = earliest_end(&lines, from_below, MOST_BITS * bit, bit, 0);
@@ -109,16 +126,9 @@ impl<'a> Level<'a> {
         let own = table[index];
         self.lines.push(own)?;
         self.above[index] = true;
-        self.from_below = longest_unflagged(table, &self.above);
+        self.from_below = longest_unflagged(table, &self.above, self.from_below);
         let bit = u64::from(self.rate.ticks_per_bit());
         self.first += own.load(bit);
-        self.ends = earliest_end(
-            &self.lines,
-            self.from_below,
-            MOST_BITS * bit,
-            bit,
-            self.ends,
-        );
         self.busy = later_busy_time(&self.lines, self.from_below, self.busy);
         Ok(())
     }
@@ -258,6 +268,50 @@ impl<'a> Level<'a> {
         }
     }
 
+    /// The response-time test of a flagged stream, with the others above it. The wait of its first instance is sought from
+    /// a number on that it is not below.
+    fn judge(&self, index: usize, from: u64) -> Judged
+        requires index { index < length self.now.streams }
+        requires flagged { is_flagged self.now.flags index ≡ true }
+        requires from { IsBelowWait (place_in self.now index) 0 from }
+        ensures judged { IsJudged (place_in self.now index) result.verdict }
+        ensures wait { IsBelowWait (place_in self.now index) 0 result.wait }
+        ensures within { result.wait ≤ horizon }
+    {
+        let Some(busy) = self.busy else {
+            return Judged {
+                verdict: Verdict::Long,
+                wait: 0,
+            };
+        };
+        let stream = &self.set.streams()[index];
+        let table = self.table;
+        let own = &table[index];
+        let instances = own.instances(busy);
+        let mut greatest = 0;
+        let mut first = 0;
+        let mut from = self.least_wait(index, busy).max(from);
+        for q in 0..instances {
+            let wait = self.queued_wait(index, busy, q, from);
+            if q == 0 {
+                first = wait;
+            }
+            let response = (stream.jitter + wait + own.cost).saturating_sub(q * stream.period);
+            if is_late(stream.deadline, response) {
+                return Judged {
+                    verdict: Verdict::Late { q, response },
+                    wait: first,
+                };
+            }
+            greatest = greatest.max(response);
+            from = wait + own.cost;
+        }
+        Judged {
+            verdict: Verdict::Pass { response: greatest },
+            wait: first,
+        }
+    }
+
     /// The response-time test of a flagged stream, with the others above it.
     pub fn verdict(&self, index: usize) -> Verdict
         requires index { index < length self.now.streams }
@@ -265,24 +319,45 @@ impl<'a> Level<'a> {
         ensures judged { IsJudged (place_in self.now index) result }
         ensures pass { IsPass result ↔ Passes (place_in self.now index) }
     {
-        let Some(busy) = self.busy else {
-            return Verdict::Long;
-        };
-        let stream = &self.set.streams()[index];
+        self.judge(index, 0).verdict
+    }
+
+    /// Where the search may begin for the wait of the first instance of a stream that was flagged after another: that has
+    /// one transfer more above it, and as much less below as the level had before.
+    fn wait_after(&self, before: FirstWait, from_below: u64) -> u64
+        requires index { before.index < length self.now.streams }
+        requires wait { before.wait ≤ horizon }
+        ensures { (k : ℕ) → k < length self.now.streams → is_flagged self.now.flags k ≡ true → result ≡ wait_after from_below (blocking (place_in self.now k)) (cost_at (place_in self.now before.index)) before.wait }
+    {
         let table = self.table;
-        let own = &table[index];
-        let instances = own.instances(busy);
-        let mut greatest = 0;
-        let mut from = self.least_wait(index, busy);
-        for q in 0..instances {
-            let wait = self.queued_wait(index, busy, q, from);
-            let response = (stream.jitter + wait + own.cost).saturating_sub(q * stream.period);
-            if is_late(stream.deadline, response) {
-                return Verdict::Late { q, response };
-            }
-            greatest = greatest.max(response);
-            from = wait + own.cost;
+        let own = &table[before.index];
+        let room = self.from_below + own.cost;
+        if room < from_below {
+            0
+        } else {
+            before.wait + (room - from_below)
         }
-        Verdict::Pass { response: greatest }
+    }
+
+    /// Flags one more stream and judges it, after another that was flagged.
+    pub(crate) fn judge_next(
+        &mut self,
+        index: usize,
+        before: Option<FirstWait>,
+    ) -> Result<Judged, AllocError>
+        requires index { index < length self.old.streams }
+        requires unflagged { is_flagged self.old.flags index ≡ false }
+        requires before { IfSome before (IsFirstWait self.old) }
+        ensures ok { OnOk result (self.new ≡ record self.old { flags = set self.old.flags index true }) }
+        ensures judged { IfOk result (λ judged. IsJudged (place_in self.new index) judged.verdict) }
+        ensures wait { IfOk result (λ judged. IsFirstWait self.new (record { index = index; wait = judged.wait })) }
+    {
+        let from_below = self.from_below;
+        self.add(index)?;
+        let from = match before {
+            Some(before) => self.wait_after(before, from_below),
+            None => 0,
+        };
+        Ok(self.judge(index, from))
     }
 }

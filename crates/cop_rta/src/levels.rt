@@ -63,10 +63,12 @@ pub(crate) fn flagged_lines(
     Ok(lines)
 }
 
-/// The longest transfer of those that are not flagged.
+/// The longest transfer of those that are not flagged, where none is above `most`. It looks no further where one is that
+/// long.
 #[tactic(auto, using(crate::proofs::LevelLemmas::line_steps))]
-pub(crate) fn longest_unflagged(table: &[Line], above: &[bool]) -> u64
-    requires { length above.now ≡ length table.now }
+pub(crate) fn longest_unflagged(table: &[Line], above: &[bool], most: u64) -> u64
+    requires flags { length above.now ≡ length table.now }
+    requires most { max_where (is_unflagged above.now) (of_line (λ line. line.cost) table.now) (length table.now) ≤ most }
     ensures value { result ≡ max_where (is_unflagged above.now) (of_line (λ line. line.cost) table.now) (length table.now) }
     ensures most { result ≤ 54000 }
 {
@@ -74,6 +76,9 @@ pub(crate) fn longest_unflagged(table: &[Line], above: &[bool]) -> u64
     for (k, line) in table.iter().enumerate() {
         if !above[k] {
             longest = longest.max(line.cost);
+            if longest >= most {
+                return longest;
+            }
         }
     }
     longest

@@ -5,7 +5,7 @@ ghost use Rattle.cop_rta.specs.declared.verdicts.Verdict.TheVariants.{Long};
 ghost use Rattle.cop_rta.specs.Test.{place_by_id};
 ghost use Rattle.cop_rta.specs.Verdict.{IsJudged};
 
-use crate::level::Level;
+use crate::level::{FirstWait, Level};
 use crate::loads::Loads;
 use crate::sets::StreamSet;
 use crate::verdicts::Verdict;
@@ -15,7 +15,7 @@ use std::alloc::{AllocError, Global};
 /// The response-time test of each stream, in the order of the set, with the lower identifiers above it. `Err` is want of
 /// memory.
 ///
-/// It goes by rising identifier, since no busy time is less than that of the stream before.
+/// It goes by rising identifier: no busy time is less than that of the stream before, and the first wait seldom is.
 pub fn verdicts_by_id(
     alloc: Global,
     set: &StreamSet,
@@ -29,10 +29,15 @@ pub fn verdicts_by_id(
     let none = vec![in alloc; false; count]?;
     let mut level = Level::new(alloc, &loads, &none)?;
     let mut verdicts = vec![in alloc; Verdict::Long; count]?;
+    let mut before = None;
     for id in 0..2048 {
-        if let Some(k) = set.place_of(id) {
-            level.add(k)?;
-            verdicts[k] = level.verdict(k);
+        if let Some(index) = set.place_of(id) {
+            let judged = level.judge_next(index, before)?;
+            verdicts[index] = judged.verdict;
+            before = Some(FirstWait {
+                index,
+                wait: judged.wait,
+            });
         }
     }
     Ok(verdicts)

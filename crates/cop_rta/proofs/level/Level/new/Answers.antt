@@ -1,4 +1,5 @@
 use Rattle.std.proofs.Common.{◌≡◌, ◌∙◌, ap, ◌++◌, List, Bool, arith}
+use Rattle.cop_rta.proofs.LevelLemmas.{costs_within}
 use Rattle.cop_rta.proofs.PlaceEquations.{made}
 use Rattle.cop_rta.proofs.level.Level.new.Goals as goal
 
@@ -11,3 +12,6 @@ invariant_of-result c =
     (rw (c.deref.ensures.value, c.from-bit.ensures, c.ticks_per_bit.ensures.ticks) at c.total-first.ensures.value) (rw c.deref.ensures.value at c.total-first.ensures.most)
     (rw (c.deref-2.ensures.value, c.from-bit.ensures, c.ticks_per_bit.ensures.ticks) at c.earliest_end-ends.ensures)
     (rw c.deref-3.ensures.value at c.busy_time-busy.ensures.found) c.busy_time-busy.ensures.within (rw c.deref-3.ensures.value at c.busy_time-busy.ensures.none))
+
+pub longest_unflagged-from_below-requires-clause-most : goal.longest_unflagged-from_below-requires-clause-most
+longest_unflagged-from_below-requires-clause-most c = costs_within _ c.lines-table.result.now _
