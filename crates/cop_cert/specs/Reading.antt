@@ -97,8 +97,12 @@ by_word (words.Number list) draft e = add list draft e
 unfoldable pub next : Option Draft → Entry → Result Draft Rule
 next draft e = by_word e.word draft e
 
+-- the draft at hand after a step
+abbrev pub at_hand : Result Draft Rule → Result (Option Draft) Rule
+at_hand step = step >>= λ d. Ok (Some d)
+
 abbrev pub taken : ℕ → Option Draft → Fields → Result (Option Draft) Breach
-taken place draft row = placed place (entry_in row >>= λ e. next draft e >>= λ d. Ok (Some d))
+taken place draft row = placed place (entry_in row >>= λ e. at_hand (next draft e))
 
 -- the end of the text
 unfoldable pub finished : Option Draft → Result (List Refusal) Rule

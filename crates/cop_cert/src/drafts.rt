@@ -3,7 +3,7 @@
 ghost use Rattle.std.specs.Prelude.{◌≡◌, ◌==◌, IfOk};
 ghost use Rattle.cop_frame.specs.Rate.{kbits_of};
 ghost use Rattle.cop_table.specs.Reading.{Gives};
-ghost use Rattle.cop_cert.specs.Reading.{is_complete, longer, with_busy, with_queue, with_number, with_evidence, begun, after, broken_by, begin, add, next, finished};
+ghost use Rattle.cop_cert.specs.Reading.{is_complete, longer, with_busy, with_queue, with_number, begun, after, broken_by, begin, add, next, at_hand, finished};
 ghost use Rattle.cop_cert.specs.Steps.{rule_of};
 ghost use Rattle.cop_cert.specs.declared.drafts.StepFault.TheVariants.{OutOfMemory};
 
@@ -53,53 +53,43 @@ fn is_complete(evidence: &Evidence) -> bool
     }
 }
 
-/// The list with a number more.
-fn longer(mut numbers: Items<u64>, value: u64) -> Result<Items<u64>, StepFault>
-    ensures { Gives (λ numbers. numbers) rule_of result (longer numbers value) }
+/// Puts a number at the end of a list.
+fn lengthen(numbers: &mut Items<u64>, value: u64) -> Result<(), StepFault>
+    ensures { Gives (λ _. numbers.new) rule_of result (longer numbers.old value) }
 {
     if numbers.as_slice().len() >= MOST {
         return Err(StepFault::Broken(Rule::TooLong));
     }
     numbers.push(value)?;
-    Ok(numbers)
+    Ok(())
 }
 
-/// The evidence with a number more in its busy list.
-fn with_busy(evidence: Evidence, value: u64) -> Result<Evidence, StepFault>
-    ensures { Gives (λ evidence. evidence) rule_of result (with_busy evidence value) }
+/// Puts a number at the end of the evidence's busy list.
+fn put_busy(evidence: &mut Evidence, value: u64) -> Result<(), StepFault>
+    ensures { Gives (λ _. evidence.new) rule_of result (with_busy evidence.old value) }
 {
     match evidence {
-        Evidence::Long { busy } => Ok(Evidence::Long {
-            busy: longer(busy, value)?,
-        }),
-        Evidence::Late { q, busy, queue } => {
+        Evidence::Long { busy } => lengthen(busy, value),
+        Evidence::Late { busy, queue, .. } => {
             if !queue.as_slice().is_empty() {
                 return Err(StepFault::Broken(Rule::Misplaced));
             }
-            Ok(Evidence::Late {
-                q,
-                busy: longer(busy, value)?,
-                queue,
-            })
+            lengthen(busy, value)
         }
     }
 }
 
-/// The evidence with a number more in its queue list.
-fn with_queue(evidence: Evidence, value: u64) -> Result<Evidence, StepFault>
-    ensures { Gives (λ evidence. evidence) rule_of result (with_queue evidence value) }
+/// Puts a number at the end of the evidence's queue list.
+fn put_queue(evidence: &mut Evidence, value: u64) -> Result<(), StepFault>
+    ensures { Gives (λ _. evidence.new) rule_of result (with_queue evidence.old value) }
 {
     match evidence {
         Evidence::Long { .. } => Err(StepFault::Broken(Rule::Misplaced)),
-        Evidence::Late { q, busy, queue } => {
+        Evidence::Late { busy, queue, .. } => {
             if busy.as_slice().is_empty() {
                 return Err(StepFault::Broken(Rule::Misplaced));
             }
-            Ok(Evidence::Late {
-                q,
-                busy,
-                queue: longer(queue, value)?,
-            })
+            lengthen(queue, value)
         }
     }
 }
@@ -160,62 +150,71 @@ fn broken_by(draft: &Draft, entry: Entry) -> Option<Rule>
     }
 }
 
-/// A record that begins a member.
-fn begin(
-    alloc: Global,
-    draft: Option<Draft>,
-    entry: Entry,
-    evidence: Evidence,
-) -> Result<Draft, StepFault>
-    ensures { Gives (λ draft. draft) rule_of result (begin draft entry evidence) }
+/// A record that begins the next member.
+fn follow(alloc: Global, draft: Draft, entry: Entry, evidence: Evidence) -> Result<Draft, StepFault>
+    ensures { Gives (λ draft. draft) rule_of result (begin (Some draft) entry evidence) }
 {
-    let Some(draft) = draft else {
-        return Ok(begun(Items::new(alloc), Items::new(alloc), entry, evidence));
-    };
     if let Some(rule) = broken_by(&draft, entry) {
         return Err(StepFault::Broken(rule));
     }
     Ok(after(alloc, draft, entry, evidence)?)
 }
 
-fn with_number(list: Listed, evidence: Evidence, value: u64) -> Result<Evidence, StepFault>
-    ensures { Gives (λ evidence. evidence) rule_of result (with_number list evidence value) }
+/// A record that begins a member.
+fn begin(
+    alloc: Global,
+    draft: &mut Option<Draft>,
+    entry: Entry,
+    evidence: Evidence,
+) -> Result<(), StepFault>
+    ensures { Gives (λ _. draft.new) rule_of result (at_hand (begin draft.old entry evidence)) }
+{
+    let started = match draft.take() {
+        None => begun(Items::new(alloc), Items::new(alloc), entry, evidence),
+        Some(draft) => follow(alloc, draft, entry, evidence)?,
+    };
+    *draft = Some(started);
+    Ok(())
+}
+
+/// Puts a number at the end of a list of the evidence.
+fn put_number(list: Listed, evidence: &mut Evidence, value: u64) -> Result<(), StepFault>
+    ensures { Gives (λ _. evidence.new) rule_of result (with_number list evidence.old value) }
 {
     match list {
-        Listed::Busy => with_busy(evidence, value),
-        Listed::Queue => with_queue(evidence, value),
+        Listed::Busy => put_busy(evidence, value),
+        Listed::Queue => put_queue(evidence, value),
     }
 }
 
-/// A record that adds a number to the member at hand, whose rate and PDO it repeats.
-fn add(list: Listed, draft: Option<Draft>, entry: Entry) -> Result<Draft, StepFault>
-    ensures { Gives (λ draft. draft) rule_of result (add list draft entry) }
+/// Adds a number to the member at hand, whose rate and PDO the record repeats.
+fn add_to(list: Listed, draft: &mut Draft, entry: Entry) -> Result<(), StepFault>
+    ensures { Gives (λ _. draft.new) rule_of result (add list (Some draft.old) entry) }
 {
-    let Some(draft) = draft else {
-        return Err(StepFault::Broken(Rule::Misplaced));
-    };
-    if !is_at_rate(&draft, entry) || entry.pdo != draft.member.pdo {
+    if !is_at_rate(draft, entry) || entry.pdo != draft.member.pdo {
         return Err(StepFault::Broken(Rule::Misplaced));
     }
-    let Draft {
-        done,
-        rate,
-        members,
-        member: Member { pdo, evidence },
-    } = draft;
-    let evidence = with_number(list, evidence, entry.value)?;
-    Ok(Draft {
-        done,
-        rate,
-        members,
-        member: Member { pdo, evidence },
-    })
+    put_number(list, &mut draft.member.evidence, entry.value)?;
+    Ok(())
+}
+
+/// A record that adds a number to the member at hand.
+fn add(list: Listed, draft: &mut Option<Draft>, entry: Entry) -> Result<(), StepFault>
+    ensures { Gives (λ _. draft.new) rule_of result (at_hand (add list draft.old entry)) }
+{
+    match draft {
+        Some(draft) => {
+            add_to(list, draft, entry)?;
+            Ok(())
+        }
+        None => Err(StepFault::Broken(Rule::Misplaced)),
+    }
 }
 
 #[tactic(auto, unfolding(crate::specs::Reading::next))]
-/// What a record makes of the draft of those before it.
-pub(crate) fn next(alloc: Global, draft: Option<Draft>, entry: Entry) -> Result<Draft, StepFault>
-    ensures { Gives (λ draft. draft) rule_of result (next draft entry) }
+/// Takes a record into the draft of those before it, if any. After an `Err` the draft is not to be used.
+pub(crate) fn take(alloc: Global, draft: &mut Option<Draft>, entry: Entry) -> Result<(), StepFault>
+    ensures { Gives (λ _. draft.new) rule_of result (at_hand (next draft.old entry)) }
 {
     match entry.word {
         Word::Long => {

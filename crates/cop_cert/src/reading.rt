@@ -70,21 +70,16 @@ fn read_version(rows: &mut Records<'_>, row: &mut Record) -> Result<(), CertFaul
     Ok(())
 }
 
-/// What a record makes of the draft of those before it.
-fn take(
-    alloc: Global,
-    draft: Option<Draft>,
-    place: u64,
-    row: &Record,
-) -> Result<Option<Draft>, CertFault>
-    ensures { Gives (λ draft. draft) breach_of result (taken place draft row.now) }
+/// Takes a record into the draft of those before it. After an `Err` the draft is not to be used.
+fn take(alloc: Global, draft: &mut Option<Draft>, place: u64, row: &Record) -> Result<(), CertFault>
+    ensures { Gives (λ _. draft.new) breach_of result (taken place draft.old row.now) }
 {
     let entry = match entry_in(row) {
         Ok(entry) => entry,
         Err(rule) => return Err(CertFault::Refused(Breach { rule, place })),
     };
-    match drafts::next(alloc, draft, entry) {
-        Ok(draft) => Ok(Some(draft)),
+    match drafts::take(alloc, draft, entry) {
+        Ok(()) => Ok(()),
         Err(fault) => Err(at(place, fault)),
     }
 }
@@ -100,7 +95,7 @@ fn refusals_of(alloc: Global, bytes: &[u8]) -> Result<Vec<Refusal>, CertFault>
     let mut place = 1;
     'rows: while rows.read(&mut row)? {
         place += 1;
-        draft = take(alloc, draft, place, &row)?;
+        take(alloc, &mut draft, place, &row)?;
     }
     match drafts::finished(alloc, draft) {
         Ok(refusals) => Ok(refusals),
