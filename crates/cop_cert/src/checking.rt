@@ -2,14 +2,12 @@
 
 ghost use Rattle.std.specs.Prelude.{◌≡◌, ◌↔◌, ℕ, ◌+◌, ◌-◌, ◌*◌, ◌<◌, ◌≤◌, ◌||◌, IsTrue, MatchOption, length, All, AllPairs, true};
 ghost use Rattle.std.specs.Option.{IsSomeAnd};
-ghost use Rattle.cop_rta.specs.Test.{place_of, is_flagged, blocking, cost_at, cost_of};
-ghost use Rattle.cop_rta.specs.Levels.{place_in};
+ghost use Rattle.cop_rta.specs.Test.{place_of, flagged_place, is_flagged, cost_at};
 ghost use Rattle.cop_cert.specs.Assignments.{least_id, NoAssignmentPasses};
 ghost use Rattle.cop_cert.specs.Sets.{is_in_trial};
 ghost use Rattle.cop_cert.specs.Evidence.{IsClimb, first_of, last_of, IsBusyEnd, busy_list_of, IsQueueList, IsEvidence, is_member, pdos_of, IsRefusal};
 ghost use Rattle.cop_cert.specs.Rising.{RiseFrom};
 
-use crate::demands::{Trial, cost};
 use crate::refusals::{Evidence, Member, Refusal};
 use crate::trials::flag_fixed;
 use cop_frame::Rate;
@@ -52,41 +50,42 @@ fn busy_end(busy: &Busy<'_>, numbers: &[u64]) -> Option<u64>
 
 /// Where a list of a flagged stream ends, if it is a busy list. `end` says the same of another list, `before`: flagged
 /// streams share one busy equation, so an equal list is not gone through again.
-fn busy_end_after(
-    trial: &Trial<'_>,
-    index: usize,
-    numbers: &[u64],
-    before: &[u64],
-    end: Option<u64>,
-) -> Option<u64>
-    requires index { index < length trial.now.streams }
-    requires before { IsBusyEnd (place_in trial.now index) before.now end }
-    ensures { IsBusyEnd (place_in trial.now index) numbers.now result }
+fn busy_end_after(busy: &Busy<'_>, numbers: &[u64], before: &[u64], end: Option<u64>) -> Option<u64>
+    requires { IsBusyEnd (place_of busy.now) before.now end }
+    ensures { IsBusyEnd (place_of busy.now) numbers.now result }
 {
     if numbers == before {
         return end;
     }
-    busy_end(&trial.busy(index), numbers)
+    busy_end(busy, numbers)
 }
 
-/// Where a queue list of instance `q` ends, if it is one. `start` is B + q C.
-fn queue_end(busy: &Busy<'_>, q: u64, start: u128, numbers: &[u64]) -> Option<u64>
-    requires { start ≡ blocking (place_of busy.now) + q * cost_at (place_of busy.now) }
+/// Where a queue list of instance `q` ends, if it is one.
+fn queue_end(busy: &Busy<'_>, q: u64, numbers: &[u64]) -> Option<u64>
     ensures { MatchOption result (IsQueueList (place_of busy.now) q numbers.now → ⊥) (λ last. IsQueueList (place_of busy.now) q numbers.now × (last ≡ last_of numbers.now)) }
 {
-    if u128::from(first_of(numbers)) > start {
+    let first = u128::from(first_of(numbers));
+    if first > busy.start_of(q) {
         return None;
     }
     climb(&busy.queueing(q), numbers)
 }
 
+/// The longest transfer of the stream itself: each instance's queueing starts so much later than that of the one before.
+fn cost(busy: &Busy<'_>) -> u128
+    ensures { result ≡ cost_at (place_of busy.now) }
+{
+    busy.start_of(1) - busy.start_of(0)
+}
+
 /// Whether the response of an instance that waits so long is past the deadline, if there is one.
-fn is_late(stream: &Stream, rate: Rate, q: u64, wait: u64) -> bool
-    ensures { IsTrue result ↔ IsSomeAnd stream.now.deadline (λ d. d < stream.now.jitter + wait + cost_of rate stream.now - q * stream.now.period) }
+fn is_late(stream: &Stream, cost: u128, q: u64, wait: u64) -> bool
+    ensures { IsTrue result ↔ IsSomeAnd stream.now.deadline (λ d. d < stream.now.jitter + wait + cost - q * stream.now.period) }
 {
     match stream.deadline {
         Some(deadline) => {
-            u128::from(stream.jitter) + u128::from(wait) + u128::from(cost(stream, rate))
+            // No bound on the cost is known here.
+            cost.saturating_add(u128::from(stream.jitter) + u128::from(wait))
                 > u128::from(deadline) + u128::from(q) * u128::from(stream.period)
         }
         None => false,
@@ -100,12 +99,10 @@ fn is_queued_within(stream: &Stream, busy_time: u64, q: u64) -> bool
     u128::from(q) * u128::from(stream.period) < u128::from(busy_time) + u128::from(stream.jitter)
 }
 
-/// Whether the evidence shows that a flagged stream fails. `end` is where its busy list ends, if it is one.
-fn is_evidence(trial: &Trial<'_>, index: usize, evidence: &Evidence, end: Option<u64>) -> bool
-    requires index { index < length trial.now.streams }
-    requires flagged { is_flagged trial.now.flags index ≡ true }
-    requires end { IsBusyEnd (place_in trial.now index) (busy_list_of evidence.now) end }
-    ensures { IsTrue result ↔ IsEvidence (place_in trial.now index) evidence.now }
+/// Whether the evidence shows that a stream fails. `end` is where its busy list ends, if it is one.
+fn is_evidence(busy: &Busy<'_>, evidence: &Evidence, end: Option<u64>) -> bool
+    requires { IsBusyEnd (place_of busy.now) (busy_list_of evidence.now) end }
+    ensures { IsTrue result ↔ IsEvidence (place_of busy.now) evidence.now }
 {
     let Some(last) = end else {
         return false;
@@ -113,13 +110,11 @@ fn is_evidence(trial: &Trial<'_>, index: usize, evidence: &Evidence, end: Option
     match evidence {
         Evidence::Long { .. } => last > HORIZON,
         Evidence::Late { q, queue, .. } => {
-            let busy = trial.busy(index);
-            let start = trial.start_of(index, *q);
-            let Some(wait) = queue_end(&busy, *q, start, queue.as_slice()) else {
+            let Some(wait) = queue_end(busy, *q, queue.as_slice()) else {
                 return false;
             };
-            let stream = trial.stream(index);
-            is_queued_within(stream, last, *q) && is_late(stream, trial.rate(), *q, wait)
+            let stream = busy.stream();
+            is_queued_within(stream, last, *q) && is_late(stream, cost(busy), *q, wait)
         }
     }
 }
@@ -168,19 +163,21 @@ fn flag_trial(streams: &[Stream], pdos: usize, members: &[Member], out: &mut [bo
     flag_members(members, out);
 }
 
-/// Whether each member has evidence.
-fn have_evidence(trial: &Trial<'_>, members: &[Member]) -> bool
-    requires inside { All (λ m. m.pdo < length trial.now.streams) members.now }
-    requires flagged { All (λ m. is_flagged trial.now.flags m.pdo ≡ true) members.now }
-    ensures { IsTrue result ↔ All (λ m. IsEvidence (place_in trial.now m.pdo) m.evidence) members.now }
+/// Whether each member, which is flagged, has evidence.
+fn have_evidence(set: &StreamSet, above: &[bool], rate: Rate, members: &[Member]) -> bool
+    requires size { length above.now ≡ length set.now }
+    requires inside { All (λ m. m.pdo < length set.now) members.now }
+    requires flagged { All (λ m. is_flagged above.now m.pdo ≡ true) members.now }
+    ensures { IsTrue result ↔ All (λ m. IsEvidence (flagged_place set.now above.now m.pdo rate) m.evidence) members.now }
 {
     let mut before: &[u64] = &[];
     let mut end = None;
     for member in members {
+        let busy = Busy::new(set, above, member.pdo, rate);
         let numbers = member.evidence.busy();
-        end = busy_end_after(trial, member.pdo, numbers, before, end);
+        end = busy_end_after(&busy, numbers, before, end);
         before = numbers;
-        if !is_evidence(trial, member.pdo, &member.evidence, end) {
+        if !is_evidence(&busy, &member.evidence, end) {
             return false;
         }
     }
@@ -208,5 +205,5 @@ pub fn check(set: &StreamSet, pdos: usize, refusal: &Refusal) -> bool
     let mut flags = [false; StreamSet::MOST];
     let above = &mut flags[..streams.len()];
     flag_trial(streams, pdos, members, above);
-    have_evidence(&Trial::new(set, above, refusal.rate), members)
+    have_evidence(set, above, refusal.rate, members)
 }

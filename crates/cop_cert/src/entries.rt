@@ -76,16 +76,12 @@ fn pdo_in(field: &[u8]) -> Result<usize, Rule>
 fn word_of(field: &[u8]) -> Option<Word>
     ensures { result ≡ word_of field.now }
 {
-    if field == b"long".as_slice() {
-        Some(Word::Long)
-    } else if field == b"late".as_slice() {
-        Some(Word::Late)
-    } else if field == b"busy".as_slice() {
-        Some(Word::Number(Listed::Busy))
-    } else if field == b"queue".as_slice() {
-        Some(Word::Number(Listed::Queue))
-    } else {
-        None
+    match field {
+        b"busy" => Some(Word::Number(Listed::Busy)),
+        b"queue" => Some(Word::Number(Listed::Queue)),
+        b"long" => Some(Word::Long),
+        b"late" => Some(Word::Late),
+        _ => None,
     }
 }
 

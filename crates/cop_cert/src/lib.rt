@@ -2,7 +2,6 @@
 #![tactic(auto)]
 
 mod checking;
-mod demands;
 mod drafts;
 mod entries;
 mod equations;

@@ -12,14 +12,13 @@ flag_trial-requires-clause-inside c = all_of c.args.pdos c.as_slice-members.resu
 
 pub have_evidence-requires-clause-inside : goal.have_evidence-requires-clause-inside
 have_evidence-requires-clause-inside c k d below =
-    rw c.new.ensures (omega (arith, all_of c.args.pdos c.as_slice-members.result.now (c.rise.ensures.0 c.if-not-rise.false).1 k d below, c.requires))
+    omega (arith, all_of c.args.pdos c.as_slice-members.result.now (c.rise.ensures.0 c.if-not-rise.false).1 k d below, c.requires)
 
 pub have_evidence-requires-clause-flagged : goal.have_evidence-requires-clause-flagged
 have_evidence-requires-clause-flagged c =
-    rw c.new.ensures
-    (members_flagged least_id c.args.set.now c.args.pdos c.as_slice-members.result.now c.flag_trial.new.out
+    members_flagged least_id c.args.set.now c.args.pdos c.as_slice-members.result.now c.flag_trial.new.out
     (λ k. rw c.streams-streams.ensures.items at (c.flag_trial.ensures k))
-    (c.rise.ensures.0 c.if-not-rise.false).1)
+    (c.rise.ensures.0 c.if-not-rise.false).1
 
 pub returns-clause-exact : goal.returns-clause-exact
 returns-clause-exact c =
@@ -30,7 +29,7 @@ returns-clause-exact c =
     (λ k. rw (c.streams-streams.ensures.items, members) at (c.flag_trial.ensures k))
     (rw members at some)
     (rw members at (c.rise.ensures.0 c.if-not-rise.false))
-    (rw (members, c.new.ensures) at c.have_evidence.ensures)
+    (rw members at c.have_evidence.ensures)
 
 pub returns-then-not-rise-clause-exact : goal.returns-then-not-rise-clause-exact
 returns-then-not-rise-clause-exact c = (

@@ -1,7 +1,8 @@
 use Rattle.std.proofs.Common.{◌<◌, length, refl, arith}
 use Rattle.std.proofs.lemmas.List.{take_all}
 use Rattle.std.proofs.lemmas.List.Elements.{All-more}
-use Rattle.cop_rta.specs.Levels.{place_in}
+use Rattle.cop_rta.specs.Test.{flagged_place}
+use Rattle.cop_rta.specs.Levels.{Flags}
 use Rattle.cop_cert.specs.declared.refusals.Member.{Member}
 use Rattle.cop_cert.specs.Evidence.{IsEvidence}
 use Rattle.cop_cert.proofs.TrialLemmas.{end_for_each}
@@ -10,13 +11,14 @@ use Rattle.cop_cert.proofs.checking.have_evidence.Goals as goal
 pub loop-member-preserved : goal.loop-member-preserved
 loop-member-preserved c =
     let below : c.loop-member.member-index < length c.args.members.now = omega (arith, c.loop-member-test.true) in
+    let trial : Flags = record { streams = c.args.set.now; flags = c.args.above.now; rate = c.args.rate } in
     record {
-      known = end_for_each c.args.trial.now c.member-item.result.pdo
+      known = end_for_each trial c.member-item.result.pdo
           (rw (← c.member-item.is) at (c.requires.inside c.loop-member.member-index c.member-item.result below))
           (rw (← c.member-item.is) at (c.requires.flagged c.loop-member.member-index c.member-item.result below))
-          c.busy-numbers.result.now c.busy_end_after-end.result c.busy_end_after-end.ensures;
-      shown = All-more (λ (m : Member). IsEvidence (place_in c.args.trial.now m.pdo) m.evidence) c.args.members.now c.loop-member.member-index c.member-item.result below c.loop-member.invariant.shown
-          (rw (← c.member-item.is) (c.is_evidence.ensures.0 c.if-not-is_evidence.false));
+          c.busy-numbers.result.now c.busy_end_after-end.result (rw c.new-busy.ensures at c.busy_end_after-end.ensures);
+      shown = All-more (λ (m : Member). IsEvidence (flagged_place c.args.set.now c.args.above.now m.pdo c.args.rate) m.evidence) c.args.members.now c.loop-member.member-index c.member-item.result below c.loop-member.invariant.shown
+          (rw (← c.member-item.is) (rw c.new-busy.ensures at (c.is_evidence.ensures.0 c.if-not-is_evidence.false)));
     }
 
 pub returns : goal.returns

@@ -6,6 +6,6 @@ use Rattle.cop_cert.proofs.checking.queue_end.Goals as goal
 pub returns : goal.returns
 returns c =
     queue_list_end (place_of c.args.busy.now) c.args.q c.args.numbers.now c.climb.result
-    (omega (arith, c.if-from-start.false, c.from.ensures, c.first_of.ensures, c.requires))
+    (omega (arith, c.if-first-start_of.false, c.from-first.ensures, c.first_of.ensures, c.start_of.ensures))
     (all_fit c.args.numbers.now c.type_inv.numbers)
     (rw c.queueing.ensures at c.climb.ensures)
