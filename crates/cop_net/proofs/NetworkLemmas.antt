@@ -1,5 +1,5 @@
 -- What holds of each network.
-use Rattle.std.proofs.Common.{◌≡◌, ℕ, ◌+◌, ◌-◌, ◌<◌, ◌≤◌, Bool, true, false, List, ◌++◌, length, get_or, slice_get, map, Option, Some, None, IsSome, All, Result, Ok, option_map, option_and_then, refl, sym, ap, subst, ◌∙◌, arith, length-append}
+use Rattle.std.proofs.Common.{IfOk, Err, ◌≡◌, ℕ, ◌+◌, ◌-◌, ◌<◌, ◌≤◌, Bool, true, false, List, ◌++◌, length, get_or, slice_get, map, Option, Some, None, IsSome, All, Result, Ok, option_map, option_and_then, refl, sym, ap, subst, ◌∙◌, arith, length-append}
 use Rattle.std.specs.Option.{option_map_or}
 use Rattle.std.proofs.lemmas.Option.{slice_get_read, slice_get-map}
 use Rattle.std.proofs.lemmas.List.{length-map, get_or_default}
@@ -10,18 +10,20 @@ use Rattle.cop_rows.specs.declared.node_table.FrameRow.{FrameRow}
 use Rattle.cop_rows.specs.declared.node_table.FrameKind.{FrameKind}
 use Rattle.cop_rows.specs.declared.node_table.FrameKind.TheVariants as kinds
 use Rattle.cop_rows.specs.declared.pdo_table.PdoRow.{PdoRow}
+use Rattle.cop_rows.specs.Pdos.{IsPdoTable}
 use Rattle.cop_rows.specs.Nodes.{NodeLists, IsNodeTable, IsNodeOf, HasDevice}
 use Rattle.cop_rta.specs.declared.streams.Stream.{Stream}
 use Rattle.cop_rta.specs.Entries.{Entry, entry_of}
 use Rattle.cop_rta.specs.Test.{of_stream}
 use Rattle.cop_net.specs.declared.faults.Refusal.{Refusal}
 use Rattle.cop_net.specs.Rates.{is_some_rate}
+use Rattle.cop_net.specs.Sets.{AreOneSet}
 use Rattle.cop_net.specs.Fixed.{IsOwner, IsTimed, fixed_streams}
 use Rattle.cop_net.specs.Devices.{File, Equipment, devices_of}
 use Rattle.cop_net.specs.Pdos.{ArePdos, pdos_of}
-use Rattle.cop_net.specs.Network.{all_settable, with_rate, streams_of, BeginsWith, network_of, accepted}
+use Rattle.cop_net.specs.Network.{all_settable, with_rate, streams_of, BeginsWith, Accepted, network_of, accepted}
 use Rattle.cop_net.proofs.PdoLemmas.{bind_ok, pdos_found}
-use Rattle.cop_net.proofs.ApartLemmas.{IsOutside, fixed_outside}
+use Rattle.cop_net.proofs.ApartLemmas.{IsOutside, fixed_outside, one_set_all}
 
 -- a node with a device row
 node_of_device : (devices : List DeviceRow) (node : ℕ) → All (λ d. (1 ≤ d.node) × (d.node ≤ 127)) devices → HasDevice devices node → (1 ≤ node) × (node ≤ 127)
@@ -99,18 +101,24 @@ with_rate_ok : (b : Bool) (u : Unit {0}) → with_rate b ≡ Ok u → b ≡ true
 with_rate_ok true u h = refl
 with_rate_ok false u h = cc
 
+-- the streams of a network are those of its PDOs and then those of the fixed identifiers, and it has a rate
+streams_are : (frames : List FrameRow) (rows : List PdoRow) (equipment : Equipment) (streams : List Entry) → streams_of frames rows equipment ≡ Ok streams
+    → (pdos : List Entry) × ArePdos pdos × (length pdos ≡ length rows) × (streams ≡ pdos ++ fixed_streams frames) × (is_some_rate equipment.rates ≡ true)
+unfolding streams_of
+streams_are frames rows equipment streams ok =
+    let p = bind_ok (pdos_of equipment.devices rows) _ streams ok in
+    let q = bind_ok (all_settable frames p.0.used 0 equipment.devices) _ streams p.2 in
+    let r = bind_ok (with_rate (is_some_rate equipment.rates)) _ streams q.2 in
+    let whole : ◌≡◌ {A = Result (List Entry) Refusal} (Ok (p.0.streams ++ fixed_streams frames)) (Ok streams) = r.2 in
+    let parts : streams ≡ p.0.streams ++ fixed_streams frames = cc in
+    let s = pdos_found equipment.devices rows p.0 p.1 in
+    (p.0.streams, s.0, s.1, parts, with_rate_ok (is_some_rate equipment.rates) r.0 r.1)
+
 -- what is accepted begins with its PDOs, and has a rate
 pub network_streams : (frames : List FrameRow) (rows : List PdoRow) (equipment : Equipment) (set : List Stream) → All IsTimed frames
     → streams_of frames rows equipment ≡ Ok (map entry_of set) → BeginsWith (length rows) set × (is_some_rate equipment.rates ≡ true)
-unfolding streams_of
 network_streams frames rows equipment set h ok =
-    let p = bind_ok (pdos_of equipment.devices rows) _ (map entry_of set) ok in
-    let q = bind_ok (all_settable frames p.0.used 0 equipment.devices) _ (map entry_of set) p.2 in
-    let r = bind_ok (with_rate (is_some_rate equipment.rates)) _ (map entry_of set) q.2 in
-    let whole : ◌≡◌ {A = Result (List Entry) Refusal} (Ok (p.0.streams ++ fixed_streams frames)) (Ok (map entry_of set)) = r.2 in
-    let parts : map entry_of set ≡ p.0.streams ++ fixed_streams frames = cc in
-    let s = pdos_found equipment.devices rows p.0 p.1 in
-    (begins (length rows) set p.0.streams (fixed_streams frames) parts s.1 s.0 (fixed_outside frames h), with_rate_ok (is_some_rate equipment.rates) r.0 r.1)
+    let s = streams_are frames rows equipment (map entry_of set) ok in (begins (length rows) set s.0 (fixed_streams frames) s.3 s.2 s.1 (fixed_outside frames h), s.4)
 
 -- what the devices and the streams make
 pub made : (nodes : NodeLists) (rows : List PdoRow) (files : List File) (equipment : Equipment) (set : List Stream) → devices_of files nodes.devices ≡ Ok equipment
@@ -118,3 +126,26 @@ pub made : (nodes : NodeLists) (rows : List PdoRow) (files : List File) (equipme
     → network_of nodes rows files ≡ Ok (accepted (record { nodes = nodes; rows = rows; equipment = equipment; set = set }))
 unfolding network_of
 made nodes rows files equipment set devices streams = rw (devices, streams) refl
+
+streams_one_set : (frames : List FrameRow) (rows : List PdoRow) (equipment : Equipment) (streams : List Entry) → All IsTimed frames → length rows ≤ 512
+    → streams_of frames rows equipment ≡ Ok streams → AreOneSet streams
+streams_one_set frames rows equipment streams h le ok =
+    let s = streams_are frames rows equipment streams ok in subst AreOneSet (sym s.3) (one_set_all s.0 frames s.1 (omega (arith, s.2, le)) h)
+
+one_set_made : (nodes : NodeLists) (rows : List PdoRow) (files : List File) (made : Accepted) → IsNodeTable nodes → length rows ≤ 512 → network_of nodes rows files ≡ Ok made → AreOneSet made.streams
+unfolding network_of
+one_set_made nodes rows files made table le ok =
+    let p = bind_ok (devices_of files nodes.devices) _ made ok in
+    let q = bind_ok (streams_of nodes.frames rows p.0) _ made p.2 in
+    let whole : ◌≡◌ {A = Result Accepted Refusal} (Ok (record { equipment = p.0; streams = q.0 })) (Ok made) = q.2 in
+    let same : record { equipment = p.0; streams = q.0 } ≡ made = cc in
+    subst AreOneSet (ap (λ (m : Accepted). m.streams) same) (streams_one_set nodes.frames rows p.0 q.0 (timed nodes table) le q.1)
+
+of_accepted : {A : Type 0} (P : A → Type 0) (r : Result A Refusal) → ((x : A) → r ≡ Ok x → P x) → IfOk r P
+of_accepted P (Ok x) h = h x refl
+of_accepted P (Err e) h = tt
+
+-- one set can have the streams of each network that is accepted
+pub accepted_one_set : (nodes : NodeLists) (rows : List PdoRow) (files : List File) → IsNodeTable nodes → IsPdoTable rows → IfOk (network_of nodes rows files) (λ made. AreOneSet made.streams)
+accepted_one_set nodes rows files table pdos =
+    of_accepted (λ made. AreOneSet made.streams) (network_of nodes rows files) (λ made ok. one_set_made nodes rows files made table pdos.count ok)
