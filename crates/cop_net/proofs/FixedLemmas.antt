@@ -111,5 +111,17 @@ found_all P test (x ∷ xs) h = by_test (test x) (All-head P x xs h) (found_all 
     by_test true here rest = here
     by_test false here rest = rest
 
+-- a row in range that has a place
+abbrev pub IsAt : ℕ → FrameRow → Type 0
+IsAt key row = IsTimed row × (key_of row ≡ key)
+
+-- what is found at a place has that place
+pub found_at : (frames : List FrameRow) (key : ℕ) → All IsTimed frames → IfSome (find (λ row. key_of row == key) frames) (IsAt key)
+found_at [] key h = tt
+found_at (f ∷ frames) key h = ⊎_elim
+    (λ (e : key_of f ≡ key). rw (eq-eqb (key_of f) key e) (All-head IsTimed f frames h, e))
+    (λ (other : key_of f ≢ key). rw (ne_eqb (key_of f) key other) (found_at frames key (All-tail IsTimed f frames h)))
+    (cases_eq (key_of f) key)
+
 pub row_timed : (places : List (Option FrameRow)) (frames : List FrameRow) (i : ℕ) → i < 768 → KnowsFrames places frames → All IsTimed frames → IfSome (get_or places i None) IsTimed
 row_timed places frames i lt knows timed = rw (knows.each i lt) (found_all IsTimed (λ row. key_of row == i) frames timed)

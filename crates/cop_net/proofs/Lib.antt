@@ -5,6 +5,8 @@ pub mod FoldLemmas
 pub mod SettingLemmas
 pub mod UseLemmas
 pub mod PdoLemmas
+pub mod SetLemmas
+pub mod ApartLemmas
 pub mod HeartbeatLemmas
 pub mod StrayLemmas
 pub mod NetworkLemmas

@@ -1,42 +1,40 @@
 -- What holds of each network.
-use Rattle.std.proofs.Common.{◌≡◌, ◌⊎◌, inl, inr, ⊎_elim, ℕ, zero, suc, ◌+◌, ◌-◌, ◌<◌, ◌≤◌, ◌==◌, Bool, true, false, cond, List, [], ◌∷◌, ◌++◌, length, get_or, slice_get, map, find, Option, Some, None, IsSome, IfSome, All, Result, Ok, option_map, option_and_then, refl, sym, ap, subst, ◌∙◌, arith, length-append, zero-add}
+use Rattle.std.proofs.Common.{IfOk, Err, ◌≡◌, ℕ, ◌+◌, ◌-◌, ◌<◌, ◌≤◌, Bool, true, false, List, ◌++◌, length, get_or, slice_get, map, Option, Some, None, IsSome, All, Result, Ok, option_map, option_and_then, refl, sym, ap, subst, ◌∙◌, arith, length-append}
 use Rattle.std.specs.Option.{option_map_or}
-use Rattle.std.proofs.lemmas.Bool.{cases_lt}
 use Rattle.std.proofs.lemmas.Option.{slice_get_read, slice_get-map}
 use Rattle.std.proofs.lemmas.List.{length-map, get_or_default}
-use Rattle.std.proofs.lemmas.List.Elements.{All-append, All-nil, All-cons}
 use Rattle.std.proofs.Math.ListN.{get_or-append}
-use Rattle.std.proofs.Math.Seq.{get_or-append_right, get_or-append_seam}
+use Rattle.std.proofs.Math.Seq.{get_or-append_right}
 use Rattle.cop_rows.specs.declared.node_table.DeviceRow.{DeviceRow}
 use Rattle.cop_rows.specs.declared.node_table.FrameRow.{FrameRow}
 use Rattle.cop_rows.specs.declared.node_table.FrameKind.{FrameKind}
 use Rattle.cop_rows.specs.declared.node_table.FrameKind.TheVariants as kinds
 use Rattle.cop_rows.specs.declared.pdo_table.PdoRow.{PdoRow}
+use Rattle.cop_rows.specs.Pdos.{IsPdoTable}
 use Rattle.cop_rows.specs.Nodes.{NodeLists, IsNodeTable, IsNodeOf, HasDevice}
 use Rattle.cop_rta.specs.declared.streams.Stream.{Stream}
 use Rattle.cop_rta.specs.Entries.{Entry, entry_of}
 use Rattle.cop_rta.specs.Test.{of_stream}
 use Rattle.cop_net.specs.declared.faults.Refusal.{Refusal}
-use Rattle.cop_net.specs.declared.devices.Device.{Device}
-use Rattle.cop_net.specs.Steps.{folded}
 use Rattle.cop_net.specs.Rates.{is_some_rate}
-use Rattle.cop_net.specs.Fixed.{IsTimed, base_of, key_of, frame_stream, sent, streams_from, fixed_streams}
+use Rattle.cop_net.specs.Sets.{AreOneSet}
+use Rattle.cop_net.specs.Fixed.{IsOwner, IsTimed, fixed_streams}
 use Rattle.cop_net.specs.Devices.{File, Equipment, devices_of}
-use Rattle.cop_net.specs.Pdos.{Traffic, pdo_stream, pdo_added, pdos_of, no_traffic}
-use Rattle.cop_net.specs.Network.{all_settable, with_rate, streams_of, BeginsWith, network_of, accepted}
-use Rattle.cop_net.proofs.FixedLemmas.{found_all}
-use Rattle.cop_net.proofs.PdoLemmas.{bind_ok, shape, one_more}
+use Rattle.cop_net.specs.Pdos.{ArePdos, pdos_of}
+use Rattle.cop_net.specs.Network.{all_settable, with_rate, streams_of, BeginsWith, Accepted, network_of, accepted}
+use Rattle.cop_net.proofs.PdoLemmas.{bind_ok, pdos_found}
+use Rattle.cop_net.proofs.ApartLemmas.{IsOutside, fixed_outside, one_set_all}
 
 -- a node with a device row
-node_of_device : (devices : List DeviceRow) (node : ℕ) → All (λ d. (1 ≤ d.node) × (d.node ≤ 127)) devices → HasDevice devices node → node ≤ 127
+node_of_device : (devices : List DeviceRow) (node : ℕ) → All (λ d. (1 ≤ d.node) × (d.node ≤ 127)) devices → HasDevice devices node → (1 ≤ node) × (node ≤ 127)
 node_of_device devices node all h =
     let p = all h.0 h.1 h.2 in
     let e = ap (λ (d : DeviceRow). d.node) h.3 in
-    omega (arith, p.1, e, h.4)
+    (omega (arith, p.0, e, h.4), omega (arith, p.1, e, h.4))
 
-node_of_kind : (devices : List DeviceRow) (kind : FrameKind) (node : ℕ) → All (λ d. (1 ≤ d.node) × (d.node ≤ 127)) devices → IsNodeOf devices kind node → node ≤ 127
-node_of_kind devices kinds.Nmt node all h = omega arith
-node_of_kind devices kinds.Sync node all h = omega arith
+node_of_kind : (devices : List DeviceRow) (kind : FrameKind) (node : ℕ) → All (λ d. (1 ≤ d.node) × (d.node ≤ 127)) devices → IsNodeOf devices kind node → IsOwner kind node × (node ≤ 127)
+node_of_kind devices kinds.Nmt node all h = (h, omega arith)
+node_of_kind devices kinds.Sync node all h = (h, omega arith)
 node_of_kind devices kinds.Emcy node all h = node_of_device devices node all h
 node_of_kind devices kinds.SdoResponse node all h = node_of_device devices node all h
 node_of_kind devices kinds.SdoRequest node all h = node_of_device devices node all h
@@ -45,73 +43,16 @@ node_of_kind devices kinds.Heartbeat node all h = node_of_device devices node al
 -- the ranges of the rows of a table
 pub timed : (table : NodeLists) → IsNodeTable table → All IsTimed table.frames
 timed table h = λ k d lt.
-    let f = h.frames k d lt in record {
-      node = node_of_kind table.devices (get_or table.frames k d).kind (get_or table.frames k d).node h.nodes f.node;
+    let f = h.frames k d lt in
+    let node = node_of_kind table.devices (get_or table.frames k d).kind (get_or table.frames k d).node h.nodes f.node in record {
+      node = node.1;
+      owner = node.0;
       period = f.period;
       jitter = f.jitter;
     }
 
 pub device_nodes : (devices : List DeviceRow) → All (λ d. (1 ≤ d.node) × (d.node ≤ 127)) devices → All (λ d. d.node ≤ 127) devices
 device_nodes devices h = λ k d lt. (h k d lt).1
-
--- an identifier that no PDO may get
-abbrev IsOutside : ℕ → Type 0
-IsOutside id = (id < 0x181) ⊎ (0x57F < id)
-
-outside_kind : (kind : FrameKind) (node : ℕ) → node ≤ 127 → IsOutside (base_of kind + node)
-outside_kind kinds.Nmt node h = inl (omega arith)
-outside_kind kinds.Sync node h = inl (omega arith)
-outside_kind kinds.Emcy node h = inl (omega arith)
-outside_kind kinds.SdoResponse node h = inr (omega arith)
-outside_kind kinds.SdoRequest node h = inr (omega arith)
-outside_kind kinds.Heartbeat node h = inr (omega arith)
-
-sent_outside : (row : Option FrameRow) → IfSome row IsTimed → All (λ e. IsOutside e.id) (sent row)
-sent_outside None h = All-nil (λ (e : Entry). IsOutside e.id)
-sent_outside (Some row) h = by_period (row.period == 0)
-  where
-    by_period : (b : Bool) → All (λ e. IsOutside e.id) (cond b [] (frame_stream row ∷ []))
-    by_period true = All-nil (λ (e : Entry). IsOutside e.id)
-    by_period false = All-cons (λ (e : Entry). IsOutside e.id) (frame_stream row) [] (outside_kind row.kind row.node h.node) (All-nil (λ (e : Entry). IsOutside e.id))
-
-from_outside : (frames : List FrameRow) (key count : ℕ) → All IsTimed frames → All (λ e. IsOutside e.id) (streams_from frames key count)
-unfolding streams_from
-from_outside frames key zero h = All-nil (λ (e : Entry). IsOutside e.id)
-from_outside frames key (suc count) h =
-    All-append (λ (e : Entry). IsOutside e.id) (sent (find (λ row. key_of row == key) frames)) (streams_from frames (key + 1) count)
-    (sent_outside (find (λ row. key_of row == key) frames) (found_all IsTimed (λ row. key_of row == key) frames h)) (from_outside frames (key + 1) count h)
-
-pub fixed_outside : (frames : List FrameRow) → All IsTimed frames → All (λ e. IsOutside e.id) (fixed_streams frames)
-unfolding fixed_streams
-fixed_outside frames h = from_outside frames 0 768 h
-
--- the streams of the PDOs so far
-abbrev IsPdo : ℕ → Entry → Type 0
-IsPdo k e = (e.id ≡ 0x181 + k) × IsSome e.deadline
-
-abbrev ArePdos : List Entry → Type 0
-ArePdos es = (k : ℕ) (d : Entry) → k < length es → IsPdo k (get_or es k d)
-
-pdos_more : (es : List Entry) (bytes : ℕ) (row : PdoRow) → ArePdos es → ArePdos (es ++ pdo_stream (length es) bytes row ∷ [])
-pdos_more es bytes row h k d lt = ⊎_elim
-    (λ (before : k < length es). subst (IsPdo k) (sym (get_or-append es (pdo_stream (length es) bytes row ∷ []) d k before)) (h k d before))
-    (λ (past : length es ≤ k).
-    let last : k ≡ length es = omega (arith, length-append es (pdo_stream (length es) bytes row ∷ [])) in
-    rw last (subst (IsPdo (length es)) (sym (get_or-append_seam es (pdo_stream (length es) bytes row) [] d)) (refl, refl)))
-    (cases_lt k (length es))
-
-pdos_from : (devices : List (Option Device)) (rows : List PdoRow) (found more : Traffic) → folded (pdo_added devices) found rows ≡ Ok more → ArePdos found.streams
-    → ArePdos more.streams × (length more.streams ≡ length found.streams + length rows)
-unfolding folded
-pdos_from devices [] found more h are =
-    let same : found ≡ more = cc in
-    rw (← same) (are, omega arith)
-pdos_from devices (row ∷ rows) found more h are =
-    let p = bind_ok (pdo_added devices found row) (λ t. folded (pdo_added devices) t rows) more h in
-    let s = shape devices found p.0 row p.1 in
-    let count = one_more devices found p.0 row (length found.streams) p.1 refl in
-    let r = pdos_from devices rows p.0 more p.2 (subst ArePdos (sym s.1) (pdos_more found.streams s.0 row are)) in
-    (r.0, omega (arith, r.1, count))
 
 -- an element is the one that is read there
 there : (es : List Entry) (k : ℕ) → k < length es → (e : Entry) × (slice_get es k ≡ Some e) × (e ≡ get_or es k e)
@@ -160,18 +101,24 @@ with_rate_ok : (b : Bool) (u : Unit {0}) → with_rate b ≡ Ok u → b ≡ true
 with_rate_ok true u h = refl
 with_rate_ok false u h = cc
 
+-- the streams of a network are those of its PDOs and then those of the fixed identifiers, and it has a rate
+streams_are : (frames : List FrameRow) (rows : List PdoRow) (equipment : Equipment) (streams : List Entry) → streams_of frames rows equipment ≡ Ok streams
+    → (pdos : List Entry) × ArePdos pdos × (length pdos ≡ length rows) × (streams ≡ pdos ++ fixed_streams frames) × (is_some_rate equipment.rates ≡ true)
+unfolding streams_of
+streams_are frames rows equipment streams ok =
+    let p = bind_ok (pdos_of equipment.devices rows) _ streams ok in
+    let q = bind_ok (all_settable frames p.0.used 0 equipment.devices) _ streams p.2 in
+    let r = bind_ok (with_rate (is_some_rate equipment.rates)) _ streams q.2 in
+    let whole : ◌≡◌ {A = Result (List Entry) Refusal} (Ok (p.0.streams ++ fixed_streams frames)) (Ok streams) = r.2 in
+    let parts : streams ≡ p.0.streams ++ fixed_streams frames = cc in
+    let s = pdos_found equipment.devices rows p.0 p.1 in
+    (p.0.streams, s.0, s.1, parts, with_rate_ok (is_some_rate equipment.rates) r.0 r.1)
+
 -- what is accepted begins with its PDOs, and has a rate
 pub network_streams : (frames : List FrameRow) (rows : List PdoRow) (equipment : Equipment) (set : List Stream) → All IsTimed frames
     → streams_of frames rows equipment ≡ Ok (map entry_of set) → BeginsWith (length rows) set × (is_some_rate equipment.rates ≡ true)
-unfolding streams_of pdos_of
 network_streams frames rows equipment set h ok =
-    let p = bind_ok (folded (pdo_added equipment.devices) no_traffic rows) _ (map entry_of set) ok in
-    let q = bind_ok (all_settable frames p.0.used 0 equipment.devices) _ (map entry_of set) p.2 in
-    let r = bind_ok (with_rate (is_some_rate equipment.rates)) _ (map entry_of set) q.2 in
-    let whole : ◌≡◌ {A = Result (List Entry) Refusal} (Ok (p.0.streams ++ fixed_streams frames)) (Ok (map entry_of set)) = r.2 in
-    let parts : map entry_of set ≡ p.0.streams ++ fixed_streams frames = cc in
-    let s = pdos_from equipment.devices rows no_traffic p.0 p.1 (λ k d lt. absurd (omega (arith, lt))) in
-    (begins (length rows) set p.0.streams (fixed_streams frames) parts (s.1 ∙ zero-add (length rows)) s.0 (fixed_outside frames h), with_rate_ok (is_some_rate equipment.rates) r.0 r.1)
+    let s = streams_are frames rows equipment (map entry_of set) ok in (begins (length rows) set s.0 (fixed_streams frames) s.3 s.2 s.1 (fixed_outside frames h), s.4)
 
 -- what the devices and the streams make
 pub made : (nodes : NodeLists) (rows : List PdoRow) (files : List File) (equipment : Equipment) (set : List Stream) → devices_of files nodes.devices ≡ Ok equipment
@@ -179,3 +126,26 @@ pub made : (nodes : NodeLists) (rows : List PdoRow) (files : List File) (equipme
     → network_of nodes rows files ≡ Ok (accepted (record { nodes = nodes; rows = rows; equipment = equipment; set = set }))
 unfolding network_of
 made nodes rows files equipment set devices streams = rw (devices, streams) refl
+
+streams_one_set : (frames : List FrameRow) (rows : List PdoRow) (equipment : Equipment) (streams : List Entry) → All IsTimed frames → length rows ≤ 512
+    → streams_of frames rows equipment ≡ Ok streams → AreOneSet streams
+streams_one_set frames rows equipment streams h le ok =
+    let s = streams_are frames rows equipment streams ok in subst AreOneSet (sym s.3) (one_set_all s.0 frames s.1 (omega (arith, s.2, le)) h)
+
+one_set_made : (nodes : NodeLists) (rows : List PdoRow) (files : List File) (made : Accepted) → IsNodeTable nodes → length rows ≤ 512 → network_of nodes rows files ≡ Ok made → AreOneSet made.streams
+unfolding network_of
+one_set_made nodes rows files made table le ok =
+    let p = bind_ok (devices_of files nodes.devices) _ made ok in
+    let q = bind_ok (streams_of nodes.frames rows p.0) _ made p.2 in
+    let whole : ◌≡◌ {A = Result Accepted Refusal} (Ok (record { equipment = p.0; streams = q.0 })) (Ok made) = q.2 in
+    let same : record { equipment = p.0; streams = q.0 } ≡ made = cc in
+    subst AreOneSet (ap (λ (m : Accepted). m.streams) same) (streams_one_set nodes.frames rows p.0 q.0 (timed nodes table) le q.1)
+
+of_accepted : {A : Type 0} (P : A → Type 0) (r : Result A Refusal) → ((x : A) → r ≡ Ok x → P x) → IfOk r P
+of_accepted P (Ok x) h = h x refl
+of_accepted P (Err e) h = tt
+
+-- one set can have the streams of each network that is accepted
+pub accepted_one_set : (nodes : NodeLists) (rows : List PdoRow) (files : List File) → IsNodeTable nodes → IsPdoTable rows → IfOk (network_of nodes rows files) (λ made. AreOneSet made.streams)
+accepted_one_set nodes rows files table pdos =
+    of_accepted (λ made. AreOneSet made.streams) (network_of nodes rows files) (λ made ok. one_set_made nodes rows files made table pdos.count ok)

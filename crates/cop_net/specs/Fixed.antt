@@ -58,9 +58,19 @@ streams_from frames key (suc count) = sent (find (λ row. key_of row == key) fra
 unfoldable pub fixed_streams : List FrameRow → List Entry
 fixed_streams frames = streams_from frames 0 768
 
+-- NMT and SYNC are nobody's, and each other frame is a node's
+abbrev pub IsOwner : FrameKind → ℕ → Type 0
+IsOwner kinds.Nmt node = node ≡ 0
+IsOwner kinds.Sync node = node ≡ 0
+IsOwner kinds.Emcy node = 1 ≤ node
+IsOwner kinds.SdoResponse node = 1 ≤ node
+IsOwner kinds.SdoRequest node = 1 ≤ node
+IsOwner kinds.Heartbeat node = 1 ≤ node
+
 -- the ranges of a row's node and times, in microseconds
 pub record IsTimed (row : FrameRow) : Type 0 where
   pub node : row.node ≤ 127
+  pub owner : IsOwner row.kind row.node
   pub period : (row.period ≡ 0) ⊎ ((100 ≤ row.period) × (row.period ≤ 60000000))
   pub jitter : row.jitter ≤ 60000000
 

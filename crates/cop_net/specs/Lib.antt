@@ -1,5 +1,6 @@
 pub mod Faults
 pub mod Steps
+pub mod Sets
 pub mod Fixed
 pub mod Rates
 pub mod Devices

@@ -1,5 +1,5 @@
 -- The PDOs of a network: what each of them sends, and who takes it.
-use Rattle.std.specs.Prelude.{ℕ, ◌+◌, Bool, true, false, not, ◌||◌, List, [], ◌∷◌, ◌++◌, length, pos, get_or, Option, Some, None, option_and_then, ℤ, Result, Ok, Err}
+use Rattle.std.specs.Prelude.{ℕ, ◌≡◌, ◌<◌, ◌+◌, Bool, true, false, not, ◌||◌, List, [], ◌∷◌, ◌++◌, length, pos, get_or, Option, Some, None, IsSome, option_and_then, ℤ, Result, Ok, Err}
 use Rattle.std.specs.Ordering.{int_eq}
 use Rattle.cop_dict.specs.declared.mapping.Direction.{Direction}
 use Rattle.cop_dict.specs.declared.mapping.Direction.TheVariants as directions
@@ -88,6 +88,13 @@ pub record Traffic : Type 0 where
 abbrev pub pdo_stream : ℕ → ℕ → PdoRow → Entry
 pdo_stream before bytes row =
     record { id = 0x181 + before; bytes = bytes; period = ticks row.period; jitter = ticks row.jitter; deadline = Some (ticks row.deadline) }
+
+-- the streams of PDOs so far: their provisional identifiers are 181h, 182h, .. and they have deadlines
+abbrev pub IsPdoAt : ℕ → Entry → Type 0
+IsPdoAt k e = (e.id ≡ 0x181 + k) × IsSome e.deadline
+
+abbrev pub ArePdos : List Entry → Type 0
+ArePdos es = (k : ℕ) (d : Entry) → k < length es → IsPdoAt k (get_or es k d)
 
 -- one PDO more; its record has the number of the PDOs with it
 abbrev pub pdo_added : List (Option Device) → Traffic → PdoRow → Result Traffic Refusal

@@ -5,11 +5,12 @@ ghost use Rattle.cop_table.specs.Reading.{Gives};
 ghost use Rattle.cop_rta.specs.Entries.{entry_of};
 ghost use Rattle.cop_rows.specs.declared.node_table.FrameRow.{FrameRow};
 ghost use Rattle.cop_net.specs.Faults.{refusal};
+ghost use Rattle.cop_net.specs.Sets.{AreOneSet};
 ghost use Rattle.cop_net.specs.Fixed.{base_of, size_of, rank_of, key_of, frame_stream, sent, fixed_streams, IsTimed, KnowsFrames};
 
 use crate::faults::PlanFault;
 use cop_rows::{FrameKind, FrameRow};
-use cop_rta::{Stream, StreamSet};
+use cop_rta::{SetFault, Stream, StreamSet};
 
 /// How many places the frames of all nodes have in their order.
 const PLACES: usize = 768;
@@ -95,20 +96,24 @@ fn stream(row: FrameRow) -> Stream
     }
 }
 
-/// Puts a stream behind the others. That it is refused for another reason than want of memory can't be: identifiers are
-/// distinct, and there are at most 512 PDOs and 510 other streams.
+#[tactic(auto, using(crate::proofs::SetLemmas::is_new, crate::proofs::SetLemmas::has_room))]
+/// Puts a stream behind the others, with which it makes one set.
 pub fn put(set: &mut StreamSet, stream: Stream) -> Result<(), PlanFault>
+    requires { AreOneSet (map entry_of set.old ++ entry_of stream ∷ []) }
     ensures { Gives (λ _. set.new) refusal result (Ok (set.old ++ stream ∷ [])) }
 {
     match set.push(stream) {
         Ok(()) => Ok(()),
-        Err(_) => Err(PlanFault::Memory),
+        Err(SetFault::Memory) => Err(PlanFault::Memory),
+        Err(SetFault::Repeated) => unreachable!(),
+        Err(SetFault::Full) => unreachable!(),
     }
 }
 
 /// Puts the stream of a row behind the others, where there is one.
 fn put_sent(set: &mut StreamSet, row: Option<FrameRow>) -> Result<(), PlanFault>
-    requires { IfSome row IsTimed }
+    requires timed { IfSome row IsTimed }
+    requires one_set { AreOneSet (map entry_of set.old ++ sent row) }
     ensures { Gives (λ _. map entry_of set.new) refusal result (Ok (map entry_of set.old ++ sent row)) }
 {
     match row {
@@ -119,7 +124,8 @@ fn put_sent(set: &mut StreamSet, row: Option<FrameRow>) -> Result<(), PlanFault>
 
 /// Puts the streams of the fixed identifiers behind the others.
 pub fn put_fixed(set: &mut StreamSet, frames: &[FrameRow]) -> Result<(), PlanFault>
-    requires { All IsTimed frames.now }
+    requires timed { All IsTimed frames.now }
+    requires one_set { AreOneSet (map entry_of set.old ++ fixed_streams frames.now) }
     ensures { Gives (λ _. map entry_of set.new) refusal result (Ok (map entry_of set.old ++ fixed_streams frames.now)) }
 {
     let places = by_place(frames);

@@ -7,6 +7,7 @@ ghost use Rattle.cop_rta.specs.Entries.{entry_of};
 ghost use Rattle.cop_rows.specs.Nodes.{IsNodeTable};
 ghost use Rattle.cop_rows.specs.Pdos.{IsPdoRow};
 ghost use Rattle.cop_net.specs.Faults.{refusal};
+ghost use Rattle.cop_net.specs.Sets.{AreOneSet};
 ghost use Rattle.cop_net.specs.Fixed.{IsTimed};
 ghost use Rattle.cop_net.specs.Network.{accepted, streams_of, network_of};
 
@@ -64,10 +65,11 @@ fn streams_of(
     Ok(set)
 }
 
-#[tactic(auto, unfolding(crate::specs::Network::network_of))]
+#[tactic(auto, using(crate::proofs::NetworkLemmas::accepted_one_set), unfolding(crate::specs::Network::network_of))]
 /// The network of the tables and of the EDS files, which have names and texts; of two files with one name the first counts.
 /// Otherwise the first rule that is broken: of the devices by record (43); then of the PDOs by record (45, the TPDO's 46,
-/// 47, and of each consumer in turn 48 and 46); then of the devices by node (51, 50); then 52.
+/// 47, and of each consumer in turn 48 and 46); then of the devices by node (51, 50); then 52. The streams of a network that
+/// breaks no rule are apart and few enough for one set, which so refuses none of them.
 pub fn network<'a>(
     alloc: Global,
     nodes: &'a NodeTable,
@@ -75,11 +77,14 @@ pub fn network<'a>(
     files: &[(String, Vec<u8>)],
 ) -> Result<Network<'a>, PlanFault>
     ensures exact { Gives accepted refusal result (network_of nodes.now pdos.now (map (λ f. record { name = string_bytes f.0; text = f.1.items }) files.now)) }
+    ensures one_set { IfOk (network_of nodes.now pdos.now (map (λ f. record { name = string_bytes f.0; text = f.1.items }) files.now)) (λ made. AreOneSet made.streams) }
     ensures tables { IfOk result (λ n. (n.nodes ≡ nodes.now) × (n.rows ≡ pdos.now)) }
 {
+    let frames = frame_rows(nodes);
+    let rows = pdos.rows();
     let devices = equip(alloc, device_rows(nodes), files)?;
-    let heartbeats = Heartbeats::new(frame_rows(nodes));
-    let set = streams_of(alloc, frame_rows(nodes), &heartbeats, pdos.rows(), &devices)?;
+    let heartbeats = Heartbeats::new(frames);
+    let set = streams_of(alloc, frames, &heartbeats, rows, &devices)?;
     Ok(Network {
         nodes,
         pdos,

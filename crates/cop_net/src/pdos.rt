@@ -11,7 +11,7 @@ ghost use Rattle.cop_net.specs.declared.faults.Table.TheVariants.{Pdos};
 ghost use Rattle.cop_net.specs.declared.faults.Rule.TheVariants as rules;
 ghost use Rattle.cop_net.specs.declared.faults.PlanFault.TheVariants.{Refused};
 ghost use Rattle.cop_net.specs.Faults.{refusal};
-ghost use Rattle.cop_net.specs.Pdos.{laid_out, transmitted, transmitted_by, received, received_by, consumer_added, pdo_stream, pdo_added, pdos_of};
+ghost use Rattle.cop_net.specs.Pdos.{laid_out, transmitted, transmitted_by, received, received_by, consumer_added, pdo_stream, ArePdos, pdo_added, pdos_of};
 ghost use Rattle.cop_net.specs.Steps.{folded};
 ghost use Rattle.cop_net.specs.Uses.{is_used};
 
@@ -200,6 +200,7 @@ impl Found {
     fn add(&mut self, devices: &Devices, row: &PdoRow) -> Result<(), PlanFault>
         requires row { IsPdoRow row.now }
         requires before { length self.old.streams < 512 }
+        requires pdos { ArePdos self.old.streams }
         ensures exact { Gives (λ _. self.new) refusal result (pdo_added devices.now.devices self.old row.now) }
     {
         let before = self.set.len();

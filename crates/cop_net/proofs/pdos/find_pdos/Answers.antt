@@ -4,11 +4,12 @@ use Rattle.cop_rta.specs.Entries.{entry_of}
 use Rattle.cop_net.specs.Faults.{refusal}
 use Rattle.cop_net.specs.Pdos.{pdo_added}
 use Rattle.cop_net.proofs.FoldLemmas.{goes_on_at, fails_at, ends}
-use Rattle.cop_net.proofs.PdoLemmas.{starts, none_yet, one_more}
+use Rattle.cop_net.proofs.PdoLemmas.{starts, none_yet, one_more, no_pdos, pdos_after}
 use Rattle.cop_net.proofs.pdos.find_pdos.Goals as goal
 
 pub loop-row-init : goal.loop-row-init
 loop-row-init c = record {
+  pdos = no_pdos _ (ap (map entry_of) c.new.ensures);
   count = ap (λ s. length (map entry_of s)) c.new.ensures;
   same = starts c.args.devices.now.devices c.args.rows.now _ (ap (map entry_of) c.new.ensures) (none_yet _ c.in_ok-new.ensures);
 }
@@ -22,6 +23,7 @@ returns-in_err-add c =
 
 pub loop-row-preserved : goal.loop-row-preserved
 loop-row-preserved c = record {
+  pdos = pdos_after c.args.devices.now.devices c.loop-row.found c.add.new.self c.row-item.result c.in_ok-add.ensures.exact c.loop-row.invariant.pdos;
   count = one_more c.args.devices.now.devices c.loop-row.found c.add.new.self c.row-item.result c.loop-row.row-index c.in_ok-add.ensures.exact c.loop-row.invariant.count;
   same = goes_on_at (pdo_added c.args.devices.now.devices) c.args.rows.now c.loop-row.row-index c.row-item.result c.loop-row.found c.add.new.self _
       c.loop-row-test.true c.row-item.is c.in_ok-add.ensures.exact c.loop-row.invariant.same;
