@@ -9,13 +9,13 @@ ghost use Rattle.cop_rta.specs.Levels.{place_in, latest_wait, most_instances, No
 
 use crate::demands::HORIZON;
 use crate::judging::is_late;
-use crate::levels::{
-    busy_time, earliest_end, flagged_lines, later_busy_time, longest_unflagged, total,
-};
 use crate::lines::Line;
 use crate::loads::Loads;
 use crate::sets::StreamSet;
 use crate::streams::Stream;
+use crate::sums::{
+    busy_time, earliest_end, flagged_lines, later_busy_time, longest_unflagged, total,
+};
 use crate::verdicts::Verdict;
 use cop_frame::Rate;
 use std::alloc::{AllocError, Global};

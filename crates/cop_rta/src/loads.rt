@@ -3,9 +3,9 @@
 ghost use Rattle.std.specs.Prelude.{◌≡◌, ◌≤◌, length, IfOk};
 ghost use Rattle.cop_rta.specs.Lines.{AreLinesOf};
 
-use crate::levels::lines_of;
 use crate::lines::Line;
 use crate::sets::StreamSet;
+use crate::sums::lines_of;
 use cop_frame::Rate;
 use std::alloc::{AllocError, Global};
 use std::marker::Model;

@@ -3,8 +3,8 @@ use Rattle.std.proofs.lemmas.Grind.{common_steps}
 use Rattle.cop_rta.specs.Sums.{max_where}
 use Rattle.cop_rta.specs.Levels.{of_line, is_unflagged}
 use Rattle.cop_rta.proofs.LevelLemmas.{longest_more, longest_same, max_where-within}
-use Rattle.cop_rta.proofs.levels.longest_unflagged.Goals as goal
-use Rattle.cop_rta.proofs.levels.longest_unflagged.Goals.{then-not-above-k+else-longest-most, else-not-above-k}
+use Rattle.cop_rta.proofs.sums.longest_unflagged.Goals as goal
+use Rattle.cop_rta.proofs.sums.longest_unflagged.Goals.{then-not-above-k+else-longest-most, else-not-above-k}
 
 pub returns-then-longest-most-clause-value : goal.returns-then-longest-most-clause-value
 returns-then-longest-most-clause-value c =

@@ -1,6 +1,6 @@
 use Rattle.std.proofs.Common.{length-append, arith}
 use Rattle.cop_rta.proofs.LevelLemmas.{lines_more}
-use Rattle.cop_rta.proofs.levels.lines_of.Goals as goal
+use Rattle.cop_rta.proofs.sums.lines_of.Goals as goal
 
 pub loop-k-preserved : goal.loop-k-preserved
 loop-k-preserved c = rw c.in_ok-push.ensures.items (record {

@@ -3,7 +3,7 @@ use Rattle.cop_rta.specs.Sums.{sum_where}
 use Rattle.cop_rta.specs.Test.{is_flagged}
 use Rattle.cop_rta.specs.Lines.{load_in}
 use Rattle.cop_rta.specs.Levels.{of_line}
-use Rattle.cop_rta.proofs.levels.flagged_lines.Given as goal
+use Rattle.cop_rta.proofs.sums.flagged_lines.Given as goal
 
 abbrev pub invariant-loop-k : goal.invariant-loop-k
 invariant-loop-k l = record {

@@ -1,7 +1,7 @@
 use Rattle.std.proofs.Common.{arith, length-append}
 use Rattle.cop_rta.proofs.LevelLemmas.{count_flagged, count_unflagged, sums_flagged, sums_unflagged}
-use Rattle.cop_rta.proofs.levels.flagged_lines.Goals as goal
-use Rattle.cop_rta.proofs.levels.flagged_lines.Goals.{then-above-k+in_ok-push, else-above-k}
+use Rattle.cop_rta.proofs.sums.flagged_lines.Goals as goal
+use Rattle.cop_rta.proofs.sums.flagged_lines.Goals.{then-above-k+in_ok-push, else-above-k}
 
 pub loop-k-preserved : goal.loop-k-preserved
 loop-k-preserved c = elim c.if-above-k.branch [

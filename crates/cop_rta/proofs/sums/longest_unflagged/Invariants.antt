@@ -1,7 +1,7 @@
 use Rattle.std.proofs.Common.{◌≡◌, ◌≤◌}
 use Rattle.cop_rta.specs.Sums.{max_where}
 use Rattle.cop_rta.specs.Levels.{of_line, is_unflagged}
-use Rattle.cop_rta.proofs.levels.longest_unflagged.Given as goal
+use Rattle.cop_rta.proofs.sums.longest_unflagged.Given as goal
 
 abbrev pub invariant-loop-k : goal.invariant-loop-k
 invariant-loop-k l = record {

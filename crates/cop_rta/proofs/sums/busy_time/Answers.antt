@@ -1,6 +1,6 @@
 use Rattle.std.proofs.Common.{arith}
 use Rattle.cop_rta.proofs.LevelLemmas.{sums_mono}
-use Rattle.cop_rta.proofs.levels.busy_time.Goals as goal
+use Rattle.cop_rta.proofs.sums.busy_time.Goals as goal
 
 pub loop-time-preserved : goal.loop-time-preserved
 loop-time-preserved c = record {

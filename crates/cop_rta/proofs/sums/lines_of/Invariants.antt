@@ -2,7 +2,7 @@ use Rattle.std.proofs.Common.{◌≡◌, ℕ, length, slice_get, Some}
 use Rattle.cop_rta.specs.declared.streams.Stream.{Stream}
 use Rattle.cop_rta.specs.declared.lines.Line.{Line}
 use Rattle.cop_rta.specs.Lines.{IsLineOf}
-use Rattle.cop_rta.proofs.levels.lines_of.Given as goal
+use Rattle.cop_rta.proofs.sums.lines_of.Given as goal
 
 abbrev pub invariant-loop-k : goal.invariant-loop-k
 invariant-loop-k l = record {

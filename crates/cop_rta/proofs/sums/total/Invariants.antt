@@ -1,6 +1,6 @@
 use Rattle.std.proofs.Common.{◌≡◌, ◌*◌, ◌^◌, ◌≤◌, take, sum_by}
 use Rattle.cop_rta.specs.Lines.{load_in}
-use Rattle.cop_rta.proofs.levels.total.Given as goal
+use Rattle.cop_rta.proofs.sums.total.Given as goal
 
 abbrev pub invariant-loop-line : goal.invariant-loop-line
 invariant-loop-line l = record {
