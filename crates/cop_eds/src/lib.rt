@@ -17,6 +17,7 @@ mod objects;
 mod rates;
 mod sections;
 mod text;
+mod tickets;
 
 pub use amount::{Amount, amount_of};
 pub use description::{Access, Description, Object, ObjectType};

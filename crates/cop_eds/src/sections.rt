@@ -16,26 +16,30 @@ use crate::index::{
 use crate::line::{Kind, Line, Place};
 use crate::lines::{lines_of, text_of};
 use crate::text::{is_comment, key_of, name_of, value_of};
+use crate::tickets::{Ticket, are_rising, find_ticket, next_ticket, scale_of, tickets_of};
 use std::alloc::{AllocError, Global};
 use std::marker::Model;
 
-/// The lines of a text and their index. Contracts see the text.
+/// The lines of a text and their index: the tickets, or where their numbers don't rise the entries. Contracts see the text.
 #[derive(Drop)]
 pub struct Sections<'a> {
     source: &'a [u8],
     lines: Vec<Line>,
+    scale: u64,
+    tickets: Vec<Ticket>,
+    is_rising: bool,
     entries: Vec<Entry<'a>>,
 }
 
 impl<'a> Model for Sections<'a> {
     ghost use Rattle.std.specs.Prelude.{ℕ, List};
-    ghost use Rattle.cop_eds.specs.Index.{IsIndexed};
+    ghost use Rattle.cop_eds.specs.Tickets.{IsIndexed};
 
     ghost Value = { List ℕ };
 
     ghost view = { λ s. s.source.now };
 
-    ghost invariant = { λ s. IsIndexed s.source.now s.lines.items s.entries.items };
+    ghost invariant = { λ s. IsIndexed s.source.now s.lines.items s.scale s.tickets.items s.is_rising s.entries.items };
 }
 
 fn place_at(found: (usize, Line)) -> Place
@@ -44,6 +48,14 @@ fn place_at(found: (usize, Line)) -> Place
     Place {
         line: found.0,
         section: found.1.section,
+    }
+}
+
+/// How many sections the lines begin.
+fn section_count(lines: &[Line]) -> usize {
+    match lines.last() {
+        Some(line) => line.section,
+        None => 0,
     }
 }
 
@@ -83,10 +95,20 @@ impl<'a> Sections<'a> {
         ensures { IfOk result (λ s. s ≡ source.now) }
     {
         let lines = lines_of(alloc, source)?;
-        let entries = index_of(alloc, source, &lines)?;
+        let scale = scale_of(section_count(&lines));
+        let tickets = tickets_of(alloc, source, &lines, scale)?;
+        let is_rising = are_rising(&tickets);
+        let entries = if is_rising {
+            Vec::new(alloc)
+        } else {
+            index_of(alloc, source, &lines)?
+        };
         Ok(Sections {
             source,
             lines,
+            scale,
+            tickets,
+            is_rising,
             entries,
         })
     }
@@ -109,7 +131,11 @@ impl<'a> Sections<'a> {
         ensures value { result ≡ first_from 1 (is_found_by self.now (sort_key key.now)) (lines_of self.now) }
         ensures within { IfSome result (λ found. IsWithin (length self.now) found.1) }
     {
-        find_in(&self.lines, &self.entries, key)
+        if self.is_rising {
+            find_ticket(self.source, &self.lines, self.scale, &self.tickets, key)
+        } else {
+            find_in(&self.lines, &self.entries, key)
+        }
     }
 
     /// The header of this name, and its number.
@@ -190,7 +216,9 @@ impl<'a> Sections<'a> {
     pub fn refusal(&self) -> Option<Refusal>
         ensures { result ≡ first_refusal self.now [] (lines_of self.now) }
     {
-        if are_apart(&self.entries) {
+        if self.is_rising {
+            first_alone(self.source, &self.lines)
+        } else if are_apart(&self.entries) {
             first_alone(self.source, &self.lines)
         } else {
             self.first_refusal()
@@ -217,7 +245,11 @@ impl<'a> Sections<'a> {
         ensures { MatchOption result ((c : ℕ) → code ≤ c → coded_place self.now c ≡ None)
             (λ next. (code ≤ next) × (is_some (coded_place self.now next) ≡ true) × ((c : ℕ) → code ≤ c → c < next → coded_place self.now c ≡ None)) }
     {
-        next_code(&self.entries, code)
+        if self.is_rising {
+            next_ticket(&self.tickets, code)
+        } else {
+            next_code(&self.entries, code)
+        }
     }
 
     /// The number of a key's line.

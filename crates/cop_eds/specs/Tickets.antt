@@ -1,0 +1,49 @@
+-- The lines that are found by a name, by numbers that stand for the names.
+use Rattle.std.specs.Prelude.{ℕ, Bool, true, false, ◌+◌, ◌-◌, ◌*◌, ◌/◌, ◌%◌, ◌^◌, ◌≤◌, ◌<◌, ◌≡◌, ◌==◌, if◌then◌else◌, List, [], ◌∷◌, length, Some, IsSome, slice_get, Contains}
+use Rattle.std.specs.List.{All, AllAdjacentBelow}
+use Rattle.std.specs.Option.{option_map}
+use Rattle.cop_eds.specs.declared.line.Line.{Line}
+use Rattle.cop_eds.specs.declared.tickets.Ticket.{Ticket}
+use Rattle.cop_eds.specs.Index.{line_key, IsIndex}
+use Rattle.cop_eds.specs.declared.entry.Entry.{Entry}
+use Rattle.cop_eds.specs.Lines.{lines_of, IsWithin}
+
+-- a number of 64 bits that the bytes of a name are mixed into
+unfoldable pub mixed : ℕ → List ℕ → ℕ
+mixed n [] = n
+mixed n (b ∷ bs) = mixed (((n + b) % 2 ^ 64 * 11400714819323198485) % 2 ^ 64) bs
+
+-- a number below 2^63 for a name; as long as that fits, the names of each place have a range of their own, above those of
+-- the places before it
+abbrev pub ranged : ℕ → ℕ → List ℕ → ℕ
+ranged scale place name = ((place * scale) % 2 ^ 64 + mixed 0 name % scale) % 2 ^ 64 / 2
+
+-- the number that stands for what a line is found by: that of an object's section is its own, and the others come after
+unfoldable pub word_of : ℕ → List ℕ → ℕ
+word_of scale [] = 0
+word_of scale (group ∷ []) = 0
+word_of scale (group ∷ code ∷ name) = if group == 0 then code else 2 ^ 63 + ranged scale ((code + group) % 2 ^ 64) name
+
+-- the ticket is that of a line
+abbrev pub IsTicket : List ℕ → List Line → ℕ → Ticket → Type 0
+IsTicket text lines scale ticket =
+    (1 ≤ ticket.line) × ((line : Line) × (slice_get lines (ticket.line - 1) ≡ Some line) × (option_map (word_of scale) (line_key text line) ≡ Some ticket.word))
+
+-- the tickets of exactly those lines that are found by a name
+pub record AreTickets (text : List ℕ) (lines : List Line) (scale : ℕ) (tickets : List Ticket) : Type 0 where
+  pub sound : All (IsTicket text lines scale) tickets
+  pub complete : (place : ℕ) (line : Line) → slice_get lines place ≡ Some line → IsSome (line_key text line) → (ticket : Ticket) × Contains tickets ticket × (ticket.line ≡ place + 1)
+
+-- each number is below the next, so no two lines have one
+abbrev pub AreRising : List Ticket → Type 0
+AreRising tickets = AllAdjacentBelow (λ ticket next. ticket.word < next.word) tickets (length tickets)
+
+-- the lines of a text, and their index: by numbers where these rise, and else by names
+pub record IsIndexed (text : List ℕ) (lines : List Line) (scale : ℕ) (tickets : List Ticket) (rising : Bool) (entries : List Entry) : Type 0 where
+  pub all : lines ≡ lines_of text
+  pub within : All (IsWithin (length text)) lines
+  pub size : length text < 2 ^ 62
+  pub positive : 0 < scale
+  pub ticketed : AreTickets text lines scale tickets
+  pub by_number : rising ≡ true → AreRising tickets
+  pub by_name : rising ≡ false → IsIndex text lines entries
