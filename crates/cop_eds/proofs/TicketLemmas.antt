@@ -1,18 +1,18 @@
 -- Lines that are found by the numbers of their names.
-use Rattle.std.proofs.Common.{◌≡◌, ℕ, zero, suc, ◌+◌, ◌-◌, ◌^◌, ◌<◌, ◌≤◌, Bool, true, false, cond, nat_lt, List, [], ◌∷◌, ◌++◌, length, take, get_or, slice_get, Contains, Option, Some, None, IsSome, is_some, refl, sym, ap, subst, ◌∙◌, arith, ⊎_elim}
-use Rattle.std.specs.List.{All}
-use Rattle.std.specs.List.Sorted.{IsNonDecreasingBy, IsPartitionedBy, IsPartitionPoint, IsPermutation}
+use Rattle.std.proofs.Common.{◌≡◌, ℕ, zero, suc, ◌+◌, ◌-◌, ◌^◌, ◌<◌, ◌≤◌, Bool, true, false, cond, nat_lt, nat_le, List, [], ◌∷◌, ◌++◌, length, take, get_or, slice_get, Contains, Option, Some, None, IsSome, is_some, refl, sym, ap, subst, ◌∙◌, arith, ⊎_elim}
+use Rattle.std.specs.List.{AllWithin, All}
+use Rattle.std.specs.List.Sorted.{IsNonDecreasingBy, IsPermutation}
 use Rattle.std.specs.Option.{option_map}
 use Rattle.std.proofs.lemmas.Slice.Eq.{bytes_eq-Decides}
 use Rattle.std.proofs.lemmas.Option.{get_or_from_slice_get, slice_get-get_or}
-use Rattle.std.proofs.lemmas.List.Sorted.{IsNonDecreasingBy-from_all_adjacent, IsPartitionedBy-ltb, All-permutation, Contains-permutation}
+use Rattle.std.proofs.lemmas.List.Sorted.{IsNonDecreasingBy-from_all_adjacent, All-permutation, Contains-permutation}
 use Rattle.std.proofs.lemmas.List.Elements.{All-append, Contains-append_left, Contains-append_right}
 use Rattle.std.proofs.lemmas.Bool.Decides.{nat_tests}
 use Rattle.cop_eds.specs.declared.line.Line.{Line}
 use Rattle.cop_eds.specs.declared.tickets.Ticket.{Ticket}
 use Rattle.cop_eds.specs.Lines.{first_from, broken}
 use Rattle.cop_eds.specs.Index.{line_key, has_key, is_found_by}
-use Rattle.cop_eds.specs.Tickets.{word_of, IsTicket, AreTickets, AreRising}
+use Rattle.cop_eds.specs.Tickets.{word_of, IsTicket, AreTickets, AreRising, Surround}
 use Rattle.cop_eds.proofs.IndexLemmas.{first_none, first_some, by_test, some_key, some_is, at_last, slice_get_below, some_first, none_so_far, alone_first}
 use Rattle.cop_eds.proofs.CodeLemmas.{found_small, small_found}
 
@@ -32,14 +32,29 @@ rises_far tickets i j d rising lt inside =
     let later : (get_or tickets (i + 1) d).word ≤ (get_or tickets j d).word = not_falling tickets rising (i + 1) j d (omega arith) inside in
     omega arith
 
-pub below_first : (tickets : List Ticket) (word : ℕ) → AreRising tickets → IsPartitionedBy (λ (t : Ticket). nat_lt t.word word) tickets
-below_first tickets word rising = IsPartitionedBy-ltb (λ (t : Ticket). t.word) tickets word (not_falling tickets rising)
+-- what the ticket at a place says of the tickets before it, or after it
+pub all_below : (tickets : List Ticket) (word i : ℕ) (d : Ticket) → AreRising tickets → i < length tickets → (get_or tickets i d).word < word
+    → AllWithin (λ (t : Ticket). t.word < word) tickets 0 (i + 1)
+all_below tickets word i d rising lt less k e low high =
+    let up : (get_or tickets k e).word ≤ (get_or tickets i e).word = not_falling tickets rising k i e (omega arith) lt in
+    let here : (get_or tickets i e).word ≡ (get_or tickets i d).word = ap (λ (x : Ticket). x.word) (get_or_same tickets i d e lt) in
+    omega arith
+
+pub all_above : (tickets : List Ticket) (word i : ℕ) (d : Ticket) → AreRising tickets → i < length tickets → word ≤ (get_or tickets i d).word
+    → AllWithin (λ (t : Ticket). word ≤ t.word) tickets i (length tickets)
+all_above tickets word i d rising lt le k e low high =
+    let up : (get_or tickets i e).word ≤ (get_or tickets k e).word = not_falling tickets rising i k e low high in
+    let here : (get_or tickets i e).word ≡ (get_or tickets i d).word = ap (λ (x : Ticket). x.word) (get_or_same tickets i d e lt) in
+    omega arith
 
 abbrev pub Parts : ℕ → List Ticket → ℕ → Type 0
-Parts word tickets i = IsPartitionPoint (λ (t : Ticket). nat_lt t.word word ≡ true) (λ (t : Ticket). nat_lt t.word word ≡ false) tickets i
+Parts word tickets i = Surround word tickets i i
 
-is_below : (a b : ℕ) → nat_lt a b ≡ true → a < b
+pub is_below : (a b : ℕ) → nat_lt a b ≡ true → a < b
 is_below a b e = grind (arith, nat_tests)
+
+pub is_at_most : (a b : ℕ) → nat_le a b ≡ true → a ≤ b
+is_at_most a b e = grind (arith, nat_tests)
 
 not_below : (a b : ℕ) → nat_lt a b ≡ false → b ≤ a
 not_below a b e = grind (arith, nat_tests)
@@ -51,8 +66,7 @@ at_or_after tickets word i t parts c le = by_order (nat_lt c.0 i) refl
     by_order : (b : Bool) → nat_lt c.0 i ≡ b → i ≤ c.0
     by_order true less =
         let lt : c.0 < i = is_below c.0 i less in
-        let below : nat_lt (get_or tickets c.0 t).word word ≡ true = parts.0 c.0 t (omega (arith, c.1)) lt in
-        let low : (get_or tickets c.0 t).word < word = is_below (get_or tickets c.0 t).word word below in
+        let low : (get_or tickets c.0 t).word < word = parts.0 c.0 t (omega arith) lt in
         let same : (get_or tickets c.0 t).word ≡ t.word = ap (λ (x : Ticket). x.word) c.2 in
         absurd (omega arith)
     by_order false ge = not_below c.0 i ge
@@ -73,7 +87,7 @@ pub not_there : (tickets : List Ticket) (word i : ℕ) (d t : Ticket) → AreRis
     → (i < length tickets → (get_or tickets i d).word ≡ word → ⊥) → Contains tickets t → t.word ≡ word → ⊥
 not_there tickets word i d t rising parts other c same =
     let least = place_least tickets word i t d rising parts c (omega arith) in
-    let above : word ≤ (get_or tickets i d).word = not_below (get_or tickets i d).word word (parts.1 i d (omega arith) least.0) in
+    let above : word ≤ (get_or tickets i d).word = parts.1 i d (omega arith) least.0 in
     other least.0 (omega (arith, least.1))
 
 -- two tickets of one number are one
@@ -186,6 +200,16 @@ by_line false text lines scale tickets key t d all rising c word passes =
     let at = slice_get-get_or lines (t.line - 1) d (omega (arith, within.0, within.1)) in
     other_key text lines scale tickets key t (get_or lines (t.line - 1) d) all rising c word at passes
 
+-- a line that a key finds is the first that it finds
+pub found_here : (text : List ℕ) (lines : List Line) (scale : ℕ) (tickets : List Ticket) (key : List ℕ) (p : ℕ) (x : Line) → AreTickets text lines scale tickets → AreRising tickets
+    → slice_get lines p ≡ Some x → is_found_by text key x ≡ true → first_from 1 (is_found_by text key) lines ≡ Some (p + 1, x)
+unfolding OwnTicket
+found_here text lines scale tickets key p x all rising at passes =
+    let own = own_ticket text lines scale tickets key all p x at passes in
+    let place : own.0.line - 1 ≡ p = omega (arith, own.2) in
+    its_line text lines scale tickets key own.0 x all rising own.1 own.3 (omega (arith, own.2)) (ap (slice_get lines) place ∙ at) passes
+    ∙ ap (λ n. Some (n, x)) own.2
+
 -- no two lines are found by one key, so each breaks a rule after the earlier ones exactly where it does alone
 pub alone_ticket : (text : List ℕ) (lines : List Line) (scale : ℕ) (tickets : List Ticket) (p : ℕ) (x : Line) → AreTickets text lines scale tickets → AreRising tickets
     → slice_get lines p ≡ Some x → broken text (take p lines) x ≡ broken text [] x
@@ -258,4 +282,4 @@ its_section text lines scale tickets code i d all parts lt small =
     let key : line_key text own.1.0 ≡ Some (0 ∷ t.word ∷ []) = small_found text own.1.0 scale t.word own.1.2 small in
     let passes : is_found_by text (0 ∷ t.word ∷ []) own.1.0 ≡ true =
     ap (λ o. has_key o (0 ∷ t.word ∷ [])) key ∙ (bytes_eq-Decides (0 ∷ t.word ∷ []) (0 ∷ t.word ∷ [])).1 refl in
-    (not_below t.word code (parts.1 i d (omega arith) lt), some_first 1 (is_found_by text (0 ∷ t.word ∷ [])) lines (t.line - 1) own.1.0 own.1.1 passes)
+    (parts.1 i d (omega arith) lt, some_first 1 (is_found_by text (0 ∷ t.word ∷ [])) lines (t.line - 1) own.1.0 own.1.1 passes)

@@ -1,6 +1,6 @@
 -- The lines that are found by a name, by numbers that stand for the names.
 use Rattle.std.specs.Prelude.{ℕ, Bool, true, false, ◌+◌, ◌-◌, ◌*◌, ◌/◌, ◌%◌, ◌^◌, ◌≤◌, ◌<◌, ◌≡◌, ◌==◌, if◌then◌else◌, List, [], ◌∷◌, length, Some, IsSome, slice_get, Contains}
-use Rattle.std.specs.List.{All, AllAdjacentBelow}
+use Rattle.std.specs.List.{All, AllAdjacentBelow, AllWithin}
 use Rattle.std.specs.Option.{option_map}
 use Rattle.cop_eds.specs.declared.line.Line.{Line}
 use Rattle.cop_eds.specs.declared.tickets.Ticket.{Ticket}
@@ -37,6 +37,11 @@ pub record AreTickets (text : List ℕ) (lines : List Line) (scale : ℕ) (ticke
 -- each number is below the next, so no two lines have one
 abbrev pub AreRising : List Ticket → Type 0
 AreRising tickets = AllAdjacentBelow (λ ticket next. ticket.word < next.word) tickets (length tickets)
+
+-- the tickets before the one place have numbers below this one, and those from the other place on have none
+abbrev pub Surround : ℕ → List Ticket → ℕ → ℕ → Type 0
+Surround word tickets low high =
+    AllWithin (λ ticket. ticket.word < word) tickets 0 low × AllWithin (λ ticket. word ≤ ticket.word) tickets high (length tickets)
 
 -- the lines of a text, and their index: by numbers where these rise, and else by names
 pub record IsIndexed (text : List ℕ) (lines : List Line) (scale : ℕ) (tickets : List Ticket) (rising : Bool) (entries : List Entry) : Type 0 where

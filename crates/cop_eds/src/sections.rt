@@ -11,12 +11,16 @@ ghost use Rattle.cop_eds.specs.Index.{sort_key, is_found_by};
 use crate::entry::Entry;
 use crate::fault::{Refusal, Rule};
 use crate::index::{
-    are_apart, coded_entry, find_in, header_entry, index_of, next_code, pair_entry,
+    are_apart, coded_entry, find_in, has_key, header_entry, index_of, line_entry, next_code,
+    pair_entry,
 };
 use crate::line::{Kind, Line, Place};
 use crate::lines::{lines_of, text_of};
 use crate::text::{is_comment, key_of, name_of, value_of};
-use crate::tickets::{Ticket, are_rising, find_ticket, next_ticket, scale_of, tickets_of};
+use crate::tickets::{
+    Ticket, are_rising, find_ticket, next_ticket, places_of, scale_of, section_count, starts_of,
+    tickets_of,
+};
 use std::alloc::{AllocError, Global};
 use std::marker::Model;
 
@@ -27,6 +31,7 @@ pub struct Sections<'a> {
     lines: Vec<Line>,
     scale: u64,
     tickets: Vec<Ticket>,
+    starts: Vec<usize>,
     is_rising: bool,
     entries: Vec<Entry<'a>>,
 }
@@ -48,14 +53,6 @@ fn place_at(found: (usize, Line)) -> Place
     Place {
         line: found.0,
         section: found.1.section,
-    }
-}
-
-/// How many sections the lines begin.
-fn section_count(lines: &[Line]) -> usize {
-    match lines.last() {
-        Some(line) => line.section,
-        None => 0,
     }
 }
 
@@ -97,6 +94,7 @@ impl<'a> Sections<'a> {
         let lines = lines_of(alloc, source)?;
         let scale = scale_of(section_count(&lines));
         let tickets = tickets_of(alloc, source, &lines, scale)?;
+        let starts = starts_of(alloc, &lines)?;
         let is_rising = are_rising(&tickets);
         let entries = if is_rising {
             Vec::new(alloc)
@@ -108,6 +106,7 @@ impl<'a> Sections<'a> {
             lines,
             scale,
             tickets,
+            starts,
             is_rising,
             entries,
         })
@@ -132,7 +131,15 @@ impl<'a> Sections<'a> {
         ensures within { IfSome result (λ found. IsWithin (length self.now) found.1) }
     {
         if self.is_rising {
-            find_ticket(self.source, &self.lines, self.scale, &self.tickets, key)
+            let near = places_of(&self.starts, key);
+            find_ticket(
+                self.source,
+                &self.lines,
+                self.scale,
+                &self.tickets,
+                near,
+                key,
+            )
         } else {
             find_in(&self.lines, &self.entries, key)
         }
@@ -246,7 +253,8 @@ impl<'a> Sections<'a> {
             (λ next. (code ≤ next) × (is_some (coded_place self.now next) ≡ true) × ((c : ℕ) → code ≤ c → c < next → coded_place self.now c ≡ None)) }
     {
         if self.is_rising {
-            next_ticket(&self.tickets, code)
+            let near = places_of(&self.starts, &coded_entry(code));
+            next_ticket(&self.tickets, near, code)
         } else {
             next_code(&self.entries, code)
         }
@@ -259,15 +267,50 @@ impl<'a> Sections<'a> {
         self.keyed(section, key).map(|(number, _)| number)
     }
 
-    /// The line and the value of a key in a section.
-    pub fn entry(&self, section: usize, key: &[u8]) -> Option<(usize, &'a [u8])>
-        ensures { option_map (λ p. (p.0, p.1.now)) result ≡ entry_of self.now section key.now }
+    /// The line of a key in a section, and its number. The line at this place is looked at first.
+    fn keyed_near(&self, near: usize, section: usize, key: &[u8]) -> Option<(usize, Line)>
+        ensures value { result ≡ keyed_line self.now section key.now }
+        ensures within { IfSome result (λ found. IsWithin (length self.now) found.1) }
     {
-        let (number, line) = self.keyed(section, key)?;
+        let lines = self.lines();
+        if !self.is_rising || near >= lines.len() {
+            return self.keyed(section, key);
+        }
+        let line = lines[near];
+        let Some(entry) = line_entry(self.source, &line) else {
+            return self.keyed(section, key);
+        };
+        if has_key(&entry, &pair_entry(section, key)) {
+            Some((near + 1, line))
+        } else {
+            self.keyed(section, key)
+        }
+    }
+
+    /// The line and the value of a pair, where the value is not empty.
+    fn valued(&self, found: Option<(usize, Line)>) -> Option<(usize, &'a [u8])>
+        requires { IfSome found (λ found. IsWithin (length self.now) found.1) }
+        ensures { option_map (λ p. (p.0, p.1.now)) result ≡ option_and_then (some_value self.now) found }
+    {
+        let (number, line) = found?;
         let value = value_of(text_of(self.source, &line));
         if value.is_empty() {
             return None;
         }
         Some((number, value))
+    }
+
+    /// The line and the value of a key in a section.
+    pub fn entry(&self, section: usize, key: &[u8]) -> Option<(usize, &'a [u8])>
+        ensures { option_map (λ p. (p.0, p.1.now)) result ≡ entry_of self.now section key.now }
+    {
+        self.valued(self.keyed(section, key))
+    }
+
+    /// The same; the line at this place is looked at first.
+    pub fn entry_near(&self, near: usize, section: usize, key: &[u8]) -> Option<(usize, &'a [u8])>
+        ensures { option_map (λ p. (p.0, p.1.now)) result ≡ entry_of self.now section key.now }
+    {
+        self.valued(self.keyed_near(near, section, key))
     }
 }

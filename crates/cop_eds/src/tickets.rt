@@ -1,18 +1,17 @@
 //! Tickets: the lines that are found by a name, by numbers that stand for the names. Where no two lines have one number,
 //! a line is found with no look at other lines' names.
 
-ghost use Rattle.std.specs.Prelude.{◌≡◌, ◌↔◌, ◌<◌, ◌≤◌, ◌+◌, ◌-◌, ◌∷◌, [], ℕ, List, length, true, false, IfOk, is_some, nat_lt, MatchOption, Some, None, slice_get, Contains};
-ghost use Rattle.std.specs.List.{All};
-ghost use Rattle.std.specs.List.Sorted.{IsPartitionPoint};
+ghost use Rattle.std.specs.Prelude.{◌≡◌, ◌↔◌, ◌<◌, ◌≤◌, ◌+◌, ◌-◌, ◌∷◌, [], ℕ, List, length, true, false, IfOk, is_some, MatchOption, Some, None, slice_get, Contains};
+ghost use Rattle.std.specs.List.{All, AllWithin};
 ghost use Rattle.std.specs.Str.{str_to_ascii_lowercase};
 ghost use Rattle.cop_eds.specs.declared.line.Line.{Line};
 ghost use Rattle.cop_eds.specs.Lines.{IsWithin, first_from};
 ghost use Rattle.cop_eds.specs.Index.{sort_key, is_found_by};
-ghost use Rattle.cop_eds.specs.Tickets.{mixed, word_of, AreTickets, AreRising};
+ghost use Rattle.cop_eds.specs.Tickets.{mixed, word_of, AreTickets, AreRising, Surround};
 
 use crate::entry::Entry;
 use crate::index::{has_key, line_entry};
-use crate::line::Line;
+use crate::line::{Kind, Line};
 use std::alloc::{AllocError, Global};
 
 /// The least number of a name that is none of an object's section.
@@ -89,6 +88,43 @@ pub fn tickets_of(
     Ok(tickets)
 }
 
+/// How many sections the lines begin.
+pub fn section_count(lines: &[Line]) -> usize {
+    match lines.last() {
+        Some(line) => line.section,
+        None => 0,
+    }
+}
+
+/// Where the tickets of each section's keys begin, the keys before the first section among them, and where the last
+/// end: they follow those of the headers, in the order of the sections.
+pub fn starts_of(alloc: Global, lines: &[Line]) -> Result<Vec<usize>, AllocError> {
+    let mut starts = Vec::new(alloc);
+    let mut count = section_count(lines);
+    starts.push(count)?;
+    for line in lines {
+        match line.kind {
+            Kind::Header => starts.push(count)?,
+            Kind::Pair => count = count.saturating_add(1),
+            Kind::Other => {}
+        }
+    }
+    starts.push(count)?;
+    Ok(starts)
+}
+
+/// The places that a key's ticket stands between. Searches begin there: a wrong place costs time alone.
+pub fn places_of(starts: &[usize], key: &Entry<'_>) -> (usize, usize) {
+    if key.group != 2 {
+        return (0, starts.first().copied().unwrap_or(0));
+    }
+    let section = key.code as usize;
+    match (starts.get(section), starts.get(section.saturating_add(1))) {
+        (Some(low), Some(high)) => (*low, *high),
+        _ => (0, 0),
+    }
+}
+
 /// Whether each number is below the next.
 pub fn are_rising(tickets: &[Ticket]) -> bool
     ensures { result ≡ true ↔ AreRising tickets.now }
@@ -101,18 +137,70 @@ pub fn are_rising(tickets: &[Ticket]) -> bool
     true
 }
 
-/// How many tickets stand before a number.
-fn count_below(tickets: &[Ticket], word: u64) -> usize
-    ensures { AreRising tickets.now → IsPartitionPoint (λ ticket. nat_lt ticket.word word ≡ true) (λ ticket. nat_lt ticket.word word ≡ false) tickets.now result }
+/// Whether all tickets before a place have numbers below this one.
+fn are_below(tickets: &[Ticket], place: usize, word: u64) -> bool
+    requires { AreRising tickets.now }
+    ensures { result ≡ true → AllWithin (λ ticket. ticket.word < word) tickets.now 0 place }
 {
-    tickets.partition_point(|ticket| ticket.word < word)
+    if place == 0 {
+        return true;
+    }
+    place <= tickets.len() && tickets[place - 1].word < word
+}
+
+/// Whether no ticket from a place on has a number below this one.
+fn are_above(tickets: &[Ticket], place: usize, word: u64) -> bool
+    requires { AreRising tickets.now }
+    ensures { result ≡ true → AllWithin (λ ticket. word ≤ ticket.word) tickets.now place (length tickets.now) }
+{
+    if place >= tickets.len() {
+        return true;
+    }
+    tickets[place].word >= word
+}
+
+/// How many tickets stand before a number, which lies between two places.
+fn count_between(tickets: &[Ticket], from: usize, to: usize, word: u64) -> usize
+    requires order { (from ≤ to) × (to ≤ length tickets.now) }
+    requires around { Surround word tickets.now from to }
+    requires rising { AreRising tickets.now }
+    ensures { Surround word tickets.now result result }
+{
+    let mut low = from;
+    let mut high = to;
+    while low < high {
+        let middle = low + (high - low) / 2;
+        if tickets[middle].word < word {
+            low = middle + 1;
+        } else {
+            high = middle;
+        }
+    }
+    low
+}
+
+/// How many tickets stand before a number. It is looked for between the two places first.
+fn count_below(tickets: &[Ticket], near: (usize, usize), word: u64) -> usize
+    requires rising { AreRising tickets.now }
+    ensures { Surround word tickets.now result result }
+{
+    let (low, high) = near;
+    if low > high || high > tickets.len() {
+        return count_between(tickets, 0, tickets.len(), word);
+    }
+    if are_below(tickets, low, word) && are_above(tickets, high, word) {
+        count_between(tickets, low, high, word)
+    } else {
+        count_between(tickets, 0, tickets.len(), word)
+    }
 }
 
 /// The ticket of a number.
-fn ticket_with(tickets: &[Ticket], word: u64) -> Option<Ticket>
-    ensures { AreRising tickets.now → MatchOption result ((ticket : Ticket) → Contains tickets.now ticket → ticket.word ≡ word → ⊥) (λ ticket. Contains tickets.now ticket × (ticket.word ≡ word)) }
+fn ticket_with(tickets: &[Ticket], near: (usize, usize), word: u64) -> Option<Ticket>
+    requires rising { AreRising tickets.now }
+    ensures { MatchOption result ((ticket : Ticket) → Contains tickets.now ticket → ticket.word ≡ word → ⊥) (λ ticket. Contains tickets.now ticket × (ticket.word ≡ word)) }
 {
-    let place = count_below(tickets, word);
+    let place = count_below(tickets, near, word);
     if place >= tickets.len() {
         return None;
     }
@@ -124,12 +212,13 @@ fn ticket_with(tickets: &[Ticket], word: u64) -> Option<Ticket>
     }
 }
 
-/// The line that a key finds, and its number.
+/// The line that a key finds, and its number. It is looked for between the two places first.
 pub fn find_ticket(
     source: &[u8],
     lines: &[Line],
     scale: u64,
     tickets: &[Ticket],
+    near: (usize, usize),
     key: &Entry<'_>,
 ) -> Option<(usize, Line)>
     requires within { All (IsWithin (length source.now)) lines.now }
@@ -138,7 +227,7 @@ pub fn find_ticket(
     requires rising { AreRising tickets.now }
     ensures { result ≡ first_from 1 (is_found_by source.now (sort_key key.now)) lines.now }
 {
-    let ticket = ticket_with(tickets, word_of(scale, key))?;
+    let ticket = ticket_with(tickets, near, word_of(scale, key))?;
     if ticket.line == 0 || ticket.line > lines.len() {
         return None;
     }
@@ -151,14 +240,15 @@ pub fn find_ticket(
     }
 }
 
-/// The number of the first object's section from a number on.
-pub fn next_ticket(tickets: &[Ticket], code: u64) -> Option<u64>
-    ensures { (text : List ℕ) (lines : List Line) (scale : ℕ) → AreTickets text lines scale tickets.now → AreRising tickets.now → MatchOption result
+/// The number of the first object's section from a number on. It is looked for between the two places first.
+pub fn next_ticket(tickets: &[Ticket], near: (usize, usize), code: u64) -> Option<u64>
+    requires rising { AreRising tickets.now }
+    ensures { (text : List ℕ) (lines : List Line) (scale : ℕ) → AreTickets text lines scale tickets.now → MatchOption result
         ((c : ℕ) → code ≤ c → first_from 1 (is_found_by text (0 ∷ c ∷ [])) lines ≡ None)
         (λ next. (code ≤ next) × (is_some (first_from 1 (is_found_by text (0 ∷ next ∷ [])) lines) ≡ true)
         × ((c : ℕ) → code ≤ c → c < next → first_from 1 (is_found_by text (0 ∷ c ∷ [])) lines ≡ None)) }
 {
-    let place = count_below(tickets, code);
+    let place = count_below(tickets, near, code);
     if place >= tickets.len() {
         return None;
     }
