@@ -68,26 +68,26 @@ found_small text line c e = by_kind line.kind (code_of (name_of (text_of text li
 upper : (x : ℕ) → 2 ^ 63 ≤ 2 ^ 63 + x
 upper x = omega arith
 
-named_large : (scale : ℕ) (name : List ℕ) → 2 ^ 63 ≤ word_of scale (1 ∷ 0 ∷ name)
+named_large : (bits : ℕ) (name : List ℕ) → 2 ^ 63 ≤ word_of bits (1 ∷ 0 ∷ name)
 unfolding word_of
-named_large scale name = upper (ranged scale ((0 + 1) % 2 ^ 64) name)
+named_large bits name = upper (ranged bits ((0 + 1) % 2 ^ 64) name)
 
-keyed_large : (scale section : ℕ) (name : List ℕ) → 2 ^ 63 ≤ word_of scale (2 ∷ section ∷ name)
+keyed_large : (bits section : ℕ) (name : List ℕ) → 2 ^ 63 ≤ word_of bits (2 ∷ section ∷ name)
 unfolding word_of
-keyed_large scale section name = upper (ranged scale ((section + 2) % 2 ^ 64) name)
+keyed_large bits section name = upper (ranged bits ((section + 2) % 2 ^ 64) name)
 
-own_word : (scale code w : ℕ) → Some (word_of scale (0 ∷ code ∷ [])) ≡ Some w → code ≡ w
+own_word : (bits code w : ℕ) → Some (word_of bits (0 ∷ code ∷ [])) ≡ Some w → code ≡ w
 unfolding word_of
-own_word scale code w e = some_is e
+own_word bits code w e = some_is e
 
 -- and a line whose number is small is found as an object's section
-pub small_found : (text : List ℕ) (line : Line) (scale w : ℕ) → option_map (word_of scale) (line_key text line) ≡ Some w → w < 2 ^ 63
+pub small_found : (text : List ℕ) (line : Line) (bits w : ℕ) → option_map (word_of bits) (line_key text line) ≡ Some w → w < 2 ^ 63
     → line_key text line ≡ Some (0 ∷ w ∷ [])
-small_found text line scale w e small = by_kind line.kind (code_of (name_of (text_of text line))) (name_of (text_of text line)) (key_of (text_of text line)) line.section e
+small_found text line bits w e small = by_kind line.kind (code_of (name_of (text_of text line))) (name_of (text_of text line)) (key_of (text_of text line)) line.section e
   where
-    by_kind : (kind : Kind) (m : Option ℕ) (a k : List ℕ) (s : ℕ) → option_map (word_of scale) (of_kind kind (named_key m a) (pair_key s k)) ≡ Some w
+    by_kind : (kind : Kind) (m : Option ℕ) (a k : List ℕ) (s : ℕ) → option_map (word_of bits) (of_kind kind (named_key m a) (pair_key s k)) ≡ Some w
         → of_kind kind (named_key m a) (pair_key s k) ≡ Some (0 ∷ w ∷ [])
     by_kind Other m a k s f = cc
-    by_kind Header (Some n) a k s f = ap (λ c. Some (0 ∷ c ∷ [])) (own_word scale n w f)
-    by_kind Header None a k s f = absurd (omega (arith, some_is f, named_large scale (str_to_ascii_lowercase a)))
-    by_kind Pair m a k s f = absurd (omega (arith, some_is f, keyed_large scale s (str_to_ascii_lowercase k)))
+    by_kind Header (Some n) a k s f = ap (λ c. Some (0 ∷ c ∷ [])) (own_word bits n w f)
+    by_kind Header None a k s f = absurd (omega (arith, some_is f, named_large bits (str_to_ascii_lowercase a)))
+    by_kind Pair m a k s f = absurd (omega (arith, some_is f, keyed_large bits s (str_to_ascii_lowercase k)))

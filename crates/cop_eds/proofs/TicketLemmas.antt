@@ -121,103 +121,103 @@ found_key None key e = cc
 found_key (Some found) key e = ap (λ k. Some k) ((bytes_eq-Decides found key).0 e)
 
 -- a line that a key finds has a ticket with the key's number
-own_ticket : (text : List ℕ) (lines : List Line) (scale : ℕ) (tickets : List Ticket) (key : List ℕ) → AreTickets text lines scale tickets
-    → (p : ℕ) (line : Line) → slice_get lines p ≡ Some line → is_found_by text key line ≡ true → OwnTicket tickets (p + 1) (word_of scale key)
+own_ticket : (text : List ℕ) (lines : List Line) (bits : ℕ) (tickets : List Ticket) (key : List ℕ) → AreTickets text lines bits tickets
+    → (p : ℕ) (line : Line) → slice_get lines p ≡ Some line → is_found_by text key line ≡ true → OwnTicket tickets (p + 1) (word_of bits key)
 unfolding OwnTicket
-own_ticket text lines scale tickets key all p line at found =
+own_ticket text lines bits tickets key all p line at found =
     let some = all.complete p line at (some_key (line_key text line) key found) in
     let t = some.0 in
-    let sound : IsTicket text lines scale (get_or tickets some.1.0 t) = all.sound some.1.0 t some.1.1 in
-    let own : IsTicket text lines scale t = subst (IsTicket text lines scale) some.1.2 sound in
+    let sound : IsTicket text lines bits (get_or tickets some.1.0 t) = all.sound some.1.0 t some.1.1 in
+    let own : IsTicket text lines bits t = subst (IsTicket text lines bits) some.1.2 sound in
     let place : t.line - 1 ≡ p = omega (arith, some.2) in
     let same : own.1.0 ≡ line = some_is (sym own.1.1 ∙ ap (slice_get lines) place ∙ at) in
     let key_is : line_key text own.1.0 ≡ Some key = ap (line_key text) same ∙ found_key (line_key text line) key found in
-    let word : Some t.word ≡ Some (word_of scale key) = sym own.1.2 ∙ ap (option_map (word_of scale)) key_is in
+    let word : Some t.word ≡ Some (word_of bits key) = sym own.1.2 ∙ ap (option_map (word_of bits)) key_is in
     (t, (some.1.0, some.1.1, some.1.2), some.2, some_is word)
 
 -- a line that a key finds is that of the ticket with the key's number
-pub only_line : (text : List ℕ) (lines : List Line) (scale : ℕ) (tickets : List Ticket) (key : List ℕ) (t : Ticket)
-    → AreTickets text lines scale tickets → AreRising tickets → Contains tickets t → t.word ≡ word_of scale key
+pub only_line : (text : List ℕ) (lines : List Line) (bits : ℕ) (tickets : List Ticket) (key : List ℕ) (t : Ticket)
+    → AreTickets text lines bits tickets → AreRising tickets → Contains tickets t → t.word ≡ word_of bits key
     → (q : ℕ) (y : Line) → slice_get lines q ≡ Some y → is_found_by text key y ≡ true → q + 1 ≡ t.line
 unfolding OwnTicket
-only_line text lines scale tickets key t all rising c word q y at found =
-    let own = own_ticket text lines scale tickets key all q y at found in
+only_line text lines bits tickets key t all rising c word q y at found =
+    let own = own_ticket text lines bits tickets key all q y at found in
     let same : own.0 ≡ t = one_ticket tickets own.0 t rising own.1 c (own.3 ∙ sym word) in
     sym own.2 ∙ ap (λ (x : Ticket). x.line) same
 
 -- with no ticket of the key's number the key finds no line
-pub no_ticket : (text : List ℕ) (lines : List Line) (scale : ℕ) (tickets : List Ticket) (key : List ℕ) → AreTickets text lines scale tickets
-    → ((t : Ticket) → Contains tickets t → t.word ≡ word_of scale key → ⊥) → first_from 1 (is_found_by text key) lines ≡ None
+pub no_ticket : (text : List ℕ) (lines : List Line) (bits : ℕ) (tickets : List Ticket) (key : List ℕ) → AreTickets text lines bits tickets
+    → ((t : Ticket) → Contains tickets t → t.word ≡ word_of bits key → ⊥) → first_from 1 (is_found_by text key) lines ≡ None
 unfolding OwnTicket
-no_ticket text lines scale tickets key all none =
+no_ticket text lines bits tickets key all none =
     first_none 1 (is_found_by text key) lines (λ q y at. by_test (is_found_by text key y) (λ h.
-    let own = own_ticket text lines scale tickets key all q y at h in
+    let own = own_ticket text lines bits tickets key all q y at h in
     none own.0 own.1 own.3))
 
 -- where the ticket's line has another key, the key finds no line
-pub other_key : (text : List ℕ) (lines : List Line) (scale : ℕ) (tickets : List Ticket) (key : List ℕ) (t : Ticket) (line : Line)
-    → AreTickets text lines scale tickets → AreRising tickets → Contains tickets t → t.word ≡ word_of scale key
+pub other_key : (text : List ℕ) (lines : List Line) (bits : ℕ) (tickets : List Ticket) (key : List ℕ) (t : Ticket) (line : Line)
+    → AreTickets text lines bits tickets → AreRising tickets → Contains tickets t → t.word ≡ word_of bits key
     → slice_get lines (t.line - 1) ≡ Some line → is_found_by text key line ≡ false → first_from 1 (is_found_by text key) lines ≡ None
-other_key text lines scale tickets key t line all rising c word at other =
+other_key text lines bits tickets key t line all rising c word at other =
     first_none 1 (is_found_by text key) lines (λ q y at_q. by_test (is_found_by text key y) (λ h.
-    let number : q + 1 ≡ t.line = only_line text lines scale tickets key t all rising c word q y at_q h in
+    let number : q + 1 ≡ t.line = only_line text lines bits tickets key t all rising c word q y at_q h in
     let place : q ≡ t.line - 1 = omega arith in
     let same : y ≡ line = some_is (sym at_q ∙ ap (slice_get lines) place ∙ at) in
     let none : false ≡ true = sym other ∙ ap (is_found_by text key) (sym same) ∙ h in
     cc))
 
 -- and else it finds that line
-pub its_line : (text : List ℕ) (lines : List Line) (scale : ℕ) (tickets : List Ticket) (key : List ℕ) (t : Ticket) (line : Line)
-    → AreTickets text lines scale tickets → AreRising tickets → Contains tickets t → t.word ≡ word_of scale key → 1 ≤ t.line
+pub its_line : (text : List ℕ) (lines : List Line) (bits : ℕ) (tickets : List Ticket) (key : List ℕ) (t : Ticket) (line : Line)
+    → AreTickets text lines bits tickets → AreRising tickets → Contains tickets t → t.word ≡ word_of bits key → 1 ≤ t.line
     → slice_get lines (t.line - 1) ≡ Some line → is_found_by text key line ≡ true → first_from 1 (is_found_by text key) lines ≡ Some (t.line, line)
-its_line text lines scale tickets key t line all rising c word positive at found =
+its_line text lines bits tickets key t line all rising c word positive at found =
     let number : 1 + (t.line - 1) ≡ t.line = omega arith in
     let earlier : (q : ℕ) (y : Line) → q < t.line - 1 → slice_get lines q ≡ Some y → is_found_by text key y ≡ false =
     λ q y less at_q. by_test (is_found_by text key y) (λ h.
-    let same : q + 1 ≡ t.line = only_line text lines scale tickets key t all rising c word q y at_q h in
+    let same : q + 1 ≡ t.line = only_line text lines bits tickets key t all rising c word q y at_q h in
     absurd (omega arith)) in
     first_some 1 (is_found_by text key) lines (t.line - 1) line at found earlier ∙ ap (λ n. Some (n, line)) number
 
 -- a ticket's line is one of the lines
-pub ticket_within : (text : List ℕ) (lines : List Line) (scale : ℕ) (tickets : List Ticket) (t : Ticket) → AreTickets text lines scale tickets → Contains tickets t
+pub ticket_within : (text : List ℕ) (lines : List Line) (bits : ℕ) (tickets : List Ticket) (t : Ticket) → AreTickets text lines bits tickets → Contains tickets t
     → (1 ≤ t.line) × (t.line ≤ length lines)
-ticket_within text lines scale tickets t all c =
-    let sound : IsTicket text lines scale (get_or tickets c.0 t) = all.sound c.0 t c.1 in
-    let own : IsTicket text lines scale t = subst (IsTicket text lines scale) c.2 sound in
+ticket_within text lines bits tickets t all c =
+    let sound : IsTicket text lines bits (get_or tickets c.0 t) = all.sound c.0 t c.1 in
+    let own : IsTicket text lines bits t = subst (IsTicket text lines bits) c.2 sound in
     (own.0, omega (arith, slice_get_below lines (t.line - 1) own.1.0 own.1.1))
 
 -- what a key finds, by the line of the ticket with the key's number
-pub by_line : (b : Bool) (text : List ℕ) (lines : List Line) (scale : ℕ) (tickets : List Ticket) (key : List ℕ) (t : Ticket) (d : Line)
-    → AreTickets text lines scale tickets → AreRising tickets → Contains tickets t → t.word ≡ word_of scale key
+pub by_line : (b : Bool) (text : List ℕ) (lines : List Line) (bits : ℕ) (tickets : List Ticket) (key : List ℕ) (t : Ticket) (d : Line)
+    → AreTickets text lines bits tickets → AreRising tickets → Contains tickets t → t.word ≡ word_of bits key
     → is_found_by text key (get_or lines (t.line - 1) d) ≡ b
     → first_from 1 (is_found_by text key) lines ≡ cond b (Some (t.line, get_or lines (t.line - 1) d)) None
-by_line true text lines scale tickets key t d all rising c word passes =
-    let within = ticket_within text lines scale tickets t all c in
+by_line true text lines bits tickets key t d all rising c word passes =
+    let within = ticket_within text lines bits tickets t all c in
     let at = slice_get-get_or lines (t.line - 1) d (omega (arith, within.0, within.1)) in
-    its_line text lines scale tickets key t (get_or lines (t.line - 1) d) all rising c word within.0 at passes
-by_line false text lines scale tickets key t d all rising c word passes =
-    let within = ticket_within text lines scale tickets t all c in
+    its_line text lines bits tickets key t (get_or lines (t.line - 1) d) all rising c word within.0 at passes
+by_line false text lines bits tickets key t d all rising c word passes =
+    let within = ticket_within text lines bits tickets t all c in
     let at = slice_get-get_or lines (t.line - 1) d (omega (arith, within.0, within.1)) in
-    other_key text lines scale tickets key t (get_or lines (t.line - 1) d) all rising c word at passes
+    other_key text lines bits tickets key t (get_or lines (t.line - 1) d) all rising c word at passes
 
 -- a line that a key finds is the first that it finds
-pub found_here : (text : List ℕ) (lines : List Line) (scale : ℕ) (tickets : List Ticket) (key : List ℕ) (p : ℕ) (x : Line) → AreTickets text lines scale tickets → AreRising tickets
+pub found_here : (text : List ℕ) (lines : List Line) (bits : ℕ) (tickets : List Ticket) (key : List ℕ) (p : ℕ) (x : Line) → AreTickets text lines bits tickets → AreRising tickets
     → slice_get lines p ≡ Some x → is_found_by text key x ≡ true → first_from 1 (is_found_by text key) lines ≡ Some (p + 1, x)
 unfolding OwnTicket
-found_here text lines scale tickets key p x all rising at passes =
-    let own = own_ticket text lines scale tickets key all p x at passes in
+found_here text lines bits tickets key p x all rising at passes =
+    let own = own_ticket text lines bits tickets key all p x at passes in
     let place : own.0.line - 1 ≡ p = omega (arith, own.2) in
-    its_line text lines scale tickets key own.0 x all rising own.1 own.3 (omega (arith, own.2)) (ap (slice_get lines) place ∙ at) passes
+    its_line text lines bits tickets key own.0 x all rising own.1 own.3 (omega (arith, own.2)) (ap (slice_get lines) place ∙ at) passes
     ∙ ap (λ n. Some (n, x)) own.2
 
 -- no two lines are found by one key, so each breaks a rule after the earlier ones exactly where it does alone
-pub alone_ticket : (text : List ℕ) (lines : List Line) (scale : ℕ) (tickets : List Ticket) (p : ℕ) (x : Line) → AreTickets text lines scale tickets → AreRising tickets
+pub alone_ticket : (text : List ℕ) (lines : List Line) (bits : ℕ) (tickets : List Ticket) (p : ℕ) (x : Line) → AreTickets text lines bits tickets → AreRising tickets
     → slice_get lines p ≡ Some x → broken text (take p lines) x ≡ broken text [] x
 unfolding OwnTicket
-alone_ticket text lines scale tickets p x all rising at = alone_first text lines p x (λ key passes.
-    let own = own_ticket text lines scale tickets key all p x at passes in
+alone_ticket text lines bits tickets p x all rising at = alone_first text lines p x (λ key passes.
+    let own = own_ticket text lines bits tickets key all p x at passes in
     none_so_far (is_found_by text key) lines p x at passes (λ q y less at_q. by_test (is_found_by text key y) (λ h.
-    let same : q + 1 ≡ own.0.line = only_line text lines scale tickets key own.0 all rising own.1 own.3 q y at_q h in
+    let same : q + 1 ≡ own.0.line = only_line text lines bits tickets key own.0 all rising own.1 own.3 q y at_q h in
     absurd (omega (arith, own.2)))))
 
 -- the tickets of the lines so far
@@ -230,15 +230,15 @@ all_one_by : (P : Ticket → Type 0) (t : Ticket) → P t → (k : ℕ) (d : Tic
 all_one_by P t h zero d lt = h
 all_one_by P t h (suc k) d lt = absurd (omega arith)
 
-pub sound_push : (text : List ℕ) (lines : List Line) (scale : ℕ) (tickets : List Ticket) (i word : ℕ) (d : Line) (key : List ℕ) → i < length lines
-    → line_key text (get_or lines i d) ≡ Some key → word ≡ word_of scale key
-    → All (IsTicket text lines scale) tickets → All (IsTicket text lines scale) (tickets ++ record { word = word; line = i + 1 } ∷ [])
-sound_push text lines scale tickets i word d key lt its_key its_word so_far =
+pub sound_push : (text : List ℕ) (lines : List Line) (bits : ℕ) (tickets : List Ticket) (i word : ℕ) (d : Line) (key : List ℕ) → i < length lines
+    → line_key text (get_or lines i d) ≡ Some key → word ≡ word_of bits key
+    → All (IsTicket text lines bits) tickets → All (IsTicket text lines bits) (tickets ++ record { word = word; line = i + 1 } ∷ [])
+sound_push text lines bits tickets i word d key lt its_key its_word so_far =
     let t : Ticket = record { word = word; line = i + 1 } in
     let place : i ≡ t.line - 1 = omega arith in
     let at : slice_get lines (t.line - 1) ≡ Some (get_or lines i d) = ap (slice_get lines) (sym place) ∙ slice_get-get_or lines i d lt in
-    let own : IsTicket text lines scale t = (omega arith, (get_or lines i d, at, ap (option_map (word_of scale)) its_key ∙ ap (λ w. Some w) (sym its_word))) in
-    All-append (IsTicket text lines scale) tickets (t ∷ []) so_far (all_one_by (IsTicket text lines scale) t own)
+    let own : IsTicket text lines bits t = (omega arith, (get_or lines i d, at, ap (option_map (word_of bits)) its_key ∙ ap (λ w. Some w) (sym its_word))) in
+    All-append (IsTicket text lines bits) tickets (t ∷ []) so_far (all_one_by (IsTicket text lines bits) t own)
 
 pub complete_push : (text : List ℕ) (lines : List Line) (tickets : List Ticket) (i : ℕ) (t : Ticket) → t.line ≡ i + 1
     → AreComplete text lines tickets i → AreComplete text lines (tickets ++ t ∷ []) (i + 1)
@@ -246,10 +246,10 @@ complete_push text lines tickets i t number so_far place line lt at some =
     ⊎_elim (λ before. let x = so_far place line before at some in (x.0, Contains-append_left tickets (t ∷ []) x.0 x.1, x.2))
     (λ same. (t, Contains-append_right tickets (t ∷ []) t (0, omega arith, refl), number ∙ ap (λ n. n + 1) (sym same))) (at_last place i lt)
 
-pub all_tickets : (text : List ℕ) (lines : List Line) (scale : ℕ) (tickets sorted : List Ticket) (n : ℕ) → length lines ≤ n → IsPermutation tickets sorted
-    → All (IsTicket text lines scale) tickets → AreComplete text lines tickets n → AreTickets text lines scale sorted
-all_tickets text lines scale tickets sorted n le moved sound complete = record {
-  sound = All-permutation (IsTicket text lines scale) tickets sorted moved sound;
+pub all_tickets : (text : List ℕ) (lines : List Line) (bits : ℕ) (tickets sorted : List Ticket) (n : ℕ) → length lines ≤ n → IsPermutation tickets sorted
+    → All (IsTicket text lines bits) tickets → AreComplete text lines tickets n → AreTickets text lines bits sorted
+all_tickets text lines bits tickets sorted n le moved sound complete = record {
+  sound = All-permutation (IsTicket text lines bits) tickets sorted moved sound;
   complete = λ place line at some.
       let lt : place < n = omega (arith, le, slice_get_below lines place line at) in
       let x = complete place line lt at some in
@@ -259,27 +259,27 @@ all_tickets text lines scale tickets sorted n le moved sound complete = record {
 -- objects' sections, by rising numbers
 
 -- between a number and that of the ticket at its place no object has a section
-pub none_between : (text : List ℕ) (lines : List Line) (scale : ℕ) (tickets : List Ticket) (code c i : ℕ) (d : Ticket)
-    → AreTickets text lines scale tickets → AreRising tickets → Parts code tickets i → code ≤ c
+pub none_between : (text : List ℕ) (lines : List Line) (bits : ℕ) (tickets : List Ticket) (code c i : ℕ) (d : Ticket)
+    → AreTickets text lines bits tickets → AreRising tickets → Parts code tickets i → code ≤ c
     → (c < 2 ^ 63 → i < length tickets → c < (get_or tickets i d).word) → first_from 1 (is_found_by text (0 ∷ c ∷ [])) lines ≡ None
 unfolding OwnTicket word_of
-none_between text lines scale tickets code c i d all rising parts le beyond =
+none_between text lines bits tickets code c i d all rising parts le beyond =
     first_none 1 (is_found_by text (0 ∷ c ∷ [])) lines (λ q y at. by_test (is_found_by text (0 ∷ c ∷ []) y) (λ h.
     let small : c < 2 ^ 63 = found_small text y c (found_key (line_key text y) (0 ∷ c ∷ []) h) in
-    let own = own_ticket text lines scale tickets (0 ∷ c ∷ []) all q y at h in
+    let own = own_ticket text lines bits tickets (0 ∷ c ∷ []) all q y at h in
     let word : own.0.word ≡ c = own.3 in
     let least = place_least tickets code i own.0 d rising parts own.1 (omega arith) in
     let less : c < (get_or tickets i d).word = beyond small least.0 in
     absurd (omega (arith, least.1))))
 
 -- a ticket with a small number is that of an object's section
-pub its_section : (text : List ℕ) (lines : List Line) (scale : ℕ) (tickets : List Ticket) (code i : ℕ) (d : Ticket)
-    → AreTickets text lines scale tickets → Parts code tickets i → i < length tickets → (get_or tickets i d).word < 2 ^ 63
+pub its_section : (text : List ℕ) (lines : List Line) (bits : ℕ) (tickets : List Ticket) (code i : ℕ) (d : Ticket)
+    → AreTickets text lines bits tickets → Parts code tickets i → i < length tickets → (get_or tickets i d).word < 2 ^ 63
     → (code ≤ (get_or tickets i d).word) × (is_some (first_from 1 (is_found_by text (0 ∷ (get_or tickets i d).word ∷ [])) lines) ≡ true)
-its_section text lines scale tickets code i d all parts lt small =
+its_section text lines bits tickets code i d all parts lt small =
     let t = get_or tickets i d in
-    let own : IsTicket text lines scale t = all.sound i d lt in
-    let key : line_key text own.1.0 ≡ Some (0 ∷ t.word ∷ []) = small_found text own.1.0 scale t.word own.1.2 small in
+    let own : IsTicket text lines bits t = all.sound i d lt in
+    let key : line_key text own.1.0 ≡ Some (0 ∷ t.word ∷ []) = small_found text own.1.0 bits t.word own.1.2 small in
     let passes : is_found_by text (0 ∷ t.word ∷ []) own.1.0 ≡ true =
     ap (λ o. has_key o (0 ∷ t.word ∷ [])) key ∙ (bytes_eq-Decides (0 ∷ t.word ∷ []) (0 ∷ t.word ∷ [])).1 refl in
     (parts.1 i d (omega arith) lt, some_first 1 (is_found_by text (0 ∷ t.word ∷ [])) lines (t.line - 1) own.1.0 own.1.1 passes)

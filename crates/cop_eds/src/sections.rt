@@ -18,7 +18,7 @@ use crate::line::{Kind, Line, Place};
 use crate::lines::{lines_of, text_of};
 use crate::text::{is_comment, key_of, name_of, value_of};
 use crate::tickets::{
-    Ticket, are_rising, find_ticket, next_ticket, places_of, scale_of, section_count, starts_of,
+    Ticket, are_rising, bits_of, find_ticket, next_ticket, places_of, section_count, starts_of,
     tickets_of,
 };
 use std::alloc::{AllocError, Global};
@@ -29,7 +29,7 @@ use std::marker::Model;
 pub struct Sections<'a> {
     source: &'a [u8],
     lines: Vec<Line>,
-    scale: u64,
+    bits: u32,
     tickets: Vec<Ticket>,
     starts: Vec<usize>,
     is_rising: bool,
@@ -44,7 +44,7 @@ impl<'a> Model for Sections<'a> {
 
     ghost view = { λ s. s.source.now };
 
-    ghost invariant = { λ s. IsIndexed s.source.now s.lines.items s.scale s.tickets.items s.is_rising s.entries.items };
+    ghost invariant = { λ s. IsIndexed s.source.now s.lines.items s.bits s.tickets.items s.is_rising s.entries.items };
 }
 
 fn place_at(found: (usize, Line)) -> Place
@@ -92,8 +92,8 @@ impl<'a> Sections<'a> {
         ensures { IfOk result (λ s. s ≡ source.now) }
     {
         let lines = lines_of(alloc, source)?;
-        let scale = scale_of(section_count(&lines));
-        let tickets = tickets_of(alloc, source, &lines, scale)?;
+        let bits = bits_of(section_count(&lines));
+        let tickets = tickets_of(alloc, source, &lines, bits)?;
         let starts = starts_of(alloc, &lines)?;
         let is_rising = are_rising(&tickets);
         let entries = if is_rising {
@@ -104,7 +104,7 @@ impl<'a> Sections<'a> {
         Ok(Sections {
             source,
             lines,
-            scale,
+            bits,
             tickets,
             starts,
             is_rising,
@@ -135,7 +135,7 @@ impl<'a> Sections<'a> {
             find_ticket(
                 self.source,
                 &self.lines,
-                self.scale,
+                self.bits,
                 &self.tickets,
                 near,
                 key,

@@ -7,7 +7,7 @@ ghost use Rattle.std.specs.Str.{str_to_ascii_lowercase};
 ghost use Rattle.cop_eds.specs.declared.line.Line.{Line};
 ghost use Rattle.cop_eds.specs.Lines.{IsWithin, first_from};
 ghost use Rattle.cop_eds.specs.Index.{sort_key, is_found_by};
-ghost use Rattle.cop_eds.specs.Tickets.{mixed, word_of, AreTickets, AreRising, Surround};
+ghost use Rattle.cop_eds.specs.Tickets.{stirred, mixed, word_of, AreTickets, AreRising, Surround};
 
 use crate::entry::Entry;
 use crate::index::{has_key, line_entry};
@@ -24,6 +24,13 @@ pub struct Ticket {
     pub line: usize,
 }
 
+/// A number of 64 bits after two more bytes are mixed into it.
+fn stirred(sum: u64, pair: u64) -> u64
+    ensures { result ≡ stirred sum pair }
+{
+    sum.wrapping_add(pair).wrapping_mul(0x9E37_79B9_7F4A_7C15)
+}
+
 #[tactic(auto, unfolding(crate::specs::Tickets::mixed))]
 /// A number that the bytes of a name, without ASCII case, are mixed into.
 fn mixed(name: &[u8]) -> u64
@@ -31,36 +38,38 @@ fn mixed(name: &[u8]) -> u64
 {
     let mut sum = 0u64;
     let mut rest = name;
-    while let Some((first, tail)) = rest.split_first() {
-        sum = sum
-            .wrapping_add(u64::from(first.to_ascii_lowercase()))
-            .wrapping_mul(0x9E37_79B9_7F4A_7C15);
+    while let Some((first, more)) = rest.split_first() {
+        let first = u64::from(first.to_ascii_lowercase());
+        let Some((second, tail)) = more.split_first() else {
+            return stirred(sum, first);
+        };
+        let second = u64::from(second.to_ascii_lowercase());
+        sum = stirred(sum, first + 256 * second);
         rest = tail;
     }
     sum
 }
 
 #[tactic(auto, unfolding(crate::specs::Tickets::word_of))]
-/// The number that stands for what an entry is found by. `scale` is how many numbers the keys of a section have.
-pub fn word_of(scale: u64, entry: &Entry<'_>) -> u64
-    requires { 0 < scale }
-    ensures { result ≡ word_of scale (sort_key entry.now) }
+/// The number that stands for what an entry is found by. The places of so many bits have ranges of their own.
+pub fn word_of(bits: u32, entry: &Entry<'_>) -> u64
+    requires { (0 < bits) × (bits < 64) }
+    ensures { result ≡ word_of bits (sort_key entry.now) }
 {
     if entry.group == 0 {
         return entry.code;
     }
     let place = entry.code.wrapping_add(u64::from(entry.group));
-    let word = place
-        .wrapping_mul(scale)
-        .wrapping_add(mixed(entry.name) % scale);
+    let word = (place << (64 - bits)).wrapping_add(mixed(entry.name) >> bits);
     OTHERS + word / 2
 }
 
-/// How many numbers the keys of each section can have, where so many sections share them.
-pub fn scale_of(sections: usize) -> u64
-    ensures { 0 < result }
+/// How many bits the places of so many sections have.
+pub fn bits_of(sections: usize) -> u32
+    ensures { (0 < result) × (result < 64) }
 {
-    (u64::MAX / (sections as u64).saturating_add(3)).max(1)
+    let places = (sections as u64).saturating_add(3);
+    (places.ilog2() + 1).min(63)
 }
 
 /// The tickets of all lines that are found by a name, by rising numbers.
@@ -68,11 +77,11 @@ pub fn tickets_of(
     alloc: Global,
     source: &[u8],
     lines: &[Line],
-    scale: u64,
+    bits: u32,
 ) -> Result<Vec<Ticket>, AllocError>
     requires within { All (IsWithin (length source.now)) lines.now }
-    requires positive { 0 < scale }
-    ensures { IfOk result (λ tickets. AreTickets source.now lines.now scale tickets.items) }
+    requires fits { (0 < bits) × (bits < 64) }
+    ensures { IfOk result (λ tickets. AreTickets source.now lines.now bits tickets.items) }
 {
     let mut tickets = Vec::with_capacity(alloc, lines.len())?;
     for (place, line) in lines.iter().enumerate() {
@@ -80,7 +89,7 @@ pub fn tickets_of(
             continue;
         };
         tickets.push(Ticket {
-            word: word_of(scale, &entry),
+            word: word_of(bits, &entry),
             line: place + 1,
         })?;
     }
@@ -216,18 +225,18 @@ fn ticket_with(tickets: &[Ticket], near: (usize, usize), word: u64) -> Option<Ti
 pub fn find_ticket(
     source: &[u8],
     lines: &[Line],
-    scale: u64,
+    bits: u32,
     tickets: &[Ticket],
     near: (usize, usize),
     key: &Entry<'_>,
 ) -> Option<(usize, Line)>
     requires within { All (IsWithin (length source.now)) lines.now }
-    requires positive { 0 < scale }
-    requires tickets { AreTickets source.now lines.now scale tickets.now }
+    requires fits { (0 < bits) × (bits < 64) }
+    requires tickets { AreTickets source.now lines.now bits tickets.now }
     requires rising { AreRising tickets.now }
     ensures { result ≡ first_from 1 (is_found_by source.now (sort_key key.now)) lines.now }
 {
-    let ticket = ticket_with(tickets, near, word_of(scale, key))?;
+    let ticket = ticket_with(tickets, near, word_of(bits, key))?;
     if ticket.line == 0 || ticket.line > lines.len() {
         return None;
     }
@@ -243,7 +252,7 @@ pub fn find_ticket(
 /// The number of the first object's section from a number on. It is looked for between the two places first.
 pub fn next_ticket(tickets: &[Ticket], near: (usize, usize), code: u64) -> Option<u64>
     requires rising { AreRising tickets.now }
-    ensures { (text : List ℕ) (lines : List Line) (scale : ℕ) → AreTickets text lines scale tickets.now → MatchOption result
+    ensures { (text : List ℕ) (lines : List Line) (bits : ℕ) → AreTickets text lines bits tickets.now → MatchOption result
         ((c : ℕ) → code ≤ c → first_from 1 (is_found_by text (0 ∷ c ∷ [])) lines ≡ None)
         (λ next. (code ≤ next) × (is_some (first_from 1 (is_found_by text (0 ∷ next ∷ [])) lines) ≡ true)
         × ((c : ℕ) → code ≤ c → c < next → first_from 1 (is_found_by text (0 ∷ c ∷ [])) lines ≡ None)) }

@@ -8,7 +8,7 @@ use Rattle.cop_eds.proofs.tickets.tickets_of.Given as goal
 
 abbrev pub invariant-loop-place : goal.invariant-loop-place
 invariant-loop-place l = record {
-  sound : All (IsTicket l.source l.lines l.scale) l.tickets.items;
+  sound : All (IsTicket l.source l.lines l.bits) l.tickets.items;
   complete : (place : ℕ) (line : Line) → place < l.place → slice_get l.lines place ≡ Some line → IsSome (line_key l.source line)
       → (ticket : Ticket) × Contains l.tickets.items ticket × (ticket.line ≡ place + 1);
 }

@@ -6,8 +6,8 @@ use Rattle.cop_eds.proofs.sections.Sections.refusal.Goals as goal
 
 pub first_alone-requires-clause-alone : goal.first_alone-requires-clause-alone
 first_alone-requires-clause-alone c = λ place line at.
-    let tickets : AreTickets c.self.inside.source.now c.deref.result.now c.self.inside.scale c.self.inside.tickets.items = rw c.deref.ensures.value c.self.invariant.ticketed in
-    alone_ticket c.self.inside.source.now c.deref.result.now c.self.inside.scale c.self.inside.tickets.items place line tickets (c.self.invariant.by_number c.if-self.true) at
+    let tickets : AreTickets c.self.inside.source.now c.deref.result.now c.self.inside.bits c.self.inside.tickets.items = rw c.deref.ensures.value c.self.invariant.ticketed in
+    alone_ticket c.self.inside.source.now c.deref.result.now c.self.inside.bits c.self.inside.tickets.items place line tickets (c.self.invariant.by_number c.if-self.true) at
 
 pub first_alone-requires-then-are_apart-clause-alone :
     goal.first_alone-requires-then-are_apart-clause-alone
