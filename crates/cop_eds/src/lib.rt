@@ -6,6 +6,7 @@ mod description;
 mod eds;
 mod entry;
 mod fault;
+mod hints;
 mod index;
 pub mod laws;
 mod line;

@@ -10,6 +10,7 @@ ghost use Rattle.cop_eds.specs.Index.{sort_key, is_found_by};
 
 use crate::entry::Entry;
 use crate::fault::{Refusal, Rule};
+use crate::hints::{Hints, section_count};
 use crate::index::{
     are_apart, coded_entry, find_in, has_key, header_entry, index_of, line_entry, next_code,
     pair_entry,
@@ -17,10 +18,7 @@ use crate::index::{
 use crate::line::{Kind, Line, Place};
 use crate::lines::{lines_of, text_of};
 use crate::text::{is_comment, key_of, name_of, value_of};
-use crate::tickets::{
-    Ticket, are_rising, bits_of, find_ticket, next_ticket, places_of, section_count, starts_of,
-    tickets_of,
-};
+use crate::tickets::{Ticket, are_rising, bits_of, find_ticket, next_ticket, tickets_of};
 use std::alloc::{AllocError, Global};
 use std::marker::Model;
 
@@ -31,7 +29,7 @@ pub struct Sections<'a> {
     lines: Vec<Line>,
     bits: u32,
     tickets: Vec<Ticket>,
-    starts: Vec<usize>,
+    hints: Hints,
     is_rising: bool,
     entries: Vec<Entry<'a>>,
 }
@@ -94,7 +92,7 @@ impl<'a> Sections<'a> {
         let lines = lines_of(alloc, source)?;
         let bits = bits_of(section_count(&lines));
         let tickets = tickets_of(alloc, source, &lines, bits)?;
-        let starts = starts_of(alloc, &lines)?;
+        let hints = Hints::of(alloc, &lines, &tickets)?;
         let is_rising = are_rising(&tickets);
         let entries = if is_rising {
             Vec::new(alloc)
@@ -106,7 +104,7 @@ impl<'a> Sections<'a> {
             lines,
             bits,
             tickets,
-            starts,
+            hints,
             is_rising,
             entries,
         })
@@ -131,7 +129,7 @@ impl<'a> Sections<'a> {
         ensures within { IfSome result (λ found. IsWithin (length self.now) found.1) }
     {
         if self.is_rising {
-            let near = places_of(&self.starts, key);
+            let near = self.hints.places(key);
             find_ticket(
                 self.source,
                 &self.lines,
@@ -253,7 +251,7 @@ impl<'a> Sections<'a> {
             (λ next. (code ≤ next) × (is_some (coded_place self.now next) ≡ true) × ((c : ℕ) → code ≤ c → c < next → coded_place self.now c ≡ None)) }
     {
         if self.is_rising {
-            let near = places_of(&self.starts, &coded_entry(code));
+            let near = self.hints.places(&coded_entry(code));
             next_ticket(&self.tickets, near, code)
         } else {
             next_code(&self.entries, code)

@@ -11,11 +11,11 @@ ghost use Rattle.cop_eds.specs.Tickets.{stirred, mixed, word_of, AreTickets, Are
 
 use crate::entry::Entry;
 use crate::index::{has_key, line_entry};
-use crate::line::{Kind, Line};
+use crate::line::Line;
 use std::alloc::{AllocError, Global};
 
 /// The least number of a name that is none of an object's section.
-const OTHERS: u64 = 1 << 63;
+pub const OTHERS: u64 = 1 << 63;
 
 /// A line that is found by a name: the number that stands for the name, and the line's number.
 #[derive(Clone, Copy)]
@@ -95,43 +95,6 @@ pub fn tickets_of(
     }
     tickets.sort_unstable_by_key(|ticket| ticket.word);
     Ok(tickets)
-}
-
-/// How many sections the lines begin.
-pub fn section_count(lines: &[Line]) -> usize {
-    match lines.last() {
-        Some(line) => line.section,
-        None => 0,
-    }
-}
-
-/// Where the tickets of each section's keys begin, the keys before the first section among them, and where the last
-/// end: they follow those of the headers, in the order of the sections.
-pub fn starts_of(alloc: Global, lines: &[Line]) -> Result<Vec<usize>, AllocError> {
-    let mut starts = Vec::new(alloc);
-    let mut count = section_count(lines);
-    starts.push(count)?;
-    for line in lines {
-        match line.kind {
-            Kind::Header => starts.push(count)?,
-            Kind::Pair => count = count.saturating_add(1),
-            Kind::Other => {}
-        }
-    }
-    starts.push(count)?;
-    Ok(starts)
-}
-
-/// The places that a key's ticket stands between. Searches begin there: a wrong place costs time alone.
-pub fn places_of(starts: &[usize], key: &Entry<'_>) -> (usize, usize) {
-    if key.group != 2 {
-        return (0, starts.first().copied().unwrap_or(0));
-    }
-    let section = key.code as usize;
-    match (starts.get(section), starts.get(section.saturating_add(1))) {
-        (Some(low), Some(high)) => (*low, *high),
-        _ => (0, 0),
-    }
 }
 
 /// Whether each number is below the next.

@@ -7,7 +7,7 @@ use Rattle.cop_eds.proofs.sections.Sections.find.Goals as goal
 
 pub returns-then-self-clause-within : goal.returns-then-self-clause-within
 returns-then-self-clause-within c =
-    let within : All (IsWithin (length c.self.inside.source.now)) c.deref-then-self.result.now = rw c.deref-then-self.ensures.value c.self.invariant.within in
+    let within : All (IsWithin (length c.self.inside.source.now)) c.deref.result.now = rw c.deref.ensures.value c.self.invariant.within in
     rw (← c.self.view_is, c.find_ticket.ensures) (first_within _ 1 _ _ within)
 
 pub returns-else-self-clause-within : goal.returns-else-self-clause-within

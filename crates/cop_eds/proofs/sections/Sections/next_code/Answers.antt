@@ -6,7 +6,7 @@ use Rattle.cop_eds.proofs.sections.Sections.next_code.Goals as goal
 
 pub returns-then-self : goal.returns-then-self
 returns-then-self c =
-    let tickets : AreTickets c.self.inside.source.now (lines_of c.self.inside.source.now) c.self.inside.bits c.deref-then-self.result.now = rw (c.deref-then-self.ensures.value, ← c.self.invariant.all) c.self.invariant.ticketed in
+    let tickets : AreTickets c.self.inside.source.now (lines_of c.self.inside.source.now) c.self.inside.bits c.deref.result.now = rw (c.deref.ensures.value, ← c.self.invariant.all) c.self.invariant.ticketed in
     rw (← c.self.view_is) (next_coded c.self.inside.source.now c.args.code c.next_ticket.result
     (c.next_ticket.ensures c.self.inside.source.now (lines_of c.self.inside.source.now) c.self.inside.bits tickets))
 
