@@ -82,7 +82,7 @@ earlier_by false n p m test y ys l here e later =
     let number : n + 1 + p ≡ n + suc p = omega arith in
     rw here (later rest ∙ ap (nat_lt m) number)
 
-first_earlier : (n p m : ℕ) (test : Line → Bool) (xs : List Line) (l : Line) → first_from n test xs ≡ Some (m, l)
+pub first_earlier : (n p m : ℕ) (test : Line → Bool) (xs : List Line) (l : Line) → first_from n test xs ≡ Some (m, l)
     → list_any test (take p xs) ≡ nat_lt m (n + p)
 first_earlier n p m test [] l f = cc
 first_earlier n zero m test (y ∷ ys) l f =
@@ -117,7 +117,7 @@ some_by true n test y ys here later = rw here refl
 some_by false n test y ys here later = rw here (later refl)
 
 -- where a line passes there is a first
-some_first : (n : ℕ) (test : Line → Bool) (xs : List Line) (p : ℕ) (x : Line) → slice_get xs p ≡ Some x → test x ≡ true → is_some (first_from n test xs) ≡ true
+pub some_first : (n : ℕ) (test : Line → Bool) (xs : List Line) (p : ℕ) (x : Line) → slice_get xs p ≡ Some x → test x ≡ true → is_some (first_from n test xs) ≡ true
 some_first n test [] p x e t = cc
 some_first n test (y ∷ ys) zero x e t =
     let same : y ≡ x = cc in
@@ -182,7 +182,7 @@ not_lt x y e = grind (arith, nat_tests)
 same_key : (xs ys : List ℕ) → is_eq (slice_cmp nat_cmp xs ys) ≡ true → xs ≡ ys
 same_key xs ys e = (bytes_eq-Decides xs ys).0 (sym (is_eq-slice_cmp xs ys) ∙ e)
 
-some_key : (o : Option (List ℕ)) (key : List ℕ) → has_key o key ≡ true → IsSome o
+pub some_key : (o : Option (List ℕ)) (key : List ℕ) → has_key o key ≡ true → IsSome o
 some_key None key e = cc
 some_key (Some found) key e = refl
 
@@ -195,7 +195,7 @@ record Match (entries : List Entry) (key : List ℕ) (number : ℕ) : Type 0 whe
   line : entry.line ≡ number
   same : sort_key entry ≡ key
 
-some_is : {A : Type 0} {x y : A} → Some x ≡ Some y → x ≡ y
+pub some_is : {A : Type 0} {x y : A} → Some x ≡ Some y → x ≡ y
 some_is e = cc
 
 entry_match : (text : List ℕ) (lines : List Line) (entries : List Entry) (key : List ℕ) → IsIndex text lines entries
@@ -252,7 +252,7 @@ lines_rise entries key i j d sorted le lt one two =
 not_less : (a b : ℕ) → (a < b → ⊥) → b ≤ a
 not_less a b h = omega arith
 
-by_test : (b : Bool) → (b ≡ true → ⊥) → b ≡ false
+pub by_test : (b : Bool) → (b ≡ true → ⊥) → b ≡ false
 by_test true h = absurd (h refl)
 by_test false h = refl
 
@@ -288,7 +288,7 @@ not_found text lines entries key i index parts other =
     let le : i ≤ m.at = not_less m.at i (not_before entries key i (q + 1) parts m) in
     other m.entry (omega (arith, m.below)) (key_at entries key i (q + 1) index.sorted parts m le m.entry)))
 
-slice_get_below : {X : Type 0} (xs : List X) (i : ℕ) (x : X) → slice_get xs i ≡ Some x → i < length xs
+pub slice_get_below : {X : Type 0} (xs : List X) (i : ℕ) (x : X) → slice_get xs i ≡ Some x → i < length xs
 slice_get_below [] i x e = cc
 slice_get_below (y ∷ ys) zero x e = omega arith
 slice_get_below (y ∷ ys) (suc i) x e = omega (arith, slice_get_below ys i x e)
@@ -325,7 +325,7 @@ all_one_by : (P : Entry → Type 0) (e : Entry) → P e → (k : ℕ) (d : Entry
 all_one_by P e h zero d lt = h
 all_one_by P e h (suc k) d lt = absurd (omega arith)
 
-at_last : (place i : ℕ) → place < i + 1 → (place < i) ⊎ (place ≡ i)
+pub at_last : (place i : ℕ) → place < i + 1 → (place < i) ⊎ (place ≡ i)
 at_last place i lt = by_last (nat_lt place i) place i refl lt
 
 pub complete_push : (text : List ℕ) (kind : Kind) (lines : List Line) (entries : List Entry) (i : ℕ) (e : Entry) → e.line ≡ i + 1
@@ -430,43 +430,55 @@ one_place entries key m n sorted apart a b =
     let entry : a.entry ≡ b.entry = sym a.stands ∙ ap (λ i. get_or entries i a.entry) same ∙ get_or_same entries b.at b.entry a.entry b.below ∙ b.stands in
     sym a.line ∙ ap (λ (x : Entry). x.line) entry ∙ b.line
 
+-- where no earlier line passes, none of those before the place does
+pub none_so_far : (test : Line → Bool) (lines : List Line) (p : ℕ) (x : Line) → slice_get lines p ≡ Some x → test x ≡ true
+    → ((q : ℕ) (y : Line) → q < p → slice_get lines q ≡ Some y → test y ≡ false) → list_any test (take p lines) ≡ false
+none_so_far test lines p x at passes earlier =
+    let first : first_from 1 test lines ≡ Some (1 + p, x) = first_some 1 test lines p x at passes earlier in
+    let late : nat_lt (1 + p) (1 + p) ≡ false = grind (arith, nat_tests) in
+    first_earlier 1 p (1 + p) test lines x first ∙ late
+
 none_before : (text : List ℕ) (lines : List Line) (entries : List Entry) (key : List ℕ) (p : ℕ) (x : Line) → IsIndex text lines entries → Apart entries
     → slice_get lines p ≡ Some x → is_found_by text key x ≡ true → list_any (is_found_by text key) (take p lines) ≡ false
 none_before text lines entries key p x index apart at passes =
     let b = entry_match text lines entries key index p x at passes in
-    let earlier : (q : ℕ) (y : Line) → q < p → slice_get lines q ≡ Some y → is_found_by text key y ≡ false =
-    λ q y less at_q. by_test (is_found_by text key y) (λ h.
+    none_so_far (is_found_by text key) lines p x at passes (λ q y less at_q. by_test (is_found_by text key y) (λ h.
     let a = entry_match text lines entries key index q y at_q h in
     let same : q + 1 ≡ p + 1 = one_place entries key (q + 1) (p + 1) index.sorted apart a b in
-    absurd (omega arith)) in
-    let first : first_from 1 (is_found_by text key) lines ≡ Some (1 + p, x) = first_some 1 (is_found_by text key) lines p x at passes earlier in
-    let late : nat_lt (1 + p) (1 + p) ≡ false = grind (arith, nat_tests) in
-    first_earlier 1 p (1 + p) (is_found_by text key) lines x first ∙ late
+    absurd (omega arith)))
 
 if_false : {A : Type 0} (b : Bool) (x y : A) → b ≡ false → cond b x y ≡ y
 if_false true x y e = cc
 if_false false x y e = refl
 
-alone_by : (kind : Kind) (text : List ℕ) (lines : List Line) (entries : List Entry) (p : ℕ) (x : Line) → IsIndex text lines entries → Apart entries
-    → slice_get lines p ≡ Some x → x.kind ≡ kind → broken_by_kind kind text (take p lines) x ≡ broken_by_kind kind text [] x
-alone_by Other text lines entries p x index apart at kind = refl
-alone_by Header text lines entries p x index apart at kind =
+-- no earlier line is found by what finds this one
+abbrev pub IsFirst : List ℕ → List Line → ℕ → Line → Type 0
+IsFirst text lines p x = (key : List ℕ) → is_found_by text key x ≡ true → list_any (is_found_by text key) (take p lines) ≡ false
+
+alone_by : (kind : Kind) (text : List ℕ) (lines : List Line) (p : ℕ) (x : Line) → IsFirst text lines p x
+    → x.kind ≡ kind → broken_by_kind kind text (take p lines) x ≡ broken_by_kind kind text [] x
+alone_by Other text lines p x first kind = refl
+alone_by Header text lines p x first kind =
     let name = name_of (text_of text x) in
     let key : line_key text x ≡ Some (header_key name) = ap (λ k. of_kind k (header_key name) (pair_key x.section (key_of (text_of text x)))) kind in
     let passes : is_found_by text (header_key name) x ≡ true = ap (λ o. has_key o (header_key name)) key ∙ (bytes_eq-Decides (header_key name) (header_key name)).1 refl in
-    let none : list_any (is_named text name) (take p lines) ≡ false = any_named text name (take p lines) ∙ none_before text lines entries (header_key name) p x index apart at passes in
+    let none : list_any (is_named text name) (take p lines) ≡ false = any_named text name (take p lines) ∙ first (header_key name) passes in
     if_false (list_any (is_named text name) (take p lines)) _ _ none
-alone_by Pair text lines entries p x index apart at kind =
+alone_by Pair text lines p x first kind =
     let name = key_of (text_of text x) in
     let key : line_key text x ≡ Some (pair_key x.section name) = ap (λ k. of_kind k (header_key (name_of (text_of text x))) (pair_key x.section name)) kind in
     let passes : is_found_by text (pair_key x.section name) x ≡ true = ap (λ o. has_key o (pair_key x.section name)) key ∙ (bytes_eq-Decides (pair_key x.section name) (pair_key x.section name)).1 refl in
-    let none : list_any (is_keyed text x.section name) (take p lines) ≡ false = any_keyed text x.section name (take p lines) ∙ none_before text lines entries (pair_key x.section name) p x index apart at passes in
+    let none : list_any (is_keyed text x.section name) (take p lines) ≡ false = any_keyed text x.section name (take p lines) ∙ first (pair_key x.section name) passes in
     ap (λ (o : Option Rule). cond (x.section == 0) (Some rules.Line) o) (if_false (list_any (is_keyed text x.section name) (take p lines)) _ _ none)
 
--- then each line breaks a rule after the earlier ones exactly where it does alone
+-- then the line breaks a rule after the earlier ones exactly where it does alone
+pub alone_first : (text : List ℕ) (lines : List Line) (p : ℕ) (x : Line) → IsFirst text lines p x → broken text (take p lines) x ≡ broken text [] x
+alone_first text lines p x first = alone_by x.kind text lines p x first refl
+
+-- so do all lines where no two neighbours of the index have one key
 pub alone : (text : List ℕ) (lines : List Line) (entries : List Entry) (p : ℕ) (x : Line) → IsIndex text lines entries → Apart entries
     → slice_get lines p ≡ Some x → broken text (take p lines) x ≡ broken text [] x
-alone text lines entries p x index apart at = alone_by x.kind text lines entries p x index apart at refl
+alone text lines entries p x index apart at = alone_first text lines p x (λ key passes. none_before text lines entries key p x index apart at passes)
 
 -- the objects' sections, by rising numbers
 

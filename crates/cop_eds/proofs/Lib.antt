@@ -9,5 +9,7 @@ pub mod ObjectLemmas
 pub mod OrderLemmas
 pub mod SearchLemmas
 pub mod IndexLemmas
+pub mod CodeLemmas
+pub mod TicketLemmas
 pub mod KeyLemmas
 pub mod RefusalLemmas

@@ -1,5 +1,5 @@
 -- What a line is found by, as a list of numbers: where it is looked for, and its name.
-use Rattle.std.specs.Prelude.{ℕ, ◌+◌, ◌-◌, ◌≤◌, ◌<◌, ◌^◌, ◌≡◌, Bool, false, List, [], ◌∷◌, length, Option, Some, None, IsSome, slice_get, Contains}
+use Rattle.std.specs.Prelude.{ℕ, ◌+◌, ◌-◌, ◌≤◌, ◌≡◌, Bool, false, List, [], ◌∷◌, Option, Some, None, IsSome, slice_get, Contains}
 use Rattle.std.specs.List.{All}
 use Rattle.std.specs.List.Sorted.{IsSorted}
 use Rattle.std.specs.Ordering.{nat_cmp, on, then_cmp, is_lt}
@@ -12,7 +12,7 @@ use Rattle.cop_eds.specs.declared.line.Line.{Line}
 use Rattle.cop_eds.specs.declared.entry.Entry.{Entry}
 use Rattle.cop_eds.specs.Text.{name_of, key_of}
 use Rattle.cop_eds.specs.Names.{code_of}
-use Rattle.cop_eds.specs.Lines.{text_of, lines_of, IsWithin}
+use Rattle.cop_eds.specs.Lines.{text_of}
 
 -- objects' sections come first, by their numbers; then the other sections, then the keys of each section
 abbrev pub named_key : Option ℕ → List ℕ → List ℕ
@@ -61,10 +61,3 @@ pub record IsIndex (text : List ℕ) (lines : List Line) (entries : List Entry) 
   pub sorted : IsSorted entry_cmp entries
   pub sound : All (IsEntry text lines) entries
   pub complete : (place : ℕ) (line : Line) → slice_get lines place ≡ Some line → IsSome (line_key text line) → (entry : Entry) × Contains entries entry × (entry.line ≡ place + 1)
-
--- the lines of a text, and their index
-pub record IsIndexed (text : List ℕ) (lines : List Line) (entries : List Entry) : Type 0 where
-  pub all : lines ≡ lines_of text
-  pub within : All (IsWithin (length text)) lines
-  pub size : length text < 2 ^ 62
-  pub index : IsIndex text lines entries

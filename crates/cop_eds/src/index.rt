@@ -142,7 +142,7 @@ fn lower_bound(entries: &[Entry<'_>], key: &Entry<'_>) -> usize
     entries.partition_point(|entry| is_below(entry, key))
 }
 
-fn has_key(entry: &Entry<'_>, key: &Entry<'_>) -> bool
+pub fn has_key(entry: &Entry<'_>, key: &Entry<'_>) -> bool
     ensures { result ≡ bytes_eq (sort_key entry.now) (sort_key key.now) }
 {
     entry.group == key.group && entry.code == key.code && entry.name.eq_ignore_ascii_case(key.name)

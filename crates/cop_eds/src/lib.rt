@@ -6,6 +6,7 @@ mod description;
 mod eds;
 mod entry;
 mod fault;
+mod hints;
 mod index;
 pub mod laws;
 mod line;
@@ -17,6 +18,7 @@ mod objects;
 mod rates;
 mod sections;
 mod text;
+mod tickets;
 
 pub use amount::{Amount, amount_of};
 pub use description::{Access, Description, Object, ObjectType};

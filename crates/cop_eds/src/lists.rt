@@ -131,7 +131,9 @@ fn listed_at(
 {
     let mut buffer = Buffer::new();
     let key = buffer.format(place).as_bytes();
-    let entry = needed(list.line, text.entry(list.section, key))?;
+    // Most lists have their keys in order, each on a line of its own after that of the count.
+    let near = list.line.saturating_add(place as usize);
+    let entry = needed(list.line, text.entry_near(near, list.section, key))?;
     let index = number_at(entry.0, entry.1)?;
     checked_once(checked, text, entry.0, index)?;
     Ok(index)

@@ -10,32 +10,39 @@ ghost use Rattle.cop_eds.specs.Index.{sort_key, is_found_by};
 
 use crate::entry::Entry;
 use crate::fault::{Refusal, Rule};
+use crate::hints::{Hints, section_count};
 use crate::index::{
-    are_apart, coded_entry, find_in, header_entry, index_of, next_code, pair_entry,
+    are_apart, coded_entry, find_in, has_key, header_entry, index_of, line_entry, next_code,
+    pair_entry,
 };
 use crate::line::{Kind, Line, Place};
 use crate::lines::{lines_of, text_of};
 use crate::text::{is_comment, key_of, name_of, value_of};
+use crate::tickets::{Ticket, are_rising, bits_of, find_ticket, next_ticket, tickets_of};
 use std::alloc::{AllocError, Global};
 use std::marker::Model;
 
-/// The lines of a text and their index. Contracts see the text.
+/// The lines of a text and their index: the tickets, or where their numbers don't rise the entries. Contracts see the text.
 #[derive(Drop)]
 pub struct Sections<'a> {
     source: &'a [u8],
     lines: Vec<Line>,
+    bits: u32,
+    tickets: Vec<Ticket>,
+    hints: Hints,
+    is_rising: bool,
     entries: Vec<Entry<'a>>,
 }
 
 impl<'a> Model for Sections<'a> {
     ghost use Rattle.std.specs.Prelude.{ℕ, List};
-    ghost use Rattle.cop_eds.specs.Index.{IsIndexed};
+    ghost use Rattle.cop_eds.specs.Tickets.{IsIndexed};
 
     ghost Value = { List ℕ };
 
     ghost view = { λ s. s.source.now };
 
-    ghost invariant = { λ s. IsIndexed s.source.now s.lines.items s.entries.items };
+    ghost invariant = { λ s. IsIndexed s.source.now s.lines.items s.bits s.tickets.items s.is_rising s.entries.items };
 }
 
 fn place_at(found: (usize, Line)) -> Place
@@ -83,10 +90,22 @@ impl<'a> Sections<'a> {
         ensures { IfOk result (λ s. s ≡ source.now) }
     {
         let lines = lines_of(alloc, source)?;
-        let entries = index_of(alloc, source, &lines)?;
+        let bits = bits_of(section_count(&lines));
+        let tickets = tickets_of(alloc, source, &lines, bits)?;
+        let hints = Hints::of(alloc, &lines, &tickets)?;
+        let is_rising = are_rising(&tickets);
+        let entries = if is_rising {
+            Vec::new(alloc)
+        } else {
+            index_of(alloc, source, &lines)?
+        };
         Ok(Sections {
             source,
             lines,
+            bits,
+            tickets,
+            hints,
+            is_rising,
             entries,
         })
     }
@@ -109,7 +128,19 @@ impl<'a> Sections<'a> {
         ensures value { result ≡ first_from 1 (is_found_by self.now (sort_key key.now)) (lines_of self.now) }
         ensures within { IfSome result (λ found. IsWithin (length self.now) found.1) }
     {
-        find_in(&self.lines, &self.entries, key)
+        if self.is_rising {
+            let near = self.hints.places(key);
+            find_ticket(
+                self.source,
+                &self.lines,
+                self.bits,
+                &self.tickets,
+                near,
+                key,
+            )
+        } else {
+            find_in(&self.lines, &self.entries, key)
+        }
     }
 
     /// The header of this name, and its number.
@@ -190,7 +221,9 @@ impl<'a> Sections<'a> {
     pub fn refusal(&self) -> Option<Refusal>
         ensures { result ≡ first_refusal self.now [] (lines_of self.now) }
     {
-        if are_apart(&self.entries) {
+        if self.is_rising {
+            first_alone(self.source, &self.lines)
+        } else if are_apart(&self.entries) {
             first_alone(self.source, &self.lines)
         } else {
             self.first_refusal()
@@ -217,7 +250,12 @@ impl<'a> Sections<'a> {
         ensures { MatchOption result ((c : ℕ) → code ≤ c → coded_place self.now c ≡ None)
             (λ next. (code ≤ next) × (is_some (coded_place self.now next) ≡ true) × ((c : ℕ) → code ≤ c → c < next → coded_place self.now c ≡ None)) }
     {
-        next_code(&self.entries, code)
+        if self.is_rising {
+            let near = self.hints.places(&coded_entry(code));
+            next_ticket(&self.tickets, near, code)
+        } else {
+            next_code(&self.entries, code)
+        }
     }
 
     /// The number of a key's line.
@@ -227,15 +265,50 @@ impl<'a> Sections<'a> {
         self.keyed(section, key).map(|(number, _)| number)
     }
 
-    /// The line and the value of a key in a section.
-    pub fn entry(&self, section: usize, key: &[u8]) -> Option<(usize, &'a [u8])>
-        ensures { option_map (λ p. (p.0, p.1.now)) result ≡ entry_of self.now section key.now }
+    /// The line of a key in a section, and its number. The line at this place is looked at first.
+    fn keyed_near(&self, near: usize, section: usize, key: &[u8]) -> Option<(usize, Line)>
+        ensures value { result ≡ keyed_line self.now section key.now }
+        ensures within { IfSome result (λ found. IsWithin (length self.now) found.1) }
     {
-        let (number, line) = self.keyed(section, key)?;
+        let lines = self.lines();
+        if !self.is_rising || near >= lines.len() {
+            return self.keyed(section, key);
+        }
+        let line = lines[near];
+        let Some(entry) = line_entry(self.source, &line) else {
+            return self.keyed(section, key);
+        };
+        if has_key(&entry, &pair_entry(section, key)) {
+            Some((near + 1, line))
+        } else {
+            self.keyed(section, key)
+        }
+    }
+
+    /// The line and the value of a pair, where the value is not empty.
+    fn valued(&self, found: Option<(usize, Line)>) -> Option<(usize, &'a [u8])>
+        requires { IfSome found (λ found. IsWithin (length self.now) found.1) }
+        ensures { option_map (λ p. (p.0, p.1.now)) result ≡ option_and_then (some_value self.now) found }
+    {
+        let (number, line) = found?;
         let value = value_of(text_of(self.source, &line));
         if value.is_empty() {
             return None;
         }
         Some((number, value))
+    }
+
+    /// The line and the value of a key in a section.
+    pub fn entry(&self, section: usize, key: &[u8]) -> Option<(usize, &'a [u8])>
+        ensures { option_map (λ p. (p.0, p.1.now)) result ≡ entry_of self.now section key.now }
+    {
+        self.valued(self.keyed(section, key))
+    }
+
+    /// The same; the line at this place is looked at first.
+    pub fn entry_near(&self, near: usize, section: usize, key: &[u8]) -> Option<(usize, &'a [u8])>
+        ensures { option_map (λ p. (p.0, p.1.now)) result ≡ entry_of self.now section key.now }
+    {
+        self.valued(self.keyed_near(near, section, key))
     }
 }

@@ -1,0 +1,285 @@
+-- Lines that are found by the numbers of their names.
+use Rattle.std.proofs.Common.{◌≡◌, ℕ, zero, suc, ◌+◌, ◌-◌, ◌^◌, ◌<◌, ◌≤◌, Bool, true, false, cond, nat_lt, nat_le, List, [], ◌∷◌, ◌++◌, length, take, get_or, slice_get, Contains, Option, Some, None, IsSome, is_some, refl, sym, ap, subst, ◌∙◌, arith, ⊎_elim}
+use Rattle.std.specs.List.{AllWithin, All}
+use Rattle.std.specs.List.Sorted.{IsNonDecreasingBy, IsPermutation}
+use Rattle.std.specs.Option.{option_map}
+use Rattle.std.proofs.lemmas.Slice.Eq.{bytes_eq-Decides}
+use Rattle.std.proofs.lemmas.Option.{get_or_from_slice_get, slice_get-get_or}
+use Rattle.std.proofs.lemmas.List.Sorted.{IsNonDecreasingBy-from_all_adjacent, All-permutation, Contains-permutation}
+use Rattle.std.proofs.lemmas.List.Elements.{All-append, Contains-append_left, Contains-append_right}
+use Rattle.std.proofs.lemmas.Bool.Decides.{nat_tests}
+use Rattle.cop_eds.specs.declared.line.Line.{Line}
+use Rattle.cop_eds.specs.declared.tickets.Ticket.{Ticket}
+use Rattle.cop_eds.specs.Lines.{first_from, broken}
+use Rattle.cop_eds.specs.Index.{line_key, has_key, is_found_by}
+use Rattle.cop_eds.specs.Tickets.{word_of, IsTicket, AreTickets, AreRising, Surround}
+use Rattle.cop_eds.proofs.IndexLemmas.{first_none, first_some, by_test, some_key, some_is, at_last, slice_get_below, some_first, none_so_far, alone_first}
+use Rattle.cop_eds.proofs.CodeLemmas.{found_small, small_found}
+
+get_or_same : {X : Type 0} (xs : List X) (i : ℕ) (d e : X) → i < length xs → get_or xs i e ≡ get_or xs i d
+get_or_same xs i d e lt = get_or_from_slice_get xs i (get_or xs i d) e (slice_get-get_or xs i d lt)
+
+-- the order of the numbers
+
+not_falling : (tickets : List Ticket) → AreRising tickets → IsNonDecreasingBy (λ (t : Ticket). t.word) tickets
+not_falling tickets rising =
+    IsNonDecreasingBy-from_all_adjacent (λ (t : Ticket). t.word) tickets (λ k d lt. let less = rising k d lt in omega (arith, less))
+
+rises_far : (tickets : List Ticket) (i j : ℕ) (d : Ticket) → AreRising tickets → i < j → j < length tickets
+    → (get_or tickets i d).word < (get_or tickets j d).word
+rises_far tickets i j d rising lt inside =
+    let next : (get_or tickets i d).word < (get_or tickets (i + 1) d).word = rising i d (omega arith) in
+    let later : (get_or tickets (i + 1) d).word ≤ (get_or tickets j d).word = not_falling tickets rising (i + 1) j d (omega arith) inside in
+    omega arith
+
+-- what the ticket at a place says of the tickets before it, or after it
+pub all_below : (tickets : List Ticket) (word i : ℕ) (d : Ticket) → AreRising tickets → i < length tickets → (get_or tickets i d).word < word
+    → AllWithin (λ (t : Ticket). t.word < word) tickets 0 (i + 1)
+all_below tickets word i d rising lt less k e low high =
+    let up : (get_or tickets k e).word ≤ (get_or tickets i e).word = not_falling tickets rising k i e (omega arith) lt in
+    let here : (get_or tickets i e).word ≡ (get_or tickets i d).word = ap (λ (x : Ticket). x.word) (get_or_same tickets i d e lt) in
+    omega arith
+
+pub all_above : (tickets : List Ticket) (word i : ℕ) (d : Ticket) → AreRising tickets → i < length tickets → word ≤ (get_or tickets i d).word
+    → AllWithin (λ (t : Ticket). word ≤ t.word) tickets i (length tickets)
+all_above tickets word i d rising lt le k e low high =
+    let up : (get_or tickets i e).word ≤ (get_or tickets k e).word = not_falling tickets rising i k e low high in
+    let here : (get_or tickets i e).word ≡ (get_or tickets i d).word = ap (λ (x : Ticket). x.word) (get_or_same tickets i d e lt) in
+    omega arith
+
+abbrev pub Parts : ℕ → List Ticket → ℕ → Type 0
+Parts word tickets i = Surround word tickets i i
+
+pub is_below : (a b : ℕ) → nat_lt a b ≡ true → a < b
+is_below a b e = grind (arith, nat_tests)
+
+pub is_at_most : (a b : ℕ) → nat_le a b ≡ true → a ≤ b
+is_at_most a b e = grind (arith, nat_tests)
+
+not_below : (a b : ℕ) → nat_lt a b ≡ false → b ≤ a
+not_below a b e = grind (arith, nat_tests)
+
+-- a ticket whose number isn't below stands at the partition's place or after it
+at_or_after : (tickets : List Ticket) (word i : ℕ) (t : Ticket) → Parts word tickets i → (c : Contains tickets t) → word ≤ t.word → i ≤ c.0
+at_or_after tickets word i t parts c le = by_order (nat_lt c.0 i) refl
+  where
+    by_order : (b : Bool) → nat_lt c.0 i ≡ b → i ≤ c.0
+    by_order true less =
+        let lt : c.0 < i = is_below c.0 i less in
+        let low : (get_or tickets c.0 t).word < word = parts.0 c.0 t (omega arith) lt in
+        let same : (get_or tickets c.0 t).word ≡ t.word = ap (λ (x : Ticket). x.word) c.2 in
+        absurd (omega arith)
+    by_order false ge = not_below c.0 i ge
+
+-- its number is that of the ticket at the place, or greater
+place_least : (tickets : List Ticket) (word i : ℕ) (t d : Ticket) → AreRising tickets → Parts word tickets i → Contains tickets t → word ≤ t.word
+    → (i < length tickets) × ((get_or tickets i d).word ≤ t.word)
+place_least tickets word i t d rising parts c le =
+    let after : i ≤ c.0 = at_or_after tickets word i t parts c le in
+    let up : (get_or tickets i t).word ≤ (get_or tickets c.0 t).word = not_falling tickets rising i c.0 t after c.1 in
+    let same : (get_or tickets c.0 t).word ≡ t.word = ap (λ (x : Ticket). x.word) c.2 in
+    let inside : i < length tickets = omega (arith, c.1) in
+    let here : (get_or tickets i d).word ≡ (get_or tickets i t).word = ap (λ (x : Ticket). x.word) (get_or_same tickets i t d inside) in
+    (inside, omega arith)
+
+-- where the ticket at the partition's place has another number, or there is none, no ticket has the number
+pub not_there : (tickets : List Ticket) (word i : ℕ) (d t : Ticket) → AreRising tickets → Parts word tickets i
+    → (i < length tickets → (get_or tickets i d).word ≡ word → ⊥) → Contains tickets t → t.word ≡ word → ⊥
+not_there tickets word i d t rising parts other c same =
+    let least = place_least tickets word i t d rising parts c (omega arith) in
+    let above : word ≤ (get_or tickets i d).word = parts.1 i d (omega arith) least.0 in
+    other least.0 (omega (arith, least.1))
+
+-- two tickets of one number are one
+one_ticket : (tickets : List Ticket) (a b : Ticket) → AreRising tickets → Contains tickets a → Contains tickets b → a.word ≡ b.word → a ≡ b
+one_ticket tickets a b rising x y same = by_order (nat_lt x.0 y.0) refl (nat_lt y.0 x.0) refl
+  where
+    first : (get_or tickets x.0 a).word ≡ a.word
+    first = ap (λ (t : Ticket). t.word) x.2
+
+    second : (get_or tickets y.0 a).word ≡ b.word
+    second = ap (λ (t : Ticket). t.word) (get_or_same tickets y.0 b a y.1 ∙ y.2)
+
+    by_order : (p : Bool) → nat_lt x.0 y.0 ≡ p → (q : Bool) → nat_lt y.0 x.0 ≡ q → a ≡ b
+    by_order true less q other =
+        let rise : (get_or tickets x.0 a).word < (get_or tickets y.0 a).word = rises_far tickets x.0 y.0 a rising (is_below x.0 y.0 less) y.1 in
+        absurd (omega (arith, first, second))
+    by_order false le true more =
+        let rise : (get_or tickets y.0 a).word < (get_or tickets x.0 a).word = rises_far tickets y.0 x.0 a rising (is_below y.0 x.0 more) x.1 in
+        absurd (omega (arith, first, second))
+    by_order false le false ge =
+        let place : x.0 ≡ y.0 = omega (arith, not_below x.0 y.0 le, not_below y.0 x.0 ge) in
+        sym x.2 ∙ ap (λ i. get_or tickets i a) place ∙ get_or_same tickets y.0 b a y.1 ∙ y.2
+
+-- the lines of the tickets
+
+pub OwnTicket : List Ticket → ℕ → ℕ → Type 0
+OwnTicket tickets number word = (ticket : Ticket) × Contains tickets ticket × (ticket.line ≡ number) × (ticket.word ≡ word)
+
+found_key : (o : Option (List ℕ)) (key : List ℕ) → has_key o key ≡ true → o ≡ Some key
+found_key None key e = cc
+found_key (Some found) key e = ap (λ k. Some k) ((bytes_eq-Decides found key).0 e)
+
+-- a line that a key finds has a ticket with the key's number
+own_ticket : (text : List ℕ) (lines : List Line) (bits : ℕ) (tickets : List Ticket) (key : List ℕ) → AreTickets text lines bits tickets
+    → (p : ℕ) (line : Line) → slice_get lines p ≡ Some line → is_found_by text key line ≡ true → OwnTicket tickets (p + 1) (word_of bits key)
+unfolding OwnTicket
+own_ticket text lines bits tickets key all p line at found =
+    let some = all.complete p line at (some_key (line_key text line) key found) in
+    let t = some.0 in
+    let sound : IsTicket text lines bits (get_or tickets some.1.0 t) = all.sound some.1.0 t some.1.1 in
+    let own : IsTicket text lines bits t = subst (IsTicket text lines bits) some.1.2 sound in
+    let place : t.line - 1 ≡ p = omega (arith, some.2) in
+    let same : own.1.0 ≡ line = some_is (sym own.1.1 ∙ ap (slice_get lines) place ∙ at) in
+    let key_is : line_key text own.1.0 ≡ Some key = ap (line_key text) same ∙ found_key (line_key text line) key found in
+    let word : Some t.word ≡ Some (word_of bits key) = sym own.1.2 ∙ ap (option_map (word_of bits)) key_is in
+    (t, (some.1.0, some.1.1, some.1.2), some.2, some_is word)
+
+-- a line that a key finds is that of the ticket with the key's number
+pub only_line : (text : List ℕ) (lines : List Line) (bits : ℕ) (tickets : List Ticket) (key : List ℕ) (t : Ticket)
+    → AreTickets text lines bits tickets → AreRising tickets → Contains tickets t → t.word ≡ word_of bits key
+    → (q : ℕ) (y : Line) → slice_get lines q ≡ Some y → is_found_by text key y ≡ true → q + 1 ≡ t.line
+unfolding OwnTicket
+only_line text lines bits tickets key t all rising c word q y at found =
+    let own = own_ticket text lines bits tickets key all q y at found in
+    let same : own.0 ≡ t = one_ticket tickets own.0 t rising own.1 c (own.3 ∙ sym word) in
+    sym own.2 ∙ ap (λ (x : Ticket). x.line) same
+
+-- with no ticket of the key's number the key finds no line
+pub no_ticket : (text : List ℕ) (lines : List Line) (bits : ℕ) (tickets : List Ticket) (key : List ℕ) → AreTickets text lines bits tickets
+    → ((t : Ticket) → Contains tickets t → t.word ≡ word_of bits key → ⊥) → first_from 1 (is_found_by text key) lines ≡ None
+unfolding OwnTicket
+no_ticket text lines bits tickets key all none =
+    first_none 1 (is_found_by text key) lines (λ q y at. by_test (is_found_by text key y) (λ h.
+    let own = own_ticket text lines bits tickets key all q y at h in
+    none own.0 own.1 own.3))
+
+-- where the ticket's line has another key, the key finds no line
+pub other_key : (text : List ℕ) (lines : List Line) (bits : ℕ) (tickets : List Ticket) (key : List ℕ) (t : Ticket) (line : Line)
+    → AreTickets text lines bits tickets → AreRising tickets → Contains tickets t → t.word ≡ word_of bits key
+    → slice_get lines (t.line - 1) ≡ Some line → is_found_by text key line ≡ false → first_from 1 (is_found_by text key) lines ≡ None
+other_key text lines bits tickets key t line all rising c word at other =
+    first_none 1 (is_found_by text key) lines (λ q y at_q. by_test (is_found_by text key y) (λ h.
+    let number : q + 1 ≡ t.line = only_line text lines bits tickets key t all rising c word q y at_q h in
+    let place : q ≡ t.line - 1 = omega arith in
+    let same : y ≡ line = some_is (sym at_q ∙ ap (slice_get lines) place ∙ at) in
+    let none : false ≡ true = sym other ∙ ap (is_found_by text key) (sym same) ∙ h in
+    cc))
+
+-- and else it finds that line
+pub its_line : (text : List ℕ) (lines : List Line) (bits : ℕ) (tickets : List Ticket) (key : List ℕ) (t : Ticket) (line : Line)
+    → AreTickets text lines bits tickets → AreRising tickets → Contains tickets t → t.word ≡ word_of bits key → 1 ≤ t.line
+    → slice_get lines (t.line - 1) ≡ Some line → is_found_by text key line ≡ true → first_from 1 (is_found_by text key) lines ≡ Some (t.line, line)
+its_line text lines bits tickets key t line all rising c word positive at found =
+    let number : 1 + (t.line - 1) ≡ t.line = omega arith in
+    let earlier : (q : ℕ) (y : Line) → q < t.line - 1 → slice_get lines q ≡ Some y → is_found_by text key y ≡ false =
+    λ q y less at_q. by_test (is_found_by text key y) (λ h.
+    let same : q + 1 ≡ t.line = only_line text lines bits tickets key t all rising c word q y at_q h in
+    absurd (omega arith)) in
+    first_some 1 (is_found_by text key) lines (t.line - 1) line at found earlier ∙ ap (λ n. Some (n, line)) number
+
+-- a ticket's line is one of the lines
+pub ticket_within : (text : List ℕ) (lines : List Line) (bits : ℕ) (tickets : List Ticket) (t : Ticket) → AreTickets text lines bits tickets → Contains tickets t
+    → (1 ≤ t.line) × (t.line ≤ length lines)
+ticket_within text lines bits tickets t all c =
+    let sound : IsTicket text lines bits (get_or tickets c.0 t) = all.sound c.0 t c.1 in
+    let own : IsTicket text lines bits t = subst (IsTicket text lines bits) c.2 sound in
+    (own.0, omega (arith, slice_get_below lines (t.line - 1) own.1.0 own.1.1))
+
+-- what a key finds, by the line of the ticket with the key's number
+pub by_line : (b : Bool) (text : List ℕ) (lines : List Line) (bits : ℕ) (tickets : List Ticket) (key : List ℕ) (t : Ticket) (d : Line)
+    → AreTickets text lines bits tickets → AreRising tickets → Contains tickets t → t.word ≡ word_of bits key
+    → is_found_by text key (get_or lines (t.line - 1) d) ≡ b
+    → first_from 1 (is_found_by text key) lines ≡ cond b (Some (t.line, get_or lines (t.line - 1) d)) None
+by_line true text lines bits tickets key t d all rising c word passes =
+    let within = ticket_within text lines bits tickets t all c in
+    let at = slice_get-get_or lines (t.line - 1) d (omega (arith, within.0, within.1)) in
+    its_line text lines bits tickets key t (get_or lines (t.line - 1) d) all rising c word within.0 at passes
+by_line false text lines bits tickets key t d all rising c word passes =
+    let within = ticket_within text lines bits tickets t all c in
+    let at = slice_get-get_or lines (t.line - 1) d (omega (arith, within.0, within.1)) in
+    other_key text lines bits tickets key t (get_or lines (t.line - 1) d) all rising c word at passes
+
+-- a line that a key finds is the first that it finds
+pub found_here : (text : List ℕ) (lines : List Line) (bits : ℕ) (tickets : List Ticket) (key : List ℕ) (p : ℕ) (x : Line) → AreTickets text lines bits tickets → AreRising tickets
+    → slice_get lines p ≡ Some x → is_found_by text key x ≡ true → first_from 1 (is_found_by text key) lines ≡ Some (p + 1, x)
+unfolding OwnTicket
+found_here text lines bits tickets key p x all rising at passes =
+    let own = own_ticket text lines bits tickets key all p x at passes in
+    let place : own.0.line - 1 ≡ p = omega (arith, own.2) in
+    its_line text lines bits tickets key own.0 x all rising own.1 own.3 (omega (arith, own.2)) (ap (slice_get lines) place ∙ at) passes
+    ∙ ap (λ n. Some (n, x)) own.2
+
+-- no two lines are found by one key, so each breaks a rule after the earlier ones exactly where it does alone
+pub alone_ticket : (text : List ℕ) (lines : List Line) (bits : ℕ) (tickets : List Ticket) (p : ℕ) (x : Line) → AreTickets text lines bits tickets → AreRising tickets
+    → slice_get lines p ≡ Some x → broken text (take p lines) x ≡ broken text [] x
+unfolding OwnTicket
+alone_ticket text lines bits tickets p x all rising at = alone_first text lines p x (λ key passes.
+    let own = own_ticket text lines bits tickets key all p x at passes in
+    none_so_far (is_found_by text key) lines p x at passes (λ q y less at_q. by_test (is_found_by text key y) (λ h.
+    let same : q + 1 ≡ own.0.line = only_line text lines bits tickets key own.0 all rising own.1 own.3 q y at_q h in
+    absurd (omega (arith, own.2)))))
+
+-- the tickets of the lines so far
+
+abbrev pub AreComplete : List ℕ → List Line → List Ticket → ℕ → Type 0
+AreComplete text lines tickets n =
+    (place : ℕ) (line : Line) → place < n → slice_get lines place ≡ Some line → IsSome (line_key text line) → (ticket : Ticket) × Contains tickets ticket × (ticket.line ≡ place + 1)
+
+all_one_by : (P : Ticket → Type 0) (t : Ticket) → P t → (k : ℕ) (d : Ticket) → k < 1 → P (get_or (t ∷ []) k d)
+all_one_by P t h zero d lt = h
+all_one_by P t h (suc k) d lt = absurd (omega arith)
+
+pub sound_push : (text : List ℕ) (lines : List Line) (bits : ℕ) (tickets : List Ticket) (i word : ℕ) (d : Line) (key : List ℕ) → i < length lines
+    → line_key text (get_or lines i d) ≡ Some key → word ≡ word_of bits key
+    → All (IsTicket text lines bits) tickets → All (IsTicket text lines bits) (tickets ++ record { word = word; line = i + 1 } ∷ [])
+sound_push text lines bits tickets i word d key lt its_key its_word so_far =
+    let t : Ticket = record { word = word; line = i + 1 } in
+    let place : i ≡ t.line - 1 = omega arith in
+    let at : slice_get lines (t.line - 1) ≡ Some (get_or lines i d) = ap (slice_get lines) (sym place) ∙ slice_get-get_or lines i d lt in
+    let own : IsTicket text lines bits t = (omega arith, (get_or lines i d, at, ap (option_map (word_of bits)) its_key ∙ ap (λ w. Some w) (sym its_word))) in
+    All-append (IsTicket text lines bits) tickets (t ∷ []) so_far (all_one_by (IsTicket text lines bits) t own)
+
+pub complete_push : (text : List ℕ) (lines : List Line) (tickets : List Ticket) (i : ℕ) (t : Ticket) → t.line ≡ i + 1
+    → AreComplete text lines tickets i → AreComplete text lines (tickets ++ t ∷ []) (i + 1)
+complete_push text lines tickets i t number so_far place line lt at some =
+    ⊎_elim (λ before. let x = so_far place line before at some in (x.0, Contains-append_left tickets (t ∷ []) x.0 x.1, x.2))
+    (λ same. (t, Contains-append_right tickets (t ∷ []) t (0, omega arith, refl), number ∙ ap (λ n. n + 1) (sym same))) (at_last place i lt)
+
+pub all_tickets : (text : List ℕ) (lines : List Line) (bits : ℕ) (tickets sorted : List Ticket) (n : ℕ) → length lines ≤ n → IsPermutation tickets sorted
+    → All (IsTicket text lines bits) tickets → AreComplete text lines tickets n → AreTickets text lines bits sorted
+all_tickets text lines bits tickets sorted n le moved sound complete = record {
+  sound = All-permutation (IsTicket text lines bits) tickets sorted moved sound;
+  complete = λ place line at some.
+      let lt : place < n = omega (arith, le, slice_get_below lines place line at) in
+      let x = complete place line lt at some in
+      (x.0, Contains-permutation tickets sorted x.0 moved x.1, x.2);
+}
+
+-- objects' sections, by rising numbers
+
+-- between a number and that of the ticket at its place no object has a section
+pub none_between : (text : List ℕ) (lines : List Line) (bits : ℕ) (tickets : List Ticket) (code c i : ℕ) (d : Ticket)
+    → AreTickets text lines bits tickets → AreRising tickets → Parts code tickets i → code ≤ c
+    → (c < 2 ^ 63 → i < length tickets → c < (get_or tickets i d).word) → first_from 1 (is_found_by text (0 ∷ c ∷ [])) lines ≡ None
+unfolding OwnTicket word_of
+none_between text lines bits tickets code c i d all rising parts le beyond =
+    first_none 1 (is_found_by text (0 ∷ c ∷ [])) lines (λ q y at. by_test (is_found_by text (0 ∷ c ∷ []) y) (λ h.
+    let small : c < 2 ^ 63 = found_small text y c (found_key (line_key text y) (0 ∷ c ∷ []) h) in
+    let own = own_ticket text lines bits tickets (0 ∷ c ∷ []) all q y at h in
+    let word : own.0.word ≡ c = own.3 in
+    let least = place_least tickets code i own.0 d rising parts own.1 (omega arith) in
+    let less : c < (get_or tickets i d).word = beyond small least.0 in
+    absurd (omega (arith, least.1))))
+
+-- a ticket with a small number is that of an object's section
+pub its_section : (text : List ℕ) (lines : List Line) (bits : ℕ) (tickets : List Ticket) (code i : ℕ) (d : Ticket)
+    → AreTickets text lines bits tickets → Parts code tickets i → i < length tickets → (get_or tickets i d).word < 2 ^ 63
+    → (code ≤ (get_or tickets i d).word) × (is_some (first_from 1 (is_found_by text (0 ∷ (get_or tickets i d).word ∷ [])) lines) ≡ true)
+its_section text lines bits tickets code i d all parts lt small =
+    let t = get_or tickets i d in
+    let own : IsTicket text lines bits t = all.sound i d lt in
+    let key : line_key text own.1.0 ≡ Some (0 ∷ t.word ∷ []) = small_found text own.1.0 bits t.word own.1.2 small in
+    let passes : is_found_by text (0 ∷ t.word ∷ []) own.1.0 ≡ true =
+    ap (λ o. has_key o (0 ∷ t.word ∷ [])) key ∙ (bytes_eq-Decides (0 ∷ t.word ∷ []) (0 ∷ t.word ∷ [])).1 refl in
+    (parts.1 i d (omega arith) lt, some_first 1 (is_found_by text (0 ∷ t.word ∷ [])) lines (t.line - 1) own.1.0 own.1.1 passes)

@@ -1,0 +1,59 @@
+-- The lines that are found by a name, by numbers that stand for the names.
+use Rattle.std.specs.Prelude.{ℕ, Bool, true, false, ◌+◌, ◌-◌, ◌*◌, ◌/◌, ◌%◌, ◌^◌, ◌≤◌, ◌<◌, ◌≡◌, ◌==◌, if◌then◌else◌, List, [], ◌∷◌, length, Some, IsSome, slice_get, Contains}
+use Rattle.std.specs.List.{All, AllAdjacentBelow, AllWithin}
+use Rattle.std.specs.Option.{option_map}
+use Rattle.cop_eds.specs.declared.line.Line.{Line}
+use Rattle.cop_eds.specs.declared.tickets.Ticket.{Ticket}
+use Rattle.cop_eds.specs.Index.{line_key, IsIndex}
+use Rattle.cop_eds.specs.declared.entry.Entry.{Entry}
+use Rattle.cop_eds.specs.Lines.{lines_of, IsWithin}
+
+-- a number of 64 bits after two more bytes are mixed into it
+abbrev pub stirred : ℕ → ℕ → ℕ
+stirred n pair = ((n + pair) % 2 ^ 64 * 11400714819323198485) % 2 ^ 64
+
+-- a number of 64 bits that the bytes of a name are mixed into, two at a time
+unfoldable pub mixed : ℕ → List ℕ → ℕ
+mixed n [] = n
+mixed n (a ∷ []) = stirred n a
+mixed n (a ∷ b ∷ bs) = mixed (stirred n (a + 256 * b)) bs
+
+-- a number below 2^63 for a name; as long as the places have no more bits, the names of each place have a range of their
+-- own, above those of the places before it
+abbrev pub ranged : ℕ → ℕ → List ℕ → ℕ
+ranged bits place name = ((place * 2 ^ (64 - bits)) % 2 ^ 64 + mixed 0 name / 2 ^ bits) % 2 ^ 64 / 2
+
+-- the number that stands for what a line is found by: that of an object's section is its own, and the others come after
+unfoldable pub word_of : ℕ → List ℕ → ℕ
+word_of bits [] = 0
+word_of bits (group ∷ []) = 0
+word_of bits (group ∷ code ∷ name) = if group == 0 then code else 2 ^ 63 + ranged bits ((code + group) % 2 ^ 64) name
+
+-- the ticket is that of a line
+abbrev pub IsTicket : List ℕ → List Line → ℕ → Ticket → Type 0
+IsTicket text lines bits ticket =
+    (1 ≤ ticket.line) × ((line : Line) × (slice_get lines (ticket.line - 1) ≡ Some line) × (option_map (word_of bits) (line_key text line) ≡ Some ticket.word))
+
+-- the tickets of exactly those lines that are found by a name
+pub record AreTickets (text : List ℕ) (lines : List Line) (bits : ℕ) (tickets : List Ticket) : Type 0 where
+  pub sound : All (IsTicket text lines bits) tickets
+  pub complete : (place : ℕ) (line : Line) → slice_get lines place ≡ Some line → IsSome (line_key text line) → (ticket : Ticket) × Contains tickets ticket × (ticket.line ≡ place + 1)
+
+-- each number is below the next, so no two lines have one
+abbrev pub AreRising : List Ticket → Type 0
+AreRising tickets = AllAdjacentBelow (λ ticket next. ticket.word < next.word) tickets (length tickets)
+
+-- the tickets before the one place have numbers below this one, and those from the other place on have none
+abbrev pub Surround : ℕ → List Ticket → ℕ → ℕ → Type 0
+Surround word tickets low high =
+    AllWithin (λ ticket. ticket.word < word) tickets 0 low × AllWithin (λ ticket. word ≤ ticket.word) tickets high (length tickets)
+
+-- the lines of a text, and their index: by numbers where these rise, and else by names
+pub record IsIndexed (text : List ℕ) (lines : List Line) (bits : ℕ) (tickets : List Ticket) (rising : Bool) (entries : List Entry) : Type 0 where
+  pub all : lines ≡ lines_of text
+  pub within : All (IsWithin (length text)) lines
+  pub size : length text < 2 ^ 62
+  pub fits : (0 < bits) × (bits < 64)
+  pub ticketed : AreTickets text lines bits tickets
+  pub by_number : rising ≡ true → AreRising tickets
+  pub by_name : rising ≡ false → IsIndex text lines entries

@@ -1,0 +1,229 @@
+//! Tickets: the lines that are found by a name, by numbers that stand for the names. Where no two lines have one number,
+//! a line is found with no look at other lines' names.
+
+ghost use Rattle.std.specs.Prelude.{◌≡◌, ◌↔◌, ◌<◌, ◌≤◌, ◌+◌, ◌-◌, ◌∷◌, [], ℕ, List, length, true, false, IfOk, is_some, MatchOption, Some, None, slice_get, Contains};
+ghost use Rattle.std.specs.List.{All, AllWithin};
+ghost use Rattle.std.specs.Str.{str_to_ascii_lowercase};
+ghost use Rattle.cop_eds.specs.declared.line.Line.{Line};
+ghost use Rattle.cop_eds.specs.Lines.{IsWithin, first_from};
+ghost use Rattle.cop_eds.specs.Index.{sort_key, is_found_by};
+ghost use Rattle.cop_eds.specs.Tickets.{stirred, mixed, word_of, AreTickets, AreRising, Surround};
+
+use crate::entry::Entry;
+use crate::index::{has_key, line_entry};
+use crate::line::Line;
+use std::alloc::{AllocError, Global};
+
+/// The least number of a name that is none of an object's section.
+pub const OTHERS: u64 = 1 << 63;
+
+/// A line that is found by a name: the number that stands for the name, and the line's number.
+#[derive(Clone, Copy)]
+pub struct Ticket {
+    pub word: u64,
+    pub line: usize,
+}
+
+/// A number of 64 bits after two more bytes are mixed into it.
+fn stirred(sum: u64, pair: u64) -> u64
+    ensures { result ≡ stirred sum pair }
+{
+    sum.wrapping_add(pair).wrapping_mul(0x9E37_79B9_7F4A_7C15)
+}
+
+#[tactic(auto, unfolding(crate::specs::Tickets::mixed))]
+/// A number that the bytes of a name, without ASCII case, are mixed into.
+fn mixed(name: &[u8]) -> u64
+    ensures { result ≡ mixed 0 (str_to_ascii_lowercase name.now) }
+{
+    let mut sum = 0u64;
+    let mut rest = name;
+    while let Some((first, more)) = rest.split_first() {
+        let first = u64::from(first.to_ascii_lowercase());
+        let Some((second, tail)) = more.split_first() else {
+            return stirred(sum, first);
+        };
+        let second = u64::from(second.to_ascii_lowercase());
+        sum = stirred(sum, first + 256 * second);
+        rest = tail;
+    }
+    sum
+}
+
+#[tactic(auto, unfolding(crate::specs::Tickets::word_of))]
+/// The number that stands for what an entry is found by. The places of so many bits have ranges of their own.
+pub fn word_of(bits: u32, entry: &Entry<'_>) -> u64
+    requires { (0 < bits) × (bits < 64) }
+    ensures { result ≡ word_of bits (sort_key entry.now) }
+{
+    if entry.group == 0 {
+        return entry.code;
+    }
+    let place = entry.code.wrapping_add(u64::from(entry.group));
+    let word = (place << (64 - bits)).wrapping_add(mixed(entry.name) >> bits);
+    OTHERS + word / 2
+}
+
+/// How many bits the places of so many sections have.
+pub fn bits_of(sections: usize) -> u32
+    ensures { (0 < result) × (result < 64) }
+{
+    let places = (sections as u64).saturating_add(3);
+    (places.ilog2() + 1).min(63)
+}
+
+/// The tickets of all lines that are found by a name, by rising numbers.
+pub fn tickets_of(
+    alloc: Global,
+    source: &[u8],
+    lines: &[Line],
+    bits: u32,
+) -> Result<Vec<Ticket>, AllocError>
+    requires within { All (IsWithin (length source.now)) lines.now }
+    requires fits { (0 < bits) × (bits < 64) }
+    ensures { IfOk result (λ tickets. AreTickets source.now lines.now bits tickets.items) }
+{
+    let mut tickets = Vec::with_capacity(alloc, lines.len())?;
+    for (place, line) in lines.iter().enumerate() {
+        let Some(entry) = line_entry(source, line) else {
+            continue;
+        };
+        tickets.push(Ticket {
+            word: word_of(bits, &entry),
+            line: place + 1,
+        })?;
+    }
+    tickets.sort_unstable_by_key(|ticket| ticket.word);
+    Ok(tickets)
+}
+
+/// Whether each number is below the next.
+pub fn are_rising(tickets: &[Ticket]) -> bool
+    ensures { result ≡ true ↔ AreRising tickets.now }
+{
+    for i in 1..tickets.len() {
+        if tickets[i - 1].word >= tickets[i].word {
+            return false;
+        }
+    }
+    true
+}
+
+/// Whether all tickets before a place have numbers below this one.
+fn are_below(tickets: &[Ticket], place: usize, word: u64) -> bool
+    requires { AreRising tickets.now }
+    ensures { result ≡ true → AllWithin (λ ticket. ticket.word < word) tickets.now 0 place }
+{
+    if place == 0 {
+        return true;
+    }
+    place <= tickets.len() && tickets[place - 1].word < word
+}
+
+/// Whether no ticket from a place on has a number below this one.
+fn are_above(tickets: &[Ticket], place: usize, word: u64) -> bool
+    requires { AreRising tickets.now }
+    ensures { result ≡ true → AllWithin (λ ticket. word ≤ ticket.word) tickets.now place (length tickets.now) }
+{
+    if place >= tickets.len() {
+        return true;
+    }
+    tickets[place].word >= word
+}
+
+/// How many tickets stand before a number, which lies between two places.
+fn count_between(tickets: &[Ticket], from: usize, to: usize, word: u64) -> usize
+    requires order { (from ≤ to) × (to ≤ length tickets.now) }
+    requires around { Surround word tickets.now from to }
+    requires rising { AreRising tickets.now }
+    ensures { Surround word tickets.now result result }
+{
+    let mut low = from;
+    let mut high = to;
+    while low < high {
+        let middle = low + (high - low) / 2;
+        if tickets[middle].word < word {
+            low = middle + 1;
+        } else {
+            high = middle;
+        }
+    }
+    low
+}
+
+/// How many tickets stand before a number. It is looked for between the two places first.
+fn count_below(tickets: &[Ticket], near: (usize, usize), word: u64) -> usize
+    requires rising { AreRising tickets.now }
+    ensures { Surround word tickets.now result result }
+{
+    let (low, high) = near;
+    if low > high || high > tickets.len() {
+        return count_between(tickets, 0, tickets.len(), word);
+    }
+    if are_below(tickets, low, word) && are_above(tickets, high, word) {
+        count_between(tickets, low, high, word)
+    } else {
+        count_between(tickets, 0, tickets.len(), word)
+    }
+}
+
+/// The ticket of a number.
+fn ticket_with(tickets: &[Ticket], near: (usize, usize), word: u64) -> Option<Ticket>
+    requires rising { AreRising tickets.now }
+    ensures { MatchOption result ((ticket : Ticket) → Contains tickets.now ticket → ticket.word ≡ word → ⊥) (λ ticket. Contains tickets.now ticket × (ticket.word ≡ word)) }
+{
+    let place = count_below(tickets, near, word);
+    if place >= tickets.len() {
+        return None;
+    }
+    let ticket = tickets[place];
+    if ticket.word == word {
+        Some(ticket)
+    } else {
+        None
+    }
+}
+
+/// The line that a key finds, and its number. It is looked for between the two places first.
+pub fn find_ticket(
+    source: &[u8],
+    lines: &[Line],
+    bits: u32,
+    tickets: &[Ticket],
+    near: (usize, usize),
+    key: &Entry<'_>,
+) -> Option<(usize, Line)>
+    requires within { All (IsWithin (length source.now)) lines.now }
+    requires fits { (0 < bits) × (bits < 64) }
+    requires tickets { AreTickets source.now lines.now bits tickets.now }
+    requires rising { AreRising tickets.now }
+    ensures { result ≡ first_from 1 (is_found_by source.now (sort_key key.now)) lines.now }
+{
+    let ticket = ticket_with(tickets, near, word_of(bits, key))?;
+    if ticket.line == 0 || ticket.line > lines.len() {
+        return None;
+    }
+    let line = lines[ticket.line - 1];
+    let entry = line_entry(source, &line)?;
+    if has_key(&entry, key) {
+        Some((ticket.line, line))
+    } else {
+        None
+    }
+}
+
+/// The number of the first object's section from a number on. It is looked for between the two places first.
+pub fn next_ticket(tickets: &[Ticket], near: (usize, usize), code: u64) -> Option<u64>
+    requires rising { AreRising tickets.now }
+    ensures { (text : List ℕ) (lines : List Line) (bits : ℕ) → AreTickets text lines bits tickets.now → MatchOption result
+        ((c : ℕ) → code ≤ c → first_from 1 (is_found_by text (0 ∷ c ∷ [])) lines ≡ None)
+        (λ next. (code ≤ next) × (is_some (first_from 1 (is_found_by text (0 ∷ next ∷ [])) lines) ≡ true)
+        × ((c : ℕ) → code ≤ c → c < next → first_from 1 (is_found_by text (0 ∷ c ∷ [])) lines ≡ None)) }
+{
+    let place = count_below(tickets, near, code);
+    if place >= tickets.len() {
+        return None;
+    }
+    let next = tickets[place].word;
+    if next < OTHERS { Some(next) } else { None }
+}
