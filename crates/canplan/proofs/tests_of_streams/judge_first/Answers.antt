@@ -5,8 +5,7 @@ use Rattle.canplan.proofs.tests_of_streams.judge_first.Goals as goal
 
 pub returns : goal.returns
 returns c =
-    rw c.truncate.ensures.items
-    (
+    rw c.truncate.ensures.items (
       length-take-le c.args.count c.in_ok-verdicts.verdicts.items (omega (arith, c.requires, c.in_ok-verdicts.ensures.count)),
       λ i below. rw (get_or-take c.args.count c.in_ok-verdicts.verdicts.items i Long below) (c.in_ok-verdicts.ensures.judged i (omega (arith, below, c.requires))),
     )
