@@ -576,6 +576,10 @@ found_code text lines entries code i d index parts lt own_group =
     ap (λ o. has_key o (coded_key e.code)) (key ∙ ap (λ n. Some (0 ∷ e.code ∷ n)) none) ∙ (bytes_eq-Decides (coded_key e.code) (coded_key e.code)).1 refl in
     (le, some_first 1 (is_found_by text (coded_key e.code)) lines (e.line - 1) line own.1.1 passes)
 
+pub none_some : {A : Type 0} (o : Option A) → o ≡ None → is_some o ≡ true → ⊥
+none_some None e s = cc
+none_some (Some x) e s = cc
+
 pub gap_at : (text : List ℕ) (lines : List Line) (entries : List Entry) (code c i : ℕ) (e : Entry) → IsIndex text lines entries → Parts (coded_key code) entries i
     → code ≤ c → ((get_or entries i e).group ≡ 0 → c < (get_or entries i e).code)
     → first_from 1 (is_found_by text (coded_key c)) lines ≡ None

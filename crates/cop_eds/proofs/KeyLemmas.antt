@@ -1,5 +1,5 @@
 -- What a name, an object or a key finds is what its index key finds.
-use Rattle.std.proofs.Common.{◌≡◌, ℕ, suc, ◌+◌, ◌<◌, Bool, true, false, IfSome, MatchOption, is_some, ◌≤◌, arith, ◌&&◌, List, [], ◌∷◌, Option, Some, None, refl, sym, ap, ◌∙◌, ◌==◌}
+use Rattle.std.proofs.Common.{◌≡◌, ℕ, suc, ◌+◌, ◌<◌, Bool, true, false, IfSome, ◌≤◌, arith, ◌&&◌, List, [], ◌∷◌, Option, Some, None, refl, sym, ap, ◌∙◌, ◌==◌}
 use Rattle.std.specs.List.{All, list_any}
 use Rattle.std.proofs.Math.Bool.{and-true}
 use Rattle.cop_eds.specs.declared.line.Kind.{Kind}
@@ -10,7 +10,7 @@ use Rattle.cop_eds.specs.Names.{code_of, same_names, same_section, has_code}
 use Rattle.cop_eds.specs.Lines.{is_kind, text_of, lines_of, is_named, is_keyed, first_from, IsWithin}
 use Rattle.std.specs.Option.{option_map}
 use Rattle.cop_eds.specs.Sections.{is_coded, place_at, coded_place}
-use Rattle.cop_eds.specs.Index.{named_key, header_key, pair_key, of_kind, has_key, is_found_by}
+use Rattle.cop_eds.specs.Index.{named_key, header_key, pair_key, of_kind, has_key, is_found_by, IsNext}
 
 flipped : (m n : ℕ) → (m == n) ≡ ((m == n) && true)
 flipped m n = sym (and-true (m == n))
@@ -80,19 +80,13 @@ any_keyed text section key lines = ap (λ test. list_any test lines)
 coded_none : (text : List ℕ) (c : ℕ) → first_from 1 (is_found_by text (0 ∷ c ∷ [])) (lines_of text) ≡ None → coded_place text c ≡ None
 coded_none text c e = ap (option_map place_at) (sym (first_coded text c (lines_of text)) ∙ e)
 
-some_map : (o : Option (ℕ × Line)) → is_some (option_map place_at o) ≡ is_some o
-some_map None = refl
-some_map (Some found) = refl
-
-coded_some : (text : List ℕ) (c : ℕ) → is_some (first_from 1 (is_found_by text (0 ∷ c ∷ [])) (lines_of text)) ≡ true → is_some (coded_place text c) ≡ true
-coded_some text c e = some_map (first_from 1 (is_coded text c) (lines_of text)) ∙ sym (ap is_some (first_coded text c (lines_of text))) ∙ e
+coded_some : (text : List ℕ) (c : ℕ) (found : ℕ × Line) → first_from 1 (is_found_by text (0 ∷ c ∷ [])) (lines_of text) ≡ Some found → coded_place text c ≡ Some (place_at found)
+coded_some text c found e = ap (option_map place_at) (sym (first_coded text c (lines_of text)) ∙ e)
 
 -- the next number of an object's section, among the lines and as a place
-pub next_coded : (text : List ℕ) (code : ℕ) (o : Option ℕ)
-    → MatchOption o ((c : ℕ) → code ≤ c → first_from 1 (is_found_by text (0 ∷ c ∷ [])) (lines_of text) ≡ None)
-    (λ next. (code ≤ next) × (is_some (first_from 1 (is_found_by text (0 ∷ next ∷ [])) (lines_of text)) ≡ true)
-    × ((c : ℕ) → code ≤ c → c < next → first_from 1 (is_found_by text (0 ∷ c ∷ [])) (lines_of text) ≡ None))
-    → MatchOption o ((c : ℕ) → code ≤ c → coded_place text c ≡ None)
-    (λ next. (code ≤ next) × (is_some (coded_place text next) ≡ true) × ((c : ℕ) → code ≤ c → c < next → coded_place text c ≡ None))
-next_coded text code None h = λ c le. coded_none text c (h c le)
-next_coded text code (Some next) h = (h.0, coded_some text next h.1, λ c le lt. coded_none text c (h.2 c le lt))
+pub no_next : (text : List ℕ) (code : ℕ) → IsNext text (lines_of text) code None → (c : ℕ) → code ≤ c → coded_place text c ≡ None
+no_next text code h c le = coded_none text c (h c le)
+
+pub next_coded : (text : List ℕ) (code : ℕ) (next : ℕ × (ℕ × Line)) → IsNext text (lines_of text) code (Some next)
+    → (code ≤ next.0) × (coded_place text next.0 ≡ Some (place_at next.1)) × ((c : ℕ) → code ≤ c → c < next.0 → coded_place text c ≡ None)
+next_coded text code next h = (h.0, coded_some text next.0 next.1 h.1, λ c le lt. coded_none text c (h.2 c le lt))

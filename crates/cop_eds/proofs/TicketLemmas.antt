@@ -1,5 +1,5 @@
 -- Lines that are found by the numbers of their names.
-use Rattle.std.proofs.Common.{◌≡◌, ℕ, zero, suc, ◌+◌, ◌-◌, ◌^◌, ◌<◌, ◌≤◌, Bool, true, false, cond, nat_lt, nat_le, List, [], ◌∷◌, ◌++◌, length, take, get_or, slice_get, Contains, Option, Some, None, IsSome, is_some, refl, sym, ap, subst, ◌∙◌, arith, ⊎_elim}
+use Rattle.std.proofs.Common.{◌≡◌, ℕ, zero, suc, ◌+◌, ◌-◌, ◌^◌, ◌<◌, ◌≤◌, Bool, true, false, cond, nat_lt, nat_le, List, [], ◌∷◌, ◌++◌, length, take, get_or, slice_get, Contains, Option, Some, None, IsSome, refl, sym, ap, subst, ◌∙◌, arith, ⊎_elim}
 use Rattle.std.specs.List.{AllWithin, All}
 use Rattle.std.specs.List.Sorted.{IsNonDecreasingBy, IsPermutation}
 use Rattle.std.specs.Option.{option_map}
@@ -13,7 +13,7 @@ use Rattle.cop_eds.specs.declared.tickets.Ticket.{Ticket}
 use Rattle.cop_eds.specs.Lines.{first_from, broken}
 use Rattle.cop_eds.specs.Index.{line_key, has_key, is_found_by}
 use Rattle.cop_eds.specs.Tickets.{word_of, IsTicket, AreTickets, AreRising, Surround}
-use Rattle.cop_eds.proofs.IndexLemmas.{first_none, first_some, by_test, some_key, some_is, at_last, slice_get_below, some_first, none_so_far, alone_first}
+use Rattle.cop_eds.proofs.IndexLemmas.{first_none, first_some, by_test, some_key, some_is, at_last, slice_get_below, none_so_far, alone_first}
 use Rattle.cop_eds.proofs.CodeLemmas.{found_small, small_found}
 
 get_or_same : {X : Type 0} (xs : List X) (i : ℕ) (d e : X) → i < length xs → get_or xs i e ≡ get_or xs i d
@@ -186,6 +186,10 @@ ticket_within text lines bits tickets t all c =
     let own : IsTicket text lines bits t = subst (IsTicket text lines bits) c.2 sound in
     (own.0, omega (arith, slice_get_below lines (t.line - 1) own.1.0 own.1.1))
 
+pub all_within : (text : List ℕ) (lines : List Line) (bits : ℕ) (tickets : List Ticket) → AreTickets text lines bits tickets
+    → All (λ (t : Ticket). (1 ≤ t.line) × (t.line ≤ length lines)) tickets
+all_within text lines bits tickets all k d lt = ticket_within text lines bits tickets (get_or tickets k d) all (k, lt, get_or_same tickets k d (get_or tickets k d) lt)
+
 -- what a key finds, by the line of the ticket with the key's number
 pub by_line : (b : Bool) (text : List ℕ) (lines : List Line) (bits : ℕ) (tickets : List Ticket) (key : List ℕ) (t : Ticket) (d : Line)
     → AreTickets text lines bits tickets → AreRising tickets → Contains tickets t → t.word ≡ word_of bits key
@@ -272,14 +276,21 @@ none_between text lines bits tickets code c i d all rising parts le beyond =
     let less : c < (get_or tickets i d).word = beyond small least.0 in
     absurd (omega (arith, least.1))))
 
+coded_word : (bits code : ℕ) → code ≡ word_of bits (0 ∷ code ∷ [])
+unfolding word_of
+coded_word bits code = refl
+
 -- a ticket with a small number is that of an object's section
-pub its_section : (text : List ℕ) (lines : List Line) (bits : ℕ) (tickets : List Ticket) (code i : ℕ) (d : Ticket)
-    → AreTickets text lines bits tickets → Parts code tickets i → i < length tickets → (get_or tickets i d).word < 2 ^ 63
-    → (code ≤ (get_or tickets i d).word) × (is_some (first_from 1 (is_found_by text (0 ∷ (get_or tickets i d).word ∷ [])) lines) ≡ true)
-its_section text lines bits tickets code i d all parts lt small =
+pub its_section : (text : List ℕ) (lines : List Line) (bits : ℕ) (tickets : List Ticket) (code i : ℕ) (d : Ticket) (e : Line)
+    → AreTickets text lines bits tickets → AreRising tickets → Parts code tickets i → i < length tickets → (get_or tickets i d).word < 2 ^ 63
+    → (code ≤ (get_or tickets i d).word)
+    × (first_from 1 (is_found_by text (0 ∷ (get_or tickets i d).word ∷ [])) lines ≡ Some ((get_or tickets i d).line, get_or lines ((get_or tickets i d).line - 1) e))
+its_section text lines bits tickets code i d e all rising parts lt small =
     let t = get_or tickets i d in
     let own : IsTicket text lines bits t = all.sound i d lt in
     let key : line_key text own.1.0 ≡ Some (0 ∷ t.word ∷ []) = small_found text own.1.0 bits t.word own.1.2 small in
     let passes : is_found_by text (0 ∷ t.word ∷ []) own.1.0 ≡ true =
     ap (λ o. has_key o (0 ∷ t.word ∷ [])) key ∙ (bytes_eq-Decides (0 ∷ t.word ∷ []) (0 ∷ t.word ∷ [])).1 refl in
-    (parts.1 i d (omega arith) lt, some_first 1 (is_found_by text (0 ∷ t.word ∷ [])) lines (t.line - 1) own.1.0 own.1.1 passes)
+    let same : get_or lines (t.line - 1) e ≡ own.1.0 = get_or_from_slice_get lines (t.line - 1) own.1.0 e own.1.1 in
+    let first = its_line text lines bits tickets (0 ∷ t.word ∷ []) t own.1.0 all rising (i, lt, get_or_same tickets i d t lt) (coded_word bits t.word) own.0 own.1.1 passes in
+    (parts.1 i d (omega arith) lt, first ∙ ap (λ x. Some (t.line, x)) (sym same))

@@ -1,5 +1,5 @@
 -- What a line is found by, as a list of numbers: where it is looked for, and its name.
-use Rattle.std.specs.Prelude.{ℕ, ◌+◌, ◌-◌, ◌≤◌, ◌≡◌, Bool, false, List, [], ◌∷◌, Option, Some, None, IsSome, slice_get, Contains}
+use Rattle.std.specs.Prelude.{ℕ, ◌+◌, ◌-◌, ◌≤◌, ◌<◌, ◌≡◌, Bool, false, List, [], ◌∷◌, Option, Some, None, IsSome, slice_get, Contains}
 use Rattle.std.specs.List.{All}
 use Rattle.std.specs.List.Sorted.{IsSorted}
 use Rattle.std.specs.Ordering.{nat_cmp, on, then_cmp, is_lt}
@@ -12,7 +12,7 @@ use Rattle.cop_eds.specs.declared.line.Line.{Line}
 use Rattle.cop_eds.specs.declared.entry.Entry.{Entry}
 use Rattle.cop_eds.specs.Text.{name_of, key_of}
 use Rattle.cop_eds.specs.Names.{code_of}
-use Rattle.cop_eds.specs.Lines.{text_of}
+use Rattle.cop_eds.specs.Lines.{text_of, first_from}
 
 -- objects' sections come first, by their numbers; then the other sections, then the keys of each section
 abbrev pub named_key : Option ℕ → List ℕ → List ℕ
@@ -47,6 +47,13 @@ sort_key entry = entry.group ∷ entry.code ∷ str_to_ascii_lowercase entry.nam
 -- the entry stands before those of this key
 abbrev pub is_below : List ℕ → Entry → Bool
 is_below key entry = is_lt (slice_cmp nat_cmp (sort_key entry) key)
+
+-- the number of the first object's section from a number on, and its header
+abbrev pub IsNext : List ℕ → List Line → ℕ → Option (ℕ × (ℕ × Line)) → Type 0
+IsNext text lines code None = (c : ℕ) → code ≤ c → first_from 1 (is_found_by text (0 ∷ c ∷ [])) lines ≡ None
+IsNext text lines code (Some next) =
+    (code ≤ next.0) × (first_from 1 (is_found_by text (0 ∷ next.0 ∷ [])) lines ≡ Some next.1)
+    × ((c : ℕ) → code ≤ c → c < next.0 → first_from 1 (is_found_by text (0 ∷ c ∷ [])) lines ≡ None)
 
 -- by what they are found by, and then by their lines
 abbrev pub entry_cmp : Entry → Entry → Ordering

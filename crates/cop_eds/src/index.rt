@@ -8,7 +8,7 @@ ghost use Rattle.std.specs.Str.{bytes_eq};
 ghost use Rattle.cop_eds.specs.declared.line.Line.{Line};
 ghost use Rattle.cop_eds.specs.declared.entry.Entry.{Entry};
 ghost use Rattle.cop_eds.specs.Lines.{IsWithin, is_kind};
-ghost use Rattle.cop_eds.specs.Index.{line_key, header_key, pair_key, sort_key, entry_cmp, is_below, is_found_by, IsEntry, IsIndex};
+ghost use Rattle.cop_eds.specs.Index.{line_key, header_key, pair_key, sort_key, entry_cmp, is_below, is_found_by, IsEntry, IsIndex, IsNext};
 ghost use Rattle.cop_eds.specs.Lines.{first_from};
 
 use crate::entry::{Entry, compare_keys};
@@ -179,12 +179,9 @@ pub fn find_in(lines: &[Line], entries: &[Entry<'_>], key: &Entry<'_>) -> Option
     Some((number, lines[number - 1]))
 }
 
-/// The number of the first object's section from a number on.
-pub fn next_code(entries: &[Entry<'_>], code: u64) -> Option<u64>
-    ensures { (text : List ℕ) (lines : List Line) → IsIndex text lines entries.now → MatchOption result
-        ((c : ℕ) → code ≤ c → first_from 1 (is_found_by text (0 ∷ c ∷ [])) lines ≡ None)
-        (λ next. (code ≤ next) × (is_some (first_from 1 (is_found_by text (0 ∷ next ∷ [])) lines) ≡ true)
-        × ((c : ℕ) → code ≤ c → c < next → first_from 1 (is_found_by text (0 ∷ c ∷ [])) lines ≡ None)) }
+/// The number of the first object's section from a number on, and its header.
+pub fn next_code(lines: &[Line], entries: &[Entry<'_>], code: u64) -> Option<(u64, (usize, Line))>
+    ensures { (text : List ℕ) → IsIndex text lines.now entries.now → IsNext text lines.now code result }
 {
     let place = lower_bound(entries, &coded_entry(code));
     if place >= entries.len() {
@@ -194,5 +191,6 @@ pub fn next_code(entries: &[Entry<'_>], code: u64) -> Option<u64>
     if entry.group != 0 {
         return None;
     }
-    Some(entry.code)
+    let header = find_in(lines, entries, &coded_entry(entry.code))?;
+    Some((entry.code, header))
 }

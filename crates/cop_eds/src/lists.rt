@@ -18,15 +18,6 @@ use itoa::Buffer;
 use std::alloc::Global;
 use std::collections::BTreeSet;
 
-/// Where a sub section begins.
-fn sub_place(text: &Sections<'_>, index: u64, sub: u64) -> Option<Place>
-    requires index { index ≤ 65535 }
-    requires sub { sub ≤ 255 }
-    ensures { result ≡ coded_place text.now (sub_code index sub) }
-{
-    text.coded(sub_code(index, sub))
-}
-
 /// The first sub section of an index from a sub on.
 pub fn next_sub(text: &Sections<'_>, index: u64, from: u64) -> Option<(u64, Place)>
     requires index { index ≤ 65535 }
@@ -38,17 +29,11 @@ pub fn next_sub(text: &Sections<'_>, index: u64, from: u64) -> Option<(u64, Plac
         return None;
     }
     let first = sub_code(index, from);
-    let Some(code) = text.next_code(first) else {
-        return None;
-    };
+    let (code, place) = text.next_code(first)?;
     if code - first > 255 - from {
         return None;
     }
-    let sub = from + (code - first);
-    let Some(place) = sub_place(text, index, sub) else {
-        return None;
-    };
-    Some((sub, place))
+    Some((from + (code - first), place))
 }
 
 /// The sub sections of an index keep their rules.

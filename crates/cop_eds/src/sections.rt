@@ -6,7 +6,7 @@ ghost use Rattle.std.specs.Option.{option_map, option_and_then};
 ghost use Rattle.cop_eds.specs.declared.line.Line.{Line};
 ghost use Rattle.cop_eds.specs.Lines.{IsWithin, lines_of, first_from, is_named, is_keyed, broken, first_refusal};
 ghost use Rattle.cop_eds.specs.Sections.{place_at, place_of, is_coded, coded_place, keyed_line, key_line, some_value, entry_of};
-ghost use Rattle.cop_eds.specs.Index.{sort_key, is_found_by};
+ghost use Rattle.cop_eds.specs.Index.{sort_key, is_found_by, IsNext};
 
 use crate::entry::Entry;
 use crate::fault::{Refusal, Rule};
@@ -245,17 +245,25 @@ impl<'a> Sections<'a> {
         self.find(&coded_entry(code)).map(place_at)
     }
 
-    /// The number of the first object's section from a number on.
-    pub fn next_code(&self, code: u64) -> Option<u64>
-        ensures { MatchOption result ((c : ℕ) → code ≤ c → coded_place self.now c ≡ None)
-            (λ next. (code ≤ next) × (is_some (coded_place self.now next) ≡ true) × ((c : ℕ) → code ≤ c → c < next → coded_place self.now c ≡ None)) }
+    /// The number of the first object's section from a number on, and its header.
+    fn next_header(&self, code: u64) -> Option<(u64, (usize, Line))>
+        ensures { IsNext self.now (lines_of self.now) code result }
     {
         if self.is_rising {
             let near = self.hints.places(&coded_entry(code));
-            next_ticket(&self.tickets, near, code)
+            next_ticket(&self.lines, &self.tickets, near, code)
         } else {
-            next_code(&self.entries, code)
+            next_code(&self.lines, &self.entries, code)
         }
+    }
+
+    /// The number of the first object's section from a number on, and where it begins.
+    pub fn next_code(&self, code: u64) -> Option<(u64, Place)>
+        ensures { MatchOption result ((c : ℕ) → code ≤ c → coded_place self.now c ≡ None)
+            (λ next. (code ≤ next.0) × (coded_place self.now next.0 ≡ Some next.1) × ((c : ℕ) → code ≤ c → c < next.0 → coded_place self.now c ≡ None)) }
+    {
+        let (next, header) = self.next_header(code)?;
+        Some((next, place_at(header)))
     }
 
     /// The number of a key's line.

@@ -6,7 +6,7 @@ ghost use Rattle.std.specs.List.{All, AllWithin};
 ghost use Rattle.std.specs.Str.{str_to_ascii_lowercase};
 ghost use Rattle.cop_eds.specs.declared.line.Line.{Line};
 ghost use Rattle.cop_eds.specs.Lines.{IsWithin, first_from};
-ghost use Rattle.cop_eds.specs.Index.{sort_key, is_found_by};
+ghost use Rattle.cop_eds.specs.Index.{sort_key, is_found_by, IsNext};
 ghost use Rattle.cop_eds.specs.Tickets.{stirred, mixed, word_of, AreTickets, AreRising, Surround};
 
 use crate::entry::Entry;
@@ -212,18 +212,28 @@ pub fn find_ticket(
     }
 }
 
-/// The number of the first object's section from a number on. It is looked for between the two places first.
-pub fn next_ticket(tickets: &[Ticket], near: (usize, usize), code: u64) -> Option<u64>
+/// The number of the first object's section from a number on, and its header. It is looked for between the two places
+/// first.
+pub fn next_ticket(
+    lines: &[Line],
+    tickets: &[Ticket],
+    near: (usize, usize),
+    code: u64,
+) -> Option<(u64, (usize, Line))>
     requires rising { AreRising tickets.now }
-    ensures { (text : List ℕ) (lines : List Line) (bits : ℕ) → AreTickets text lines bits tickets.now → MatchOption result
-        ((c : ℕ) → code ≤ c → first_from 1 (is_found_by text (0 ∷ c ∷ [])) lines ≡ None)
-        (λ next. (code ≤ next) × (is_some (first_from 1 (is_found_by text (0 ∷ next ∷ [])) lines) ≡ true)
-        × ((c : ℕ) → code ≤ c → c < next → first_from 1 (is_found_by text (0 ∷ c ∷ [])) lines ≡ None)) }
+    ensures { (text : List ℕ) (bits : ℕ) → AreTickets text lines.now bits tickets.now → IsNext text lines.now code result }
 {
     let place = count_below(tickets, near, code);
     if place >= tickets.len() {
         return None;
     }
-    let next = tickets[place].word;
-    if next < OTHERS { Some(next) } else { None }
+    let ticket = tickets[place];
+    if ticket.line == 0 || ticket.line > lines.len() {
+        return None;
+    }
+    if ticket.word < OTHERS {
+        Some((ticket.word, (ticket.line, lines[ticket.line - 1])))
+    } else {
+        None
+    }
 }
