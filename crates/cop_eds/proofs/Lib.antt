@@ -4,8 +4,8 @@ pub mod LawLemmas
 pub mod StepsLemmas
 pub mod SubsLemmas
 pub mod SoundLemmas
+pub mod FoundLemmas
 pub mod RateLemmas
-pub mod ObjectLemmas
 pub mod OrderLemmas
 pub mod SearchLemmas
 pub mod IndexLemmas

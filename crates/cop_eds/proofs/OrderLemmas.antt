@@ -1,5 +1,5 @@
 -- Objects that are collected by rising index and sub are sorted.
-use Rattle.std.proofs.Common.{◌≡◌, ◌≤◌, ◌<◌, ◌+◌, ◌*◌, ℕ, zero, suc, Bool, true, false, cond, nat_lt, ◌==◌, List, [], ◌∷◌, ◌++◌, length, get_or, fold, Option, Some, None, Result, Ok, Err, refl, arith, append_assoc}
+use Rattle.std.proofs.Common.{◌≡◌, ◌≤◌, ◌<◌, ◌+◌, ◌*◌, ℕ, zero, suc, Bool, true, false, cond, nat_lt, ◌==◌, List, [], ◌∷◌, ◌++◌, length, get_or, fold, Option, Some, None, Result, Ok, Err, refl, arith, append_assoc, subst, sym}
 use Rattle.std.specs.List.{flat_map}
 use Rattle.std.specs.Ordering.{nat_cmp, match_ordering}
 use Rattle.std.specs.declared.cmp.Ordering.TheVariants.{Less, Equal, Greater}
@@ -136,7 +136,7 @@ rises_sorted low (x ∷ xs) h =
     (rises_sorted (code x + 1) xs h.2)
 
 -- the objects at the indexes of a list are sorted
-pub collected_sorted : (text : List ℕ) (indexes : List ℕ) → AreSorted (flat_map (objects_at text) (rising indexes))
+collected_sorted : (text : List ℕ) (indexes : List ℕ) → AreSorted (flat_map (objects_at text) (rising indexes))
 unfolding rising Increases
 collected_sorted text indexes = rises_sorted 0 (flat_map (objects_at text) (rising indexes)) (listed_rise text 0 (rising indexes) (fold_increases [] indexes tt))
 
@@ -146,3 +146,6 @@ objects_sorted text = by_listed (listed text)
     by_listed : (r : Result (List ℕ) Refusal) → AreSorted (objects_listed text r)
     by_listed (Err e) = λ i j d lt inside. absurd (omega arith)
     by_listed (Ok indexes) = collected_sorted text indexes
+
+pub held_sorted : (text : List ℕ) (objects : List Object) → objects ≡ objects_of text → AreSorted objects
+held_sorted text objects held = subst AreSorted (sym held) (objects_sorted text)

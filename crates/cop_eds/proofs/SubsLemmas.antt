@@ -1,5 +1,5 @@
 -- The sub sections of an index, one after the other.
-use Rattle.std.proofs.Common.{◌≡◌, ℕ, suc, ◌+◌, ◌-◌, ◌≤◌, ◌<◌, List, [], ◌∷◌, Ok, Err, Some, None, zero, refl, ap, ◌∙◌, arith, lit≤}
+use Rattle.std.proofs.Common.{◌≡◌, ℕ, suc, ◌+◌, ◌-◌, ◌≤◌, ◌<◌, List, [], ◌∷◌, Ok, Err, Some, None, zero, refl, ap, ◌∙◌, arith, lit≤, Bool, true, false, ◌++◌, append_assoc, sym}
 use Rattle.cop_eds.specs.declared.fault.Refusal.{Refusal}
 use Rattle.cop_eds.specs.declared.line.Place.{Place}
 use Rattle.cop_eds.specs.declared.description.Description.{Description}
@@ -7,7 +7,9 @@ use Rattle.cop_eds.specs.Names.{sub_code}
 use Rattle.cop_eds.specs.Sections.{coded_place}
 use Rattle.cop_eds.specs.Steps.{each}
 use Rattle.cop_eds.specs.Description.{described}
+use Rattle.cop_eds.specs.declared.description.Object.{Object}
 use Rattle.cop_eds.specs.Lists.{subs_from, described_sub}
+use Rattle.cop_eds.specs.Objects.{object_in, held_subs}
 
 pub sub_there : (text : List ℕ) (index sub : ℕ) (place : Place) → sub < 256 → coded_place text (sub_code index sub) ≡ Some place
     → subs_from text index sub (256 - sub) ≡ (sub, place) ∷ subs_from text index (sub + 1) (256 - (sub + 1))
@@ -62,3 +64,21 @@ skip text index from sub le high none = skip_by (sub - from) text index from sub
 pub none_left : (text : List ℕ) (index from : ℕ) → from ≤ 256
     → ((c : ℕ) → sub_code index from ≤ c → c < sub_code index 256 → coded_place text c ≡ None) → subs_from text index from (256 - from) ≡ []
 none_left text index from le none = skip text index from 256 le (lit≤ tt) none ∙ subs_end text index 256 (lit≤ tt)
+
+-- the objects of a sub section, where the index holds them
+pub held_goes : (text : List ℕ) (index sub : ℕ) (place : Place) (d : Description) (b : Bool) (xs ys : List (ℕ × Place)) (old new total : List Object) → b ≡ true
+    → described text place ≡ Ok d → ys ≡ (sub, place) ∷ xs → new ≡ old ++ object_in index sub place (Ok d) → old ++ held_subs text index b ys ≡ total
+    → new ++ held_subs text index b xs ≡ total
+held_goes text index sub place d b xs ys old new total holds e cut more so_far =
+    let own = object_in index sub place (Ok d) in
+    let rest = held_subs text index true xs in
+    let first : held_subs text index true ((sub, place) ∷ xs) ≡ own ++ rest = rw e refl in
+    let all : held_subs text index true ys ≡ own ++ rest = ap (held_subs text index true) cut ∙ first in
+    let joined : (old ++ own) ++ rest ≡ old ++ (own ++ rest) = append_assoc old own rest in
+    let before : old ++ held_subs text index true ys ≡ total = rw holds at so_far in
+    rw (more, holds) (joined ∙ ap (λ zs. old ++ zs) (sym all) ∙ before)
+
+-- and where it doesn't
+pub held_skips : (text : List ℕ) (index : ℕ) (b : Bool) (xs ys : List (ℕ × Place)) (old new total : List Object) → b ≡ false
+    → new ≡ old → old ++ held_subs text index b ys ≡ total → new ++ held_subs text index b xs ≡ total
+held_skips text index b xs ys old new total holds same so_far = rw (same, holds) (rw holds at so_far)

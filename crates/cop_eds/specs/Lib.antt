@@ -13,6 +13,7 @@ pub mod Access
 pub mod Description
 pub mod Lists
 pub mod Objects
+pub mod Found
 pub mod Reading
 pub mod Eds
 pub mod Laws

@@ -1,5 +1,5 @@
 -- The objects that a device holds.
-use Rattle.std.specs.Prelude.{◌≡◌, ℕ, Bool, true, ◌&&◌, ◌||◌, List, [], ◌∷◌, fold, find, ◌==◌, nat_lt, if◌then◌else◌, Option, Some, None, Result, Ok, Err}
+use Rattle.std.specs.Prelude.{◌≡◌, ℕ, Bool, true, false, ◌&&◌, ◌||◌, List, [], ◌∷◌, fold, find, ◌==◌, nat_lt, if◌then◌else◌, Option, Some, None, Result, Ok, Err}
 use Rattle.std.specs.List.{flat_map, AllPairs}
 use Rattle.std.specs.Option.{option_map}
 use Rattle.std.specs.Ordering.{nat_cmp}
@@ -25,6 +25,11 @@ object_in index sub place (Ok description) =
 
 abbrev pub sub_object : List ℕ → ℕ → ℕ × Place → List Object
 sub_object text index sub = object_in index sub.0 sub.1 (described text sub.1)
+
+-- the objects of sub sections, where their index holds them
+abbrev pub held_subs : List ℕ → ℕ → Bool → List (ℕ × Place) → List Object
+held_subs text index true subs = flat_map (sub_object text index) subs
+held_subs text index false subs = []
 
 -- the objects at an index: a VAR or DOMAIN at sub 0, or those of the sub sections of an ARRAY or RECORD, by rising sub
 abbrev pub objects_by : List ℕ → ℕ → Place → Result Description Refusal → List Object

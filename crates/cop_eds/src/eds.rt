@@ -15,8 +15,8 @@ use crate::amount::{Amount, amount_of};
 use crate::description::Object;
 use crate::fault::{EdsFault, Refusal, Rule};
 use crate::line::{Line, Place};
-use crate::lists::listed;
-use crate::objects::{object_in, objects};
+use crate::lists::objects;
+use crate::objects::object_in;
 use crate::rates::rates;
 use crate::sections::Sections;
 use cop_frame::RateSet;
@@ -62,8 +62,7 @@ pub fn parse<'a>(alloc: Global, source: &'a [u8]) -> Result<Eds<'a>, EdsFault>
         return Err(EdsFault::Refused(refusal));
     }
     let rates = rates(&sections)?;
-    let indexes = listed(alloc, &sections)?;
-    let objects = objects(alloc, &sections, &indexes)?;
+    let objects = objects(alloc, &sections)?;
     Ok(Eds {
         sections,
         rates,

@@ -56,6 +56,16 @@ pub struct Refusal {
     pub line: usize,
 }
 
+/// The refusal where the object that a line names is missing.
+pub fn missing(line: usize) -> Refusal
+    ensures { result ≡ record { rule = Rule.ObjectMissing; line = line } }
+{
+    Refusal {
+        rule: Rule::ObjectMissing,
+        line,
+    }
+}
+
 /// Why a text is not read.
 #[derive(Debug, Drop, Error)]
 pub enum EdsFault {

@@ -6,6 +6,7 @@ mod description;
 mod eds;
 mod entry;
 mod fault;
+mod found;
 mod hints;
 mod index;
 pub mod laws;
@@ -17,6 +18,7 @@ mod number;
 mod objects;
 mod rates;
 mod sections;
+mod subs;
 mod text;
 mod tickets;
 

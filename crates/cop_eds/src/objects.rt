@@ -4,15 +4,17 @@ ghost use Rattle.std.specs.Prelude.{◌≡◌, ◌≤◌, ◌+◌, ◌-◌, ◌+
 ghost use Rattle.std.specs.List.{flat_map};
 ghost use Rattle.std.specs.List.Sorted.{IsPartitionPoint};
 ghost use Rattle.std.specs.Option.{option_map};
-ghost use Rattle.cop_eds.specs.Lists.{subs_from, subs_of};
-ghost use Rattle.cop_eds.specs.Objects.{object_in, sub_object, objects_at, rising, is_at, is_before, AreSorted};
+ghost use Rattle.cop_eds.specs.Lines.{Gives};
+ghost use Rattle.cop_eds.specs.Steps.{each};
+ghost use Rattle.cop_eds.specs.Lists.{subs_of, described_sub, checked_object};
+ghost use Rattle.cop_eds.specs.Objects.{object_in, held_subs, objects_at, is_at, is_before, AreSorted};
 
 use crate::description::{Description, Object, described};
+use crate::fault::{EdsFault, missing};
 use crate::line::Place;
-use crate::lists::{next_sub, own_place};
 use crate::sections::Sections;
-use std::alloc::{AllocError, Global};
-use std::collections::BTreeSet;
+use crate::subs::{next_sub, own_place};
+use std::alloc::AllocError;
 
 /// Adds the object that a section describes, where that holds a value.
 fn push_object(
@@ -41,14 +43,21 @@ fn push_object(
     Ok(())
 }
 
-/// Adds the objects of an ARRAY's or RECORD's sub sections.
-fn push_subs(objects: &mut Vec<Object>, text: &Sections<'_>, index: u64) -> Result<(), AllocError>
+/// The sub sections of an index keep their rules. Their objects are added where the index holds them.
+fn read_subs(
+    objects: &mut Vec<Object>,
+    text: &Sections<'_>,
+    index: u64,
+    holds_subs: bool,
+) -> Result<(), EdsFault>
     requires { index ≤ 65535 }
-    ensures { OnOk result (objects.new.items ≡ objects.old.items ++ flat_map (sub_object text.now index) (subs_of text.now index)) }
+    ensures value { Gives (λ done. done) result (each (described_sub text.now) (subs_of text.now index)) }
+    ensures added { OnOk result (objects.new.items ≡ objects.old.items ++ held_subs text.now index holds_subs (subs_of text.now index)) }
 {
     let mut from = 0;
     while let Some((sub, place)) = next_sub(text, index, from) {
-        if let Ok(description) = described(text, place) {
+        let description = described(text, place)?;
+        if holds_subs {
             push_object(objects, index, sub, place, description)?;
         }
         from = sub + 1;
@@ -56,51 +65,25 @@ fn push_subs(objects: &mut Vec<Object>, text: &Sections<'_>, index: u64) -> Resu
     Ok(())
 }
 
-#[tactic(auto, unfolding(crate::specs::Objects::objects_at))]
-/// Adds the objects at an index.
-fn push_at(objects: &mut Vec<Object>, text: &Sections<'_>, index: u64) -> Result<(), AllocError>
-    ensures { OnOk result (objects.new.items ≡ objects.old.items ++ objects_at text.now index) }
-{
-    let Some(place) = own_place(text, index) else {
-        return Ok(());
-    };
-    let Ok(description) = described(text, place) else {
-        return Ok(());
-    };
-    if description.object_type.holds_subs() {
-        push_subs(objects, text, index)
-    } else {
-        push_object(objects, index, 0, place, description)
-    }
-}
-
-#[tactic(auto, using(crate::proofs::ObjectLemmas::rising_more, crate::proofs::ObjectLemmas::rising_none))]
-/// The indexes in rising order, each once.
-fn rising(alloc: Global, indexes: &[u64]) -> Result<BTreeSet<u64>, AllocError>
-    ensures { IfOk result (λ set. set.keys ≡ rising indexes.now) }
-{
-    let mut set = BTreeSet::new(alloc);
-    for index in indexes {
-        set.insert(*index)?;
-    }
-    Ok(set)
-}
-
-/// The objects at the listed indexes, by rising index and sub.
-pub fn objects(
-    alloc: Global,
+#[tactic(auto, unfolding(crate::specs::Lists::checked_object, crate::specs::Objects::objects_at))]
+/// The object that an entry at this line names has a section; its keys and those of its sub sections keep their rules.
+/// The objects at the index are added.
+pub fn read_object(
+    objects: &mut Vec<Object>,
     text: &Sections<'_>,
-    indexes: &[u64],
-) -> Result<Vec<Object>, AllocError>
-    ensures held { IfOk result (λ objects. objects.items ≡ flat_map (objects_at text.now) (rising indexes.now)) }
-    ensures sorted { IfOk result (λ objects. AreSorted objects.items) }
+    line: usize,
+    index: u64,
+) -> Result<(), EdsFault>
+    ensures value { Gives (λ done. done) result (checked_object text.now line index) }
+    ensures added { OnOk result (objects.new.items ≡ objects.old.items ++ objects_at text.now index) }
 {
-    let set = rising(alloc, indexes)?;
-    let mut objects = Vec::new(alloc);
-    for index in &set {
-        push_at(&mut objects, text, *index)?;
+    let place = own_place(text, index).ok_or(missing(line))?;
+    let description = described(text, place)?;
+    let holds_subs = description.object_type.holds_subs();
+    if !holds_subs {
+        push_object(objects, index, 0, place, description)?;
     }
-    Ok(objects)
+    read_subs(objects, text, index, holds_subs)
 }
 
 fn is_at(object: &Object, index: u16, sub: u8) -> bool

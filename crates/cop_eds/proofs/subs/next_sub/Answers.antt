@@ -2,7 +2,7 @@ use Rattle.std.proofs.Common.{◌≡◌, ◌+◌, ◌-◌, ◌≤◌, ◌<◌, a
 use Rattle.cop_eds.specs.Names.{sub_code}
 use Rattle.cop_eds.specs.Sections.{coded_place}
 use Rattle.cop_eds.proofs.SubsLemmas.{sub_there, skip, subs_end, none_left}
-use Rattle.cop_eds.proofs.lists.next_sub.Goals as goal
+use Rattle.cop_eds.proofs.subs.next_sub.Goals as goal
 
 pub returns-then-from-gt255 : goal.returns-then-from-gt255
 returns-then-from-gt255 c = subs_end _ _ _ (omega arith)

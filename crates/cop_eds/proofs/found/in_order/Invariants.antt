@@ -1,0 +1,11 @@
+use Rattle.std.proofs.Common.{◌≡◌, ◌++◌, length}
+use Rattle.std.specs.List.{AllByRecursion, flat_map}
+use Rattle.std.specs.BTreeMap.{values}
+use Rattle.cop_eds.specs.Found.{IsInside, spanned}
+use Rattle.cop_eds.proofs.found.in_order.Given as goal
+
+abbrev pub invariant-loop-span : goal.invariant-loop-span
+invariant-loop-span l = record {
+  collected : l.objects.items ++ flat_map (spanned l.found.objects.items) l.span-iterator ≡ flat_map (spanned l.found.objects.items) (values l.found.spans);
+  inside : AllByRecursion (IsInside (length l.found.objects.items)) l.span-iterator;
+}
