@@ -7,11 +7,9 @@ use Rattle.cop_rta.specs.declared.streams.Stream.{Stream}
 use Rattle.cop_rta.specs.declared.verdicts.Verdict.{Verdict}
 use Rattle.cop_rta.specs.Entries.{entry_of}
 use Rattle.cop_rta.proofs.StreamLemmas.{streams_same}
-use Rattle.cop_cert.specs.declared.faults.Breach.{Breach}
 use Rattle.cop_cert.specs.declared.refusals.Refusal.{Refusal}
 use Rattle.cop_cert.specs.Format.{text_of}
 use Rattle.cop_rows.specs.declared.pdo_table.PdoRow.{PdoRow}
-use Rattle.cop_net.specs.declared.faults.Refusal as net
 use Rattle.cop_net.specs.Devices.{File}
 use Rattle.cop_net.specs.Network.{BeginsWith}
 use Rattle.cop_plan.specs.Orders.{HasPdos}
@@ -45,14 +43,15 @@ files_same rates streams rows a b has x y =
       x.refusals ∙ ap (λ (o : Outcome). text_of (refusals_of o)) same ∙ sym y.refusals,
     )
 
-found_same : (r : Result Found net.Refusal) (a b : Found) → r ≡ Ok a → r ≡ Ok b → a ≡ b
-found_same r a b x y =
-    let both : ◌≡◌ {A = Result Found net.Refusal} (Ok a) (Ok b) = sym x ∙ y in
+-- what is answered at all is one thing
+ok_once : {A E : Type 0} (r : Result A E) (a b : A) → r ≡ Ok a → r ≡ Ok b → a ≡ b
+ok_once {A} {E} r a b x y =
+    let both : ◌≡◌ {A = Result A E} (Ok a) (Ok b) = sym x ∙ y in
     cc
 
 pub one_plan : (nodes pdos : List ℕ) (eds : List File) (a b : Files) → AreFilesOf nodes pdos eds a → AreFilesOf nodes pdos eds b → SameFiles a b
 one_plan nodes pdos eds a b x y =
-    let found : x.found ≡ y.found = found_same (network_in nodes pdos eds) x.found y.found x.read y.read in
+    let found : x.found ≡ y.found = ok_once (network_in nodes pdos eds) x.found y.found x.read y.read in
     let entries : map entry_of x.streams ≡ map entry_of y.streams = x.streams_are ∙ ap (λ (f : Found). f.network.streams) found ∙ sym y.streams_are in
     let streams : x.streams ≡ y.streams = streams_same x.streams y.streams entries in
     let there : AreFilesFor y.found.network.equipment.rates x.streams y.found.rows a = subst (λ (f : Found). AreFilesFor f.network.equipment.rates x.streams f.rows a) found x.planned in
@@ -78,11 +77,6 @@ answers_same streams pdos (r ∷ rs) xs ys x y =
     let other = y.each k inside (get_or (r ∷ rs) k r) here in
     bool_same (get_or xs k false) (get_or ys k false) (λ h. other.1 (mine.0 h)) (λ h. mine.1 (other.0 h)))
 
-refusals_same : (r : Result (List Refusal) Breach) (a b : List Refusal) → r ≡ Ok a → r ≡ Ok b → a ≡ b
-refusals_same r a b x y =
-    let both : ◌≡◌ {A = Result (List Refusal) Breach} (Ok a) (Ok b) = sym x ∙ y in
-    cc
-
 all_same : (xs ys : List Bool) (a b : Bool) → xs ≡ ys → (IsTrue a ↔ All (λ answer. answer ≡ true) xs) → (IsTrue b ↔ All (λ answer. answer ≡ true) ys) → a ≡ b
 all_same xs ys true true e x y = refl
 all_same xs ys false false e x y = refl
@@ -91,10 +85,10 @@ all_same xs ys false true e x y = x.1 (subst (λ (l : List Bool). All (λ answer
 
 pub one_check : (nodes pdos : List ℕ) (eds : List File) (text lines others : List ℕ) (all each : Bool) → IsCheckOf nodes pdos eds text lines all → IsCheckOf nodes pdos eds text others each → (lines ≡ others) × (all ≡ each)
 one_check nodes pdos eds text lines others all each x y =
-    let found : x.found ≡ y.found = found_same (network_in nodes pdos eds) x.found y.found x.read y.read in
+    let found : x.found ≡ y.found = ok_once (network_in nodes pdos eds) x.found y.found x.read y.read in
     let entries : map entry_of x.streams ≡ map entry_of y.streams = x.streams_are ∙ ap (λ (f : Found). f.network.streams) found ∙ sym y.streams_are in
     let streams : x.streams ≡ y.streams = streams_same x.streams y.streams entries in
-    let refusals : x.refusals ≡ y.refusals = refusals_same _ x.refusals y.refusals x.refusals_are y.refusals_are in
+    let refusals : x.refusals ≡ y.refusals = ok_once _ x.refusals y.refusals x.refusals_are y.refusals_are in
     let rows : length x.found.rows ≡ length y.found.rows = ap (λ (f : Found). length f.rows) found in
     let there : AreChecked y.streams (length x.found.rows) x.refusals x.answers (length x.refusals) = subst (λ (s : List Stream). AreChecked s (length x.found.rows) x.refusals x.answers (length x.refusals)) streams x.checked in
     let over : AreChecked y.streams (length y.found.rows) x.refusals x.answers (length x.refusals) = subst (λ (n : ℕ). AreChecked y.streams n x.refusals x.answers (length x.refusals)) rows there in
