@@ -136,7 +136,7 @@ fn entries(alloc: Global, eds: &Eds<'_>, node: u8) -> Result<Vec<Object>, EdsFau
     ensures value { Gives (λ v. v.items) result (built eds.now node) }
     ensures sorted { IfOk result (λ v. IsSorted v.items) }
 {
-    let mut entries = Vec::new(alloc);
+    let mut entries = Vec::with_capacity(alloc, eds.objects().len())?;
     for object in eds.objects() {
         entries.push(entry_built(alloc, eds, node, object)?)?;
     }

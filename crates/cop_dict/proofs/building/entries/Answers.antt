@@ -17,7 +17,7 @@ entry_built-requires-clause-sub c =
 
 pub returns-in_err-entry_built-clause-value : goal.returns-in_err-entry_built-clause-value
 returns-in_err-entry_built-clause-value c =
-    let p = err_from_is_err_and c.from_residual.result c.from_residual.ensures.1 in
+    let p = err_from_is_err_and c.from_residual-in_err-entry_built.result c.from_residual-in_err-entry_built.ensures.1 in
     rw (p.1, p.2)
     (fails (entry_built c.args.eds.now c.args.node) c.objects-object-items.result.now c.loop-object.object-index _ c.loop-object.entries.items _ _
     c.loop-object-test.true c.loop-object.invariant.same c.in_err-entry_built.ensures)
