@@ -25,6 +25,19 @@ fn write_fields(writer: &mut TextWriter, fields: &[&[u8]]) -> Result<(), AllocEr
     Err(AllocError)
 }
 
+fn write_texts<'t>(
+    writer: &mut TextWriter,
+    rate: &'t [u8],
+    pdo: &'t [u8],
+    what: &'t [u8],
+    value: &'t [u8],
+) -> Result<(), AllocError>
+    requires { IsBetween writer.old }
+    ensures { OnOk result (Adds writer.old writer.new ((rate.now ∷ pdo.now ∷ what.now ∷ value.now ∷ []) ∷ [])) }
+{
+    write_fields(writer, &[rate, pdo, what, value])
+}
+
 fn write_record(
     writer: &mut TextWriter,
     rate: Rate,
@@ -37,14 +50,11 @@ fn write_record(
 {
     let mut rate_text = Buffer::new();
     let mut pdo_text = Buffer::new();
+    let rate_text = rate_text.format(rate.kbits()).as_bytes();
+    let pdo_text = pdo_text.format(pdo as u128 + 1).as_bytes();
     let mut value_text = Buffer::new();
-    let fields = [
-        rate_text.format(rate.kbits()).as_bytes(),
-        pdo_text.format(pdo as u128 + 1).as_bytes(),
-        what,
-        value_text.format(value).as_bytes(),
-    ];
-    write_fields(writer, &fields)
+    let value_text = value_text.format(value).as_bytes();
+    write_texts(writer, rate_text, pdo_text, what, value_text)
 }
 
 #[tactic(auto, using(crate::proofs::WriterLemmas::adds_mapped, crate::proofs::WriterLemmas::all_mapped, crate::proofs::WriterLemmas::adds_none))]
@@ -59,8 +69,14 @@ fn write_numbers(
     requires { IsBetween writer.old }
     ensures { OnOk result (Adds writer.old writer.new (map (fields_of rate pdo what.now) numbers.now)) }
 {
+    let mut rate_text = Buffer::new();
+    let mut pdo_text = Buffer::new();
+    let rate_text = rate_text.format(rate.kbits()).as_bytes();
+    let pdo_text = pdo_text.format(pdo as u128 + 1).as_bytes();
     for number in numbers {
-        write_record(writer, rate, pdo, what, *number)?;
+        let mut value_text = Buffer::new();
+        let value_text = value_text.format(*number).as_bytes();
+        write_texts(writer, rate_text, pdo_text, what, value_text)?;
     }
     Ok(())
 }
