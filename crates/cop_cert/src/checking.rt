@@ -2,7 +2,7 @@
 
 ghost use Rattle.std.specs.Prelude.{◌≡◌, ◌↔◌, ℕ, ◌+◌, ◌-◌, ◌*◌, ◌<◌, ◌≤◌, ◌||◌, IsTrue, MatchOption, length, All, AllPairs, true};
 ghost use Rattle.std.specs.Option.{IsSomeAnd};
-ghost use Rattle.cop_rta.specs.Test.{place_of, flagged_place, is_flagged, cost_at};
+ghost use Rattle.cop_rta.specs.Test.{place_of, flagged_place, is_flagged, cost_at, jitter_at, period_at, IsQueuedWithin, IsLate};
 ghost use Rattle.cop_cert.specs.Assignments.{least_id, NoAssignmentPasses};
 ghost use Rattle.cop_cert.specs.Sets.{is_in_trial};
 ghost use Rattle.cop_cert.specs.Evidence.{IsClimb, first_of, last_of, IsBusyEnd, busy_list_of, IsQueueList, IsEvidence, is_member, pdos_of, IsRefusal};
@@ -48,18 +48,6 @@ fn busy_end(busy: &Busy<'_>, numbers: &[u64]) -> Option<u64>
     climb(busy, numbers)
 }
 
-/// Where a list of a flagged stream ends, if it is a busy list. `end` says the same of another list, `before`: flagged
-/// streams share one busy equation, so an equal list is not gone through again.
-fn busy_end_after(busy: &Busy<'_>, numbers: &[u64], before: &[u64], end: Option<u64>) -> Option<u64>
-    requires { IsBusyEnd (place_of busy.now) before.now end }
-    ensures { IsBusyEnd (place_of busy.now) numbers.now result }
-{
-    if numbers == before {
-        return end;
-    }
-    busy_end(busy, numbers)
-}
-
 /// Where a queue list of instance `q` ends, if it is one.
 fn queue_end(busy: &Busy<'_>, q: u64, numbers: &[u64]) -> Option<u64>
     ensures { MatchOption result (IsQueueList (place_of busy.now) q numbers.now → ⊥) (λ last. IsQueueList (place_of busy.now) q numbers.now × (last ≡ last_of numbers.now)) }
@@ -99,22 +87,61 @@ fn is_queued_within(stream: &Stream, busy_time: u64, q: u64) -> bool
     u128::from(q) * u128::from(stream.period) < u128::from(busy_time) + u128::from(stream.jitter)
 }
 
-/// Whether the evidence shows that a stream fails. `end` is where its busy list ends, if it is one.
-fn is_evidence(busy: &Busy<'_>, evidence: &Evidence, end: Option<u64>) -> bool
-    requires { IsBusyEnd (place_of busy.now) (busy_list_of evidence.now) end }
-    ensures { IsTrue result ↔ IsEvidence (place_of busy.now) evidence.now }
+/// Whether instance `q` is queued within a busy time, and a queue list shows that it is late.
+fn shows_late(busy: &Busy<'_>, busy_time: u64, q: u64, queue: &[u64]) -> bool
+    ensures { IsTrue result ↔ (IsQueuedWithin (place_of busy.now) busy_time q × IsQueueList (place_of busy.now) q queue.now
+        × IsLate (place_of busy.now) (jitter_at (place_of busy.now) + last_of queue.now + cost_at (place_of busy.now) - q * period_at (place_of busy.now))) }
+{
+    let Some(wait) = queue_end(busy, q, queue) else {
+        return false;
+    };
+    let stream = busy.stream();
+    is_queued_within(stream, busy_time, q) && is_late(stream, cost(busy), q, wait)
+}
+
+/// Where a member's busy list ends, if it is one. `end` says the same of another list, `before`: flagged streams share
+/// one busy equation, so an equal list is not gone through again.
+fn busy_end_after(
+    set: &StreamSet,
+    above: &[bool],
+    rate: Rate,
+    member: &Member,
+    before: &[u64],
+    end: Option<u64>,
+) -> Option<u64>
+    requires size { length above.now ≡ length set.now }
+    requires inside { member.now.pdo < length set.now }
+    requires before { IsBusyEnd (flagged_place set.now above.now member.now.pdo rate) before.now end }
+    ensures { IsBusyEnd (flagged_place set.now above.now member.now.pdo rate) (busy_list_of member.now.evidence) result }
+{
+    let numbers = member.evidence.busy();
+    if numbers == before {
+        return end;
+    }
+    busy_end(&Busy::new(set, above, member.pdo, rate), numbers)
+}
+
+/// Whether a member has evidence. `end` is where its busy list ends, if it is one; of a long one that says all.
+fn has_evidence(
+    set: &StreamSet,
+    above: &[bool],
+    rate: Rate,
+    member: &Member,
+    end: Option<u64>,
+) -> bool
+    requires size { length above.now ≡ length set.now }
+    requires inside { member.now.pdo < length set.now }
+    requires end { IsBusyEnd (flagged_place set.now above.now member.now.pdo rate) (busy_list_of member.now.evidence) end }
+    ensures { IsTrue result ↔ IsEvidence (flagged_place set.now above.now member.now.pdo rate) member.now.evidence }
 {
     let Some(last) = end else {
         return false;
     };
-    match evidence {
+    match &member.evidence {
         Evidence::Long { .. } => last > HORIZON,
         Evidence::Late { q, queue, .. } => {
-            let Some(wait) = queue_end(busy, *q, queue.as_slice()) else {
-                return false;
-            };
-            let stream = busy.stream();
-            is_queued_within(stream, last, *q) && is_late(stream, cost(busy), *q, wait)
+            let busy = Busy::new(set, above, member.pdo, rate);
+            shows_late(&busy, last, *q, queue.as_slice())
         }
     }
 }
@@ -173,11 +200,9 @@ fn have_evidence(set: &StreamSet, above: &[bool], rate: Rate, members: &[Member]
     let mut before: &[u64] = &[];
     let mut end = None;
     for member in members {
-        let busy = Busy::new(set, above, member.pdo, rate);
-        let numbers = member.evidence.busy();
-        end = busy_end_after(&busy, numbers, before, end);
-        before = numbers;
-        if !is_evidence(&busy, &member.evidence, end) {
+        end = busy_end_after(set, above, rate, member, before, end);
+        before = member.evidence.busy();
+        if !has_evidence(set, above, rate, member, end) {
             return false;
         }
     }
