@@ -1,10 +1,10 @@
 -- The lines that are found by a name, by numbers that stand for the names.
-use Rattle.std.specs.Prelude.{ℕ, Bool, true, false, ◌+◌, ◌-◌, ◌*◌, ◌/◌, ◌%◌, ◌^◌, ◌≤◌, ◌<◌, ◌≡◌, ◌==◌, if◌then◌else◌, List, [], ◌∷◌, length, Some, IsSome, slice_get, Contains}
+use Rattle.std.specs.Prelude.{ℕ, Bool, true, false, ◌+◌, ◌-◌, ◌*◌, ◌/◌, ◌%◌, ◌^◌, ◌≤◌, ◌<◌, ◌≡◌, ◌==◌, if◌then◌else◌, List, [], ◌∷◌, length, get_or, nat_lt, ◌&&◌, ◌||◌, Some, IsSome, slice_get, Contains}
 use Rattle.std.specs.List.{All, AllAdjacentBelow, AllWithin}
 use Rattle.std.specs.Option.{option_map}
 use Rattle.cop_eds.specs.declared.line.Line.{Line}
 use Rattle.cop_eds.specs.declared.tickets.Ticket.{Ticket}
-use Rattle.cop_eds.specs.Index.{line_key, IsIndex}
+use Rattle.cop_eds.specs.Index.{line_key, is_found_by, IsIndex}
 use Rattle.cop_eds.specs.declared.entry.Entry.{Entry}
 use Rattle.cop_eds.specs.Lines.{lines_of, IsWithin}
 
@@ -43,17 +43,31 @@ pub record AreTickets (text : List ℕ) (lines : List Line) (bits : ℕ) (ticket
 abbrev pub AreRising : List Ticket → Type 0
 AreRising tickets = AllAdjacentBelow (λ ticket next. ticket.word < next.word) tickets (length tickets)
 
+-- the ticket has a lesser number, or the same and an earlier line
+abbrev pub is_ahead : Ticket → Ticket → Bool
+is_ahead ticket next = nat_lt ticket.word next.word || ((ticket.word == next.word) && nat_lt ticket.line next.line)
+
+-- by their numbers, and then by their lines
+abbrev pub AreOrdered : List Ticket → Type 0
+AreOrdered tickets = AllAdjacentBelow (λ ticket next. is_ahead ticket next ≡ true) tickets (length tickets)
+
+-- no ticket before a place is that of a line which the key finds
+abbrev pub NoneBefore : List ℕ → List Line → List ℕ → List Ticket → ℕ → Type 0
+NoneBefore text lines key tickets place =
+    (k : ℕ) (d : Ticket) (line : Line) → k < place → k < length tickets → slice_get lines ((get_or tickets k d).line - 1) ≡ Some line → is_found_by text key line ≡ false
+
 -- the tickets before the one place have numbers below this one, and those from the other place on have none
 abbrev pub Surround : ℕ → List Ticket → ℕ → ℕ → Type 0
 Surround word tickets low high =
     AllWithin (λ ticket. ticket.word < word) tickets 0 low × AllWithin (λ ticket. word ≤ ticket.word) tickets high (length tickets)
 
--- the lines of a text, and their index: by numbers where these rise, and else by names
-pub record IsIndexed (text : List ℕ) (lines : List Line) (bits : ℕ) (tickets : List Ticket) (rising : Bool) (entries : List Entry) : Type 0 where
+-- the lines of a text, and their index: by numbers, or where too many lines share one by names
+pub record IsIndexed (text : List ℕ) (lines : List Line) (bits : ℕ) (tickets : List Ticket) (rising named : Bool) (entries : List Entry) : Type 0 where
   pub all : lines ≡ lines_of text
   pub within : All (IsWithin (length text)) lines
   pub size : length text < 2 ^ 62
   pub fits : (0 < bits) × (bits < 64)
   pub ticketed : AreTickets text lines bits tickets
   pub by_number : rising ≡ true → AreRising tickets
-  pub by_name : rising ≡ false → IsIndex text lines entries
+  pub ordered : named ≡ false → AreOrdered tickets
+  pub by_name : named ≡ true → IsIndex text lines entries

@@ -18,11 +18,14 @@ use crate::index::{
 use crate::line::{Kind, Line, Place};
 use crate::lines::{lines_of, text_of};
 use crate::text::{is_comment, key_of, name_of, value_of};
-use crate::tickets::{Ticket, are_rising, bits_of, find_ticket, next_ticket, tickets_of};
+use crate::tickets::{
+    Ticket, are_ordered, are_rising, bits_of, find_ticket, next_ticket, tickets_of,
+};
 use std::alloc::{AllocError, Global};
 use std::marker::Model;
 
-/// The lines of a text and their index: the tickets, or where their numbers don't rise the entries. Contracts see the text.
+/// The lines of a text and their index: the tickets, or where too many of them share a number the entries. Contracts see
+/// the text.
 #[derive(Drop)]
 pub struct Sections<'a> {
     source: &'a [u8],
@@ -31,6 +34,7 @@ pub struct Sections<'a> {
     tickets: Vec<Ticket>,
     hints: Hints,
     is_rising: bool,
+    is_named: bool,
     entries: Vec<Entry<'a>>,
 }
 
@@ -42,7 +46,7 @@ impl<'a> Model for Sections<'a> {
 
     ghost view = { λ s. s.source.now };
 
-    ghost invariant = { λ s. IsIndexed s.source.now s.lines.items s.bits s.tickets.items s.is_rising s.entries.items };
+    ghost invariant = { λ s. IsIndexed s.source.now s.lines.items s.bits s.tickets.items s.is_rising s.is_named s.entries.items };
 }
 
 fn place_at(found: (usize, Line)) -> Place
@@ -94,10 +98,11 @@ impl<'a> Sections<'a> {
         let tickets = tickets_of(alloc, source, &lines, bits)?;
         let hints = Hints::of(alloc, &lines, &tickets)?;
         let is_rising = are_rising(&tickets);
-        let entries = if is_rising {
-            Vec::new(alloc)
-        } else {
+        let is_named = !are_ordered(&tickets);
+        let entries = if is_named {
             index_of(alloc, source, &lines)?
+        } else {
+            Vec::new(alloc)
         };
         Ok(Sections {
             source,
@@ -106,6 +111,7 @@ impl<'a> Sections<'a> {
             tickets,
             hints,
             is_rising,
+            is_named,
             entries,
         })
     }
@@ -128,7 +134,9 @@ impl<'a> Sections<'a> {
         ensures value { result ≡ first_from 1 (is_found_by self.now (sort_key key.now)) (lines_of self.now) }
         ensures within { IfSome result (λ found. IsWithin (length self.now) found.1) }
     {
-        if self.is_rising {
+        if self.is_named {
+            find_in(&self.lines, &self.entries, key)
+        } else {
             let near = self.hints.places(key);
             find_ticket(
                 self.source,
@@ -138,8 +146,6 @@ impl<'a> Sections<'a> {
                 near,
                 key,
             )
-        } else {
-            find_in(&self.lines, &self.entries, key)
         }
     }
 
@@ -223,7 +229,7 @@ impl<'a> Sections<'a> {
     {
         if self.is_rising {
             first_alone(self.source, &self.lines)
-        } else if are_apart(&self.entries) {
+        } else if self.is_named && are_apart(&self.entries) {
             first_alone(self.source, &self.lines)
         } else {
             self.first_refusal()
@@ -249,11 +255,11 @@ impl<'a> Sections<'a> {
     fn next_header(&self, code: u64) -> Option<(u64, (usize, Line))>
         ensures { IsNext self.now (lines_of self.now) code result }
     {
-        if self.is_rising {
+        if self.is_named {
+            next_code(&self.lines, &self.entries, code)
+        } else {
             let near = self.hints.places(&coded_entry(code));
             next_ticket(&self.lines, &self.tickets, near, code)
-        } else {
-            next_code(&self.lines, &self.entries, code)
         }
     }
 

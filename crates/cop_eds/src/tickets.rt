@@ -7,7 +7,7 @@ ghost use Rattle.std.specs.Str.{str_to_ascii_lowercase};
 ghost use Rattle.cop_eds.specs.declared.line.Line.{Line};
 ghost use Rattle.cop_eds.specs.Lines.{IsWithin, first_from};
 ghost use Rattle.cop_eds.specs.Index.{sort_key, is_found_by, IsNext};
-ghost use Rattle.cop_eds.specs.Tickets.{stirred, mixed, word_of, AreTickets, AreRising, Surround};
+ghost use Rattle.cop_eds.specs.Tickets.{stirred, mixed, word_of, is_ahead, AreTickets, AreRising, AreOrdered, Surround};
 
 use crate::entry::Entry;
 use crate::index::{has_key, line_entry};
@@ -93,7 +93,7 @@ pub fn tickets_of(
             line: place + 1,
         })?;
     }
-    tickets.sort_unstable_by_key(|ticket| ticket.word);
+    tickets.sort_unstable_by_key(|ticket| (ticket.word, ticket.line));
     Ok(tickets)
 }
 
@@ -109,9 +109,33 @@ pub fn are_rising(tickets: &[Ticket]) -> bool
     true
 }
 
+/// How many tickets may share a number, for the look-up by numbers to be fast.
+const RUN: usize = 8;
+
+fn is_ahead(ticket: Ticket, next: Ticket) -> bool
+    ensures { result ≡ is_ahead ticket next }
+{
+    ticket.word < next.word || (ticket.word == next.word && ticket.line < next.line)
+}
+
+/// Whether the tickets are in order. It may be false too where too many of them share a number.
+pub fn are_ordered(tickets: &[Ticket]) -> bool
+    ensures { result ≡ true → AreOrdered tickets.now }
+{
+    for i in 1..tickets.len() {
+        if !is_ahead(tickets[i - 1], tickets[i]) {
+            return false;
+        }
+        if i >= RUN && tickets[i - RUN].word == tickets[i].word {
+            return false;
+        }
+    }
+    true
+}
+
 /// Whether all tickets before a place have numbers below this one.
 fn are_below(tickets: &[Ticket], place: usize, word: u64) -> bool
-    requires { AreRising tickets.now }
+    requires { AreOrdered tickets.now }
     ensures { result ≡ true → AllWithin (λ ticket. ticket.word < word) tickets.now 0 place }
 {
     if place == 0 {
@@ -122,7 +146,7 @@ fn are_below(tickets: &[Ticket], place: usize, word: u64) -> bool
 
 /// Whether no ticket from a place on has a number below this one.
 fn are_above(tickets: &[Ticket], place: usize, word: u64) -> bool
-    requires { AreRising tickets.now }
+    requires { AreOrdered tickets.now }
     ensures { result ≡ true → AllWithin (λ ticket. word ≤ ticket.word) tickets.now place (length tickets.now) }
 {
     if place >= tickets.len() {
@@ -135,7 +159,7 @@ fn are_above(tickets: &[Ticket], place: usize, word: u64) -> bool
 fn count_between(tickets: &[Ticket], from: usize, to: usize, word: u64) -> usize
     requires order { (from ≤ to) × (to ≤ length tickets.now) }
     requires around { Surround word tickets.now from to }
-    requires rising { AreRising tickets.now }
+    requires ordered { AreOrdered tickets.now }
     ensures { Surround word tickets.now result result }
 {
     let mut low = from;
@@ -153,7 +177,7 @@ fn count_between(tickets: &[Ticket], from: usize, to: usize, word: u64) -> usize
 
 /// How many tickets stand before a number. It is looked for between the two places first.
 fn count_below(tickets: &[Ticket], near: (usize, usize), word: u64) -> usize
-    requires rising { AreRising tickets.now }
+    requires ordered { AreOrdered tickets.now }
     ensures { Surround word tickets.now result result }
 {
     let (low, high) = near;
@@ -167,18 +191,19 @@ fn count_below(tickets: &[Ticket], near: (usize, usize), word: u64) -> usize
     }
 }
 
-/// The ticket of a number.
-fn ticket_with(tickets: &[Ticket], near: (usize, usize), word: u64) -> Option<Ticket>
-    requires rising { AreRising tickets.now }
-    ensures { MatchOption result ((ticket : Ticket) → Contains tickets.now ticket → ticket.word ≡ word → ⊥) (λ ticket. Contains tickets.now ticket × (ticket.word ≡ word)) }
+/// The line with this number, where the key finds it.
+fn own_line(source: &[u8], lines: &[Line], number: usize, key: &Entry<'_>) -> Option<(usize, Line)>
+    requires within { All (IsWithin (length source.now)) lines.now }
+    ensures { MatchOption result ((line : Line) → 1 ≤ number → slice_get lines.now (number - 1) ≡ Some line → is_found_by source.now (sort_key key.now) line ≡ false)
+        (λ found. (found.0 ≡ number) × (1 ≤ number) × (slice_get lines.now (number - 1) ≡ Some found.1) × (is_found_by source.now (sort_key key.now) found.1 ≡ true)) }
 {
-    let place = count_below(tickets, near, word);
-    if place >= tickets.len() {
+    if number == 0 || number > lines.len() {
         return None;
     }
-    let ticket = tickets[place];
-    if ticket.word == word {
-        Some(ticket)
+    let line = lines[number - 1];
+    let entry = line_entry(source, &line)?;
+    if has_key(&entry, key) {
+        Some((number, line))
     } else {
         None
     }
@@ -196,20 +221,18 @@ pub fn find_ticket(
     requires within { All (IsWithin (length source.now)) lines.now }
     requires fits { (0 < bits) × (bits < 64) }
     requires tickets { AreTickets source.now lines.now bits tickets.now }
-    requires rising { AreRising tickets.now }
+    requires ordered { AreOrdered tickets.now }
     ensures { result ≡ first_from 1 (is_found_by source.now (sort_key key.now)) lines.now }
 {
-    let ticket = ticket_with(tickets, near, word_of(bits, key))?;
-    if ticket.line == 0 || ticket.line > lines.len() {
-        return None;
+    let word = word_of(bits, key);
+    let mut place = count_below(tickets, near, word);
+    while place < tickets.len() && tickets[place].word == word {
+        if let Some(found) = own_line(source, lines, tickets[place].line, key) {
+            return Some(found);
+        }
+        place += 1;
     }
-    let line = lines[ticket.line - 1];
-    let entry = line_entry(source, &line)?;
-    if has_key(&entry, key) {
-        Some((ticket.line, line))
-    } else {
-        None
-    }
+    None
 }
 
 /// The number of the first object's section from a number on, and its header. It is looked for between the two places
@@ -220,7 +243,7 @@ pub fn next_ticket(
     near: (usize, usize),
     code: u64,
 ) -> Option<(u64, (usize, Line))>
-    requires rising { AreRising tickets.now }
+    requires ordered { AreOrdered tickets.now }
     ensures { (text : List ℕ) (bits : ℕ) → AreTickets text lines.now bits tickets.now → IsNext text lines.now code result }
 {
     let place = count_below(tickets, near, code);

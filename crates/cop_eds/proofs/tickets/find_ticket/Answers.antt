@@ -1,28 +1,40 @@
-use Rattle.std.proofs.Common.{arith, sym, ap, ◌∙◌, true, false, ⊎_elim}
-use Rattle.cop_eds.specs.Index.{sort_key, has_key}
-use Rattle.cop_eds.proofs.TicketLemmas.{no_ticket, by_line, ticket_within}
+use Rattle.std.proofs.Common.{Some, arith, sym, ap, ◌∙◌}
+use Rattle.cop_eds.specs.declared.tickets.Ticket.{Ticket}
+use Rattle.cop_eds.specs.Index.{sort_key}
+use Rattle.cop_eds.proofs.TicketLemmas.{get_or_same, none_below, none_more, none_left, first_found, all_within}
 use Rattle.cop_eds.proofs.tickets.find_ticket.Goals as goal
 
-pub returns-in_err-ticket : goal.returns-in_err-ticket
-returns-in_err-ticket c = c.from_residual.ensures ∙ sym (no_ticket c.args.source.now c.args.lines.now c.args.bits c.args.tickets.now (sort_key c.args.key.now)
-    c.requires.tickets (λ t at word. c.in_err-ticket.ensures t at (word ∙ sym c.word_of.ensures)))
+pub loop-place-init : goal.loop-place-init
+loop-place-init c = record {
+  none = none_below c.args.source.now c.args.lines.now c.args.bits c.args.tickets.now (sort_key c.args.key.now) c.word_of-word.result c.count_below-place.result
+      c.requires.tickets c.word_of-word.ensures c.count_below-place.ensures.0;
+  above = c.count_below-place.ensures.1;
+}
 
-pub returns-then-ticket-eq0 : goal.returns-then-ticket-eq0
-returns-then-ticket-eq0 c =
-    let within = ticket_within c.args.source.now c.args.lines.now c.args.bits c.args.tickets.now c.in_ok-ticket.ticket c.requires.tickets c.in_ok-ticket.ensures.0 in
-    absurd (⊎_elim (λ none. omega (arith, none, within.0)) (λ more. omega (arith, more.1, within.1)) c.then-ticket-eq0.either)
+pub returns-in-Some : goal.returns-in-Some
+returns-in-Some c =
+    let found = c.in-Some.ensures in
+    ap (λ n. Some (n, c.in-Some.found.1)) found.0
+    ∙ sym (first_found c.args.source.now c.args.lines.now c.args.bits c.args.tickets.now (sort_key c.args.key.now) c.loop-place.place (record { word = 0; line = 0 }) c.in-Some.found.1
+    c.requires.tickets c.requires.ordered c.loop-place.invariant.none c.loop-place-test.true found.1 found.2 found.3)
 
-pub returns-in_err-entry : goal.returns-in_err-entry
-returns-in_err-entry c = c.from_residual-in_err-entry.ensures ∙ sym (by_line false c.args.source.now c.args.lines.now c.args.bits c.args.tickets.now (sort_key c.args.key.now) c.in_ok-ticket.ticket _
-    c.requires.tickets c.requires.rising c.in_ok-ticket.ensures.0 (c.in_ok-ticket.ensures.1 ∙ c.word_of.ensures)
-    (ap (λ o. has_key o (sort_key c.args.key.now)) c.in_err-entry.ensures))
+pub loop-place-preserved : goal.loop-place-preserved
+loop-place-preserved c =
+    let t : Ticket = record { word = 0; line = 0 } in
+    let own = all_within c.args.source.now c.args.lines.now c.args.bits c.args.tickets.now c.requires.tickets c.loop-place.place t c.loop-place-test.true in
+    record {
+      none = none_more c.args.source.now c.args.lines.now (sort_key c.args.key.now) c.args.tickets.now c.loop-place.place t c.loop-place-test.true c.loop-place.invariant.none
+          (λ line at. c.in_default.ensures line own.0 at);
+      above = λ k d low high. c.loop-place.invariant.above k d (omega arith) high;
+    }
 
-pub returns-then-has_key : goal.returns-then-has_key
-returns-then-has_key c = sym (by_line true c.args.source.now c.args.lines.now c.args.bits c.args.tickets.now (sort_key c.args.key.now) c.in_ok-ticket.ticket _
-    c.requires.tickets c.requires.rising c.in_ok-ticket.ensures.0 (c.in_ok-ticket.ensures.1 ∙ c.word_of.ensures)
-    (ap (λ o. has_key o (sort_key c.args.key.now)) c.in_ok-entry.ensures ∙ sym c.has_key.ensures ∙ c.if-has_key.true))
+pub returns-else-tickets-place : goal.returns-else-tickets-place
+returns-else-tickets-place c =
+    sym (none_left c.args.source.now c.args.lines.now c.args.bits c.args.tickets.now (sort_key c.args.key.now) c.word_of-word.result c.loop-place.place
+    c.requires.tickets c.requires.ordered c.word_of-word.ensures c.loop-place.invariant.none c.loop-place.invariant.above
+    (λ d lt same. c.if-tickets-place.false (ap (λ (t : Ticket). t.word) (get_or_same c.args.tickets.now c.loop-place.place d (record { word = 0; line = 0 }) lt) ∙ same)))
 
-pub returns-else-has_key : goal.returns-else-has_key
-returns-else-has_key c = sym (by_line false c.args.source.now c.args.lines.now c.args.bits c.args.tickets.now (sort_key c.args.key.now) c.in_ok-ticket.ticket _
-    c.requires.tickets c.requires.rising c.in_ok-ticket.ensures.0 (c.in_ok-ticket.ensures.1 ∙ c.word_of.ensures)
-    (ap (λ o. has_key o (sort_key c.args.key.now)) c.in_ok-entry.ensures ∙ sym c.has_key.ensures ∙ c.if-has_key.false))
+pub returns-after-loop-place : goal.returns-after-loop-place
+returns-after-loop-place c =
+    sym (none_left c.args.source.now c.args.lines.now c.args.bits c.args.tickets.now (sort_key c.args.key.now) c.word_of-word.result c.loop-place.place
+    c.requires.tickets c.requires.ordered c.word_of-word.ensures c.loop-place.invariant.none c.loop-place.invariant.above (λ d lt same. absurd (omega arith)))

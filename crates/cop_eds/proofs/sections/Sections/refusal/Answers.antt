@@ -12,6 +12,6 @@ first_alone-requires-clause-alone c = λ place line at.
 pub first_alone-requires-then-are_apart-clause-alone :
     goal.first_alone-requires-then-are_apart-clause-alone
 first_alone-requires-then-are_apart-clause-alone c = λ place line at.
-    let index : IsIndex c.self.inside.source.now c.deref-then-are_apart.result.now c.deref-else-self.result.now =
-    rw (c.deref-else-self.ensures.value, c.deref-then-are_apart.ensures.value) (c.self.invariant.by_name c.if-self.false) in
-    alone c.self.inside.source.now c.deref-then-are_apart.result.now c.deref-else-self.result.now place line index (c.are_apart.ensures.0 c.if-are_apart.true) at
+    let index : IsIndex c.self.inside.source.now c.deref-then-are_apart.result.now c.deref-then-self-2.result.now =
+    rw (c.deref-then-self-2.ensures.value, c.deref-then-are_apart.ensures.value) (c.self.invariant.by_name c.if-self-2.true) in
+    alone c.self.inside.source.now c.deref-then-are_apart.result.now c.deref-then-self-2.result.now place line index (c.are_apart.ensures.0 c.if-are_apart.true) at
