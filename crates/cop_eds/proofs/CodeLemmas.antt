@@ -13,10 +13,8 @@ use Rattle.cop_eds.specs.Names.{object_code, both_codes, sub_of, code_of}
 use Rattle.cop_eds.specs.Lines.{text_of}
 use Rattle.cop_eds.specs.Index.{line_key, named_key, pair_key, of_kind}
 use Rattle.cop_eds.specs.Tickets.{ranged, word_of}
+use Rattle.cop_eds.proofs.ListLemmas.{some_is}
 use Rattle.cop_eds.proofs.NumberLemmas.{index_fits, sub_fits}
-
-some_is : {A : Type 0} {x y : A} → Some x ≡ Some y → x ≡ y
-some_is e = cc
 
 own_small : (digits : List ℕ) (o : Option ℕ) (c : ℕ) → length digits ≤ 4 → number_in 16 digits ≡ o → option_map object_code o ≡ Some c → c < 2 ^ 63
 own_small digits None c le e s = cc

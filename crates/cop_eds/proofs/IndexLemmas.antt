@@ -11,7 +11,7 @@ use Rattle.std.specs.Str.{str_to_ascii_lowercase, bytes_eq}
 use Rattle.std.proofs.lemmas.Map.Text.{is_eq-slice_cmp}
 use Rattle.std.proofs.lemmas.Slice.Eq.{bytes_eq-Decides}
 use Rattle.std.proofs.lemmas.Cmp.{tied_itself}
-use Rattle.std.proofs.lemmas.Option.{get_or_from_slice_get, slice_get-get_or}
+use Rattle.std.proofs.lemmas.Option.{slice_get-get_or}
 use Rattle.std.proofs.lemmas.List.Sorted.{sorted_far, searchable_from_sorted, ranks_by, all_adjacent_more}
 use Rattle.std.proofs.lemmas.List.Elements.{All-append, Contains-append_left, Contains-append_right}
 use Rattle.std.proofs.lemmas.Bool.Decides.{nat_tests}
@@ -25,6 +25,7 @@ use Rattle.cop_eds.specs.Text.{name_of, key_of}
 use Rattle.cop_eds.specs.Names.{code_of}
 use Rattle.cop_eds.specs.Lines.{first_from, text_of, is_kind, is_named, is_keyed, broken, broken_by_kind}
 use Rattle.cop_eds.proofs.KeyLemmas.{any_named, any_keyed}
+use Rattle.cop_eds.proofs.ListLemmas.{get_or_same, all_one_by, some_is}
 use Rattle.cop_eds.specs.Index.{line_key, named_key, header_key, pair_key, of_kind, has_key, is_found_by, sort_key, is_below, entry_cmp, IsEntry, IsIndex}
 
 -- a walk over the lines
@@ -173,9 +174,6 @@ partitioned key xs h i j d le lt e =
 entry_total : IsTotalOrder entry_cmp
 entry_total = then_total (on_total sort_key (lists_total nat_cmp_total)) (on_total (λ entry. entry.line) nat_cmp_total)
 
-get_or_same : (entries : List Entry) (i : ℕ) (d e : Entry) → i < length entries → get_or entries i e ≡ get_or entries i d
-get_or_same entries i d e lt = get_or_from_slice_get entries i (get_or entries i d) e (slice_get-get_or entries i d lt)
-
 not_lt : (x y : ℕ) → is_lt (nat_cmp x y) ≡ false → y ≤ x
 not_lt x y e = grind (arith, nat_tests)
 
@@ -194,9 +192,6 @@ record Match (entries : List Entry) (key : List ℕ) (number : ℕ) : Type 0 whe
   stands : get_or entries at entry ≡ entry
   line : entry.line ≡ number
   same : sort_key entry ≡ key
-
-pub some_is : {A : Type 0} {x y : A} → Some x ≡ Some y → x ≡ y
-some_is e = cc
 
 entry_match : (text : List ℕ) (lines : List Line) (entries : List Entry) (key : List ℕ) → IsIndex text lines entries
     → (p : ℕ) (line : Line) → slice_get lines p ≡ Some line → is_found_by text key line ≡ true → Match entries key (p + 1)
@@ -320,10 +315,6 @@ no_key o e some = false_true (sym (ap is_some e) ∙ some)
 by_last : (b : Bool) (place i : ℕ) → nat_lt place i ≡ b → place < i + 1 → (place < i) ⊎ (place ≡ i)
 by_last true place i e lt = inl (grind (arith, nat_tests))
 by_last false place i e lt = let le : i ≤ place = grind (arith, nat_tests) in inr (omega arith)
-
-all_one_by : (P : Entry → Type 0) (e : Entry) → P e → (k : ℕ) (d : Entry) → k < 1 → P (get_or (e ∷ []) k d)
-all_one_by P e h zero d lt = h
-all_one_by P e h (suc k) d lt = absurd (omega arith)
 
 pub at_last : (place i : ℕ) → place < i + 1 → (place < i) ⊎ (place ≡ i)
 at_last place i lt = by_last (nat_lt place i) place i refl lt

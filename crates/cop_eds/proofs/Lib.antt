@@ -1,4 +1,5 @@
 pub mod TextLemmas
+pub mod ListLemmas
 pub mod NumberLemmas
 pub mod LawLemmas
 pub mod StepsLemmas

@@ -57,9 +57,3 @@ none_at objects index sub i sorted point here = find_none (is_at index sub) obje
         let past : i < k = grind (arith, nat_tests) in
         after_apart (get_or objects i d) (get_or objects k d) index sub (sorted i k d past lt) (point.1 i d (omega arith) (omega arith))
     by_order k d lt false ge false le = let same : i ≡ k = grind (arith, nat_tests) in rw (← same) (here d (rw (← same) at lt))
-
--- inside a list the default is of no account
-pub get_or_same : (objects : List Object) (i : ℕ) (d e : Object) → i < length objects → get_or objects i d ≡ get_or objects i e
-get_or_same [] i d e lt = absurd (omega arith)
-get_or_same (x ∷ xs) zero d e lt = refl
-get_or_same (x ∷ xs) (suc i) d e lt = get_or_same xs i d e (omega arith)

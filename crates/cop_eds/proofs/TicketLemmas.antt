@@ -13,11 +13,9 @@ use Rattle.cop_eds.specs.declared.tickets.Ticket.{Ticket}
 use Rattle.cop_eds.specs.Lines.{first_from, broken}
 use Rattle.cop_eds.specs.Index.{line_key, has_key, is_found_by}
 use Rattle.cop_eds.specs.Tickets.{word_of, IsTicket, AreTickets, AreRising, is_ahead, AreOrdered, NoneBefore, Surround}
-use Rattle.cop_eds.proofs.IndexLemmas.{first_none, first_some, by_test, some_key, some_is, at_last, slice_get_below, none_so_far, alone_first}
+use Rattle.cop_eds.proofs.ListLemmas.{get_or_same, all_one_by, some_is}
+use Rattle.cop_eds.proofs.IndexLemmas.{first_none, first_some, by_test, some_key, at_last, slice_get_below, none_so_far, alone_first}
 use Rattle.cop_eds.proofs.CodeLemmas.{found_small, small_found}
-
-pub get_or_same : {X : Type 0} (xs : List X) (i : ℕ) (d e : X) → i < length xs → get_or xs i e ≡ get_or xs i d
-get_or_same xs i d e lt = get_or_from_slice_get xs i (get_or xs i d) e (slice_get-get_or xs i d lt)
 
 -- the order of the numbers
 
@@ -300,10 +298,6 @@ alone_ticket text lines bits tickets p x all rising at = alone_first text lines 
 abbrev pub AreComplete : List ℕ → List Line → List Ticket → ℕ → Type 0
 AreComplete text lines tickets n =
     (place : ℕ) (line : Line) → place < n → slice_get lines place ≡ Some line → IsSome (line_key text line) → (ticket : Ticket) × Contains tickets ticket × (ticket.line ≡ place + 1)
-
-all_one_by : (P : Ticket → Type 0) (t : Ticket) → P t → (k : ℕ) (d : Ticket) → k < 1 → P (get_or (t ∷ []) k d)
-all_one_by P t h zero d lt = h
-all_one_by P t h (suc k) d lt = absurd (omega arith)
 
 pub sound_push : (text : List ℕ) (lines : List Line) (bits : ℕ) (tickets : List Ticket) (i word : ℕ) (d : Line) (key : List ℕ) → i < length lines
     → line_key text (get_or lines i d) ≡ Some key → word ≡ word_of bits key

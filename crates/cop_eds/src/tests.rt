@@ -126,7 +126,11 @@ const ROWS: [(&[u8], u8, usize); 27] = [
     (b"[a]\n\n[A] ; x", 11, 3),
     (b"[1800sub1]\n[1800SUB01]\n", 11, 2),
     (b"[a]\n b=\nB = 2\n[A]", 12, 3),
-    (b"[a]\n[b]\nc=1\nc=2\nc=3\nc=4\nc=5\nc=6\nc=7\nc=8\nc=9\n", 12, 4),
+    (
+        b"[a]\n[b]\nc=1\nc=2\nc=3\nc=4\nc=5\nc=6\nc=7\nc=8\nc=9\n",
+        12,
+        4,
+    ),
     (b"[DeviceInfo]\nBaudRate_20=010\nBaudRate_10=x\n", 13, 3),
     (b"[DeviceInfo]\nBaudRate_20=010\nBaudRate_10=08\n", 14, 2),
     (b"[DeviceInfo]\nBaudRate_20=0x10000000000000000\n", 13, 2),

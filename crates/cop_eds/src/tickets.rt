@@ -3,6 +3,7 @@
 
 ghost use Rattle.std.specs.Prelude.{◌≡◌, ◌↔◌, ◌<◌, ◌≤◌, ◌+◌, ◌-◌, ◌∷◌, [], ℕ, List, length, true, false, IfOk, is_some, MatchOption, Some, None, slice_get, Contains};
 ghost use Rattle.std.specs.List.{All, AllWithin};
+ghost use Rattle.std.specs.List.Sorted.{IsPermutation};
 ghost use Rattle.std.specs.Str.{str_to_ascii_lowercase};
 ghost use Rattle.cop_eds.specs.declared.line.Line.{Line};
 ghost use Rattle.cop_eds.specs.Lines.{IsWithin, first_from};
@@ -72,7 +73,18 @@ pub fn bits_of(sections: usize) -> u32
     (places.ilog2() + 1).min(63)
 }
 
-/// The tickets of all lines that are found by a name, by rising numbers.
+/// Puts the tickets in order: by their numbers, and those with one number by their lines.
+fn sort_tickets(tickets: &mut Vec<Ticket>)
+    ensures { IsPermutation tickets.old.items tickets.new.items }
+{
+    tickets.sort_unstable_by_key(|ticket| ticket.word);
+    // Most texts have no two lines with one number, and numbers alone are compared faster.
+    if !are_rising(tickets) {
+        tickets.sort_unstable_by_key(|ticket| (ticket.word, ticket.line));
+    }
+}
+
+/// The tickets of all lines that are found by a name, in order.
 pub fn tickets_of(
     alloc: Global,
     source: &[u8],
@@ -93,7 +105,7 @@ pub fn tickets_of(
             line: place + 1,
         })?;
     }
-    tickets.sort_unstable_by_key(|ticket| (ticket.word, ticket.line));
+    sort_tickets(&mut tickets);
     Ok(tickets)
 }
 

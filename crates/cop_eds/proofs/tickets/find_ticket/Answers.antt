@@ -1,7 +1,8 @@
 use Rattle.std.proofs.Common.{Some, arith, sym, ap, ◌∙◌}
 use Rattle.cop_eds.specs.declared.tickets.Ticket.{Ticket}
 use Rattle.cop_eds.specs.Index.{sort_key}
-use Rattle.cop_eds.proofs.TicketLemmas.{get_or_same, none_below, none_more, none_left, first_found, all_within}
+use Rattle.cop_eds.proofs.ListLemmas.{get_or_same}
+use Rattle.cop_eds.proofs.TicketLemmas.{none_below, none_more, none_left, first_found, all_within}
 use Rattle.cop_eds.proofs.tickets.find_ticket.Goals as goal
 
 pub loop-place-init : goal.loop-place-init

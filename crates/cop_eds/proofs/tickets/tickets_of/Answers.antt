@@ -9,5 +9,5 @@ loop-place-preserved c = rw c.in_ok-push.ensures.items (record {
 })
 
 pub returns : goal.returns
-returns c = all_tickets c.args.source.now c.args.lines.now c.args.bits _ _ c.loop-place.place c.loop-place-test.false c.sort_unstable_by_key.ensures.permutation
+returns c = all_tickets c.args.source.now c.args.lines.now c.args.bits _ _ c.loop-place.place c.loop-place-test.false c.sort_tickets.ensures
     c.loop-place.invariant.sound c.loop-place.invariant.complete
