@@ -1,6 +1,6 @@
 //! A text as sections of pairs.
 
-ghost use Rattle.std.specs.Prelude.{◌≡◌, ◌^◌, ◌<◌, ◌≤◌, ◌+◌, ◌∷◌, [], length, take, IfOk, IfSome, MatchOption, ℕ, slice_get, is_some, true, Some, None};
+ghost use Rattle.std.specs.Prelude.{◌≡◌, ◌^◌, ◌<◌, ◌≤◌, ◌+◌, ◌∷◌, [], length, take, IfOk, IfSome, MatchOption, ℕ, slice_get, Some, None};
 ghost use Rattle.std.specs.List.{All, list_any};
 ghost use Rattle.std.specs.Option.{option_map, option_and_then};
 ghost use Rattle.cop_eds.specs.declared.line.Line.{Line};

@@ -1,7 +1,7 @@
 //! Tickets: the lines that are found by a name, by numbers that stand for the names. Where no two lines have one number,
 //! a line is found with no look at other lines' names.
 
-ghost use Rattle.std.specs.Prelude.{◌≡◌, ◌↔◌, ◌<◌, ◌≤◌, ◌+◌, ◌-◌, ◌∷◌, [], ℕ, List, length, true, false, IfOk, is_some, MatchOption, Some, None, slice_get, Contains};
+ghost use Rattle.std.specs.Prelude.{◌≡◌, ◌↔◌, ◌<◌, ◌≤◌, ◌-◌, ℕ, List, length, true, false, IfOk, MatchOption, Some, slice_get};
 ghost use Rattle.std.specs.List.{All, AllWithin};
 ghost use Rattle.std.specs.List.Sorted.{IsPermutation};
 ghost use Rattle.std.specs.Str.{str_to_ascii_lowercase};
