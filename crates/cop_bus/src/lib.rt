@@ -26,6 +26,3 @@ pub use reading::read_trace;
 pub use runs::{Run, Trace};
 pub use steps::{Content, Step};
 pub use writing::write_trace;
-
-#[cfg(test)]
-mod tests;

@@ -22,6 +22,3 @@ pub use making::{fail_together, make};
 pub use reading::read;
 pub use refusals::{Evidence, Member, Refusal};
 pub use writing::write;
-
-#[cfg(test)]
-mod tests;

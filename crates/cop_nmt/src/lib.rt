@@ -10,6 +10,3 @@ pub use consumer::Consumer;
 pub use fixed::{boot_up, emcy, heartbeat, sync};
 pub use producer::Producer;
 pub use states::{Effect, NodeState, Service, state_after};
-
-#[cfg(test)]
-mod tests;

@@ -17,6 +17,3 @@ pub use layout::same_layout;
 pub use mapping::Mapping;
 pub use moving::{Short, pack, unpack};
 pub use reading::payload;
-
-#[cfg(test)]
-mod tests;
