@@ -15,4 +15,4 @@ pub mod MakeLemmas
 pub mod GapLemmas
 pub mod MadeLemmas
 pub mod TrialLemmas
-mod ReadableLemmas
+pub mod ReadableLemmas
