@@ -11,7 +11,7 @@ use Rattle.cop_dict.specs.Rules.{first_broken, read_rules, value_rules, access_r
 use Rattle.cop_dict.specs.Find.{Entry, is_at, is_before, entry_at, IsSorted}
 use Rattle.cop_dict.specs.Mapping.{is_between}
 use Rattle.cop_dict.specs.Pdo.{refused_by_pdos}
-use Rattle.cop_dict.specs.Dict.{found, read_of, written, admitted, with_value, as_built, reset_communication, unless_broken, valued, Refuses, Writes, HasWidth, FitsAt, Follows}
+use Rattle.cop_dict.specs.Dict.{found, read_of, written, admitted, with_value, as_built, reset_communication, unless_broken, valued, Refuses, Writes, HasWidth, Grows, FitsAt, Follows}
 use Rattle.cop_dict.proofs.SearchLemmas.{others_apart, entry_here}
 
 pub read_found : (dict : List Entry) (index sub : ℕ) (e : Entry) (d : Description) (a : Option Abort) → entry_at dict index sub ≡ Some e → d ≡ e.description → first_broken (read_rules d) ≡ a
@@ -75,25 +75,25 @@ changed dict index sub i bytes y d sorted inside here same =
     (λ k e lt differ. others_apart dict index sub i k e sorted inside lt (here e) differ) same
 
 -- a refusal that is the outcome's
-pub refuses : (a : Abort) (outcome : Result (List Entry) Abort) → outcome ≡ Err a → Refuses a outcome
-refuses aborts.NoMemory outcome h = tt
-refuses aborts.Toggle outcome h = h
-refuses aborts.TimeOut outcome h = h
-refuses aborts.Command outcome h = h
-refuses aborts.NoSize outcome h = h
-refuses aborts.OpaqueType outcome h = h
-refuses aborts.WriteOnly outcome h = h
-refuses aborts.ReadOnly outcome h = h
-refuses aborts.NoObject outcome h = h
-refuses aborts.NoSub outcome h = h
-refuses aborts.TooLong outcome h = h
-refuses aborts.TooShort outcome h = h
-refuses aborts.AboveLimit outcome h = h
-refuses aborts.BelowLimit outcome h = h
-refuses aborts.InvalidValue outcome h = h
-refuses aborts.NotMappable outcome h = h
-refuses aborts.MappingTooLong outcome h = h
-refuses aborts.DeviceState outcome h = h
+pub refuses : (a : Abort) (outcome : Result (List Entry) Abort) → outcome ≢ Err aborts.NoMemory → outcome ≡ Err a → Refuses a outcome
+refuses aborts.NoMemory outcome never h = absurd (never h)
+refuses aborts.Toggle outcome never h = h
+refuses aborts.TimeOut outcome never h = h
+refuses aborts.Command outcome never h = h
+refuses aborts.NoSize outcome never h = h
+refuses aborts.OpaqueType outcome never h = h
+refuses aborts.WriteOnly outcome never h = h
+refuses aborts.ReadOnly outcome never h = h
+refuses aborts.NoObject outcome never h = h
+refuses aborts.NoSub outcome never h = h
+refuses aborts.TooLong outcome never h = h
+refuses aborts.TooShort outcome never h = h
+refuses aborts.AboveLimit outcome never h = h
+refuses aborts.BelowLimit outcome never h = h
+refuses aborts.InvalidValue outcome never h = h
+refuses aborts.NotMappable outcome never h = h
+refuses aborts.MappingTooLong outcome never h = h
+refuses aborts.DeviceState outcome never h = h
 
 set_same : {X : Type 0} (xs : List X) (i : ℕ) (y d : X) → y ≡ get_or xs i d → i < length xs → set xs i y ≡ xs
 set_same [] i y d same lt = refl
@@ -104,11 +104,20 @@ set_same (x ∷ xs) (suc i) y d same lt = ap (λ ys. x ∷ ys) (set_same xs i y 
 pub stored : {X : Type 0} (r : Result X Abort) (dict : List Entry) (index sub i : ℕ) (bytes : List ℕ) (y d : Entry)
     → IsSorted dict → i < length dict → ((e : Entry) → is_at index sub (get_or dict i e) ≡ true)
     → written dict index sub bytes ≡ Ok (with_value index sub bytes dict)
-    → OnOk r (y ≡ valued bytes (get_or dict i d)) → OnErr r (y ≡ get_or dict i d) → IfErr r (λ a. a ≡ aborts.NoMemory)
+    → OnOk r (y ≡ valued bytes (get_or dict i d)) → OnErr r (y ≡ get_or dict i d)
+    → IfErr r (λ a. (a ≡ aborts.NoMemory) × (length (get_or dict i d).initial < length bytes))
     → Writes r dict (set dict i y) (written dict index sub bytes)
 stored (Ok x) dict index sub i bytes y d sorted inside here lawful ok err memory =
     lawful ∙ ap Ok (changed dict index sub i bytes y d sorted inside here ok)
-stored (Err a) dict index sub i bytes y d sorted inside here lawful ok err memory = (rw memory tt, set_same dict i y d err inside)
+stored (Err a) dict index sub i bytes y d sorted inside here lawful ok err memory = (rw (memory.0, lawful) refl, set_same dict i y d err inside)
+
+-- memory is wanted for an entry that grows
+pub grown : {X : Type 0} (r : Result X Abort) (dict : List Entry) (index sub i : ℕ) (bytes : List ℕ) (d : Entry)
+    → IsSorted dict → i < length dict → ((e : Entry) → is_at index sub (get_or dict i e) ≡ true)
+    → IfErr r (λ a. (a ≡ aborts.NoMemory) × (length (get_or dict i d).initial < length bytes))
+    → IfErr r (λ a. a ≡ aborts.NoMemory → Grows dict index sub bytes)
+grown (Ok x) dict index sub i bytes d sorted inside here memory = tt
+grown (Err a) dict index sub i bytes d sorted inside here memory = λ _. rw (entry_here dict index sub i d sorted inside (here d)) memory.1
 
 pub follows : {X : Type 0} (r : Result X Abort) (dict : List Entry) (index sub i : ℕ) (bytes : List ℕ) (y d : Entry)
     → IsSorted dict → i < length dict → ((e : Entry) → is_at index sub (get_or dict i e) ≡ true)

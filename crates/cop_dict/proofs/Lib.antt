@@ -8,3 +8,4 @@ pub mod Replaced
 pub mod OrderLemmas
 pub mod BuildLemmas
 pub mod PatternLemmas
+pub mod RuleLemmas

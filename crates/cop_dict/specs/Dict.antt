@@ -1,5 +1,5 @@
 -- What a read, a write or a reset of a dictionary gives.
-use Rattle.std.specs.Prelude.{ℕ, ◌≡◌, false, ◌&&◌, option_map, List, map, ◌==◌, if◌then◌else◌, Option, Some, None, Result, Ok, Err, IfSome, IsSome, length}
+use Rattle.std.specs.Prelude.{ℕ, ◌≡◌, ◌<◌, false, ◌&&◌, option_map, List, map, ◌==◌, if◌then◌else◌, Option, Some, None, Result, Ok, Err, IfSome, IsSome, IsOk, length}
 use Rattle.std.specs.List.{list_any}
 use Rattle.std.specs.Option.{ForSome}
 use Rattle.cop_dict.specs.declared.abort.Abort.{Abort}
@@ -82,9 +82,13 @@ abbrev pub Reads : {X : Type 0} → (X → List ℕ) → Result X Abort → Resu
 Reads view (Ok bytes) outcome = outcome ≡ Ok (view bytes)
 Reads view (Err abort) outcome = outcome ≡ Err abort
 
--- a refusal for want of memory says nothing of the outcome, and any other is the outcome's
+-- the bytes are more than an entry has room for from its initial value on
+abbrev pub Grows : List Entry → ℕ → ℕ → List ℕ → Type 0
+Grows dict index sub bytes = IfSome (entry_at dict index sub) (λ entry. length entry.initial < length bytes)
+
+-- memory is wanted only for what no rule refuses, and any other refusal is the outcome's
 abbrev pub Refuses : Abort → Result (List Entry) Abort → Type 0
-Refuses aborts.NoMemory outcome = Unit {0}
+Refuses aborts.NoMemory outcome = IsOk outcome
 Refuses abort outcome = outcome ≡ Err abort
 
 -- what a call of write gave, and left

@@ -1,10 +1,11 @@
 //! A dictionary.
 
-ghost use Rattle.std.specs.Prelude.{◌≡◌, [], ◌∷◌, ◌++◌, true, length, All, OnOk, OnErr, IfSome};
+ghost use Rattle.std.specs.Prelude.{◌≡◌, [], ◌∷◌, ◌++◌, true, length, All, OnOk, OnErr, IfSome, IfErr};
 ghost use Rattle.std.specs.Option.{option_copied};
+ghost use Rattle.cop_dict.specs.declared.abort.Abort.TheVariants.{NoMemory};
 ghost use Rattle.cop_dict.specs.Find.{Entry, is_before, entry_at, IsSorted};
 ghost use Rattle.cop_dict.specs.Mapping.{mapped_at, layout_bits};
-ghost use Rattle.cop_dict.specs.Dict.{HasWidth, FitsAt, IsSized, Follows, Reads, Writes, read_of, written, admitted, with_value, initial, initial_communication};
+ghost use Rattle.cop_dict.specs.Dict.{HasWidth, Grows, FitsAt, IsSized, Follows, Reads, Writes, read_of, written, admitted, with_value, initial, initial_communication};
 
 use crate::abort::Abort;
 use crate::mapping::{Mapped, MappingFault, layout_bits, mapped_at};
@@ -91,12 +92,16 @@ impl Dictionary {
     }
 
     /// Replaces the value at an index and a sub, as SDO writes it. Memory is taken only for more
-    /// bytes than the initial value has, so never where all values have one width.
+    /// bytes than the initial value has, so never where all values have one width, and only where no
+    /// rule refuses the write.
     pub fn write(&mut self, index: u16, sub: u8, bytes: &[u8]) -> Result<(), Abort>
         ensures exact { Writes result self.old self.new (written self.old index sub bytes.now) }
 
         // Where the width is fixed, it never fails for want of memory.
         ensures in_place { HasWidth self.old index sub → Follows result self.new (written self.old index sub bytes.now) }
+
+        // Nor where the bytes are no more than the initial value has.
+        ensures memory { IfErr result (λ abort. abort ≡ NoMemory → Grows self.old index sub bytes.now) }
     {
         write_in(&mut self.objects, index, sub, bytes)
     }

@@ -199,7 +199,7 @@ impl Object {
         requires { ForSome (width_of self.old.description.data_type) (λ width. length bytes.now ≡ width) }
         ensures ok { OnOk result (self.new ≡ valued bytes.now self.old) }
         ensures err { OnErr result (self.new ≡ self.old) }
-        ensures memory { IfErr result (λ abort. abort ≡ NoMemory) }
+        ensures memory { IfErr result (λ abort. (abort ≡ NoMemory) × (length self.old.initial < length bytes.now)) }
         ensures in_place { IsSome (width_of self.old.description.data_type) → IsOk result }
     {
         if bytes.len() <= self.initial.len() {

@@ -1,10 +1,11 @@
 //! Reads, writes and resets of objects that rise by index and sub.
 
-ghost use Rattle.std.specs.Prelude.{◌≡◌, ◌<◌, IfOk, MatchResult, Ok, Err, true, length, slice_index_or};
+ghost use Rattle.std.specs.Prelude.{◌≡◌, ◌<◌, IfOk, IfErr, MatchResult, Ok, Err, true, length, slice_index_or};
 ghost use Rattle.std.specs.Option.{ForSome};
+ghost use Rattle.cop_dict.specs.declared.abort.Abort.TheVariants.{NoMemory};
 ghost use Rattle.cop_dict.specs.Types.{width_of};
 ghost use Rattle.cop_dict.specs.Find.{Entry, is_at, IsSorted};
-ghost use Rattle.cop_dict.specs.Dict.{HasWidth, FitsAt, Follows, Reads, Writes, read_of, written, admitted, with_value, initial, initial_communication};
+ghost use Rattle.cop_dict.specs.Dict.{HasWidth, Grows, FitsAt, Follows, Reads, Writes, read_of, written, admitted, with_value, initial, initial_communication};
 
 use crate::abort::Abort;
 use crate::object::Object;
@@ -65,6 +66,7 @@ pub fn write_in(objects: &mut [Object], index: u16, sub: u8, bytes: &[u8]) -> Re
     requires { IsSorted objects.old }
     ensures exact { Writes result objects.old objects.new (written objects.old index sub bytes.now) }
     ensures in_place { HasWidth objects.old index sub → Follows result objects.new (written objects.old index sub bytes.now) }
+    ensures memory { IfErr result (λ abort. abort ≡ NoMemory → Grows objects.old index sub bytes.now) }
     ensures sorted { IsSorted objects.new }
 {
     let place = writable_in(objects, index, sub, bytes)?;

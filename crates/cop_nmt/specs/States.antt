@@ -21,11 +21,22 @@ command_numbered n =
     else if n == 130 then Some commands.ResetCommunication
     else None
 
--- the command for a node in a frame: identifier 0, two bytes, the command and the node, or 0 for all
+-- the number of a command
+abbrev pub number_of : Command → ℕ
+number_of commands.Start = 1
+number_of commands.Stop = 2
+number_of commands.EnterPreOperational = 128
+number_of commands.ResetNode = 129
+number_of commands.ResetCommunication = 130
+
+-- the command for a node in an identifier, a length and a body: identifier 0, two bytes, the command and the node, or 0 for all
+abbrev pub command_in : ℕ → ℕ → ℕ → List ℕ → Option Command
+command_in node id len body =
+    if (id == 0) && (len == 2) && ((slice_index body 1 == 0) || (slice_index body 1 == node))
+    then command_numbered (slice_index body 0) else None
+
 abbrev pub command_of : ℕ → Frame → Option Command
-command_of node frame =
-    if (frame.id == 0) && (frame.len == 2) && ((slice_index frame.body 1 == 0) || (slice_index frame.body 1 == node))
-    then command_numbered (slice_index frame.body 0) else None
+command_of node frame = command_in node frame.id frame.len frame.body
 
 -- the state that a command asks for: after a reset a node boots into PreOperational
 abbrev pub commanded : Command → NodeState

@@ -1,10 +1,10 @@
 //! The frames of fixed identifiers that a node or the manager sends.
 
-ghost use Rattle.std.specs.Prelude.{◌≡◌, ◌+◌, ◌<◌, ◌≤◌, ◌++◌, ◌∷◌, [], ◌%◌, ◌/◌};
+ghost use Rattle.std.specs.Prelude.{◌≡◌, ℕ, ◌+◌, ◌<◌, ◌≤◌, ◌++◌, ◌∷◌, [], ◌%◌, ◌/◌, Some};
 ghost use Rattle.cop_frame.specs.Frame.{data_of};
-ghost use Rattle.cop_nmt.specs.States.{state_byte};
+ghost use Rattle.cop_nmt.specs.States.{state_byte, number_of, command_numbered, command_of};
 
-use crate::states::NodeState;
+use crate::states::{Command, NodeState};
 use cop_frame::Frame;
 
 /// The heartbeat of a node in a state.
@@ -26,8 +26,41 @@ pub fn boot_up(node: u8) -> Frame
     requires { node < 128 }
     ensures id { result.id ≡ 0x700 + node }
     ensures body { data_of result ≡ 0 ∷ [] }
+    ensures whole { (result.len ≡ 1) × (result.body ≡ 0 ∷ 0 ∷ 0 ∷ 0 ∷ 0 ∷ 0 ∷ 0 ∷ 0 ∷ []) }
 {
-    Frame::new(0x700 + u16::from(node), &[0])
+    Frame {
+        id: 0x700 + u16::from(node),
+        body: [0; 8],
+        len: 1,
+    }
+}
+
+/// The NMT command to a node, 1 to 127, or with 0 to all. Each node that it is for reads it as that command.
+pub fn command(node: u8, command: Command) -> Frame
+    requires { node < 128 }
+    ensures whole { (result.id ≡ 0) × (result.len ≡ 2) × (result.body ≡ number_of command ∷ node ∷ 0 ∷ 0 ∷ 0 ∷ 0 ∷ 0 ∷ 0 ∷ []) }
+    ensures read { command_of node result ≡ Some command }
+    ensures all { node ≡ 0 → (other : ℕ) → command_of other result ≡ Some command }
+{
+    Frame {
+        id: 0,
+        body: [number_of(command), node, 0, 0, 0, 0, 0, 0],
+        len: 2,
+    }
+}
+
+// The number of a command.
+fn number_of(command: Command) -> u8
+    ensures value { result ≡ number_of command }
+    ensures read { command_numbered result ≡ Some command }
+{
+    match command {
+        Command::Start => 1,
+        Command::Stop => 2,
+        Command::EnterPreOperational => 128,
+        Command::ResetNode => 129,
+        Command::ResetCommunication => 130,
+    }
 }
 
 /// The frame that keeps synchronous PDOs in step.

@@ -7,6 +7,6 @@ mod producer;
 mod states;
 
 pub use consumer::Consumer;
-pub use fixed::{boot_up, emcy, heartbeat, sync};
+pub use fixed::{boot_up, command, emcy, heartbeat, sync};
 pub use producer::Producer;
-pub use states::{Effect, NodeState, Service, state_after};
+pub use states::{Command, Effect, NodeState, Service, state_after};

@@ -38,9 +38,9 @@ pub enum Service {
     Heartbeat,
 }
 
-// The commands that a frame may carry.
-#[derive(Clone, Copy)]
-enum Command {
+/// What the manager asks of a node, or of all.
+#[derive(Clone, Copy, PartialEq, Eq, Debug)]
+pub enum Command {
     Start,
     Stop,
     EnterPreOperational,

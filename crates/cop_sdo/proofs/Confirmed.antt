@@ -52,7 +52,7 @@ pub aborted : (node : ℕ) (at : Address) (bytes : List ℕ) (code : ℕ)
     → (called (given node at bytes).client (reply node (abort_body at code))).progress ≡ progress.Aborted (size_in (abort_body at code))
 aborted node at bytes code = rw (same_number (0x580 + node)) refl
 
-started_so : (client : Calling) (at : Address) (bytes : List ℕ) → is_idle client.asking.task ≡ true → is_short bytes ≡ true
+pub started_so : (client : Calling) (at : Address) (bytes : List ℕ) → is_idle client.asking.task ≡ true → is_short bytes ≡ true
     → downloading client at bytes ≡ Ok (given client.node at bytes)
 started_so client at bytes h short =
     let few : nat_lt 65535 (length bytes) ≡ false = not_many (length bytes) short in

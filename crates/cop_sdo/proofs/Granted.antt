@@ -172,7 +172,7 @@ due_one node r rs state dict next later answers value counts a is all h =
         (rw (p.0, p.1) at led) ∙ one Cancel (granted rs later) state dict (downloads (granted rs later))
 
 heard : (node : ℕ) (r : Request) (rs : List Request) (state : State) (dict : List Entry) (next : Served) (later answers : List Message) (value : List Entry)
-    → (next ≡ replied node (step state dict r)) ⊎ (next ≡ replied node (short_of_memory state dict r)) → (TakesNoMemory dict r → next ≡ replied node (step state dict r))
+    → (next ≡ replied node (step state dict r)) ⊎ (next ≡ replied node (short_of_memory state dict r)) → (TakesNoMemory state dict r → next ≡ replied node (step state dict r))
     → answers ≡ option_to_list next.answer ++ later → Leads r rs state dict next later value → Ends r rs state dict answers value
 heard node Cancel rs state dict next later answers value either sure all h = cancelled node rs state dict next later answers value (sure tt) all h
 heard node (Give at bytes) rs state dict next later answers value either sure all h =

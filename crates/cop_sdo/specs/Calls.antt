@@ -1,5 +1,5 @@
 -- What the calls of a client give.
-use Rattle.std.specs.Prelude.{ℕ, ◌≡◌, Bool, not, ◌&&◌, List, [], length, nat_lt, nat_le, if◌then◌else◌, Option, Some, None, Result, Ok, Err, ◌⊎◌}
+use Rattle.std.specs.Prelude.{ℕ, ◌≡◌, Bool, true, false, IsOk, not, ◌&&◌, List, [], length, nat_lt, nat_le, if◌then◌else◌, Option, Some, None, Result, Ok, Err, ◌⊎◌}
 use Rattle.cop_dict.specs.declared.abort.Abort.TheVariants as aborts
 use Rattle.cop_dict.specs.Codes.{code_of}
 use Rattle.cop_sdo.specs.declared.address.Address.{Address}
@@ -11,6 +11,7 @@ use Rattle.cop_sdo.specs.declared.task.Task.TheVariants as tasks
 use Rattle.cop_sdo.specs.Answers.{abort_body}
 use Rattle.cop_sdo.specs.Client.{Calling, Called, called, concluded, resting, request, give_body, begin_body, ask_body, is_idle, task_at}
 use Rattle.cop_sdo.specs.Exchange.{IsDownloading}
+use Rattle.cop_sdo.specs.Reply.{is_answer}
 
 -- a client after a transfer has begun, and its first frame
 pub record Started : Type 0 where
@@ -52,7 +53,7 @@ expiring client =
 
 -- want of memory says nothing of the outcome, and any other fault is the outcome's
 abbrev pub IsFault : ClientFault → Result Started ClientFault → Type 0
-IsFault faults.Memory outcome = Unit {0}
+IsFault faults.Memory outcome = IsOk outcome
 IsFault fault outcome = outcome ≡ Err fault
 
 -- what a call gave and left is the outcome; a fault leaves the client as it was
@@ -66,5 +67,5 @@ StartsExactly (Err fault) old new outcome = (outcome ≡ Err fault) × (new ≡ 
 
 -- what a client may do with a frame: what is due, or, where memory is refused, its own abort
 pub record MayCall (client : Calling) (frame : Message) (next : Called) : Type 0 where
-  pub either : (next ≡ called client frame) ⊎ (next ≡ concluded client.node (task_at client.asking.task) (Err aborts.NoMemory))
+  pub either : (next ≡ called client frame) ⊎ ((is_idle client.asking.task ≡ false) × (is_answer client.node frame ≡ true) × (next ≡ concluded client.node (task_at client.asking.task) (Err aborts.NoMemory)))
   pub sure : IsDownloading client.asking.task → next ≡ called client frame

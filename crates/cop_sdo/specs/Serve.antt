@@ -32,7 +32,7 @@ due server dict frame =
 pub record MayServe (server : Serving) (dict : List Entry) (frame : Message) (next : Served) : Type 0 where
   pub either : (next ≡ due server dict frame)
       ⊎ ((is_heard server.node frame ≡ true) × (next ≡ replied server.node (short_of_memory server.state dict (request_of frame.body))))
-  pub sure : TakesNoMemory dict (request_of frame.body) → next ≡ due server dict frame
+  pub sure : TakesNoMemory server.state dict (request_of frame.body) → next ≡ due server dict frame
 
 -- what a server may do with frames, one after the other: its answers, and what it leaves
 abbrev pub Serves : Serving → List Entry → List Message → List Message → Serving → List Entry → Type 0

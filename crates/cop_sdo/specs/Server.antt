@@ -1,5 +1,5 @@
 -- What a server does with one request, by cases.
-use Rattle.std.specs.Prelude.{ℕ, ◌≡◌, ◌+◌, Bool, true, false, not, ◌&&◌, ◌||◌, List, [], ◌++◌, length, take, drop, nat_lt, nat_le, if◌then◌else◌, Option, Some, None, Result, Ok, Err, ◌⊎◌}
+use Rattle.std.specs.Prelude.{ℕ, ◌≡◌, ◌+◌, Bool, true, false, not, ◌&&◌, ◌||◌, List, [], ◌++◌, length, take, drop, nat_lt, nat_le, if◌then◌else◌, Option, Some, None, Result, Ok, Err, IfOk, ◌⊎◌}
 use Rattle.std.specs.Bool.{beq}
 use Rattle.std.specs.Option.{option_map_or}
 use Rattle.cop_dict.specs.declared.abort.Abort.{Abort}
@@ -131,14 +131,18 @@ settled dict at (Err abort) = record { state = idle; dict = dict; answer = Some 
 abbrev pub step : State → List Entry → Request → Moved
 step state dict request = settled dict (named state.transfer request) (moved state dict request)
 
+-- a segment that no transfer waits for, or with a wrong toggle, or with too many bytes
+abbrev pub refuses : Transfer → ℕ → Bool → ℕ → Bool
+refuses (Download at size toggle) count t more = not (beq t toggle) || is_too_long size (count + more)
+refuses _ count t more = true
+
 -- these take no memory
-abbrev pub TakesNoMemory : List Entry → Request → Type 0
-TakesNoMemory dict (Give at bytes) = HasWidth dict at.index at.sub
-TakesNoMemory dict (Begin at size) = Unit {0}
-TakesNoMemory dict (AskSegment toggle) = Unit {0}
-TakesNoMemory dict Cancel = Unit {0}
-TakesNoMemory dict (Unknown at) = Unit {0}
-TakesNoMemory dict _ = ⊥
+abbrev pub TakesNoMemory : State → List Entry → Request → Type 0
+TakesNoMemory state dict (Give at bytes) = HasWidth dict at.index at.sub
+TakesNoMemory state dict (GiveUnsized at four) = HasWidth dict at.index at.sub
+TakesNoMemory state dict (Segment toggle bytes is_last) = refuses state.transfer (length state.bytes) toggle (length bytes) ≡ true
+TakesNoMemory state dict (Ask at) = IfOk (read_of dict at.index at.sub) (λ bytes. (nat_lt 0 (length bytes) && nat_le (length bytes) 4) ≡ true)
+TakesNoMemory state dict _ = Unit {0}
 
 -- where memory is refused, the server aborts
 abbrev pub short_of_memory : State → List Entry → Request → Moved
@@ -147,4 +151,4 @@ short_of_memory state dict request = settled dict (named state.transfer request)
 -- what a server may do with a request
 pub record MayMove (state : State) (dict : List Entry) (request : Request) (next : Moved) : Type 0 where
   pub either : (next ≡ step state dict request) ⊎ (next ≡ short_of_memory state dict request)
-  pub sure : TakesNoMemory dict request → next ≡ step state dict request
+  pub sure : TakesNoMemory state dict request → next ≡ step state dict request

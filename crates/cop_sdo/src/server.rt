@@ -48,6 +48,13 @@ impl Server {
         }
     }
 
+    /// Drops what is under way: the server is idle then.
+    pub fn reset(&mut self)
+        ensures { self.new ≡ record { node = self.old.node; state = idle } }
+    {
+        self.session.end();
+    }
+
     /// Hears a frame, and answers it.
     pub fn step(&mut self, dict: &mut Dictionary, frame: &Frame) -> Option<Frame>
         ensures { MayServe self.old dict.old (message_of frame.now) (record { server = self.new; dict = dict.new; answer = option_map message_of result }) }

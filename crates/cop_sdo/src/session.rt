@@ -1,6 +1,6 @@
 //! What a server does with a request.
 
-ghost use Rattle.std.specs.Prelude.{◌≡◌, ◌+◌, ◌≤◌, ◌<◌, ◌^◌, List, length, vec_len, IfOk};
+ghost use Rattle.std.specs.Prelude.{◌≡◌, true, ◌+◌, ◌≤◌, ◌<◌, ◌^◌, List, length, vec_len, IfOk};
 ghost use Rattle.cop_sdo.specs.Server.{is_too_long, is_too_short, named, running_at};
 ghost use Rattle.cop_sdo.specs.Seen.{seen};
 ghost use Rattle.cop_sdo.specs.Service.{narrow};
@@ -32,7 +32,7 @@ impl Session {
     ghost use Rattle.cop_sdo.specs.Request.{GiveUnsized, Ask, request_of};
     ghost use Rattle.cop_sdo.specs.Answers.{download_answer, segment_answer};
     ghost use Rattle.cop_sdo.specs.Seen.{IsShort};
-    ghost use Rattle.cop_sdo.specs.Server.{State, idle, moved, stored, begun, segment_came, asked, sent_on, segment_asked, TakesNoMemory, MayMove};
+    ghost use Rattle.cop_sdo.specs.Server.{State, idle, moved, stored, begun, segment_came, asked, sent_on, segment_asked, refuses, TakesNoMemory, MayMove};
     ghost use Rattle.cop_sdo.specs.Session.{state_of, Does, DoesExactly};
 
     pub fn new(alloc: Global) -> Session
@@ -76,7 +76,8 @@ impl Session {
         four: &[u8],
     ) -> Result<Option<[u8; 8]>, Abort>
         requires { length four.now ≡ 4 }
-        ensures { Does result self.new dict.old dict.new (moved (state_of self.old) dict.old (GiveUnsized at four.now)) }
+        ensures exact { Does result self.new dict.old dict.new (moved (state_of self.old) dict.old (GiveUnsized at four.now)) }
+        ensures in_place { HasWidth dict.old at.index at.sub → DoesExactly result self.new dict.old dict.new (moved (state_of self.old) dict.old (GiveUnsized at four.now)) }
     {
         let width = dict.admits(at.index, at.sub, None)?;
         let count = narrow(width)?;
@@ -114,7 +115,8 @@ impl Session {
         is_last: bool,
     ) -> Result<Option<[u8; 8]>, Abort>
         requires { length bytes.now ≤ 7 }
-        ensures { Does result self.new dict.old dict.new (segment_came (state_of self.old) dict.old self.old.transfer toggle bytes.now is_last) }
+        ensures exact { Does result self.new dict.old dict.new (segment_came (state_of self.old) dict.old self.old.transfer toggle bytes.now is_last) }
+        ensures in_place { refuses self.old.transfer (vec_len self.old.bytes) toggle (length bytes.now) ≡ true → DoesExactly result self.new dict.old dict.new (segment_came (state_of self.old) dict.old self.old.transfer toggle bytes.now is_last) }
     {
         let Transfer::Download {
             at,
@@ -151,7 +153,8 @@ impl Session {
 
     /// An upload: a value of 1 to 4 bytes at once, another in segments.
     fn ask(&mut self, dict: &Dictionary, at: Address) -> Result<Option<[u8; 8]>, Abort>
-        ensures { Does result self.new dict.now dict.now (moved (state_of self.old) dict.now (Ask at)) }
+        ensures exact { Does result self.new dict.now dict.now (moved (state_of self.old) dict.now (Ask at)) }
+        ensures in_place { TakesNoMemory (state_of self.old) dict.now (Ask at) → DoesExactly result self.new dict.now dict.now (moved (state_of self.old) dict.now (Ask at)) }
     {
         let value = dict.read(at.index, at.sub)?;
         self.end();
@@ -207,7 +210,7 @@ impl Session {
     ) -> Result<Option<[u8; 8]>, Abort>
         requires { IsShort request }
         ensures exact { Does result self.new dict.old dict.new (moved (state_of self.old) dict.old (seen request.entry)) }
-        ensures in_place { TakesNoMemory dict.old (seen request.entry)
+        ensures in_place { TakesNoMemory (state_of self.old) dict.old (seen request.entry)
             → DoesExactly result self.new dict.old dict.new (moved (state_of self.old) dict.old (seen request.entry)) }
     {
         match request {
