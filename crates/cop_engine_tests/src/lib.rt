@@ -3,4 +3,6 @@
 #![tactic(auto)]
 
 #[cfg(test)]
+mod large;
+#[cfg(test)]
 mod tests;
