@@ -1,5 +1,8 @@
 -- What the files say, from what each reading gives.
-use Rattle.std.proofs.Common.{◌≡◌, ℕ, List, length, Ok, Err, Result, IfSome, IsTrue, MatchResult, All, Bool, true, ◌↔◌, inl, inr, refl, sym, subst}
+use Rattle.std.proofs.Common.{◌≡◌, ℕ, zero, suc, ◌<◌, ◌≤◌, List, [], ◌∷◌, length, slice_get, Option, Some, None, Ok, Err, Result, IfSome, IsTrue, MatchResult, All, Bool, true, ◌↔◌, inl, inr, refl, sym, subst, le_refl, arith}
+use Rattle.cop_rta.specs.declared.streams.Stream.{Stream}
+use Rattle.cop_cert.specs.Assignments.{least_id}
+use Rattle.cop_cert.proofs.SetLemmas.{refusal_rules_out}
 use Rattle.std.specs.Result.{IsErrAnd}
 use Rattle.cop_rows.specs.Nodes.{NodeLists}
 use Rattle.cop_rows.specs.declared.pdo_table.PdoRow.{PdoRow}
@@ -20,7 +23,7 @@ use Rattle.cop_cert.specs.declared.refusals.Refusal as refused
 use Rattle.cop_cert.specs.Faults.{breach_of}
 use Rattle.cop_cert.specs.Reading.{refusals_of}
 use Rattle.cop_engine.specs.Reports.{lines_below}
-use Rattle.cop_engine.specs.Checks.{check_line_at, AreChecked, IsCheckOf, ExplainsCheck}
+use Rattle.cop_engine.specs.Checks.{check_line_at, AreChecked, RuleOut, IsCheckOf, ExplainsCheck}
 use Rattle.cop_engine.specs.Faults.{fault_of, fault_of_refusals}
 use Rattle.cop_engine.specs.Networks.{Found, network_in, ExplainsNetwork}
 use Rattle.cop_engine.specs.Plans.{ArePlanned, AreFilesOf}
@@ -29,6 +32,12 @@ use Rattle.cop_engine.specs.Plans.{ArePlanned, AreFilesOf}
 pub err_is : {X : Type 0} (r : Result X Fault) (A : X → Type 0) (B : Fault → Type 0) (fault : Fault) → IsErrAnd r (λ f. f ≡ fault) → B fault → MatchResult r A B
 err_is (Ok x) A B fault e b = absurd e
 err_is (Err f) A B fault e b = subst B (sym e) b
+
+-- what stands in a list stands below its length
+at_inside : {A : Type 0} (xs : List A) (k : ℕ) (x : A) → slice_get xs k ≡ Some x → k < length xs
+at_inside [] k x h = cc
+at_inside (y ∷ ys) zero x h = omega arith
+at_inside (y ∷ ys) (suc k) x h = let below = at_inside ys k x h in omega (arith, below)
 
 module _ (nodes pdos : List ℕ) (files : List File) where
   -- the table of nodes is refused
@@ -83,12 +92,18 @@ module _ (nodes pdos : List ℕ) (files : List File) where
   refusals_explain text found (cert.Refused b) read e = inr (found, read, b, e, refl, refl)
   refusals_explain text found cert.Memory read e = tt
 
+  -- what holds rules out
+  rule_out : (streams : List Stream) (pdos : ℕ) (refusals : List refused.Refusal) (answers : List Bool) → pdos ≤ length streams
+      → AreChecked streams pdos refusals answers (length refusals) → RuleOut streams pdos refusals answers
+  rule_out streams pdos refusals answers count checked k r here holds =
+      refusal_rules_out least_id streams pdos r (le_refl least_id) count ((checked.each k (at_inside refusals k r here) r here).0 holds)
+
   -- the check of the network's refusals is that of the files
   pub check_is : (n : NodeLists) (rows : List PdoRow) (network : Net) (text lines : List ℕ) (refusals : List refused.Refusal) (answers : List Bool) (all : Bool)
       → in_table Nodes (nodes_of nodes) ≡ Ok n → in_table Pdos (pdos_of pdos) ≡ Ok rows → network_of n rows files ≡ Ok (accepted network) → network.rows ≡ rows → refusals_of text ≡ Ok refusals
       → AreChecked network.set (length network.rows) refusals answers (length refusals) → lines ≡ lines_below (check_line_at refusals answers) (length refusals)
-      → (IsTrue all ↔ All (λ answer. answer ≡ true) answers) → IsCheckOf nodes pdos files text lines all
-  check_is n rows network text lines refusals answers all read also e same told checked are hold = record {
+      → (IsTrue all ↔ All (λ answer. answer ≡ true) answers) → IsNetwork network → IsCheckOf nodes pdos files text lines all
+  check_is n rows network text lines refusals answers all read also e same told checked are hold is = record {
     found = record { rows = rows; network = accepted network };
     read = network_read n rows (accepted network) read also e;
     streams = network.set;
@@ -97,6 +112,7 @@ module _ (nodes pdos : List ℕ) (files : List File) where
     refusals_are = told;
     answers = answers;
     checked = rw same at checked;
+    rules_out = rule_out network.set (length rows) refusals answers (rw same at is.streams.count) (rw same at checked);
     lines_are = are;
     all_hold = hold;
   }

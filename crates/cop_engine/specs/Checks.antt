@@ -6,7 +6,7 @@ use Rattle.cop_rta.specs.declared.streams.Stream.{Stream}
 use Rattle.cop_rta.specs.Entries.{entry_of}
 use Rattle.cop_cert.specs.declared.faults.Breach.{Breach}
 use Rattle.cop_cert.specs.declared.refusals.Refusal.{Refusal}
-use Rattle.cop_cert.specs.Assignments.{least_id}
+use Rattle.cop_cert.specs.Assignments.{least_id, NoAssignmentPasses}
 use Rattle.cop_cert.specs.Evidence.{IsRefusal}
 use Rattle.cop_cert.specs.Faults as breaches
 use Rattle.cop_cert.specs.Reading.{refusals_of}
@@ -34,6 +34,11 @@ pub record AreChecked (streams : List Stream) (pdos : ℕ) (refusals : List Refu
   pub length_is : length answers ≡ count
   pub each : (k : ℕ) → k < count → (r : Refusal) → slice_get refusals k ≡ Some r → (get_or answers k false ≡ true ↔ IsRefusal least_id streams pdos r)
 
+-- what `holds` means: no assignment of identifiers passes at the refusal's rate
+abbrev pub RuleOut : List Stream → ℕ → List Refusal → List Bool → Type 0
+RuleOut streams pdos refusals answers =
+    (k : ℕ) (r : Refusal) → slice_get refusals k ≡ Some r → get_or answers k false ≡ true → NoAssignmentPasses r.rate streams pdos
+
 -- A refusal file against the network that the tables and the EDS files say: a line for each refusal, and whether all hold.
 pub record IsCheckOf (nodes pdos : List ℕ) (eds : List File) (text : List ℕ) (lines : List ℕ) (all : Bool) : Type 0 where
   pub found : Found
@@ -44,6 +49,7 @@ pub record IsCheckOf (nodes pdos : List ℕ) (eds : List File) (text : List ℕ)
   pub refusals_are : refusals_of text ≡ Ok refusals
   pub answers : List Bool
   pub checked : AreChecked streams (length found.rows) refusals answers (length refusals)
+  pub rules_out : RuleOut streams (length found.rows) refusals answers
   pub lines_are : lines ≡ lines_below (check_line_at refusals answers) (length refusals)
   pub all_hold : IsTrue all ↔ All (λ answer. answer ≡ true) answers
 

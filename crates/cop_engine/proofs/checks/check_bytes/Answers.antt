@@ -1,3 +1,5 @@
+use Rattle.std.proofs.Common.{subst}
+use Rattle.cop_net.specs.Network.{IsNetwork}
 use Rattle.cop_engine.specs.Faults.{fault_of, fault_of_refusals}
 use Rattle.cop_engine.proofs.NetworkLemmas.{nodes_explain, pdos_explain, network_explains, network_found, err_is, of_network, refusals_explain, check_is}
 use Rattle.cop_engine.proofs.checks.check_bytes.Goals as goal
@@ -34,3 +36,4 @@ returns c =
     (rw (c.set.ensures.set, c.pdos-2.ensures.count, c.deref.ensures.value) at c.in_ok-answers.ensures)
     (rw (c.deref-2.ensures.value, c.deref-3.ensures.value) at c.in_ok-text.ensures)
     (rw c.deref-4.ensures.value at c.all_hold.ensures)
+    (subst IsNetwork c.network-2.view_is c.network-2.invariant.0)
