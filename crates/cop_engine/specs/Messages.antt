@@ -1,0 +1,27 @@
+-- What the program says of a fault, its status, and the words of the command line that it reads.
+use Rattle.std.specs.Prelude.{◌≡◌, ℕ, List, ◌++◌, Bool, codes, decimal, Option, Some, if◌then◌else◌}
+use Rattle.std.specs.String.{string_bytes}
+use Rattle.cop_frame.specs.declared.rates.Rate.{Rate}
+use Rattle.cop_frame.specs.Rate.{kbits_of}
+use Rattle.cop_table.specs.Numbers.{number_of}
+use Rattle.cop_engine.specs.declared.faults.Fault.{Fault}
+use Rattle.cop_engine.specs.declared.faults.Fault.TheVariants as faults
+
+-- the first line on standard error: of what is refused the number, and then the place
+abbrev pub message_of : Fault → List ℕ
+message_of (faults.Refused number place) = codes "canplan: refused " ++ decimal number ++ codes " " ++ decimal place ++ codes "\n"
+message_of (faults.File name) = codes "canplan: file " ++ string_bytes name ++ codes "\n"
+message_of faults.Usage = codes "canplan: usage\n"
+message_of faults.Memory = codes "canplan: memory\n"
+
+-- the status after a plan: 4 where no rate passes
+abbrev pub plan_status_of : Bool → ℕ
+plan_status_of planned = if planned then 0 else 4
+
+-- the status after a check: 3 where some refusal fails
+abbrev pub check_status_of : Bool → ℕ
+check_status_of all_hold = if all_hold then 0 else 3
+
+-- a word of at most 4 digits that write a rate in kbit/s
+abbrev pub IsRateWord : List ℕ → Rate → Type 0
+IsRateWord word rate = number_of 4 word ≡ Some (kbits_of rate)
