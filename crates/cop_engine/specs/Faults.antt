@@ -2,6 +2,8 @@
 use Rattle.std.specs.Prelude.{ℕ}
 use Rattle.cop_engine.specs.declared.faults.Fault.{Fault}
 use Rattle.cop_engine.specs.declared.faults.Fault.TheVariants as faults
+use Rattle.cop_bus.specs.declared.faults.BusFault.{BusFault}
+use Rattle.cop_bus.specs.declared.faults.BusFault.TheVariants as bus
 use Rattle.cop_cert.specs.declared.faults.CertFault.{CertFault}
 use Rattle.cop_cert.specs.declared.faults.CertFault.TheVariants as cert
 use Rattle.cop_cert.specs.Faults as breaches
@@ -24,3 +26,8 @@ status_of faults.Memory = 6
 abbrev pub fault_of_refusals : CertFault → Fault
 fault_of_refusals (cert.Refused b) = faults.Refused (breaches.number_of_rule b.rule) b.place
 fault_of_refusals cert.Memory = faults.Memory
+
+-- the same of a trace
+abbrev pub fault_of_trace : BusFault → Fault
+fault_of_trace (bus.Refused place number) = faults.Refused number place
+fault_of_trace bus.Memory = faults.Memory

@@ -1,9 +1,11 @@
 -- What the program says of a fault, its status, and the words of the command line that it reads.
 use Rattle.std.specs.Prelude.{◌≡◌, ℕ, List, ◌++◌, Bool, codes, decimal, Option, Some, if◌then◌else◌}
 use Rattle.std.specs.String.{string_bytes}
+use Rattle.std.specs.Str.{bytes_eq}
 use Rattle.cop_frame.specs.declared.rates.Rate.{Rate}
 use Rattle.cop_frame.specs.Rate.{kbits_of}
 use Rattle.cop_table.specs.Numbers.{number_of}
+use Rattle.cop_engine.specs.Judgements.{none_passes}
 use Rattle.cop_engine.specs.declared.faults.Fault.{Fault}
 use Rattle.cop_engine.specs.declared.faults.Fault.TheVariants as faults
 
@@ -21,6 +23,10 @@ plan_status_of planned = if planned then 0 else 4
 -- the status after a check: 3 where some refusal fails
 abbrev pub check_status_of : Bool → ℕ
 check_status_of all_hold = if all_hold then 0 else 3
+
+-- the status after a text of an answer: 4 where it says that no rate passes
+abbrev pub text_status_of : List ℕ → ℕ
+text_status_of text = if bytes_eq text none_passes then 4 else 0
 
 -- a word of at most 4 digits that write a rate in kbit/s
 abbrev pub IsRateWord : List ℕ → Rate → Type 0

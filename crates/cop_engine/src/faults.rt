@@ -1,11 +1,12 @@
 //! Why an order is not carried out.
 
 ghost use Rattle.std.specs.Prelude.{◌≡◌};
-ghost use Rattle.cop_engine.specs.Faults.{status_of, fault_of, fault_of_refusals};
+ghost use Rattle.cop_engine.specs.Faults.{status_of, fault_of, fault_of_refusals, fault_of_trace};
 ghost use Rattle.cop_engine.specs.declared.faults.Fault.TheVariants.{Refused, Memory};
 ghost use Rattle.cop_rta.specs.declared.tables.TableFault.TheVariants as table;
 ghost use Rattle.cop_rta.specs.Tables.{number_of_rule};
 
+use cop_bus::BusFault;
 use cop_cert::CertFault;
 use cop_net::PlanFault;
 use std::alloc::{AllocError, AllocFailed};
@@ -64,6 +65,20 @@ impl From<CertFault> for Fault {
                 place: breach.place,
             },
             CertFault::Memory => Fault::Memory,
+        }
+    }
+}
+
+impl From<BusFault> for Fault {
+    ghost from_gives = { λ fault result. result ≡ fault_of_trace fault };
+
+    fn from(fault: BusFault) -> Fault {
+        match fault {
+            BusFault::Refused { place, number } => Fault::Refused {
+                number,
+                place: place as u64,
+            },
+            BusFault::Memory => Fault::Memory,
         }
     }
 }

@@ -3,7 +3,9 @@
 
 mod checks;
 mod faults;
+mod guarantee;
 mod inputs;
+mod judgements;
 mod laws;
 mod messages;
 mod plan_texts;
@@ -13,8 +15,10 @@ mod tests_of_streams;
 
 pub use checks::check_bytes;
 pub use faults::{Fault, status};
+pub use guarantee::{judged_on_time, planner_guarantee};
 pub use inputs::read_all;
-pub use messages::{check_status, plan_status, push_message, rate_of};
+pub use judgements::judge_bytes;
+pub use messages::{check_status, plan_status, push_message, rate_of, text_status};
 pub use laws::{one_check, one_plan, one_report};
 pub use plans::{Files, plan_bytes};
 pub use tests_of_streams::test_bytes;

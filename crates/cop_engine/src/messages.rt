@@ -3,7 +3,7 @@
 ghost use Rattle.std.specs.Prelude.{◌≡◌, ◌++◌, MatchOption, OnOk};
 ghost use Rattle.cop_frame.specs.declared.rates.Rate.{Rate};
 ghost use Rattle.cop_engine.specs.declared.faults.Fault.TheVariants as faults;
-ghost use Rattle.cop_engine.specs.Messages.{message_of, plan_status_of, check_status_of, IsRateWord};
+ghost use Rattle.cop_engine.specs.Messages.{message_of, plan_status_of, check_status_of, text_status_of, IsRateWord};
 
 use crate::faults::Fault;
 use crate::reports::push_number;
@@ -55,6 +55,13 @@ pub fn check_status(all_hold: bool) -> u8
     ensures { result ≡ check_status_of all_hold }
 {
     if all_hold { 0 } else { 3 }
+}
+
+/// The status after a text of an answer: 4 where it says that no rate passes, else 0.
+pub fn text_status(text: &[u8]) -> u8
+    ensures { result ≡ text_status_of text.now }
+{
+    if text == b"no rate passes\n" { 4 } else { 0 }
 }
 
 /// The rate that a word writes in kbit/s.
