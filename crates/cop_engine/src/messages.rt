@@ -61,7 +61,7 @@ pub fn check_status(all_hold: bool) -> u8
 pub fn text_status(text: &[u8]) -> u8
     ensures { result ≡ text_status_of text.now }
 {
-    if text == b"no rate passes\n" { 4 } else { 0 }
+    if text == b"no rate passes\n".as_slice() { 4 } else { 0 }
 }
 
 /// The rate that a word writes in kbit/s.
