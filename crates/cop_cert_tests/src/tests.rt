@@ -205,7 +205,9 @@ fn members_have_one_busy_list_or_their_own(rt: HostRuntime) -> Result<(), Fail> 
     assert!(rt; holds(&rt, &set, 2, &refusal));
     assert_eq!(rt; refusal.members.as_slice().len(), 2);
     for member in refusal.members.as_slice() {
-        assert!(rt; matches!(&member.evidence, Evidence::Late { busy, .. } if busy.as_slice() == [1, 1_080].as_slice()));
+        assert!(rt;
+            matches!(&member.evidence, Evidence::Late { busy, .. } if busy.as_slice() == [1, 1_080].as_slice())
+        );
     }
     for case in BUSY_ENDS {
         let (first, second, want) = *case;

@@ -252,14 +252,18 @@ fn the_first_broken_rule_is_named(rt: HostRuntime) -> Result<(), Fail> {
 }
 
 /// A text with CR LF, comments, blanks and names in other case.
-const MESSY: &[u8] = b"\xEF\xBB\xBF; device\r\n[deviceinfo] ; rates\r\n\tBAUDRATE_125 = 1\t\r\n\r\n[optionalobjects]\r\nsupportedobjects=1\r\n1=0x2abC\r\n[2ABC]\r\nobjecttype=0x8\r\n[2abcsub01]\r\nParameterName= a;b \r\ndatatype=5\r\nAccessType=Rww\r\nDefaultValue=0x180 + $nodeid\r\nLowLimit=\r\n[2abcSub0a]\r\nDataType=7\r\nAccessType=const";
+const MESSY: &[u8] =
+    b"\xEF\xBB\xBF; device\r\n[deviceinfo] ; rates\r\n\tBAUDRATE_125 = 1\t\r\n\r\n[optionalobjects]\r\nsupportedobjects=1\r\n1=0x2abC\r\n[2ABC]\r\nobjecttype=0x8\r\n[2abcsub01]\r\nParameterName= a;b \r\ndatatype=5\r\nAccessType=Rww\r\nDefaultValue=0x180 + $nodeid\r\nLowLimit=\r\n[2abcSub0a]\r\nDataType=7\r\nAccessType=const";
 
 #[test]
 fn a_messy_text_is_read(rt: HostRuntime) -> Result<(), Fail> {
     let eds = parse(rt.alloc(), MESSY)?;
     assert!(rt; eds.rates().contains(Rate::Kbit125) && !eds.rates().contains(Rate::Kbit250));
     let object = *eds.objects().first().ok_or("no objects")?;
-    assert_eq!(rt; (object.index, object.sub, object.data_type), (0x2ABC, 1, 5));
+    assert_eq!(rt;
+        (object.index, object.sub, object.data_type),
+        (0x2ABC, 1, 5)
+    );
     assert_eq!(rt; object.access, Access::ReadWriteOutput);
     Ok(())
 }

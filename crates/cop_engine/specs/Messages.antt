@@ -9,10 +9,18 @@ use Rattle.cop_engine.specs.Judgements.{none_passes}
 use Rattle.cop_engine.specs.declared.faults.Fault.{Fault}
 use Rattle.cop_engine.specs.declared.faults.Fault.TheVariants as faults
 
--- the first line on standard error: of what is refused the number, and then the place
+-- what is refused: the number of the rule, and then the place
+abbrev pub refusal_message : ℕ → ℕ → List ℕ
+refusal_message number place = codes "canplan: refused " ++ (decimal number ++ (codes " " ++ (decimal place ++ codes "\n")))
+
+-- a file that is not read or written
+abbrev pub file_message : List ℕ → List ℕ
+file_message name = codes "canplan: file " ++ (name ++ codes "\n")
+
+-- the first line on standard error
 abbrev pub message_of : Fault → List ℕ
-message_of (faults.Refused number place) = codes "canplan: refused " ++ decimal number ++ codes " " ++ decimal place ++ codes "\n"
-message_of (faults.File name) = codes "canplan: file " ++ string_bytes name ++ codes "\n"
+message_of (faults.Refused number place) = refusal_message number place
+message_of (faults.File name) = file_message (string_bytes name)
 message_of faults.Usage = codes "canplan: usage\n"
 message_of faults.Memory = codes "canplan: memory\n"
 

@@ -1,45 +1,31 @@
 //! What the program says of a fault, its status, and the words of the command line that it reads.
 
-ghost use Rattle.std.specs.Prelude.{◌≡◌, ◌++◌, MatchOption, OnOk};
+ghost use Rattle.std.specs.Prelude.{◌≡◌, MatchOption, IfOk};
+ghost use Rattle.std.specs.String.{string_bytes};
 ghost use Rattle.cop_frame.specs.declared.rates.Rate.{Rate};
-ghost use Rattle.cop_engine.specs.declared.faults.Fault.TheVariants as faults;
-ghost use Rattle.cop_engine.specs.Messages.{message_of, plan_status_of, check_status_of, text_status_of, IsRateWord};
+ghost use Rattle.cop_engine.specs.Messages.{refusal_message, message_of, plan_status_of, check_status_of, text_status_of, IsRateWord};
 
 use crate::faults::Fault;
-use crate::reports::push_number;
 use cop_frame::Rate;
 use cop_table::number;
-use std::alloc::AllocError;
+use std::alloc::{AllocError, Global};
 
-/// The number of a refusal, and its place.
-fn push_refusal(text: &mut Vec<u8>, number: u8, place: u64) -> Result<(), AllocError>
-    ensures { OnOk result (text.new.items ≡ text.old.items ++ message_of (faults.Refused number place)) }
+/// The line of what is refused.
+fn refusal_message(alloc: Global, number: u8, place: u64) -> Result<String, AllocError>
+    ensures { IfOk result (λ line. string_bytes line ≡ refusal_message number place) }
 {
-    text.extend_from_slice(b"canplan: refused ")?;
-    push_number(text, u64::from(number))?;
-    text.extend_from_slice(b" ")?;
-    push_number(text, place)?;
-    text.extend_from_slice(b"\n")
-}
-
-/// The name of a file that is not read or written.
-fn push_file(text: &mut Vec<u8>, name: &String) -> Result<(), AllocError>
-    ensures { OnOk result (text.new.items ≡ text.old.items ++ message_of (faults.File name.now)) }
-{
-    text.extend_from_slice(b"canplan: file ")?;
-    text.extend_from_slice(name.as_bytes())?;
-    text.extend_from_slice(b"\n")
+    format!(in alloc; "canplan: refused {number} {place}\n")
 }
 
 /// The line that the program says of a fault.
-pub fn push_message(text: &mut Vec<u8>, fault: &Fault) -> Result<(), AllocError>
-    ensures { OnOk result (text.new.items ≡ text.old.items ++ message_of fault.now) }
+pub fn message(alloc: Global, fault: &Fault) -> Result<String, AllocError>
+    ensures { IfOk result (λ line. string_bytes line ≡ message_of fault.now) }
 {
     match fault {
-        Fault::Refused { number, place } => push_refusal(text, *number, *place),
-        Fault::File(name) => push_file(text, name),
-        Fault::Usage => text.extend_from_slice(b"canplan: usage\n"),
-        Fault::Memory => text.extend_from_slice(b"canplan: memory\n"),
+        Fault::Refused { number, place } => refusal_message(alloc, *number, *place),
+        Fault::File(name) => format!(in alloc; "canplan: file {name}\n"),
+        Fault::Usage => String::from_str(alloc, "canplan: usage\n"),
+        Fault::Memory => String::from_str(alloc, "canplan: memory\n"),
     }
 }
 
@@ -61,7 +47,11 @@ pub fn check_status(all_hold: bool) -> u8
 pub fn text_status(text: &[u8]) -> u8
     ensures { result ≡ text_status_of text.now }
 {
-    if text == b"no rate passes\n".as_slice() { 4 } else { 0 }
+    if text == b"no rate passes\n".as_slice() {
+        4
+    } else {
+        0
+    }
 }
 
 /// The rate that a word writes in kbit/s.

@@ -40,10 +40,22 @@ const NODES: u16 = 8;
 /// The communication and the mapping record of a PDO that sends the 64 bits of 2000h.
 fn push_pdo(text: &mut String, pdo: u16) -> Result<(), AllocError> {
     let (record, mapping) = (0x1800 + u32::from(pdo), 0x1A00 + u32::from(pdo));
-    write!(text, "[{record:04X}]\nObjectType=9\n[{record:04X}sub1]\nDataType=7\nAccessType=rw\n")?;
-    write!(text, "DefaultValue=0x80000000\n[{record:04X}sub2]\nDataType=5\nAccessType=rw\n")?;
-    write!(text, "DefaultValue=255\n[{mapping:04X}]\nObjectType=9\n[{mapping:04X}sub0]\n")?;
-    write!(text, "DataType=5\nAccessType=ro\nDefaultValue=1\n[{mapping:04X}sub1]\n")?;
+    write!(
+        text,
+        "[{record:04X}]\nObjectType=9\n[{record:04X}sub1]\nDataType=7\nAccessType=rw\n"
+    )?;
+    write!(
+        text,
+        "DefaultValue=0x80000000\n[{record:04X}sub2]\nDataType=5\nAccessType=rw\n"
+    )?;
+    write!(
+        text,
+        "DefaultValue=255\n[{mapping:04X}]\nObjectType=9\n[{mapping:04X}sub0]\n"
+    )?;
+    write!(
+        text,
+        "DataType=5\nAccessType=ro\nDefaultValue=1\n[{mapping:04X}sub1]\n"
+    )?;
     write!(text, "DataType=7\nAccessType=ro\nDefaultValue=0x20000040\n")
 }
 
@@ -56,7 +68,12 @@ fn device(alloc: Global) -> Result<String, AllocError> {
     write!(text, "SupportedObjects={}\n1=0x2000\n", 2 * EACH + 1)?;
     for pdo in 0..EACH {
         let (record, mapping) = (0x1800 + u32::from(pdo), 0x1A00 + u32::from(pdo));
-        write!(text, "{}=0x{record:04X}\n{}=0x{mapping:04X}\n", 2 * pdo + 2, 2 * pdo + 3)?;
+        write!(
+            text,
+            "{}=0x{record:04X}\n{}=0x{mapping:04X}\n",
+            2 * pdo + 2,
+            2 * pdo + 3
+        )?;
     }
     text.push_str("[2000]\nDataType=0x1B\nAccessType=ro\nPDOMapping=1\n")?;
     for pdo in 0..EACH {
@@ -102,9 +119,21 @@ fn a_rate_is_refused_with_512_pdos(rt: HostRuntime) -> Result<(), Fail> {
     let eds = [(String::from_str(alloc, "many.eds")?, text)];
     let (nodes, pdos) = (nodes(alloc)?, pdos(alloc)?);
     let files = planned(alloc, nodes.as_str(), pdos.as_str(), &eds)?;
-    assert!(rt; files.plan.starts_with(b"rate 1000\npdo 1.1 id 181h response 1080\n"));
-    assert!(rt; files.plan.ends_with(b"pdo 8.64 id 380h response 276480\nrefused 500 members 512\n"));
-    let checked = check_bytes(alloc, nodes.as_bytes(), pdos.as_bytes(), &eds, &files.refusals)?;
+    assert!(rt;
+        files
+            .plan
+            .starts_with(b"rate 1000\npdo 1.1 id 181h response 1080\n")
+    );
+    assert!(rt;
+        files.plan.ends_with(b"pdo 8.64 id 380h response 276480\nrefused 500 members 512\n")
+    );
+    let checked = check_bytes(
+        alloc,
+        nodes.as_bytes(),
+        pdos.as_bytes(),
+        &eds,
+        &files.refusals,
+    )?;
     assert_eq!(rt; checked.0.as_slice(), b"500 holds\n".as_slice());
     Ok(())
 }

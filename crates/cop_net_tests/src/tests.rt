@@ -1,7 +1,7 @@
-use cop_net::{NodeTable, PdoTable, PlanFault, Rule, Table, network, read_nodes, read_pdos};
 use cop_dict::{MappingFault, build};
 use cop_eds::parse;
 use cop_frame::Rate;
+use cop_net::{NodeTable, PdoTable, PlanFault, Rule, Table, network, read_nodes, read_pdos};
 use cop_pdo::{Direction, payload};
 use std::alloc::Global;
 use std::fmt::Write;

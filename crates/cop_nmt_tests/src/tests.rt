@@ -1,7 +1,7 @@
+use cop_frame::Frame;
 use cop_nmt::{
     Consumer, Effect, NodeState, Producer, Service, boot_up, emcy, heartbeat, state_after, sync,
 };
-use cop_frame::Frame;
 use std::process::Abort;
 
 fn sends(rt: &impl Abort, frame: &Frame, id: u16, data: &[u8]) {

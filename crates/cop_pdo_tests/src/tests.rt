@@ -1,7 +1,7 @@
+use cop_dict::{Access, DataType, Description, Dictionary, Object};
 use cop_pdo::{
     Direction, MappingFault, exists, off, on, pack, payload, refusal_number, same_layout, unpack,
 };
-use cop_dict::{Access, DataType, Description, Dictionary, Object};
 use std::alloc::{AllocError, Global};
 use std::test::Fail;
 

@@ -1,6 +1,6 @@
-use cop_plan::{Count, Outcome, Plan, assign, can_assign};
 use cop_cert::{Evidence, Refusal};
 use cop_frame::{Rate, RateSet};
+use cop_plan::{Count, Outcome, Plan, assign, can_assign};
 use cop_rta::{Stream, StreamSet, Verdict, above_by_id, read_streams, verdict};
 use std::alloc::Global;
 use std::test::Fail;

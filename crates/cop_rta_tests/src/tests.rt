@@ -1,8 +1,8 @@
+use cop_frame::Rate;
 use cop_rta::{
     Busy, HORIZON, SetFault, Stream, StreamSet, TableFault, Verdict, least, read_streams, verdict,
     verdicts_by_id,
 };
-use cop_frame::Rate;
 use std::process::Abort;
 use std::test::Fail;
 

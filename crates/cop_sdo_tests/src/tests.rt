@@ -1,6 +1,6 @@
-use cop_sdo::{Client, ClientFault, Progress, Server, serve};
 use cop_dict::{Access, DataType, Description, Dictionary, Object};
 use cop_frame::Frame;
+use cop_sdo::{Client, ClientFault, Progress, Server, serve};
 use std::alloc::{AllocError, Global};
 use std::test::Fail;
 
