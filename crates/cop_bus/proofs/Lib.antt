@@ -26,3 +26,6 @@ pub mod CsvLemmas
 pub mod RoundTrip
 pub mod BusLemmas
 pub mod RangeLemmas
+pub mod PeriodExists
+pub mod Grows
+pub mod Appended

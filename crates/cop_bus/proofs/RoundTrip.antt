@@ -1,17 +1,17 @@
 -- What is written is read again.
-use Rattle.std.proofs.Common.{◌≡◌, ℕ, ◌+◌, ◌-◌, ◌<◌, ◌^◌, true, List, [], ◌∷◌, ◌++◌, length, All, map, replicate, Ok, Err, Some, codes, decimal, refl, sym, ap, ◌∙◌, arith, append-nil, append_assoc, nat_lt, nat_le, cond, zero, suc, lit<}
+use Rattle.std.proofs.Common.{◌≡◌, ℕ, ◌+◌, ◌-◌, ◌<◌, ◌^◌, Bool, true, false, ◌&&◌, ◌==◌, subst, List, [], ◌∷◌, ◌++◌, length, All, map, replicate, Ok, Err, Some, codes, decimal, refl, sym, ap, ◌∙◌, arith, append-nil, append_assoc, nat_lt, nat_le, cond, zero, suc, lit<}
 use Rattle.std.specs.Char.{is_digit, digit_value}
 use Rattle.std.specs.List.{list_all}
 use Rattle.std.specs.Str.Parse.{digits_value, AllDigits}
-use Rattle.std.proofs.lemmas.Bool.{le-leb, lt-ltb}
+use Rattle.std.proofs.lemmas.Bool.{le-leb, lt-ltb, ne_eqb}
 use Rattle.std.proofs.lemmas.Fmt.{decimal_is_IsNumeral, length-decimal-le}
 use Rattle.std.proofs.lemmas.List.Elements.{All-head, All-tail, All-take}
 use Rattle.std.proofs.lemmas.List.{length-take-le, take-append-drop}
 use Rattle.hex.specs.Hex.{IsBytes, encode_upper, upper_digits, decode_of}
 use Rattle.hex.proofs.HexLemmas.{decode_of-encode_upper, length-encode_with}
-use Rattle.cop_table.specs.Numbers.{number_of}
+use Rattle.cop_table.specs.Numbers.{number_of, is_hexadecimal}
 use Rattle.cop_bus.specs.Format.{fields_of, bytes_of, short, queue_fields, text_of}
-use Rattle.cop_bus.specs.Entries.{entry_in, content_in, content_of, with_bytes}
+use Rattle.cop_bus.specs.Entries.{entry_in, id_number, content_in, content_of, with_bytes}
 use Rattle.cop_bus.specs.declared.entries.EntryFault.TheVariants.{Malformed}
 use Rattle.cop_bus.specs.Reading.{IsWritable, IsWritableFrame, AreWritable, trace_from, trace_of}
 use Rattle.cop_bus.specs.declared.steps.Step.{Step}
@@ -24,6 +24,10 @@ all_digits : (ds : List ℕ) → AllDigits 10 ds → list_all (λ c. is_digit c 
 all_digits [] h = refl
 all_digits (d ∷ ds) h = let one : is_digit d 10 ≡ true = lt-ltb (digit_value d) 10 h.0 in rw (one, all_digits ds h.1) refl
 
+and_no : (a b : Bool) → b ≡ false → (a && b) ≡ false
+and_no true b e = e
+and_no false b e = refl
+
 number_decimal : (n : ℕ) → n < 2 ^ 64 → number_of 20 (decimal n) ≡ Some n
 number_decimal n h =
     let d = decimal_is_IsNumeral n h in
@@ -32,6 +36,17 @@ number_decimal n h =
     let some : nat_lt 0 (length (decimal n)) ≡ true = lt-ltb 0 (length (decimal n)) d.0.0 in
     let fits : nat_lt (digits_value 10 (decimal n)) (2 ^ 64) ≡ true = lt-ltb (digits_value 10 (decimal n)) (2 ^ 64) (rw value h) in
     rw (short, some, all_digits (decimal n) d.0.1, fits, value) refl
+
+-- decimal digits do not begin with 0x
+not_hexadecimal : (ds : List ℕ) → AllDigits 10 ds → is_hexadecimal ds ≡ false
+not_hexadecimal [] h = refl
+not_hexadecimal (a ∷ []) h = ap (λ v. v) (and_no (a == 48) false refl)
+not_hexadecimal (a ∷ b ∷ ds) h = and_no (a == 48) (b == 120) (ne_eqb b 120 (λ e. (let f : digit_value 120 < 10 = subst (λ x. digit_value x < 10) e h.1.0 in absurd (omega (arith, f)))))
+
+id_decimal : (n : ℕ) → n < 2 ^ 64 → id_number (decimal n) ≡ Ok n
+id_decimal n h =
+    let d = decimal_is_IsNumeral n h in
+    rw (not_hexadecimal (decimal n) d.0.1, number_decimal n h) refl
 
 are_bytes : (xs : List ℕ) → All (λ b. b < 256) xs → IsBytes xs
 are_bytes [] h i = lit< tt
@@ -55,24 +70,24 @@ start_read : (at id : ℕ) → at < 2 ^ 64 → id < 2 ^ 16 → entry_in (short (
 unfolding entry_in
 start_read at id h k =
     let small : nat_lt id (2 ^ 16) ≡ true = lt-ltb id (2 ^ 16) k in
-    rw (number_decimal at h, number_decimal id (omega arith), small) refl
+    rw (number_decimal at h, id_decimal id (omega arith), small) refl
 
 end_read : (at id : ℕ) → at < 2 ^ 64 → id < 2 ^ 16 → entry_in (short (codes "end") at id) ≡ Ok (Taken (End at id))
 unfolding entry_in
 end_read at id h k =
     let small : nat_lt id (2 ^ 16) ≡ true = lt-ltb id (2 ^ 16) k in
-    rw (number_decimal at h, number_decimal id (omega arith), small) refl
+    rw (number_decimal at h, id_decimal id (omega arith), small) refl
 
 until_read : (until : ℕ) → until < 2 ^ 64 → entry_in (short (codes "until") until 0) ≡ Ok (Until until)
 unfolding entry_in
-until_read until h = rw (number_decimal until h, number_decimal 0 (omega arith)) refl
+until_read until h = rw (number_decimal until h, id_decimal 0 (omega arith)) refl
 
 queue_read : (at id event : ℕ) (frame : Content) → at < 2 ^ 64 → id < 2 ^ 16 → event < 2 ^ 64 → IsWritableFrame frame → entry_in (queue_fields at id event frame) ≡ Ok (Taken (Queue at id event frame))
 unfolding entry_in
 queue_read at id event frame h k m w =
     let small : nat_lt id (2 ^ 16) ≡ true = lt-ltb id (2 ^ 16) k in
     let bits : nat_lt frame.bits (2 ^ 32) ≡ true = lt-ltb frame.bits (2 ^ 32) w.bits in
-    rw (number_decimal at h, number_decimal id (omega arith), small, number_decimal event m, number_decimal frame.bits (omega (arith, w.bits)), bits, frame_read frame w) refl
+    rw (number_decimal at h, id_decimal id (omega arith), small, number_decimal event m, number_decimal frame.bits (omega (arith, w.bits)), bits, frame_read frame w) refl
 
 step_read : (step : Step) → IsWritable step → entry_in (fields_of step) ≡ Ok (Taken step)
 step_read (Queue at id event frame) h = queue_read at id event frame h.0 h.1 h.2 h.3

@@ -5,7 +5,7 @@ use Rattle.hex.specs.Hex.{decode_of}
 use Rattle.hex.specs.declared.error.FromHexError.{FromHexError}
 use Rattle.cop_table.specs.Reading.{◌>>=◌}
 use Rattle.cop_table.specs.Records.{field}
-use Rattle.cop_table.specs.Numbers.{number_of}
+use Rattle.cop_table.specs.Numbers.{number_of, is_hexadecimal, id_of}
 use Rattle.cop_bus.specs.Format.{Fields}
 use Rattle.cop_bus.specs.declared.steps.Content.{Content}
 use Rattle.cop_bus.specs.declared.steps.Step.TheVariants.{Queue, Start, End}
@@ -26,8 +26,17 @@ number_in text = or_malformed (number_of 20 text)
 abbrev pub if_below : ℕ → ℕ → Result ℕ EntryFault
 if_below bound n = if nat_lt n bound then Ok n else Err Malformed
 
-abbrev pub below : ℕ → List ℕ → Result ℕ EntryFault
-below bound text = number_in text >>= if_below bound
+-- decimal digits, or 0x and hexadecimal digits
+abbrev pub id_number : List ℕ → Result ℕ EntryFault
+id_number text = if is_hexadecimal text then or_malformed (id_of text) else number_in text
+
+-- an identifier, which has 16 bits
+abbrev pub id_in : List ℕ → Result ℕ EntryFault
+id_in text = id_number text >>= if_below (2 ^ 16)
+
+-- a length, which has 32 bits
+abbrev pub bits_in : List ℕ → Result ℕ EntryFault
+bits_in text = number_in text >>= if_below (2 ^ 32)
 
 -- a frame of so many bits and of these data bytes; those after them are 0
 abbrev pub content_of : ℕ → List ℕ → Content
@@ -48,7 +57,7 @@ are_empty row = (length (field row 3) == 0) && (length (field row 4) == 0) && (l
 abbrev pub queued : ℕ → ℕ → Fields → Result Entry EntryFault
 queued at id row = do
   event ← number_in (field row 3)
-  bits ← below (2 ^ 32) (field row 4)
+  bits ← bits_in (field row 4)
   frame ← content_in bits (field row 5)
   Ok (Taken (Queue at id event frame))
 
@@ -69,5 +78,5 @@ by_kind at id row =
 unfoldable pub entry_in : Fields → Result Entry EntryFault
 entry_in row = if not (length row == 6) then Err Malformed else do
   at ← number_in (field row 1)
-  id ← below (2 ^ 16) (field row 2)
+  id ← id_in (field row 2)
   by_kind at id row

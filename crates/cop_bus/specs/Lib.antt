@@ -9,3 +9,4 @@ pub mod Writer
 pub mod Entries
 pub mod Reading
 pub mod Bus
+pub mod Rings

@@ -1,5 +1,5 @@
 -- Traces of the bus, and the runs of which they are.
-use Rattle.std.specs.Prelude.{◌≡◌, ℕ, ◌+◌, ◌*◌, ◌≤◌, ◌<◌, ◌⊎◌, List, [], ◌∷◌, Option, None, Some, Bool, false, zero, suc, length, slice_index_or, ◌==◌, All, Any, if◌then◌else◌}
+use Rattle.std.specs.Prelude.{◌≡◌, ℕ, ◌+◌, ◌-◌, ◌*◌, ◌≤◌, ◌<◌, ◌⊎◌, List, [], ◌∷◌, Option, None, Some, Bool, false, zero, suc, length, slice_index_or, ◌==◌, All, Any, if◌then◌else◌}
 use Rattle.std.specs.Option.{ForSome}
 use Rattle.cop_rta.specs.declared.streams.Stream.{Stream}
 use Rattle.cop_bus.specs.declared.steps.Step.{Step}
@@ -76,6 +76,13 @@ no_step = End 0 0
 
 abbrev pub step_at : List Step → ℕ → Step
 step_at steps i = slice_index_or steps i no_step
+
+-- the last step, and its moment, 0 if there is none
+abbrev pub last_of : List Step → Step
+last_of steps = step_at steps (length steps - 1)
+
+abbrev pub now_of : List Step → ℕ
+now_of steps = at_of (last_of steps)
 
 -- the transfer that runs after the first i steps: its identifier and the moment of its end
 abbrev pub after : ℕ → List Step → ℕ → Step → Option (ℕ × ℕ) → Option (ℕ × ℕ)

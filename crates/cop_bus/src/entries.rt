@@ -1,10 +1,11 @@
 //! The records of a trace file, one by one.
 
-ghost use Rattle.std.specs.Prelude.{◌≡◌, ◌^◌, length, take};
-ghost use Rattle.cop_bus.specs.Entries.{number_in, below, are_empty, content_in, queued, unqueued, entry_in};
+ghost use Rattle.std.specs.Prelude.{◌≡◌, length, take};
+ghost use Rattle.cop_table.specs.Numbers.{is_hexadecimal};
+ghost use Rattle.cop_bus.specs.Entries.{number_in, id_number, id_in, bits_in, are_empty, content_in, queued, unqueued, entry_in};
 
 use crate::steps::{Content, Step};
-use cop_table::{Record, number};
+use cop_table::{Record, id, number};
 
 /// What a record says.
 #[derive(Clone, Copy)]
@@ -28,11 +29,28 @@ fn number_in(field: &[u8]) -> Result<u64, EntryFault>
     number(20, field).ok_or(EntryFault::Malformed)
 }
 
+fn is_hexadecimal(field: &[u8]) -> bool
+    ensures { result ≡ is_hexadecimal field.now }
+{
+    matches!(field, [b'0', b'x', ..])
+}
+
+// Decimal digits, or 0x and hexadecimal digits.
+fn id_number(field: &[u8]) -> Result<u64, EntryFault>
+    ensures { result ≡ id_number field.now }
+{
+    if is_hexadecimal(field) {
+        id(field).ok_or(EntryFault::Malformed)
+    } else {
+        number_in(field)
+    }
+}
+
 // An identifier, which has 16 bits.
 fn id_in(field: &[u8]) -> Result<u16, EntryFault>
-    ensures { result ≡ below (2 ^ 16) field.now }
+    ensures { result ≡ id_in field.now }
 {
-    match u16::try_from(number_in(field)?) {
+    match u16::try_from(id_number(field)?) {
         Ok(id) => Ok(id),
         Err(_) => Err(EntryFault::Malformed),
     }
@@ -40,7 +58,7 @@ fn id_in(field: &[u8]) -> Result<u16, EntryFault>
 
 // A length, which has 32 bits.
 fn bits_in(field: &[u8]) -> Result<u32, EntryFault>
-    ensures { result ≡ below (2 ^ 32) field.now }
+    ensures { result ≡ bits_in field.now }
 {
     match u32::try_from(number_in(field)?) {
         Ok(bits) => Ok(bits),

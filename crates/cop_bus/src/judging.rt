@@ -5,7 +5,7 @@ ghost use Rattle.cop_frame.specs.Rate.{ticks_of};
 ghost use Rattle.cop_rta.specs.declared.streams.Stream.{Stream};
 ghost use Rattle.cop_bus.specs.declared.steps.Step.{Step};
 ghost use Rattle.cop_bus.specs.Judge.{IsFaultOf, first_broken, stream_of, id_of, is_in_order, has_one_to_send, is_lowest, is_not_idle, broken_in_turn, broken_by, broken_at_end};
-ghost use Rattle.cop_bus.specs.Trace.{running as running_spec, after, step_at, nth_that, is_queue, is_start, count_to};
+ghost use Rattle.cop_bus.specs.Trace.{IsLegalTrace, running as running_spec, after, step_at, nth_that, is_queue, is_start, count_to};
 ghost use Rattle.cop_bus.specs.Tables.{IsWaiting, IsUnsent, IsNext, IsLast, IsSentBy, ahead_after, next_after, unsent_after, sent_after, last_after};
 ghost use Rattle.cop_bus.specs.Late.{IsSent};
 
@@ -44,7 +44,8 @@ pub fn judge<'a>(
     trace: &'a Trace,
 ) -> Result<Run<'a>, BusFault>
     ensures ok { IfOk result (λ run. (run.streams.now ≡ streams.now) × (run.trace.now ≡ trace.now) × (run.rate ≡ rate)) }
-    ensures legal { OnOk result (first_broken (ticks_of rate) streams.now trace.now.until trace.now.steps.items ≡ None) }
+    ensures clean { OnOk result (first_broken (ticks_of rate) streams.now trace.now.until trace.now.steps.items ≡ None) }
+    ensures legal { OnOk result (IsLegalTrace (ticks_of rate) streams.now trace.now.until trace.now.steps.items) }
     ensures err { IfErr result (λ fault. IsFaultOf (first_broken (ticks_of rate) streams.now trace.now.until trace.now.steps.items) fault) }
 {
     let sent = check_steps(
@@ -54,6 +55,7 @@ pub fn judge<'a>(
         trace.until,
         &trace.steps,
     )?;
+    let _distinct = streams.streams();
     Ok(Run {
         streams,
         trace,

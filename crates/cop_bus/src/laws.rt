@@ -41,6 +41,10 @@ pub fn passing_waits_bounded()
 /// The laws of the busy period of an instance x, which starts at the last moment t, not after x is queued, at
 /// which all instances of its stream or above that are queued before t have ended.
 pub fn busy_period()
+    // each instance has such a moment
+    ensures begins { (rate : Rate) (streams : List Stream) (until : ℕ) (pre : List Instance) (x : Instance) (post : List Instance) (index : ℕ) (m : Stream)
+        → IsRunAbove rate streams until (pre ++ (x ∷ post)) index m → x.id ≡ m.id
+        → (t : ℕ) × IsPeriodOf rate streams until pre x post index m t }
     // transfers follow without a gap until x ends
     ensures no_gap { (rate : Rate) (streams : List Stream) (until : ℕ) (pre : List Instance) (x : Instance) (post : List Instance) (index : ℕ) (m : Stream) (t : ℕ)
         → IsPeriodOf rate streams until pre x post index m t

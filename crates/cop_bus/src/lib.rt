@@ -9,6 +9,7 @@ mod lateness;
 mod laws;
 mod pending;
 mod reading;
+mod rings;
 mod rules;
 mod runs;
 mod steps;
@@ -23,9 +24,7 @@ pub use laws::{
     started_is_on_time,
 };
 pub use reading::read_trace;
+pub use rings::{Full, Ring, any_waits, most_of, queue, rings_of};
 pub use runs::{Run, Trace};
 pub use steps::{Content, Step};
 pub use writing::write_trace;
-
-#[cfg(test)]
-mod tests;

@@ -15,3 +15,4 @@ pub mod MakeLemmas
 pub mod GapLemmas
 pub mod MadeLemmas
 pub mod TrialLemmas
+pub mod ReadableLemmas

@@ -25,10 +25,10 @@ fails_under streams rate members here there same fails =
 
 pub fail_iff : (bound : ℕ) (streams : List Stream) (pdos : ℕ) (rate : Rate) (members : List ℕ) (above : ℕ → Bool) (b : Bool)
     → ((k : ℕ) → above k ≡ is_in_trial bound streams pdos (is_listed members) k)
-    → AllPairs (λ m n. m < n) members × All (λ m. m < pdos) members
+    → 0 < length members → AllPairs (λ m n. m < n) members × All (λ m. m < pdos) members
     → (IsTrue b ↔ AllFail streams rate members above) → IsTrue b ↔ FailTogether bound streams pdos rate members
-fail_iff bound streams pdos rate members above b same rise fail = (
-  λ t. record { rise = rise.0; inside = rise.1; fail = fails_under streams rate members above (is_in_trial bound streams pdos (is_listed members)) same (fail.0 t) },
+fail_iff bound streams pdos rate members above b same some rise fail = (
+  λ t. record { some = some; rise = rise.0; inside = rise.1; fail = fails_under streams rate members above (is_in_trial bound streams pdos (is_listed members)) same (fail.0 t) },
   λ h. fail.1 (fails_under streams rate members (is_in_trial bound streams pdos (is_listed members)) above (λ k. sym (same k)) h.fail),
 )
 

@@ -65,8 +65,9 @@ HasAtMost count (Late q busy queue) = (length busy ≤ count) × (length queue �
 abbrev pub AllFail : List Stream → Rate → List ℕ → (ℕ → Bool) → Type 0
 AllFail streams rate members above = All (λ m. Passes (record { streams = streams; above = above; index = m; rate = rate }) → ⊥) members
 
--- PDOs that rise, each of which fails in their trial
+-- PDOs, one at least, that rise and each of which fails in their trial
 pub record FailTogether (bound : ℕ) (streams : List Stream) (pdos : ℕ) (rate : Rate) (members : List ℕ) : Type 0 where
+  pub some : 0 < length members
   pub rise : AllPairs (λ m n. m < n) members
   pub inside : All (λ m. m < pdos) members
   pub fail : AllFail streams rate members (is_in_trial bound streams pdos (is_listed members))

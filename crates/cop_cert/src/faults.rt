@@ -53,7 +53,7 @@ pub struct Breach {
 /// Why a refusal file is not read.
 #[derive(Debug, Drop, Error)]
 pub enum CertFault {
-    #[error("refused at record {}", .0.place)]
+    #[error("rule {} is broken at record {}", .0.rule.number(), .0.place)]
     Refused(Breach),
     #[error("out of memory")]
     Memory,

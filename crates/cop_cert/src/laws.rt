@@ -3,7 +3,11 @@
 ghost use Rattle.std.specs.Prelude.{ℕ, ◌≤◌, Bool, List, length};
 ghost use Rattle.cop_frame.specs.declared.rates.Rate.{Rate};
 ghost use Rattle.cop_rta.specs.declared.streams.Stream.{Stream};
+ghost use Rattle.cop_rta.specs.Test.{Passes, Place};
+ghost use Rattle.cop_cert.specs.declared.refusals.Evidence.{Evidence};
+ghost use Rattle.cop_cert.specs.declared.refusals.Refusal.{Refusal};
 ghost use Rattle.cop_cert.specs.Assignments.{least_id, NoAssignmentPasses};
+ghost use Rattle.cop_cert.specs.Evidence.{IsEvidence, IsRefusal};
 ghost use Rattle.cop_cert.specs.Sets.{IsRefusalSet};
 
 pub use cop_rta::more_above_asks_no_less;
@@ -12,4 +16,15 @@ pub use cop_rta::more_above_asks_no_less;
 pub fn refusal_sets_rule_out()
     ensures { (rate : Rate) (streams : List Stream) (pdos : ℕ) (members : ℕ → Bool) → pdos ≤ length streams
         → IsRefusalSet least_id rate streams pdos members → NoAssignmentPasses rate streams pdos }
+{}
+
+/// Evidence that a stream fails and that it passes exclude one another.
+pub fn evidence_excludes_passing()
+    ensures { (p : Place) (evidence : Evidence) → IsEvidence p evidence → Passes p → ⊥ }
+{}
+
+/// Where a refusal holds, no assignment of identifiers passes at its rate: this is what a check that says so means.
+pub fn refusals_rule_out()
+    ensures { (streams : List Stream) (pdos : ℕ) (r : Refusal) → pdos ≤ length streams
+        → IsRefusal least_id streams pdos r → NoAssignmentPasses r.rate streams pdos }
 {}

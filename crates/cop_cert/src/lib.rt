@@ -17,11 +17,10 @@ mod writing;
 pub use checking::check;
 pub use faults::{Breach, CertFault, Rule};
 pub use items::Items;
-pub use laws::{more_above_asks_no_less, refusal_sets_rule_out};
+pub use laws::{
+    evidence_excludes_passing, more_above_asks_no_less, refusal_sets_rule_out, refusals_rule_out,
+};
 pub use making::{fail_together, make};
 pub use reading::read;
 pub use refusals::{Evidence, Member, Refusal};
 pub use writing::write;
-
-#[cfg(test)]
-mod tests;

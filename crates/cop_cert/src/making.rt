@@ -189,12 +189,15 @@ fn all_fail(set: &StreamSet, above: &[bool], members: &[usize], rate: Rate) -> b
     members.iter().all(|pdo| fails(set, above, *pdo, rate))
 }
 
-/// Whether some PDOs, in rising order, each fail with the others and the fixed frames below 181h above it and all
+/// Whether some PDOs, one at least and in rising order, each fail with the others and the fixed frames below 181h above it and all
 /// others below. Then `make` gives their refusal. No memory is taken.
 pub fn fail_together(set: &StreamSet, pdos: usize, rate: Rate, members: &[usize]) -> bool
     requires { pdos ≤ length set.now }
     ensures { IsTrue result ↔ FailTogether least_id set.now pdos rate members.now }
 {
+    if members.is_empty() {
+        return false;
+    }
     if !rise(members, pdos) {
         return false;
     }
@@ -221,7 +224,7 @@ pub fn make(
     requires fail { FailTogether least_id set.now pdos rate members.now }
     ensures made { IfOk result (IsMade least_id set.now pdos rate members.now) }
     ensures short { IfOk result (λ refusal. All (λ m. HasAtMost 181820 m.evidence) refusal.members) }
-    ensures checks { 0 < length members.now → IfOk result (IsRefusal least_id set.now pdos) }
+    ensures checks { IfOk result (IsRefusal least_id set.now pdos) }
 {
     let streams = set.streams();
     let mut flags = [false; StreamSet::MOST];

@@ -106,6 +106,7 @@ fn refusals_of(alloc: Global, bytes: &[u8]) -> Result<Vec<Refusal>, CertFault>
 /// The refusals of a text. Of its records the first that breaks a rule counts, and of its rules the least.
 pub fn read(alloc: Global, bytes: &[u8]) -> Result<Vec<Refusal>, CertFault>
     ensures read { Gives (λ refusals. refusals.items) breach_of result (refusals_of bytes.now) }
+    ensures readable { IfOk result (λ refusals. AreWritable refusals.items) }
 
     // What `write` wrote is read again.
     ensures written { (refusals : List Refusal) → AreWritable refusals → bytes.now ≡ text_of refusals

@@ -24,6 +24,3 @@ pub use dictionary::Dictionary;
 pub use mapping::{Direction, Mapped, MappingFault};
 pub use numbers::number;
 pub use object::Object;
-
-#[cfg(test)]
-mod tests;

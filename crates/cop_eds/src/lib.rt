@@ -28,6 +28,3 @@ pub use eds::{Eds, parse};
 pub use fault::{EdsFault, Refusal, Rule};
 pub use line::{Kind, Line, Place};
 pub use number::number_of;
-
-#[cfg(test)]
-mod tests;

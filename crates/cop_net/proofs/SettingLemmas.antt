@@ -20,7 +20,8 @@ use Rattle.cop_dict.specs.Dict.{written, with_value, valued, unless_broken, ◌>
 use Rattle.std.proofs.lemmas.Bool.{cases_eq, eqb-true}
 use Rattle.cop_dict.proofs.PatternLemmas.{own_number}
 use Rattle.cop_dict.proofs.Replaced.{value_replaced}
-use Rattle.cop_net.specs.Settings.{off, on, word, may_hold, takes, passes_from, takes_each, may_switch, is_usable, goes_off, goes_off_of, stays_on, is_stuck, is_stuck_by, is_unsigned16, time_of, has_or_takes, holds_time}
+use Rattle.cop_pdo.specs.CobIds.{off, on}
+use Rattle.cop_net.specs.Settings.{word, may_hold, takes, passes_from, takes_each, may_switch, is_usable, goes_off, goes_off_of, stays_on, is_stuck, is_stuck_by, is_unsigned16, time_of, has_or_takes, holds_time}
 
 -- what a description lets be written
 by_rules : (w h l : Bool) → is_none (first_broken ((not w, aborts.ReadOnly) ∷ (h, aborts.AboveLimit) ∷ (l, aborts.BelowLimit) ∷ [])) ≡ (w && (not h && not l))

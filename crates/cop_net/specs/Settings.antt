@@ -1,5 +1,5 @@
 -- Which settings a device takes.
-use Rattle.std.specs.Prelude.{ℕ, zero, suc, ◌+◌, ◌*◌, ◌/◌, ◌%◌, ◌^◌, Bool, true, false, not, ◌&&◌, ◌||◌, List, ◌==◌, pos, Option, Some, None, option_and_then, if◌then◌else◌, ℤ, int_lt}
+use Rattle.std.specs.Prelude.{ℕ, zero, suc, ◌+◌, Bool, true, false, not, ◌&&◌, ◌||◌, List, ◌==◌, pos, Option, Some, None, option_and_then, if◌then◌else◌, ℤ, int_lt}
 use Rattle.std.specs.Result.{is_ok}
 use Rattle.std.specs.Ordering.{int_eq}
 use Rattle.std.specs.Int.{bytes_low_first}
@@ -11,14 +11,7 @@ use Rattle.std.specs.Option.{option_map_or}
 use Rattle.cop_dict.specs.Find.{Entry, unsigned32_of, integer_of, entry_at}
 use Rattle.cop_dict.specs.Pdo.{is_cob_id, exists_by, keeps_pdo}
 use Rattle.cop_dict.specs.Dict.{written, ◌>>=◌}
-
--- the COB-ID of a PDO that is switched off: bit 31 is set
-abbrev pub off : ℕ → ℕ
-off cob_id = 2 ^ 31 + cob_id % 2 ^ 31
-
--- the COB-ID of a PDO that exists with an identifier: bit 30 stays
-abbrev pub on : ℕ → ℕ → ℕ
-on cob_id id = cob_id / 2 ^ 30 % 2 * 2 ^ 30 + id
+use Rattle.cop_pdo.specs.CobIds.{off, on}
 
 -- the bytes of an UNSIGNED32
 abbrev pub word : ℕ → List ℕ

@@ -24,6 +24,3 @@ pub use faults::{PlanFault, Refusal, Rule, Table};
 pub use making::network;
 pub use networks::Network;
 pub use tables::{read_nodes, read_pdos};
-
-#[cfg(test)]
-mod tests;

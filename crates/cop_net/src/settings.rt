@@ -1,14 +1,15 @@
 //! Which settings a device takes.
 
-ghost use Rattle.std.specs.Prelude.{◌≡◌, ◌<◌, ◌^◌, true};
+ghost use Rattle.std.specs.Prelude.{◌≡◌, true};
 ghost use Rattle.cop_dict.specs.Pdo.{is_communication};
-ghost use Rattle.cop_net.specs.Settings.{may_hold, may_switch, off, on, is_usable, is_stuck, time_of, holds_time, beats};
+ghost use Rattle.cop_net.specs.Settings.{may_hold, may_switch, is_usable, is_stuck, time_of, holds_time, beats};
 ghost use Rattle.cop_net.specs.Pdos.{is_event_driven};
 
 use cop_dict::{Access, DataType, Description, Dictionary, Object};
+use cop_pdo::{exists, off, on};
 
 /// Whether a description lets a number be written as an UNSIGNED32.
-fn may_hold(description: Description, n: u64) -> bool
+fn may_hold(description: Description, n: u32) -> bool
     ensures { result ≡ may_hold description n }
 {
     if matches!(description.access, Access::ReadOnly | Access::Constant) {
@@ -19,27 +20,9 @@ fn may_hold(description: Description, n: u64) -> bool
         && !description.low.is_some_and(|low| number < low)
 }
 
-/// The COB-ID of a PDO that is switched off.
-fn off(cob_id: u64) -> u64
-    requires { cob_id < 2 ^ 32 }
-    ensures { result ≡ off cob_id }
-{
-    (1 << 31) + cob_id % (1 << 31)
-}
-
-/// The COB-ID of a PDO that exists with an identifier.
-fn on(cob_id: u64, id: u64) -> u64
-    requires cob_id { cob_id < 2 ^ 32 }
-    requires id { id < 2048 }
-    ensures { result ≡ on cob_id id }
-{
-    cob_id / (1 << 30) % 2 * (1 << 30) + id
-}
-
 /// Whether a description lets a COB-ID be switched off, and on with the least and with the greatest identifier that a PDO
 /// may get.
-fn may_switch(description: Description, cob_id: u64) -> bool
-    requires { cob_id < 2 ^ 32 }
+fn may_switch(description: Description, cob_id: u32) -> bool
     ensures { result ≡ may_switch description cob_id }
 {
     may_hold(description, off(cob_id))
@@ -58,7 +41,7 @@ pub fn is_usable(dict: &Dictionary, index: u16) -> bool
     let Some(cob_id) = entry.unsigned32() else {
         return false;
     };
-    may_switch(entry.description(), cob_id)
+    may_switch(entry.description(), cob_id as u32)
 }
 
 /// Whether an entry is the COB-ID of a PDO that exists and can't be switched off.
@@ -69,10 +52,11 @@ pub fn is_stuck(entry: &Object) -> bool
     if !is_record || entry.sub() != 1 {
         return false;
     }
-    match entry.unsigned32() {
-        Some(cob_id) => cob_id < 1 << 31 && !may_hold(entry.description(), off(cob_id)),
-        None => true,
-    }
+    let Some(cob_id) = entry.unsigned32() else {
+        return true;
+    };
+    let cob_id = cob_id as u32;
+    exists(cob_id) && !may_hold(entry.description(), off(cob_id))
 }
 
 /// The number that an entry of an integer type has.
@@ -96,7 +80,7 @@ fn holds_time(time: u16, entry: &Object) -> bool
         return true;
     }
     let description = entry.description();
-    matches!(description.data_type, DataType::Unsigned16) && may_hold(description, u64::from(time))
+    matches!(description.data_type, DataType::Unsigned16) && may_hold(description, u32::from(time))
 }
 
 #[tactic(auto, using(crate::proofs::SettingLemmas::time_alone))]

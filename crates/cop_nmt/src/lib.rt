@@ -10,6 +10,3 @@ pub use consumer::Consumer;
 pub use fixed::{boot_up, command, emcy, heartbeat, sync};
 pub use producer::Producer;
 pub use states::{Command, Effect, NodeState, Service, state_after};
-
-#[cfg(test)]
-mod tests;

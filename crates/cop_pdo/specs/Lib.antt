@@ -1,2 +1,3 @@
 pub mod Payload
 pub mod Bits
+pub mod CobIds

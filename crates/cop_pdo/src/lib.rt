@@ -12,11 +12,8 @@ mod reading;
 pub use cob_id::{exists, off, on};
 pub use cop_dict::{Direction, Mapped, MappingFault};
 pub use faults::refusal_number;
-pub use laws::{objects_stay, unpacking_restores};
+pub use laws::{cob_ids_are_switched, objects_stay, unpacking_restores};
 pub use layout::same_layout;
 pub use mapping::Mapping;
 pub use moving::{Short, pack, unpack};
 pub use reading::payload;
-
-#[cfg(test)]
-mod tests;

@@ -28,19 +28,20 @@ IsEarlier rates i rate = Contains rates rate × (place_of rate < i)
 
 -- ---- one refusal
 
+some_listed : (members : List ℕ) (p : ℕ) → is_listed members p ≡ true → 0 < length members
+some_listed [] p h = absurd (no_bit false h refl)
+some_listed (m ∷ ms) p h = omega arith
+
 pub stuck_fails : (rate : Rate) (streams : List Stream) (pdos : ℕ) (members : List ℕ) → IsStuck rate streams pdos members → FailTogether least_id streams pdos rate members
 stuck_fails rate streams pdos members stuck = record {
+  some = some_listed members stuck.greatest.is.some.0 stuck.greatest.is.some.2;
   rise = stuck.rise;
   inside = stuck.inside;
   fail = λ k d h. stuck.greatest.is.each (get_or members k d) (stuck.inside k d h) (listed_at members k d h);
 }
 
-some_listed : (members : List ℕ) (p : ℕ) → is_listed members p ≡ true → 0 < length members
-some_listed [] p h = absurd (no_bit false h refl)
-some_listed (m ∷ ms) p h = omega arith
-
 pub greatest_is_made : (rate : Rate) (streams : List Stream) (pdos : ℕ) (members : List ℕ) (r : Refusal) → IsStuck rate streams pdos members
-    → IsMade least_id streams pdos rate members r → (0 < length members → IsRefusal least_id streams pdos r) → IsGreatestRefusal streams pdos r
+    → IsMade least_id streams pdos rate members r → IsRefusal least_id streams pdos r → IsGreatestRefusal streams pdos r
 greatest_is_made rate streams pdos members r stuck made checks =
     let pdos_are : pdos_of r.members ≡ members = made.members_are.pdos_are in
     let greatest : IsGreatestRefusalSet least_id r.rate streams pdos (is_listed members) =
@@ -50,7 +51,7 @@ greatest_is_made rate streams pdos members r stuck made checks =
     record {
       greatest = subst (λ (list : List ℕ). IsGreatestRefusalSet least_id r.rate streams pdos (is_listed list)) (sym pdos_are) greatest;
       made = subst (λ (list : List ℕ). IsMade least_id streams pdos r.rate list r) (sym pdos_are) whole;
-      holds = checks (some_listed members stuck.greatest.is.some.0 stuck.greatest.is.some.2);
+      holds = checks;
     }
 
 -- what some element has, one of a longer list has

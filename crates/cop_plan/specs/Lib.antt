@@ -1,4 +1,5 @@
 pub mod Orders
 pub mod Fillings
 pub mod Values
+pub mod Planned
 pub mod Plans

@@ -12,6 +12,3 @@ pub use filling::Count;
 pub use laws::{one_outcome, order_is_unique};
 pub use planning::plan;
 pub use plans::Plan;
-
-#[cfg(test)]
-mod tests;

@@ -5,6 +5,7 @@ ghost use Rattle.cop_rta.specs.Streams.{has_id};
 ghost use Rattle.cop_cert.specs.Assignments.{least_id, id_under, AreFixedOutside};
 ghost use Rattle.cop_plan.specs.Fillings.{IsWhole, IsFilling};
 ghost use Rattle.cop_plan.specs.Orders.{IsPlanOrder, IsByPriority};
+ghost use Rattle.cop_plan.specs.Planned.{IsPlanned};
 ghost use Rattle.cop_plan.specs.Values.{id_of, timing_of, HaveIds, AreOnTime, HaveDeadlines};
 
 use cop_cert::{Items, Refusal};
@@ -20,7 +21,8 @@ pub(crate) const LEAST_ID: u16 = 0x181;
 pub(crate) const GREATEST_ID: u16 = 0x57F;
 
 /// The slowest candidate rate at which some assignment of identifiers passes, and the assignment planned there.
-/// Each PDO has a deadline and passes the response-time test.
+/// The PDOs are the first streams, each under its identifier, which no fixed frame can have; each has a deadline and passes
+/// the response-time test.
 #[derive(Drop)]
 pub struct Plan {
     rate: Rate,
@@ -31,14 +33,14 @@ pub struct Plan {
 }
 
 impl Model for Plan {
-    ghost use Rattle.std.specs.Prelude.{length};
-    ghost use Rattle.cop_plan.specs.Values.{PlanValue, AreOnTime};
+    ghost use Rattle.cop_plan.specs.Values.{PlanValue};
+    ghost use Rattle.cop_plan.specs.Planned.{IsPlanned};
 
     ghost Value = { PlanValue };
 
     ghost view = { λ p. record { rate = p.rate; order = p.order; ids = p.ids; refusals = p.refusals; streams = p.streams } };
 
-    ghost invariant = { λ p. AreOnTime p.rate p.streams (length p.ids) };
+    ghost invariant = { λ p. IsPlanned (record { rate = p.rate; order = p.order; ids = p.ids; refusals = p.refusals; streams = p.streams }) };
 }
 
 impl Plan {
@@ -51,14 +53,16 @@ impl Plan {
 
     /// The PDOs' numbers from 0 on, by priority: that with the lowest identifier comes first.
     pub fn order(&self) -> &[usize]
-        ensures { result.now ≡ self.now.order }
+        ensures order { result.now ≡ self.now.order }
+        ensures planned { IsPlanned self.now }
     {
         self.order.as_slice()
     }
 
     /// The identifiers, by PDO number.
     pub fn ids(&self) -> &[u16]
-        ensures { result.now ≡ self.now.ids }
+        ensures ids { result.now ≡ self.now.ids }
+        ensures planned { IsPlanned self.now }
     {
         self.ids.as_slice()
     }
@@ -74,6 +78,7 @@ impl Plan {
     pub fn streams(&self) -> &StreamSet
         ensures items { result.now ≡ self.now.streams }
         ensures on_time { AreOnTime self.now.rate self.now.streams (length self.now.ids) }
+        ensures planned { IsPlanned self.now }
     {
         &self.streams
     }

@@ -17,6 +17,3 @@ pub use nodes::read_nodes;
 pub use pdo_table::{Consumer, Consumers, PdoRow, PdoTable};
 pub use pdos::read_pdos;
 pub use refusals::{Refusal, RowFault, Rule};
-
-#[cfg(test)]
-mod tests;

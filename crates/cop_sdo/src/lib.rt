@@ -20,6 +20,3 @@ pub use cop_frame::Frame;
 pub use fault::ClientFault;
 pub use server::{Server, serve};
 pub use task::Progress;
-
-#[cfg(test)]
-mod tests;

@@ -1,6 +1,10 @@
 use Rattle.cop_bus.proofs.PeriodLemmas.{no-gap, lower-before, few, starts}
 use Rattle.cop_bus.proofs.RangeLemmas.{in-range}
+use Rattle.cop_bus.proofs.PeriodExists.{period_begins}
 use Rattle.cop_bus.proofs.laws.busy_period.Goals as goal
+
+pub returns-clause-begins : goal.returns-clause-begins
+returns-clause-begins c = period_begins
 
 pub returns-clause-no_gap : goal.returns-clause-no_gap
 returns-clause-no_gap c = no-gap

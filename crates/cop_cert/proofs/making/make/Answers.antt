@@ -31,6 +31,6 @@ returns-clause-short c =
     c.requires.count c.requires.fail.inside (returns-clause-made c)
 
 pub returns-clause-checks : goal.returns-clause-checks
-returns-clause-checks c some =
+returns-clause-checks c =
     made_is_refusal least_id c.args.set.now c.args.pdos c.args.rate c.args.members.now (record { rate = c.args.rate; members = c.in_ok-members.members })
-    some c.requires.fail.rise c.requires.fail.inside (returns-clause-made c)
+    c.requires.fail.some c.requires.fail.rise c.requires.fail.inside (returns-clause-made c)

@@ -1,5 +1,5 @@
 use Rattle.std.proofs.Common.{◌≡◌, sym, ◌∙◌}
-use Rattle.cop_plan.proofs.PlannedLemmas.{HasPlaces, places_inside, places_distinct, has_places, order_of_places, apart_of_places, priority_of_places, on_time_of_places}
+use Rattle.cop_plan.proofs.PlannedLemmas.{HasPlaces, places_inside, places_distinct, has_places, order_of_places, apart_of_places, priority_of_places, planned_of_places}
 use Rattle.cop_plan.proofs.plans.planned.Goals as goal
 
 pub identifiers-requires-clause-inside : goal.identifiers-requires-clause-inside
@@ -22,8 +22,8 @@ same_ids c = c.into-2.ensures ∙ sym c.deref-2.ensures.value
 pub invariant_of-result : goal.invariant_of-result
 invariant_of-result c =
     rw (same_ids c)
-    (on_time_of_places c.args.rate c.args.set.now c.args.fill.items c.deref-2.result.now c.requires.pdos c.requires.few c.requires.outside c.requires.whole c.requires.filled (has c)
-    c.in_ok-streams.streams c.in_ok-streams.ensures c.requires.deadlines)
+    (planned_of_places c.args.rate c.args.set.now c.args.fill.items c.deref-2.result.now c.requires.pdos c.requires.few c.requires.outside c.requires.whole c.requires.filled (has c)
+    c.into.result _ c.in_ok-streams.streams (c.into.ensures ∙ c.reverse.ensures.items) c.in_ok-streams.ensures c.requires.deadlines)
 
 pub returns-clause-order : goal.returns-clause-order
 returns-clause-order c =

@@ -1,5 +1,0 @@
-use Rattle.canplan.specs.Checks.{AreChecked}
-use Rattle.canplan.proofs.checks.check_each.Given as goal
-
-abbrev pub invariant-loop-refusal : goal.invariant-loop-refusal
-invariant-loop-refusal l = AreChecked l.set l.pdos l.refusals l.answers.items l.refusal-index

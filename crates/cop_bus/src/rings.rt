@@ -1,0 +1,128 @@
+//! The instances that wait on a bus, in rings.
+
+ghost use Rattle.std.specs.Prelude.{◌≡◌, ◌≢◌, ℕ, ◌+◌, ◌<◌, ◌≤◌, ◌∷◌, ◌++◌, [], ◌↔◌, All, IfSome, IfNone, IfOk, OnOk, OnErr, IsOk, IsSome, Some, None, drop, length, slice_get, slice_set, map};
+ghost use Rattle.cop_bus.specs.Rings.{most_of, rings_of, any_in, RingValue};
+
+use circular_buffer::HeapCircularBuffer;
+use crate::bus::Instance;
+use cop_rta::Stream;
+use std::alloc::{AllocError, Global};
+use std::marker::Model;
+
+/// The instances of a stream that wait, first come first.
+#[derive(Drop)]
+pub struct Ring {
+    id: u16,
+    waiting: HeapCircularBuffer<Instance>,
+}
+
+impl Model for Ring {
+    ghost use Rattle.cop_bus.specs.Rings.{RingValue};
+
+    ghost Value = { RingValue };
+
+    ghost view = { λ r. record { id = r.id; waiting = r.waiting.items; most = r.waiting.capacity } };
+}
+
+/// No room for another instance.
+#[derive(Clone, Copy, PartialEq, Eq, Debug)]
+pub struct Full {}
+
+impl Ring {
+    /// A ring with no instance and so many places.
+    pub fn new(alloc: Global, id: u16, most: usize) -> Result<Ring, AllocError>
+        ensures { IfOk result (λ r. r ≡ record { id = id; waiting = []; most = most }) }
+    {
+        Ok(Ring {
+            id,
+            waiting: HeapCircularBuffer::with_capacity(alloc, most)?,
+        })
+    }
+
+    pub fn id(&self) -> u16
+        ensures { result ≡ self.now.id }
+    {
+        self.id
+    }
+
+    /// How many instances wait.
+    pub fn len(&self) -> usize
+        ensures { result ≡ length self.now.waiting }
+    {
+        self.waiting.len()
+    }
+
+    /// Lets an instance wait behind the others. `Err` where the ring is full: nothing has changed.
+    pub fn queue(&mut self, instance: Instance) -> Result<(), Full>
+        ensures room { IsOk result ↔ (length self.old.waiting < self.old.most) }
+        ensures ok { OnOk result (self.new ≡ record self.old { waiting = self.old.waiting ++ instance ∷ [] }) }
+        ensures err { OnErr result (self.new ≡ self.old) }
+    {
+        match self.waiting.try_push_back(instance) {
+            Ok(()) => Ok(()),
+            Err(_) => Err(Full {}),
+        }
+    }
+
+    /// The instance that has waited longest.
+    pub fn first(&self) -> Option<Instance>
+        ensures { result ≡ slice_get self.now.waiting 0 }
+    {
+        self.waiting.front().copied()
+    }
+
+    /// Takes it out.
+    pub fn take(&mut self) -> Option<Instance>
+        ensures value { result ≡ slice_get self.old.waiting 0 }
+        ensures rest { self.new ≡ record self.old { waiting = drop 1 self.old.waiting } }
+    {
+        self.waiting.pop_front()
+    }
+}
+
+/// How many instances of a stream may wait.
+pub fn most_of(stream: &Stream) -> usize
+    ensures { result ≡ most_of stream.now }
+{
+    if 0x181 <= stream.id && stream.id <= 0x57F {
+        match stream.deadline {
+            Some(deadline) => deadline.div_ceil(stream.period) as usize,
+            None => 64,
+        }
+    } else {
+        64
+    }
+}
+
+/// The rings of streams, in their order.
+pub fn rings_of(alloc: Global, streams: &[Stream]) -> Result<Vec<Ring>, AllocError>
+    ensures { IfOk result (λ rings. rings.items ≡ rings_of streams.now) }
+{
+    let mut rings = Vec::new(alloc);
+    for stream in streams {
+        rings.push(Ring::new(alloc, stream.id, most_of(stream))?)?;
+    }
+    Ok(rings)
+}
+
+/// Whether some instance waits.
+pub fn any_waits(rings: &[Ring]) -> bool
+    ensures { result ≡ any_in rings.now }
+{
+    for ring in rings {
+        if 0 < ring.len() {
+            return true;
+        }
+    }
+    false
+}
+
+/// Lets an instance wait in the ring of its stream.
+pub fn queue(rings: &mut Vec<Ring>, place: usize, instance: Instance) -> Result<(), Full>
+    requires { place < length rings.old.items }
+    ensures room { (r : RingValue) → slice_get rings.old.items place ≡ Some r → (IsOk result ↔ (length r.waiting < r.most)) }
+    ensures ok { (r : RingValue) → slice_get rings.old.items place ≡ Some r → OnOk result (rings.new.items ≡ slice_set rings.old.items place (record r { waiting = r.waiting ++ instance ∷ [] })) }
+    ensures err { OnErr result (rings.new.items ≡ rings.old.items) }
+{
+    rings[place].queue(instance)
+}

@@ -1,0 +1,2 @@
+pub mod IdentifierLemmas
+pub mod SettingsLemmas

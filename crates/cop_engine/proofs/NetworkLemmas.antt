@@ -1,0 +1,102 @@
+-- What the files say, from what each reading gives.
+use Rattle.std.proofs.Common.{◌≡◌, ℕ, List, length, Ok, Err, Result, IfSome, IsTrue, MatchResult, All, Bool, true, ◌↔◌, inl, inr, refl, sym, subst}
+use Rattle.std.specs.Result.{IsErrAnd}
+use Rattle.cop_rows.specs.Nodes.{NodeLists}
+use Rattle.cop_rows.specs.declared.pdo_table.PdoRow.{PdoRow}
+use Rattle.cop_rows.specs.NodeReading.{nodes_of}
+use Rattle.cop_rows.specs.PdoReading.{pdos_of}
+use Rattle.cop_net.specs.declared.faults.PlanFault.{PlanFault}
+use Rattle.cop_net.specs.declared.faults.PlanFault.TheVariants.{Refused, Memory}
+use Rattle.cop_net.specs.declared.faults.Table.TheVariants.{Nodes, Pdos}
+use Rattle.cop_net.specs.Devices.{File}
+use Rattle.cop_net.specs.Faults.{refusal}
+use Rattle.cop_net.specs.Tables.{in_table}
+use Rattle.cop_net.specs.Network.{Net, Accepted, IsNetwork, accepted, network_of}
+use Rattle.cop_engine.specs.declared.faults.Fault.{Fault}
+use Rattle.cop_engine.specs.declared.plans.Files.{Files}
+use Rattle.cop_cert.specs.declared.faults.CertFault.{CertFault}
+use Rattle.cop_cert.specs.declared.faults.CertFault.TheVariants as cert
+use Rattle.cop_cert.specs.declared.refusals.Refusal as refused
+use Rattle.cop_cert.specs.Faults.{breach_of}
+use Rattle.cop_cert.specs.Reading.{refusals_of}
+use Rattle.cop_engine.specs.Reports.{lines_below}
+use Rattle.cop_engine.specs.Checks.{check_line_at, AreChecked, IsCheckOf, ExplainsCheck}
+use Rattle.cop_engine.specs.Faults.{fault_of, fault_of_refusals}
+use Rattle.cop_engine.specs.Networks.{Found, network_in, ExplainsNetwork}
+use Rattle.cop_engine.specs.Plans.{ArePlanned, AreFilesOf}
+
+-- what holds of the fault that is answered
+pub err_is : {X : Type 0} (r : Result X Fault) (A : X → Type 0) (B : Fault → Type 0) (fault : Fault) → IsErrAnd r (λ f. f ≡ fault) → B fault → MatchResult r A B
+err_is (Ok x) A B fault e b = absurd e
+err_is (Err f) A B fault e b = subst B (sym e) b
+
+module _ (nodes pdos : List ℕ) (files : List File) where
+  -- the table of nodes is refused
+  pub nodes_explain : (fault : PlanFault) → IfSome (refusal fault) (λ r. in_table Nodes (nodes_of nodes) ≡ Err r) → ExplainsNetwork nodes pdos files (fault_of fault)
+  unfolding network_in
+  nodes_explain (Refused r) e = (r, rw e refl, refl, refl)
+  nodes_explain Memory e = tt
+
+  -- that of PDOs is
+  pub pdos_explain : (n : NodeLists) (fault : PlanFault) → in_table Nodes (nodes_of nodes) ≡ Ok n → IfSome (refusal fault) (λ r. in_table Pdos (pdos_of pdos) ≡ Err r)
+      → ExplainsNetwork nodes pdos files (fault_of fault)
+  unfolding network_in
+  pdos_explain n (Refused r) read e = (r, rw (read, e) refl, refl, refl)
+  pdos_explain n Memory read e = tt
+
+  -- the network is
+  pub network_explains : (n : NodeLists) (rows : List PdoRow) (fault : PlanFault) → in_table Nodes (nodes_of nodes) ≡ Ok n → in_table Pdos (pdos_of pdos) ≡ Ok rows
+      → IfSome (refusal fault) (λ r. network_of n rows files ≡ Err r) → ExplainsNetwork nodes pdos files (fault_of fault)
+  unfolding network_in
+  network_explains n rows (Refused r) read also e = (r, rw (read, also, e) refl, refl, refl)
+  network_explains n rows Memory read also e = tt
+
+  network_read : (n : NodeLists) (rows : List PdoRow) (a : Accepted) → in_table Nodes (nodes_of nodes) ≡ Ok n → in_table Pdos (pdos_of pdos) ≡ Ok rows
+      → network_of n rows files ≡ Ok a → network_in nodes pdos files ≡ Ok (record { rows = rows; network = a })
+  unfolding network_in
+  network_read n rows a read also e = rw (read, also, e) refl
+
+  pub network_found : (n : NodeLists) (rows : List PdoRow) (network : Net) → in_table Nodes (nodes_of nodes) ≡ Ok n → in_table Pdos (pdos_of pdos) ≡ Ok rows
+      → network_of n rows files ≡ Ok (accepted network) → network_in nodes pdos files ≡ Ok (record { rows = rows; network = accepted network })
+  network_found n rows network read also e = network_read n rows (accepted network) read also e
+
+  -- the files of the network's plan are those of the files
+  pub files_are : (n : NodeLists) (rows : List PdoRow) (network : Net) (made : Files) → in_table Nodes (nodes_of nodes) ≡ Ok n → in_table Pdos (pdos_of pdos) ≡ Ok rows
+      → network_of n rows files ≡ Ok (accepted network) → network.rows ≡ rows → IsNetwork network → ArePlanned network made → AreFilesOf nodes pdos files made
+  files_are n rows network made read also e same is planned = record {
+    found = record { rows = rows; network = accepted network };
+    read = network_read n rows (accepted network) read also e;
+    streams = network.set;
+    streams_are = refl;
+    begins = rw same at is.streams;
+    planned = rw same at planned;
+  }
+
+  -- a fault of the network explains why there is no check
+  pub of_network : (text : List ℕ) (fault : PlanFault) → ExplainsNetwork nodes pdos files (fault_of fault) → ExplainsCheck nodes pdos files text (fault_of fault)
+  of_network text (Refused r) e = inl e
+  of_network text Memory e = tt
+
+  -- one of the refusal file does
+  pub refusals_explain : (text : List ℕ) (found : Found) (fault : CertFault) → network_in nodes pdos files ≡ Ok found → IfSome (breach_of fault) (λ b. refusals_of text ≡ Err b)
+      → ExplainsCheck nodes pdos files text (fault_of_refusals fault)
+  refusals_explain text found (cert.Refused b) read e = inr (found, read, b, e, refl, refl)
+  refusals_explain text found cert.Memory read e = tt
+
+  -- the check of the network's refusals is that of the files
+  pub check_is : (n : NodeLists) (rows : List PdoRow) (network : Net) (text lines : List ℕ) (refusals : List refused.Refusal) (answers : List Bool) (all : Bool)
+      → in_table Nodes (nodes_of nodes) ≡ Ok n → in_table Pdos (pdos_of pdos) ≡ Ok rows → network_of n rows files ≡ Ok (accepted network) → network.rows ≡ rows → refusals_of text ≡ Ok refusals
+      → AreChecked network.set (length network.rows) refusals answers (length refusals) → lines ≡ lines_below (check_line_at refusals answers) (length refusals)
+      → (IsTrue all ↔ All (λ answer. answer ≡ true) answers) → IsCheckOf nodes pdos files text lines all
+  check_is n rows network text lines refusals answers all read also e same told checked are hold = record {
+    found = record { rows = rows; network = accepted network };
+    read = network_read n rows (accepted network) read also e;
+    streams = network.set;
+    streams_are = refl;
+    refusals = refusals;
+    refusals_are = told;
+    answers = answers;
+    checked = rw same at checked;
+    lines_are = are;
+    all_hold = hold;
+  }

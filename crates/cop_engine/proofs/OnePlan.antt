@@ -1,0 +1,98 @@
+-- Tables and EDS files have one plan, and with a refusal file one check.
+use Rattle.std.proofs.Common.{◌≡◌, ◌↔◌, ℕ, ◌<◌, Bool, true, false, List, [], ◌∷◌, length, map, get_or, slice_get, All, IsTrue, Some, Ok, Result, refl, sym, ap, ◌∙◌, subst, arith}
+use Rattle.std.proofs.lemmas.List.{ext_get_or}
+use Rattle.std.proofs.lemmas.Option.{slice_get-get_or}
+use Rattle.cop_frame.specs.declared.rates.Rate.{Rate}
+use Rattle.cop_rta.specs.declared.streams.Stream.{Stream}
+use Rattle.cop_rta.specs.declared.verdicts.Verdict.{Verdict}
+use Rattle.cop_rta.specs.Entries.{entry_of}
+use Rattle.cop_rta.proofs.StreamLemmas.{streams_same}
+use Rattle.cop_cert.specs.declared.refusals.Refusal.{Refusal}
+use Rattle.cop_cert.specs.Format.{text_of}
+use Rattle.cop_rows.specs.declared.pdo_table.PdoRow.{PdoRow}
+use Rattle.cop_net.specs.Devices.{File}
+use Rattle.cop_net.specs.Network.{BeginsWith}
+use Rattle.cop_plan.specs.Orders.{HasPdos}
+use Rattle.cop_plan.specs.declared.assigning.Outcome.{Outcome}
+use Rattle.cop_plan.specs.declared.assigning.Outcome.TheVariants.{Planned, Refused}
+use Rattle.cop_plan.proofs.OutcomeOnce.{outcome_once}
+use Rattle.cop_engine.specs.declared.plans.Files.{Files}
+use Rattle.cop_engine.specs.Reports.{lines_below}
+use Rattle.cop_engine.specs.Networks.{Found, network_in}
+use Rattle.cop_engine.specs.PlanTexts.{plan_text, is_planned, refusals_of}
+use Rattle.cop_engine.specs.Plans.{ArePlanVerdicts, AreFilesFor, AreFilesOf}
+use Rattle.cop_engine.specs.Checks.{AreChecked, IsCheckOf, check_line_at}
+use Rattle.cop_engine.proofs.LawLemmas.{all_verdicts_same}
+
+abbrev pub SameFiles : Files → Files → Type 0
+SameFiles a b = (a.planned ≡ b.planned) × (a.plan.items ≡ b.plan.items) × (a.refusals.items ≡ b.refusals.items)
+
+has_pdos : (pdos : ℕ) (streams : List Stream) → BeginsWith pdos streams → HasPdos streams pdos
+has_pdos pdos streams h = record { count = h.count; outside = h.outside }
+
+text_same : (rows : List PdoRow) (outcome : Outcome) (vs ws : List Verdict) → ArePlanVerdicts outcome vs (length rows) → ArePlanVerdicts outcome ws (length rows) → plan_text rows vs outcome ≡ plan_text rows ws outcome
+text_same rows (Planned plan) vs ws x y = rw (all_verdicts_same plan.rate plan.streams vs ws (length rows) x y) refl
+text_same rows (Refused refusals) vs ws x y = refl
+
+files_same : (rates : List Rate) (streams : List Stream) (rows : List PdoRow) (a b : Files) → HasPdos streams (length rows) → AreFilesFor rates streams rows a → AreFilesFor rates streams rows b → SameFiles a b
+files_same rates streams rows a b has x y =
+    let same : x.outcome ≡ y.outcome = outcome_once rates streams (length rows) has x.outcome y.outcome x.planned y.planned in
+    let judged : ArePlanVerdicts y.outcome x.verdicts (length rows) = subst (λ (o : Outcome). ArePlanVerdicts o x.verdicts (length rows)) same x.judged in (
+      x.is_plan ∙ ap is_planned same ∙ sym y.is_plan,
+      x.plan ∙ ap (plan_text rows x.verdicts) same ∙ text_same rows y.outcome x.verdicts y.verdicts judged y.judged ∙ sym y.plan,
+      x.refusals ∙ ap (λ (o : Outcome). text_of (refusals_of o)) same ∙ sym y.refusals,
+    )
+
+-- what is answered at all is one thing
+ok_once : {A E : Type 0} (r : Result A E) (a b : A) → r ≡ Ok a → r ≡ Ok b → a ≡ b
+ok_once {A} {E} r a b x y =
+    let both : ◌≡◌ {A = Result A E} (Ok a) (Ok b) = sym x ∙ y in
+    cc
+
+pub one_plan : (nodes pdos : List ℕ) (eds : List File) (a b : Files) → AreFilesOf nodes pdos eds a → AreFilesOf nodes pdos eds b → SameFiles a b
+one_plan nodes pdos eds a b x y =
+    let found : x.found ≡ y.found = ok_once (network_in nodes pdos eds) x.found y.found x.read y.read in
+    let entries : map entry_of x.streams ≡ map entry_of y.streams = x.streams_are ∙ ap (λ (f : Found). f.network.streams) found ∙ sym y.streams_are in
+    let streams : x.streams ≡ y.streams = streams_same x.streams y.streams entries in
+    let there : AreFilesFor y.found.network.equipment.rates x.streams y.found.rows a = subst (λ (f : Found). AreFilesFor f.network.equipment.rates x.streams f.rows a) found x.planned in
+    let mine : AreFilesFor y.found.network.equipment.rates y.streams y.found.rows a = subst (λ (s : List Stream). AreFilesFor y.found.network.equipment.rates s y.found.rows a) streams there in
+    files_same y.found.network.equipment.rates y.streams y.found.rows a b (has_pdos (length y.found.rows) y.streams y.begins) mine y.planned
+
+-- ---- checks
+
+bool_same : (a b : Bool) → (a ≡ true → b ≡ true) → (b ≡ true → a ≡ true) → a ≡ b
+bool_same true true there back = refl
+bool_same true false there back = sym (there refl)
+bool_same false true there back = back refl
+bool_same false false there back = refl
+
+answers_same : (streams : List Stream) (pdos : ℕ) (refusals : List Refusal) (xs ys : List Bool) → AreChecked streams pdos refusals xs (length refusals) → AreChecked streams pdos refusals ys (length refusals) → xs ≡ ys
+answers_same streams pdos [] xs ys x y = ext_get_or false xs ys (x.length_is ∙ sym y.length_is) (λ k low. absurd (omega (arith, low, x.length_is)))
+answers_same streams pdos (r ∷ rs) xs ys x y =
+    ext_get_or false xs ys (x.length_is ∙ sym y.length_is)
+    (λ k low.
+    let inside : k < length (r ∷ rs) = omega (arith, low, x.length_is) in
+    let here : slice_get (r ∷ rs) k ≡ Some (get_or (r ∷ rs) k r) = slice_get-get_or (r ∷ rs) k r inside in
+    let mine = x.each k inside (get_or (r ∷ rs) k r) here in
+    let other = y.each k inside (get_or (r ∷ rs) k r) here in
+    bool_same (get_or xs k false) (get_or ys k false) (λ h. other.1 (mine.0 h)) (λ h. mine.1 (other.0 h)))
+
+all_same : (xs ys : List Bool) (a b : Bool) → xs ≡ ys → (IsTrue a ↔ All (λ answer. answer ≡ true) xs) → (IsTrue b ↔ All (λ answer. answer ≡ true) ys) → a ≡ b
+all_same xs ys true true e x y = refl
+all_same xs ys false false e x y = refl
+all_same xs ys true false e x y = sym (y.1 (subst (λ (l : List Bool). All (λ answer. answer ≡ true) l) e (x.0 refl)))
+all_same xs ys false true e x y = x.1 (subst (λ (l : List Bool). All (λ answer. answer ≡ true) l) (sym e) (y.0 refl))
+
+pub one_check : (nodes pdos : List ℕ) (eds : List File) (text lines others : List ℕ) (all each : Bool) → IsCheckOf nodes pdos eds text lines all → IsCheckOf nodes pdos eds text others each → (lines ≡ others) × (all ≡ each)
+one_check nodes pdos eds text lines others all each x y =
+    let found : x.found ≡ y.found = ok_once (network_in nodes pdos eds) x.found y.found x.read y.read in
+    let entries : map entry_of x.streams ≡ map entry_of y.streams = x.streams_are ∙ ap (λ (f : Found). f.network.streams) found ∙ sym y.streams_are in
+    let streams : x.streams ≡ y.streams = streams_same x.streams y.streams entries in
+    let refusals : x.refusals ≡ y.refusals = ok_once _ x.refusals y.refusals x.refusals_are y.refusals_are in
+    let rows : length x.found.rows ≡ length y.found.rows = ap (λ (f : Found). length f.rows) found in
+    let there : AreChecked y.streams (length x.found.rows) x.refusals x.answers (length x.refusals) = subst (λ (s : List Stream). AreChecked s (length x.found.rows) x.refusals x.answers (length x.refusals)) streams x.checked in
+    let over : AreChecked y.streams (length y.found.rows) x.refusals x.answers (length x.refusals) = subst (λ (n : ℕ). AreChecked y.streams n x.refusals x.answers (length x.refusals)) rows there in
+    let mine : AreChecked y.streams (length y.found.rows) y.refusals x.answers (length y.refusals) = subst (λ (rs : List Refusal). AreChecked y.streams (length y.found.rows) rs x.answers (length rs)) refusals over in
+    let answers : x.answers ≡ y.answers = answers_same y.streams (length y.found.rows) y.refusals x.answers y.answers mine y.checked in
+    let text : lines_below (check_line_at x.refusals x.answers) (length x.refusals) ≡ lines_below (check_line_at y.refusals y.answers) (length y.refusals) = rw (refusals, answers) refl in
+    (x.lines_are ∙ text ∙ sym y.lines_are, all_same x.answers y.answers all each answers x.all_hold y.all_hold)

@@ -1,0 +1,57 @@
+-- The check of a refusal file.
+use Rattle.std.specs.Prelude.{◌≡◌, ◌↔◌, ℕ, ◌<◌, ◌⊎◌, List, [], ◌++◌, Bool, true, false, codes, decimal, length, map, get_or, slice_get, All, IsTrue, Ok, Err, Some}
+use Rattle.std.specs.Option.{option_map_or}
+use Rattle.cop_frame.specs.Rate.{kbits_of}
+use Rattle.cop_rta.specs.declared.streams.Stream.{Stream}
+use Rattle.cop_rta.specs.Entries.{entry_of}
+use Rattle.cop_cert.specs.declared.faults.Breach.{Breach}
+use Rattle.cop_cert.specs.declared.refusals.Refusal.{Refusal}
+use Rattle.cop_cert.specs.Assignments.{least_id}
+use Rattle.cop_cert.specs.Evidence.{IsRefusal}
+use Rattle.cop_cert.specs.Faults as breaches
+use Rattle.cop_cert.specs.Reading.{refusals_of}
+use Rattle.cop_net.specs.declared.faults.Refusal as net
+use Rattle.cop_net.specs.Devices.{File}
+use Rattle.cop_net.specs.Faults.{number_of_rule}
+use Rattle.cop_engine.specs.declared.faults.Fault.{Fault}
+use Rattle.cop_engine.specs.declared.faults.Fault.TheVariants as faults
+use Rattle.cop_engine.specs.Reports.{lines_below}
+use Rattle.cop_engine.specs.Networks.{Found, network_in}
+
+abbrev pub said : Bool → List ℕ
+said true = codes " holds\n"
+said false = codes " fails\n"
+
+-- the line of a refusal, and whether it holds
+abbrev pub check_line : Refusal → Bool → List ℕ
+check_line r holds = decimal (kbits_of r.rate) ++ said holds
+
+abbrev pub check_line_at : List Refusal → List Bool → ℕ → List ℕ
+check_line_at refusals answers k = option_map_or (λ r. check_line r (get_or answers k false)) (slice_get refusals k) []
+
+-- whether each of the first refusals holds
+pub record AreChecked (streams : List Stream) (pdos : ℕ) (refusals : List Refusal) (answers : List Bool) (count : ℕ) : Type 0 where
+  pub length_is : length answers ≡ count
+  pub each : (k : ℕ) → k < count → (r : Refusal) → slice_get refusals k ≡ Some r → (get_or answers k false ≡ true ↔ IsRefusal least_id streams pdos r)
+
+-- A refusal file against the network that the tables and the EDS files say: a line for each refusal, and whether all hold.
+pub record IsCheckOf (nodes pdos : List ℕ) (eds : List File) (text : List ℕ) (lines : List ℕ) (all : Bool) : Type 0 where
+  pub found : Found
+  pub read : network_in nodes pdos eds ≡ Ok found
+  pub streams : List Stream
+  pub streams_are : map entry_of streams ≡ found.network.streams
+  pub refusals : List Refusal
+  pub refusals_are : refusals_of text ≡ Ok refusals
+  pub answers : List Bool
+  pub checked : AreChecked streams (length found.rows) refusals answers (length refusals)
+  pub lines_are : lines ≡ lines_below (check_line_at refusals answers) (length refusals)
+  pub all_hold : IsTrue all ↔ All (λ answer. answer ≡ true) answers
+
+-- why there is none: the network, or else the refusal file
+abbrev pub ExplainsCheck : List ℕ → List ℕ → List File → List ℕ → Fault → Type 0
+ExplainsCheck nodes pdos files text (faults.Refused number place) =
+    ((r : net.Refusal) × (network_in nodes pdos files ≡ Err r) × (number ≡ number_of_rule r.rule) × (place ≡ r.place))
+    ⊎ ((found : Found) × (network_in nodes pdos files ≡ Ok found) × (b : Breach) × (refusals_of text ≡ Err b) × (number ≡ breaches.number_of_rule b.rule) × (place ≡ b.place))
+ExplainsCheck nodes pdos files text (faults.File name) = ⊥
+ExplainsCheck nodes pdos files text faults.Usage = ⊥
+ExplainsCheck nodes pdos files text faults.Memory = Unit {0}

@@ -1,0 +1,60 @@
+//! The plan of a network, from its files to the files of the plan.
+
+ghost use Rattle.std.specs.Prelude.{◌≡◌, ◌≤◌, length, map, IfOk, MatchResult};
+ghost use Rattle.std.specs.String.{string_bytes};
+ghost use Rattle.cop_engine.specs.Networks.{ExplainsNetwork};
+ghost use Rattle.cop_engine.specs.Plans.{ArePlanned, AreFilesOf};
+
+use crate::faults::Fault;
+use crate::plan_texts::{planned_text, refused_text};
+use crate::tests_of_streams::judge_first;
+use cop_cert::write;
+use cop_net::{Network, network, read_nodes, read_pdos};
+use cop_plan::{Outcome, plan};
+use std::alloc::{AllocError, Global};
+
+/// What `plan` gives: the text of the plan and the refusal file.
+#[derive(Drop)]
+pub struct Files {
+    /// Whether some rate passes.
+    pub planned: bool,
+    pub plan: Vec<u8>,
+    pub refusals: Vec<u8>,
+}
+
+/// The files of the plan of a network.
+fn files_of(alloc: Global, network: &Network<'_>) -> Result<Files, AllocError>
+    ensures { IfOk result (ArePlanned network.now) }
+{
+    match plan(alloc, network)? {
+        Outcome::Planned(plan) => {
+            let verdicts = judge_first(alloc, plan.streams(), plan.rate(), network.pdos())?;
+            Ok(Files {
+                planned: true,
+                plan: planned_text(alloc, network.rows(), &verdicts, &plan)?,
+                refusals: write(alloc, plan.refusals())?,
+            })
+        }
+        Outcome::Refused(refusals) => Ok(Files {
+            planned: false,
+            plan: refused_text(alloc, refusals.as_slice())?,
+            refusals: write(alloc, refusals.as_slice())?,
+        }),
+    }
+}
+
+/// The plan of a network, from its tables and its EDS files: a table of nodes, a table of PDOs, and the EDS files by the
+/// names that the devices give. Otherwise the first rule that they break, or want of memory.
+pub fn plan_bytes(
+    alloc: Global,
+    nodes: &[u8],
+    pdos: &[u8],
+    eds_files: &[(String, Vec<u8>)],
+) -> Result<Files, Fault>
+    ensures { MatchResult result (λ files. AreFilesOf nodes.now pdos.now (map (λ f. record { name = string_bytes f.0; text = f.1.items }) eds_files.now) files) (λ fault. ExplainsNetwork nodes.now pdos.now (map (λ f. record { name = string_bytes f.0; text = f.1.items }) eds_files.now) fault) }
+{
+    let nodes = read_nodes(alloc, nodes)?;
+    let pdos = read_pdos(alloc, pdos)?;
+    let network = network(alloc, &nodes, &pdos, eds_files)?;
+    Ok(files_of(alloc, &network)?)
+}

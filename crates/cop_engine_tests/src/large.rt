@@ -1,0 +1,110 @@
+//! The greatest tables that are taken, and a network of 512 PDOs of which one rate is refused with all.
+
+use cop_engine::{Fault, Files, check_bytes, plan_bytes, test_bytes};
+use cop_frame::Rate;
+use std::alloc::{AllocError, Global};
+use std::fmt::Write;
+use std::test::Fail;
+
+/// A table of streams under the identifiers 0, 1, .., each sent once a minute.
+fn streams(alloc: Global, count: u16) -> Result<String, Fail> {
+    let mut text = String::from_str(alloc, "id,bytes,period,jitter,deadline\n")?;
+    for id in 0..count {
+        write!(text, "{id},0,60000000,0,\n")?;
+    }
+    Ok(text)
+}
+
+#[test]
+fn eleven_hundred_streams_and_one_more(rt: HostRuntime) -> Result<(), Fail> {
+    let most = streams(rt.alloc(), 1100)?;
+    let report = test_bytes(rt.alloc(), most.as_bytes(), Rate::Kbit1000)?;
+    assert_eq!(rt; report.iter().filter(|byte| **byte == b'\n').count(), 1100);
+    let more = streams(rt.alloc(), 1101)?;
+    let is_refused = matches!(
+        test_bytes(rt.alloc(), more.as_bytes(), Rate::Kbit1000),
+        Err(Fault::Refused {
+            number: 6,
+            place: 1101
+        })
+    );
+    assert!(rt; is_refused);
+    Ok(())
+}
+
+/// How many PDOs each of the nodes sends, and how many nodes there are.
+const EACH: u16 = 64;
+
+const NODES: u16 = 8;
+
+/// The communication and the mapping record of a PDO that sends the 64 bits of 2000h.
+fn push_pdo(text: &mut String, pdo: u16) -> Result<(), AllocError> {
+    let (record, mapping) = (0x1800 + u32::from(pdo), 0x1A00 + u32::from(pdo));
+    write!(text, "[{record:04X}]\nObjectType=9\n[{record:04X}sub1]\nDataType=7\nAccessType=rw\n")?;
+    write!(text, "DefaultValue=0x80000000\n[{record:04X}sub2]\nDataType=5\nAccessType=rw\n")?;
+    write!(text, "DefaultValue=255\n[{mapping:04X}]\nObjectType=9\n[{mapping:04X}sub0]\n")?;
+    write!(text, "DataType=5\nAccessType=ro\nDefaultValue=1\n[{mapping:04X}sub1]\n")?;
+    write!(text, "DataType=7\nAccessType=ro\nDefaultValue=0x20000040\n")
+}
+
+/// The description of a device with all its PDOs, at 500 and 1000 kbit/s.
+fn device(alloc: Global) -> Result<String, AllocError> {
+    let mut text = String::from_str(
+        alloc,
+        "[DeviceInfo]\nBaudRate_500=1\nBaudRate_1000=1\n[OptionalObjects]\n",
+    )?;
+    write!(text, "SupportedObjects={}\n1=0x2000\n", 2 * EACH + 1)?;
+    for pdo in 0..EACH {
+        let (record, mapping) = (0x1800 + u32::from(pdo), 0x1A00 + u32::from(pdo));
+        write!(text, "{}=0x{record:04X}\n{}=0x{mapping:04X}\n", 2 * pdo + 2, 2 * pdo + 3)?;
+    }
+    text.push_str("[2000]\nDataType=0x1B\nAccessType=ro\nPDOMapping=1\n")?;
+    for pdo in 0..EACH {
+        push_pdo(&mut text, pdo)?;
+    }
+    Ok(text)
+}
+
+/// The nodes, all with that device.
+fn nodes(alloc: Global) -> Result<String, AllocError> {
+    let mut text = String::from_str(alloc, "row,node,name,eds,period,jitter\n")?;
+    for node in 1..=NODES {
+        write!(text, "device,{node},Device {node},many.eds,0,0\n")?;
+    }
+    Ok(text)
+}
+
+/// Their PDOs, each with a period of a second, and a deadline that 512 of them just meet at 1000 kbit/s.
+fn pdos(alloc: Global) -> Result<String, AllocError> {
+    let mut text = String::from_str(alloc, "node,tpdo,period,jitter,deadline,consumers\n")?;
+    for node in 1..=NODES {
+        for tpdo in 1..=EACH {
+            write!(text, "{node},{tpdo},1000000,0,69120,\n")?;
+        }
+    }
+    Ok(text)
+}
+
+/// The files of the plan.
+fn planned(
+    alloc: Global,
+    nodes: &str,
+    pdos: &str,
+    eds: &[(String, Vec<u8>)],
+) -> Result<Files, Fault> {
+    plan_bytes(alloc, nodes.as_bytes(), pdos.as_bytes(), eds)
+}
+
+#[test]
+fn a_rate_is_refused_with_512_pdos(rt: HostRuntime) -> Result<(), Fail> {
+    let alloc = rt.alloc();
+    let text = Vec::from_slice(alloc, device(alloc)?.as_bytes())?;
+    let eds = [(String::from_str(alloc, "many.eds")?, text)];
+    let (nodes, pdos) = (nodes(alloc)?, pdos(alloc)?);
+    let files = planned(alloc, nodes.as_str(), pdos.as_str(), &eds)?;
+    assert!(rt; files.plan.starts_with(b"rate 1000\npdo 1.1 id 181h response 1080\n"));
+    assert!(rt; files.plan.ends_with(b"pdo 8.64 id 380h response 276480\nrefused 500 members 512\n"));
+    let checked = check_bytes(alloc, nodes.as_bytes(), pdos.as_bytes(), &eds, &files.refusals)?;
+    assert_eq!(rt; checked.0.as_slice(), b"500 holds\n".as_slice());
+    Ok(())
+}

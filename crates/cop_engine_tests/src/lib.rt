@@ -1,0 +1,8 @@
+//! Tests of the public items of `cop_engine`, in a crate of their own so that the library is proved once.
+
+#![tactic(auto)]
+
+#[cfg(test)]
+mod large;
+#[cfg(test)]
+mod tests;

@@ -1,0 +1,467 @@
+use cop_net::{NodeTable, PdoTable, PlanFault, Rule, Table, network, read_nodes, read_pdos};
+use cop_dict::{MappingFault, build};
+use cop_eds::parse;
+use cop_frame::Rate;
+use cop_pdo::{Direction, payload};
+use std::alloc::Global;
+use std::fmt::Write;
+use std::test::Fail;
+
+/// The number of a refusal, its table and its record.
+type Refused = (u8, Table, u64);
+
+/// What differs between the EDS files of the tests: keys of an object, or of DeviceInfo.
+#[derive(Clone, Copy)]
+struct Parts<'a> {
+    rates: &'a str,
+    heartbeat: &'a str,
+    cob_id: &'a str,
+    transmission: &'a str,
+    second_bits: &'a str,
+}
+
+const USUAL: Parts<'static> = Parts {
+    rates: "BaudRate_250=1\nBaudRate_500=1\nBaudRate_1000=1\n",
+    heartbeat: "DataType=0x0006\nAccessType=rw\n",
+    cob_id: "DataType=0x0007\nAccessType=rw\nDefaultValue=$NODEID+0x40000180\n",
+    transmission: "DataType=0x0005\nAccessType=rw\nDefaultValue=255\n",
+    second_bits: "0x20000220",
+};
+
+/// The lists of the objects.
+const LISTS: &str = "[MandatoryObjects]
+SupportedObjects=0
+[OptionalObjects]
+SupportedObjects=5
+1=0x1017
+2=0x1400
+3=0x1600
+4=0x1800
+5=0x1A00
+[ManufacturerObjects]
+SupportedObjects=1
+1=0x2000
+";
+
+/// The records of RPDO 1, up to the value of its second entry.
+const RECEIVE: &str = "[1400]
+ObjectType=9
+[1400sub1]
+DataType=0x0007
+AccessType=rw
+DefaultValue=0x80000200
+[1600]
+ObjectType=9
+[1600sub0]
+DataType=0x0005
+AccessType=ro
+DefaultValue=2
+[1600sub1]
+DataType=0x0007
+AccessType=ro
+DefaultValue=0x20000120
+[1600sub2]
+DataType=0x0007
+AccessType=ro
+";
+
+/// The mapping of TPDO 1, and the two words.
+const TRANSMIT: &str = "[1A00]
+ObjectType=9
+[1A00sub0]
+DataType=0x0005
+AccessType=ro
+DefaultValue=2
+[1A00sub1]
+DataType=0x0007
+AccessType=ro
+DefaultValue=0x20000120
+[1A00sub2]
+DataType=0x0007
+AccessType=ro
+DefaultValue=0x20000220
+[2000]
+ObjectType=8
+[2000sub1]
+DataType=0x0007
+AccessType=rw
+PDOMapping=1
+[2000sub2]
+DataType=0x0007
+AccessType=rw
+PDOMapping=1
+";
+
+/// The text of a device that sends two words by TPDO 1 and takes two words by RPDO 1.
+fn text_of(alloc: Global, parts: Parts<'_>) -> Result<Vec<u8>, Fail> {
+    let Parts {
+        rates,
+        heartbeat,
+        cob_id,
+        transmission,
+        second_bits,
+    } = parts;
+    let text = format!(in alloc;
+        "[DeviceInfo]
+{rates}{LISTS}[1017]
+{heartbeat}{RECEIVE}DefaultValue={second_bits}
+[1800]
+ObjectType=9
+[1800sub1]
+{cob_id}[1800sub2]
+{transmission}{TRANSMIT}"
+    )?;
+    Ok(Vec::from_slice(alloc, text.as_bytes())?)
+}
+
+/// A file of this name.
+fn file(alloc: Global, name: &str, text: Vec<u8>) -> Result<(String, Vec<u8>), Fail> {
+    Ok((String::from_str(alloc, name)?, text))
+}
+
+fn nodes_of(alloc: Global, rows: &str) -> Result<NodeTable, Fail> {
+    let text = format!(in alloc; "row,node,name,eds,period,jitter\n{rows}")?;
+    Ok(read_nodes(alloc, text.as_bytes())?)
+}
+
+fn pdos_of(alloc: Global, rows: &str) -> Result<PdoTable, Fail> {
+    let text = format!(in alloc; "node,tpdo,period,jitter,deadline,consumers\n{rows}")?;
+    Ok(read_pdos(alloc, text.as_bytes())?)
+}
+
+/// The refusal that is told, where it is not for want of memory.
+fn told<T: Drop>(outcome: Result<T, PlanFault>) -> Result<Option<Refused>, Fail> {
+    match outcome {
+        Ok(_) => Ok(None),
+        Err(PlanFault::Refused(refusal)) => Ok(Some((
+            refusal.rule.number(),
+            refusal.table,
+            refusal.place,
+        ))),
+        Err(fault) => Err(fault.into()),
+    }
+}
+
+/// How these rows and files are refused.
+fn refused_of(
+    alloc: Global,
+    nodes: &str,
+    pdos: &str,
+    files: &[(String, Vec<u8>)],
+) -> Result<Option<Refused>, Fail> {
+    let nodes = nodes_of(alloc, nodes)?;
+    let pdos = pdos_of(alloc, pdos)?;
+    told(network(alloc, &nodes, &pdos, files))
+}
+
+const VALVE: &str = "device,5,Valve,unit.eds,0,0\nemcy,5,,,100000,0\nheartbeat,5,,,100000,0\n";
+
+#[test]
+fn the_valve(rt: HostRuntime) -> Result<(), Fail> {
+    let alloc = rt.alloc();
+    let nodes = nodes_of(alloc, VALVE)?;
+    let pdos = pdos_of(alloc, "5,1,10000,0,670,\n")?;
+    let files = [file(alloc, "unit.eds", text_of(alloc, USUAL)?)?];
+    let valve = network(alloc, &nodes, &pdos, &files)?;
+    assert_eq!(rt;
+        (valve.devices().len(), valve.rows().len(), valve.pdos()),
+        (1, 1, 1)
+    );
+    let streams = valve.set().streams();
+    assert_eq!(rt; streams.len(), 3);
+    for (stream, id, bytes, period, deadline) in [
+        (0, 0x181, 8, 40_000, Some(2_680)),
+        (1, 0x085, 8, 400_000, None),
+        (2, 0x705, 1, 400_000, None),
+    ] {
+        match streams.get(stream) {
+            Some(s) => {
+                assert_eq!(rt; (s.id, s.bytes, s.period, s.jitter), (id, bytes, period, 0));
+                assert_eq!(rt; s.deadline, deadline);
+            }
+            None => assert!(rt; false),
+        }
+    }
+    assert_eq!(rt; valve.rates().slowest(), Some(Rate::Kbit250));
+    assert!(rt; !valve.rates().contains(Rate::Kbit800));
+    assert_eq!(rt; (valve.heartbeat(5), valve.heartbeat(6)), (100, 0));
+    assert!(rt; valve.dictionary(5).is_some() && valve.dictionary(6).is_none());
+    Ok(())
+}
+
+/// Two devices with one EDS file, and a heartbeat of the second.
+const TWO: &str =
+    "device,6,Second,unit.eds,0,0\nheartbeat,5,,,100000,0\ndevice,5,First,unit.eds,0,0\n";
+
+const READ_ONLY: &str = "DataType=0x0007\nAccessType=ro\nDefaultValue=$NODEID+0x40000180\n";
+
+const CLOSED: Parts<'static> = Parts {
+    cob_id: READ_ONLY,
+    ..USUAL
+};
+
+const MUTE: Parts<'static> = Parts {
+    heartbeat: "DataType=0x0006\nAccessType=ro\n",
+    ..USUAL
+};
+
+/// Rows of nodes and PDOs, what is in the EDS file, and the refusal.
+const REFUSED: &[(&str, &str, Parts<'static>, Option<Refused>)] = &[
+    (TWO, "5,1,10000,0,670,6.1\n", USUAL, None),
+    // Each device record looks for its file.
+    (
+        "device,5,First,other.eds,0,0\n",
+        "",
+        USUAL,
+        Some((43, Table::Nodes, 1)),
+    ),
+    (
+        TWO,
+        "",
+        Parts {
+            rates: "BaudRate_250=x\n",
+            ..USUAL
+        },
+        Some((43, Table::Nodes, 1)),
+    ),
+    // The TPDO is absent, or its node is.
+    (
+        TWO,
+        "5,1,10000,0,670,\n5,2,10000,0,670,\n",
+        USUAL,
+        Some((45, Table::Pdos, 2)),
+    ),
+    (TWO, "7,1,10000,0,670,\n", USUAL, Some((45, Table::Pdos, 1))),
+    // The COB-ID can't be written, or not with 181h.
+    (
+        TWO,
+        "5,1,10000,0,670,\n",
+        CLOSED,
+        Some((46, Table::Pdos, 1)),
+    ),
+    (
+        TWO,
+        "5,1,10000,0,670,\n",
+        Parts {
+            cob_id: "DataType=0x0007\nAccessType=rw\nDefaultValue=$NODEID+0x40000180\nLowLimit=0x40000182\n",
+            ..USUAL
+        },
+        Some((46, Table::Pdos, 1)),
+    ),
+    (
+        TWO,
+        "5,1,10000,0,670,\n",
+        Parts {
+            cob_id: "DataType=0x0007\nAccessType=rw\nDefaultValue=$NODEID+0x40000180\nLowLimit=0x40000181\n",
+            ..USUAL
+        },
+        None,
+    ),
+    // The transmission type is synchronous, or no number.
+    (
+        TWO,
+        "5,1,10000,0,670,\n",
+        Parts {
+            transmission: "DataType=0x0005\nAccessType=rw\nDefaultValue=1\n",
+            ..USUAL
+        },
+        Some((47, Table::Pdos, 1)),
+    ),
+    (
+        TWO,
+        "5,1,10000,0,670,\n",
+        Parts {
+            transmission: "DataType=0x0009\nAccessType=rw\nDefaultValue=255\n",
+            ..USUAL
+        },
+        Some((47, Table::Pdos, 1)),
+    ),
+    // The RPDO is absent, or its node is; it is used twice; its layout is another.
+    (
+        TWO,
+        "5,1,10000,0,670,6.1 6.2\n",
+        USUAL,
+        Some((48, Table::Pdos, 1)),
+    ),
+    (
+        TWO,
+        "5,1,10000,0,670,7.1\n",
+        USUAL,
+        Some((48, Table::Pdos, 1)),
+    ),
+    (
+        TWO,
+        "5,1,10000,0,670,6.1 6.1\n",
+        USUAL,
+        Some((48, Table::Pdos, 1)),
+    ),
+    (
+        TWO,
+        "5,1,10000,0,670,6.1\n6,1,10000,0,670,6.1\n",
+        USUAL,
+        Some((48, Table::Pdos, 2)),
+    ),
+    (
+        TWO,
+        "5,1,10000,0,670,6.1\n",
+        Parts {
+            second_bits: "0x00060010",
+            ..USUAL
+        },
+        Some((48, Table::Pdos, 1)),
+    ),
+    (
+        TWO,
+        "5,1,10000,0,670,6.1\n",
+        Parts {
+            second_bits: "0x00070020",
+            ..USUAL
+        },
+        None,
+    ),
+    // What nobody uses stays on; the heartbeat's time can't be set; of both, the lowest node counts.
+    (
+        "device,5,First,unit.eds,0,0\n",
+        "",
+        CLOSED,
+        Some((50, Table::Nodes, 1)),
+    ),
+    (TWO, "", MUTE, Some((51, Table::Nodes, 3))),
+    // No rate is supported.
+    (
+        TWO,
+        "5,1,10000,0,670,6.1\n",
+        Parts { rates: "", ..USUAL },
+        Some((52, Table::Nodes, 0)),
+    ),
+    // Of several, the PDOs come before the devices, and these before the rates.
+    (
+        TWO,
+        "5,1,10000,0,670,7.1\n",
+        Parts {
+            rates: "",
+            heartbeat: "DataType=0x0006\nAccessType=ro\n",
+            ..USUAL
+        },
+        Some((48, Table::Pdos, 1)),
+    ),
+];
+
+#[test]
+fn refused_networks(rt: HostRuntime) -> Result<(), Fail> {
+    for case in REFUSED {
+        let (nodes, pdos, parts, refused) = *case;
+        let files = [file(rt.alloc(), "unit.eds", text_of(rt.alloc(), parts)?)?];
+        assert_eq!(rt; refused_of(rt.alloc(), nodes, pdos, &files)?, refused);
+    }
+    Ok(())
+}
+
+#[test]
+fn files_of_one_name(rt: HostRuntime) -> Result<(), Fail> {
+    let alloc = rt.alloc();
+    let broken = Vec::from_slice(alloc, b"[1800su")?;
+    let files = [
+        file(alloc, "unit.eds", text_of(alloc, USUAL)?)?,
+        file(alloc, "unit.eds", broken)?,
+    ];
+    assert_eq!(rt; refused_of(alloc, TWO, "", &files)?, None);
+    let empty = [file(alloc, "unit.eds", Vec::new(alloc))?];
+    assert_eq!(rt;
+        refused_of(alloc, "device,5,First,unit.eds,0,0\n", "", &empty)?,
+        Some((52, Table::Nodes, 0))
+    );
+    Ok(())
+}
+
+#[test]
+fn what_refusals_carry(rt: HostRuntime) -> Result<(), Fail> {
+    let alloc = rt.alloc();
+    let nodes = nodes_of(alloc, "device,5,First,unit.eds,0,0\n")?;
+    let pdos = pdos_of(alloc, "5,2,10000,0,670,\n")?;
+    let cut = Vec::from_slice(alloc, b"[A]\n[1800su")?;
+    let rules = [
+        network(alloc, &nodes, &pdos, &[]),
+        network(alloc, &nodes, &pdos, &[file(alloc, "unit.eds", cut)?]),
+        network(
+            alloc,
+            &nodes,
+            &pdos,
+            &[file(alloc, "unit.eds", text_of(alloc, USUAL)?)?],
+        ),
+    ];
+    let carried = [
+        Rule::Eds(None),
+        Rule::Eds(Some(cop_eds::Refusal {
+            rule: cop_eds::Rule::Line,
+            line: 2,
+        })),
+        Rule::Transmit(Some(MappingFault::Absent)),
+    ];
+    for (made, rule) in rules.into_iter().zip(carried) {
+        match made {
+            Err(PlanFault::Refused(refusal)) => assert_eq!(rt; refusal.rule, rule),
+            Ok(_) => assert!(rt; false),
+            Err(fault) => return Err(Fail::from(fault)),
+        }
+    }
+    Ok(())
+}
+
+#[test]
+fn refused_tables(rt: HostRuntime) -> Result<(), Fail> {
+    let alloc = rt.alloc();
+    let nodes = [
+        ("", (42, Table::Nodes, 0)),
+        ("device,5,First\n", (40, Table::Nodes, 1)),
+        ("device,5,First,unit.eds,1,0\n", (41, Table::Nodes, 1)),
+        ("emcy,5,,,100000,0\n", (42, Table::Nodes, 1)),
+    ];
+    for (rows, refused) in nodes {
+        let text = format!(in alloc; "row,node,name,eds,period,jitter\n{rows}")?;
+        assert_eq!(rt; told(read_nodes(alloc, text.as_bytes()))?, Some(refused));
+    }
+    let pdos = [
+        ("5,1,10000,0,670,\n5,1,10000,0,670,\n", (44, Table::Pdos, 2)),
+        ("5,1,10000,0,,\n", (41, Table::Pdos, 1)),
+    ];
+    for (rows, refused) in pdos {
+        let text = format!(in alloc; "node,tpdo,period,jitter,deadline,consumers\n{rows}")?;
+        assert_eq!(rt; told(read_pdos(alloc, text.as_bytes()))?, Some(refused));
+    }
+    assert_eq!(rt;
+        told(read_pdos(alloc, b"node\n"))?,
+        Some((40, Table::Pdos, 0))
+    );
+    Ok(())
+}
+
+#[test]
+fn one_pdo_too_many(rt: HostRuntime) -> Result<(), Fail> {
+    let mut text = String::from_str(rt.alloc(), "node,tpdo,period,jitter,deadline,consumers\n")?;
+    for tpdo in 1..=512 {
+        write!(text, "5,{tpdo},10000,0,670,\n")?;
+    }
+    assert_eq!(rt; told(read_pdos(rt.alloc(), text.as_bytes()))?, None);
+    text.push_str("6,1,10000,0,670,\n")?;
+    assert_eq!(rt;
+        told(read_pdos(rt.alloc(), text.as_bytes()))?,
+        Some((49, Table::Pdos, 513))
+    );
+    Ok(())
+}
+
+#[test]
+fn the_sample_device_sends_eight_bytes(rt: HostRuntime) -> Result<(), Fail> {
+    let text = text_of(rt.alloc(), USUAL)?;
+    let eds = parse(rt.alloc(), &text)?;
+    let dict = build(rt.alloc(), &eds, 5)?;
+    match payload(&dict, Direction::Transmit, 1) {
+        Ok(mapping) => {
+            assert_eq!(rt; mapping.bits(), 64);
+            assert_eq!(rt; mapping.bytes(), 8);
+        }
+        Err(_) => assert!(rt; false),
+    }
+    Ok(())
+}

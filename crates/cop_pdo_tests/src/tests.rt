@@ -1,0 +1,198 @@
+use cop_pdo::{
+    Direction, MappingFault, exists, off, on, pack, payload, refusal_number, same_layout, unpack,
+};
+use cop_dict::{Access, DataType, Description, Dictionary, Object};
+use std::alloc::{AllocError, Global};
+use std::test::Fail;
+
+// An entry of a dictionary: its address, type, access, and initial value.
+type Row<'a> = (u16, u8, DataType, Access, &'a [u8]);
+
+fn dictionary(alloc: Global, rows: &[Row<'_>]) -> Result<Dictionary, AllocError> {
+    let mut dict = Dictionary::new(alloc);
+    for (index, sub, data_type, access, initial) in rows.iter().copied() {
+        let description = Description {
+            data_type,
+            access,
+            is_mappable: true,
+            low: None,
+            high: None,
+        };
+        let fits = data_type.width().is_none_or(|width| width == initial.len());
+        if fits && dict.entries().iter().all(|e| e.is_before(index, sub)) {
+            dict.push(Object::new(alloc, index, sub, description, initial)?)?;
+        }
+    }
+    Ok(dict)
+}
+
+const FLAG_AND_BYTE: &[Row<'static>] = &[
+    (
+        0x1400,
+        1,
+        DataType::Unsigned32,
+        Access::ReadWrite,
+        &[0x05, 2, 0, 0],
+    ),
+    (
+        0x1401,
+        1,
+        DataType::Unsigned32,
+        Access::ReadWrite,
+        &[0x05, 3, 0, 0],
+    ),
+    (0x1600, 0, DataType::Unsigned8, Access::ReadWrite, &[2]),
+    (
+        0x1600,
+        1,
+        DataType::Unsigned32,
+        Access::ReadWrite,
+        &[1, 0, 0, 0x20],
+    ),
+    (
+        0x1600,
+        2,
+        DataType::Unsigned32,
+        Access::ReadWrite,
+        &[8, 0, 1, 0x20],
+    ),
+    (0x1601, 0, DataType::Unsigned8, Access::ReadWrite, &[1]),
+    (
+        0x1601,
+        1,
+        DataType::Unsigned32,
+        Access::ReadWrite,
+        &[8, 0, 5, 0],
+    ),
+    (
+        0x1800,
+        1,
+        DataType::Unsigned32,
+        Access::ReadWrite,
+        &[0x85, 1, 0, 0x40],
+    ),
+    (0x1A00, 0, DataType::Unsigned8, Access::ReadWrite, &[2]),
+    (
+        0x1A00,
+        1,
+        DataType::Unsigned32,
+        Access::ReadWrite,
+        &[1, 0, 0, 0x20],
+    ),
+    (
+        0x1A00,
+        2,
+        DataType::Unsigned32,
+        Access::ReadWrite,
+        &[8, 0, 1, 0x20],
+    ),
+    (0x2000, 0, DataType::Boolean, Access::ReadWrite, &[1]),
+];
+
+fn device(alloc: Global) -> Result<Dictionary, AllocError> {
+    let mut dict = dictionary(alloc, FLAG_AND_BYTE)?;
+    let byte = Description {
+        data_type: DataType::Unsigned8,
+        access: Access::ReadWrite,
+        is_mappable: true,
+        low: None,
+        high: None,
+    };
+    if dict.entries().iter().all(|e| e.is_before(0x2001, 0)) {
+        dict.push(Object::new(alloc, 0x2001, 0, byte, &[0xAB])?)?;
+    }
+    Ok(dict)
+}
+
+#[test]
+fn cob_ids(rt: HostRuntime) {
+    assert_eq!(rt; off(0x4000_0185), 0xC000_0185);
+    assert_eq!(rt; on(0x4000_0185, 0x181), 0x4000_0181);
+    assert_eq!(rt; on(0xC000_0185, 0x181), 0x4000_0181);
+    assert_eq!(rt; on(0x8000_0185, 0x181), 0x181);
+    assert!(rt; exists(0x4000_0185) && !exists(0x8000_0185));
+}
+
+#[test]
+fn a_flag_and_a_byte(rt: HostRuntime) -> Result<(), Fail> {
+    let mut dict = device(rt.alloc())?;
+    let sent = payload(&dict, Direction::Transmit, 1);
+    let received = payload(&dict, Direction::Receive, 1);
+    let dummy = payload(&dict, Direction::Receive, 2);
+    match (sent, received, dummy) {
+        (Ok(sent), Ok(received), Ok(dummy)) => {
+            assert_eq!(rt; (sent.bits(), sent.bytes()), (9, 2));
+            assert!(rt; same_layout(&sent, &received) && !same_layout(&sent, &dummy));
+            assert_eq!(rt; pack(&dict, &sent), ([0x57, 0x01, 0, 0, 0, 0, 0, 0], 2));
+            assert!(rt; unpack(&mut dict, &received, &[0x57]).is_err());
+            assert_eq!(rt; dict.read(0x2001, 0), Ok([0xAB].as_slice()));
+            assert!(rt; unpack(&mut dict, &received, &[0x22, 0, 0xFF]).is_ok());
+            assert_eq!(rt; dict.read(0x2000, 0), Ok([0].as_slice()));
+            assert_eq!(rt; dict.read(0x2001, 0), Ok([0x11].as_slice()));
+        }
+        _ => assert!(rt; false),
+    }
+    Ok(())
+}
+
+const COB_ID: Row<'static> = (
+    0x1800,
+    1,
+    DataType::Unsigned32,
+    Access::ReadWrite,
+    &[0x85, 1, 0, 0x40],
+);
+
+const COUNT: Row<'static> = (0x1A00, 0, DataType::Unsigned8, Access::ReadWrite, &[1]);
+
+const ENTRY: Row<'static> = (
+    0x1A00,
+    1,
+    DataType::Unsigned32,
+    Access::ReadWrite,
+    &[8, 0, 0, 0x20],
+);
+
+const OBJECT: Row<'static> = (0x2000, 0, DataType::Unsigned8, Access::ReadWrite, &[1]);
+/// The rows of a dictionary, and the number of what is refused in it.
+const REFUSED: &[(&[Row<'static>], u8)] = &[
+    (&[COUNT, ENTRY, OBJECT], 20),
+    (&[COB_ID, ENTRY, OBJECT], 20),
+    (&[COB_ID, COUNT, OBJECT], 20),
+    (
+        &[
+            COB_ID,
+            (0x1A00, 0, DataType::Unsigned8, Access::ReadWrite, &[65]),
+        ],
+        21,
+    ),
+    (&[COB_ID, COUNT, ENTRY], 22),
+    (
+        &[
+            COB_ID,
+            COUNT,
+            ENTRY,
+            (0x2000, 0, DataType::Unsigned8, Access::WriteOnly, &[1]),
+        ],
+        23,
+    ),
+];
+
+#[test]
+fn refused_payloads(rt: HostRuntime) -> Result<(), Fail> {
+    for case in REFUSED {
+        let (rows, number) = *case;
+        let dict = dictionary(rt.alloc(), rows)?;
+        match payload(&dict, Direction::Transmit, 1) {
+            Ok(_) => assert!(rt; false),
+            Err(fault) => assert_eq!(rt; refusal_number(fault), number),
+        }
+        assert!(rt;
+            matches!(
+                payload(&dict, Direction::Receive, 1),
+                Err(MappingFault::Absent)
+            )
+        );
+    }
+    Ok(())
+}

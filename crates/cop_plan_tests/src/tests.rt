@@ -1,0 +1,273 @@
+use cop_plan::{Count, Outcome, Plan, assign, can_assign};
+use cop_cert::{Evidence, Refusal};
+use cop_frame::{Rate, RateSet};
+use cop_rta::{Stream, StreamSet, Verdict, above_by_id, read_streams, verdict};
+use std::alloc::Global;
+use std::test::Fail;
+
+const ALL: &[Rate] = &Rate::ALL;
+
+const THREE: &[u8] =
+    b"id,bytes,period,jitter,deadline\n0x181,7,2500,0,2500\n0x182,7,3500,0,3250\n0x183,7,3500,0,3250\n";
+
+const TWO: &[u8] =
+    b"id,bytes,period,jitter,deadline\n0x181,8,100000,0,1080\n0x182,8,100000,0,100000\n";
+// The order by deadline minus jitter fails here.
+const LATE_JITTER: &[u8] =
+    b"id,bytes,period,jitter,deadline\n0x181,8,1350,1282,1600\n0x182,8,13500,0,330\n";
+
+const AT_THE_DEADLINE: &[u8] = b"id,bytes,period,jitter,deadline\n0x181,8,1080,0,1080\n";
+
+const PAST_THE_DEADLINE: &[u8] = b"id,bytes,period,jitter,deadline\n0x181,8,1080,0,1079\n";
+
+const WITHIN_169: &[u8] = b"id,bytes,period,jitter,deadline\n0x181,8,100000,0,169\n";
+
+const WITHIN_168: &[u8] = b"id,bytes,period,jitter,deadline\n0x181,8,100000,0,168\n";
+
+const TOO_BUSY: &[u8] = b"id,bytes,period,jitter,deadline\n0x181,8,500,0,500\n";
+
+const NONE: &[u8] = b"id,bytes,period,jitter,deadline\n";
+
+// What is planned for a table all of whose streams are PDOs, and how many trials it took.
+fn answer(alloc: Global, table: &[u8], candidates: &[Rate]) -> Result<(Outcome, u64), Fail> {
+    let set = read_streams(alloc, table)?;
+    let mut rates = RateSet::new();
+    for rate in candidates {
+        rates.insert(*rate);
+    }
+    let pdos = set.len();
+    if !can_assign(&set, pdos) {
+        return Err(Fail::from("not to be assigned"));
+    }
+    let mut count = Count { trials: 0 };
+    let outcome = assign(alloc, &set, pdos, &rates, &mut count)?;
+    Ok((outcome, count.trials))
+}
+
+// The plan of an outcome.
+fn plan_of(outcome: Outcome) -> Result<Plan, Fail> {
+    match outcome {
+        Outcome::Planned(plan) => Ok(plan),
+        Outcome::Refused(_) => Err(Fail::from("no rate passes")),
+    }
+}
+
+// The response of each PDO of a plan, in ticks.
+fn responses(alloc: Global, plan: &Plan) -> Result<Vec<u64>, Fail> {
+    let set = plan.streams();
+    let mut above = [false; StreamSet::MOST];
+    let above = &mut above[..set.streams().len()];
+    let mut found = Vec::new(alloc);
+    for pdo in 0..plan.ids().len().min(set.len()) {
+        above_by_id(set, pdo, above);
+        match verdict(set, above, pdo, plan.rate()) {
+            Verdict::Pass { response } => found.push(response)?,
+            _ => return Err(Fail::from("late")),
+        }
+    }
+    Ok(found)
+}
+
+// A table, the candidates, the rate, the identifiers, the responses, and the rates and members of the refusals.
+#[derive(Drop)]
+struct Row {
+    table: &'static [u8],
+    candidates: &'static [Rate],
+    rate: Rate,
+    ids: &'static [u16],
+    responses: &'static [u64],
+    refused: &'static [(Rate, usize)],
+    // n(n+1)/2 for each rate that is tried
+    trials: u64,
+}
+
+const ROWS: &[Row] = &[
+    Row {
+        table: THREE,
+        candidates: ALL,
+        rate: Rate::Kbit250,
+        ids: &[0x181, 0x182, 0x183],
+        responses: &[4000, 6000, 6000],
+        refused: &[
+            (Rate::Kbit10, 3),
+            (Rate::Kbit20, 3),
+            (Rate::Kbit50, 3),
+            (Rate::Kbit125, 3),
+        ],
+        trials: 30,
+    },
+    Row {
+        table: AT_THE_DEADLINE,
+        candidates: ALL,
+        rate: Rate::Kbit125,
+        ids: &[0x181],
+        responses: &[4320],
+        refused: &[(Rate::Kbit10, 1), (Rate::Kbit20, 1), (Rate::Kbit50, 1)],
+        trials: 4,
+    },
+    Row {
+        table: WITHIN_169,
+        candidates: &[Rate::Kbit800, Rate::Kbit1000],
+        rate: Rate::Kbit800,
+        ids: &[0x181],
+        responses: &[675],
+        refused: &[],
+        trials: 1,
+    },
+    Row {
+        table: WITHIN_168,
+        candidates: &[Rate::Kbit1000, Rate::Kbit800],
+        rate: Rate::Kbit1000,
+        ids: &[0x181],
+        responses: &[540],
+        refused: &[(Rate::Kbit800, 1)],
+        trials: 2,
+    },
+    Row {
+        table: TWO,
+        candidates: &[Rate::Kbit125, Rate::Kbit250],
+        rate: Rate::Kbit250,
+        ids: &[0x181, 0x182],
+        responses: &[4320, 4320],
+        refused: &[(Rate::Kbit125, 1)],
+        trials: 6,
+    },
+    Row {
+        table: LATE_JITTER,
+        candidates: &[Rate::Kbit1000],
+        rate: Rate::Kbit1000,
+        ids: &[0x182, 0x181],
+        responses: &[6208, 1080],
+        refused: &[],
+        trials: 3,
+    },
+    Row {
+        table: NONE,
+        candidates: &[Rate::Kbit500, Rate::Kbit250],
+        rate: Rate::Kbit250,
+        ids: &[],
+        responses: &[],
+        refused: &[],
+        trials: 0,
+    },
+];
+
+fn are_refused(refusals: &[Refusal], rows: &[(Rate, usize)]) -> bool {
+    refusals.len() == rows.len()
+        && refusals.iter().zip(rows.iter()).all(|(refusal, row)| {
+            refusal.rate == row.0 && refusal.members.as_slice().len() == row.1
+        })
+}
+
+// Whether each member has a busy period above the horizon.
+fn is_long(refusal: &Refusal) -> bool {
+    refusal
+        .members
+        .as_slice()
+        .iter()
+        .all(|member| matches!(member.evidence, Evidence::Long { .. }))
+}
+
+#[test]
+fn slowest_rates_are_planned(rt: HostRuntime) -> Result<(), Fail> {
+    for row in ROWS {
+        let (outcome, trials) = answer(rt.alloc(), row.table, row.candidates)?;
+        let plan = plan_of(outcome)?;
+        assert_eq!(rt; plan.rate(), row.rate);
+        assert_eq!(rt; plan.ids(), row.ids);
+        assert!(rt; are_refused(plan.refusals(), row.refused));
+        assert!(rt; trials <= row.trials);
+        assert_eq!(rt; responses(rt.alloc(), &plan)?.as_slice(), row.responses);
+    }
+    Ok(())
+}
+
+#[test]
+fn one_pdo_past_its_deadline(rt: HostRuntime) -> Result<(), Fail> {
+    let (outcome, _) = answer(rt.alloc(), PAST_THE_DEADLINE, ALL)?;
+    let plan = plan_of(outcome)?;
+    assert_eq!(rt; plan.rate(), Rate::Kbit250);
+    let refusals = plan.refusals();
+    assert_eq!(rt; refusals.len(), 4);
+    let refusal = refusals.last().ok_or("no refusal")?;
+    let member = refusal.members.as_slice().first().ok_or("no member")?;
+    match &member.evidence {
+        Evidence::Late { q, busy, queue } => {
+            assert_eq!(rt; *q, 0);
+            assert_eq!(rt; busy.as_slice(), [1, 4320].as_slice());
+            assert_eq!(rt; queue.as_slice(), [0].as_slice());
+        }
+        Evidence::Long { .. } => assert!(rt; false),
+    }
+    Ok(())
+}
+
+#[test]
+fn no_rate_passes(rt: HostRuntime) -> Result<(), Fail> {
+    let (outcome, trials) = answer(rt.alloc(), TOO_BUSY, &[Rate::Kbit125])?;
+    match outcome {
+        Outcome::Refused(refusals) => {
+            let refusals = refusals.as_slice();
+            assert!(rt; are_refused(refusals, &[(Rate::Kbit125, 1)]));
+            assert!(rt; refusals.iter().all(|refusal| is_long(refusal)));
+        }
+        Outcome::Planned(_) => assert!(rt; false),
+    }
+    assert_eq!(rt; trials, 1);
+    Ok(())
+}
+
+// 512 PDOs of 8 bytes, each with a period and a deadline of a second.
+fn largest(alloc: Global) -> Result<StreamSet, Fail> {
+    let mut set = StreamSet::new(alloc);
+    for k in 0..512u16 {
+        set.push(Stream {
+            id: 0x181 + k,
+            bytes: 8,
+            period: 4_000_000,
+            jitter: 0,
+            deadline: Some(4_000_000),
+        })?;
+    }
+    Ok(set)
+}
+
+#[test]
+fn the_largest_table_keeps_its_order(rt: HostRuntime) -> Result<(), Fail> {
+    let set = largest(rt.alloc())?;
+    let mut rates = RateSet::new();
+    rates.insert(Rate::Kbit1000);
+    let mut count = Count { trials: 0 };
+    assert!(rt; can_assign(&set, 512));
+    let plan = plan_of(assign(rt.alloc(), &set, 512, &rates, &mut count)?)?;
+    assert!(rt;
+        plan.ids()
+            .iter()
+            .enumerate()
+            .all(|(k, id)| usize::from(*id) == 0x181 + k)
+    );
+    assert!(rt; plan.order().iter().enumerate().all(|(k, pdo)| *pdo == k));
+    let list = responses(rt.alloc(), &plan)?;
+    assert_eq!(rt; list.first().copied(), Some(1080));
+    assert_eq!(rt; list.get(1).copied(), Some(1620));
+    assert_eq!(rt; list.get(510).copied(), Some(276_480));
+    assert_eq!(rt; list.get(511).copied(), Some(276_480));
+    Ok(())
+}
+
+#[test]
+fn what_can_be_assigned(rt: HostRuntime) -> Result<(), Fail> {
+    let table: &[u8] =
+        b"id,bytes,period,jitter,deadline\n0x181,8,1000,0,1000\n0x182,8,1000,0,\n0x81,8,1000,0,\n";
+    let set = read_streams(rt.alloc(), table)?;
+    let cases = [(0, false), (1, false), (2, false), (4, false)];
+    for (pdos, can) in cases {
+        assert_eq!(rt; can_assign(&set, pdos), can);
+    }
+    let outside: &[u8] =
+        b"id,bytes,period,jitter,deadline\n0x181,8,1000,0,1000\n0x81,8,1000,0,\n0x580,8,1000,0,\n";
+    let set = read_streams(rt.alloc(), outside)?;
+    assert!(rt; can_assign(&set, 1));
+    assert!(rt; !can_assign(&set, 2));
+    Ok(())
+}

@@ -1,0 +1,13 @@
+pub mod GuaranteeLemmas
+pub mod Going
+pub mod Kept
+pub mod Goes
+pub mod Queued
+pub mod Started
+pub mod Plays
+pub mod Bounded
+pub mod Held
+pub mod Competing
+pub mod Actors
+pub mod Chosen
+pub mod Taken

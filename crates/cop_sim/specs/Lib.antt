@@ -1,0 +1,5 @@
+pub mod Guarantee
+pub mod Play
+pub mod Sinks
+pub mod Seats
+pub mod Events
