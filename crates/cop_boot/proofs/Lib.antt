@@ -8,3 +8,5 @@ pub mod HearingLemmas
 pub mod LoopLemmas
 pub mod PlanLemmas
 pub mod SentLemmas
+pub mod BusLemmas
+pub mod TurnLemmas

@@ -6,3 +6,4 @@ pub mod Device
 pub mod Schedule
 pub mod Booted
 pub mod Member
+pub mod Bus

@@ -34,6 +34,13 @@ posted m lines = record { manager = m.manager; lines = map (takes m.frames) line
 abbrev pub with_line : Line → List Line → List Line
 with_line new lines = map (λ line. if line.number == new.number then new else line) lines
 
+-- a line after the front frame to its node was delivered, where there is one and a device
+abbrev pub DeliveredBy : Line → Option Attached → List Message → Line → Type 0
+DeliveredBy line (Some device) (frame ∷ rest) next =
+    (responded : Responded) × MayRespond device frame responded
+    × (next ≡ record line { to = rest; from = line.from ++ option_to_list responded.answer; device = Some responded.device })
+DeliveredBy line _ _ next = next ≡ line
+
 -- the front frame of a channel to a node is delivered, where there is one and a device
 abbrev pub Delivers : World → Line → Option Attached → List Message → World → Type 0
 Delivers w line (Some device) (frame ∷ rest) next =

@@ -67,7 +67,8 @@ impl Device {
 
     /// Obeys an NMT command, and answers SDO where the state has it. A reset is answered by a boot-up.
     pub fn on_frame(&mut self, frame: &Frame) -> Option<Frame>
-        ensures { MayRespond self.old (message_of frame.now) (record { device = self.new; answer = option_map message_of result }) }
+        ensures responds { MayRespond self.old (message_of frame.now) (record { device = self.new; answer = option_map message_of result }) }
+        ensures number { self.new.number ≡ self.old.number }
     {
         match self.state.on_command(self.node, frame) {
             Effect::ResetNode => {

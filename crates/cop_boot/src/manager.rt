@@ -1,9 +1,9 @@
 //! The manager of a boot.
 
-ghost use Rattle.std.specs.Prelude.{◌≡◌, ◌<◌, ◌^◌, ◌≤◌, true, false, IfOk, max, ◌∷◌, [], All, map, option_map, option_to_list, length};
+ghost use Rattle.std.specs.Prelude.{◌≡◌, ◌<◌, ◌^◌, ◌≤◌, true, false, IfOk, max, ◌∷◌, [], All, map, option_map, option_to_list, length, is_some};
 ghost use Rattle.cop_sdo.specs.Message.{message_of};
 ghost use Rattle.std.specs.List.{position};
-ghost use Rattle.cop_boot.specs.Manager.{begun_at, comes_from, all_ready, heard, heard_by, reached, first_silent, sent_by, waiting_from, is_ready, end_at};
+ghost use Rattle.cop_boot.specs.Manager.{begun_at, node_of, comes_from, all_ready, heard, heard_by, reached, first_silent, sent_by, waiting_from, is_ready, end_at};
 ghost use Rattle.cop_boot.specs.Booted.{Apart};
 ghost use Rattle.cop_boot.specs.Member.{seen, unheard, IsMember};
 
@@ -143,6 +143,18 @@ impl Manager {
         ensures { result ≡ self.now.clock }
     {
         self.clock
+    }
+
+    /// Whether a node is one of its.
+    pub fn has(&self, node: u8) -> bool
+        ensures { result ≡ is_some (node_of self.now.nodes node) }
+    {
+        for member in &self.members {
+            if member.node == node {
+                return true;
+            }
+        }
+        false
     }
 
     /// How many nodes it has.
