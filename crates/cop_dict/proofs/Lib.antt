@@ -9,3 +9,5 @@ pub mod OrderLemmas
 pub mod BuildLemmas
 pub mod PatternLemmas
 pub mod RuleLemmas
+pub mod AloneLemmas
+pub mod BuiltLemmas

@@ -1,14 +1,15 @@
 -- What a read, a write or a reset of a dictionary gives.
 use Rattle.std.specs.Prelude.{ℕ, ◌≡◌, ◌<◌, false, ◌&&◌, option_map, List, map, ◌==◌, if◌then◌else◌, Option, Some, None, Result, Ok, Err, IfSome, IsSome, IsOk, length}
 use Rattle.std.specs.List.{list_any}
-use Rattle.std.specs.Option.{ForSome}
+use Rattle.std.specs.Option.{ForSome, option_or}
 use Rattle.cop_dict.specs.declared.abort.Abort.{Abort}
 use Rattle.cop_dict.specs.declared.abort.Abort.TheVariants as aborts
 use Rattle.cop_dict.specs.Types.{width_of}
+use Rattle.cop_dict.specs.Number.{number}
 use Rattle.cop_dict.specs.Rules.{first_broken, read_rules, value_rules, access_rules}
 use Rattle.cop_dict.specs.Find.{Entry, is_at, entry_at}
 use Rattle.cop_dict.specs.Mapping.{is_between}
-use Rattle.cop_dict.specs.Pdo.{refused_by_pdos}
+use Rattle.cop_dict.specs.Pdo.{is_cob_id, cob_id_rules, refused_by_pdos}
 
 infixl 10 ◌>>=◌
 abbrev pub ◌>>=◌ : {A B : Type 0} → Result A Abort → (A → Result B Abort) → Result B Abort
@@ -106,3 +107,8 @@ pub record Replaces (old new : List Entry) (index sub : ℕ) (bytes : List ℕ) 
   pub there : option_map (λ entry. entry.value) (entry_at new index sub) ≡ Some bytes
   pub kept : entry_at new index sub ≡ option_map (valued bytes) (entry_at old index sub)
   pub others : (other part : ℕ) → (index == other) && (sub == part) ≡ false → entry_at new other part ≡ entry_at old other part
+
+-- the first rule that a write to an entry breaks, seen of the entry alone
+abbrev pub refused_alone : Entry → List ℕ → Option Abort
+refused_alone entry bytes =
+    option_or (first_broken (value_rules entry.description bytes)) (if is_cob_id entry then first_broken (cob_id_rules entry (number bytes)) else None)

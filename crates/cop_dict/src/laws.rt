@@ -8,8 +8,9 @@ ghost use Rattle.cop_dict.specs.Types.{greatest_of};
 ghost use Rattle.cop_dict.specs.Number.{number, value_of};
 ghost use Rattle.cop_dict.specs.Patterns.{pattern_of, number_written};
 ghost use Rattle.cop_dict.specs.Build.{built};
+ghost use Rattle.cop_dict.specs.Pdo.{is_mapping};
 ghost use Rattle.cop_dict.specs.Find.{Entry, entry_at, IsSorted};
-ghost use Rattle.cop_dict.specs.Dict.{admitted, with_value, valued, as_built, reset_communication, initial, initial_communication, written, Replaces};
+ghost use Rattle.cop_dict.specs.Dict.{admitted, unless_broken, refused_alone, with_value, valued, as_built, reset_communication, initial, initial_communication, written, Replaces};
 ghost use Rattle.cop_dict.specs.declared.abort.Abort.{Abort};
 
 /// A write leaves what stands at each other index and sub.
@@ -74,4 +75,15 @@ pub fn bytes_are_their_number()
 /// Bytes are those of the number that they are.
 pub fn number_has_its_bytes()
     ensures { (bytes : List ℕ) → All (λ byte. byte < 256) bytes → bytes_low_first 0 (length bytes) (number bytes) ≡ bytes }
+{}
+
+/// Whether a write is accepted depends on the entry alone, except at mapping records.
+pub fn accepted_by_the_entry()
+    ensures { (dict : List Entry) (index sub : ℕ) (bytes : List ℕ) (e : Entry) → entry_at dict index sub ≡ Some e → is_mapping e.index ≡ false
+        → written dict index sub bytes ≡ unless_broken (refused_alone e bytes) (with_value index sub bytes dict) }
+{}
+
+/// A reset of a dictionary that was built gives it again.
+pub fn resets_give_what_was_built()
+    ensures { (text : List ℕ) (node : ℕ) (dict : List Entry) → built text node ≡ Ok dict → (initial dict ≡ dict) × (initial_communication dict ≡ dict) }
 {}

@@ -1,0 +1,12 @@
+pub mod EndLemmas
+pub mod DriveLemmas
+pub mod StageLemmas
+pub mod WorldLemmas
+pub mod BootLemmas
+pub mod MemberLemmas
+pub mod HearingLemmas
+pub mod LoopLemmas
+pub mod PlanLemmas
+pub mod SentLemmas
+pub mod BusLemmas
+pub mod TurnLemmas

@@ -1,0 +1,38 @@
+-- What contracts see of a member, and when its client is where its phase says.
+use Rattle.std.specs.Prelude.{◌≡◌, ◌≤◌, ℕ, true, List, [], slice_get, Option, Some, option_map}
+use Rattle.std.specs.Global.{Vec}
+use Rattle.cop_frame.specs.declared.frames.Frame.{Frame}
+use Rattle.cop_sdo.specs.Message.{message_of}
+use Rattle.cop_sdo.specs.Client.{Calling, is_idle}
+use Rattle.cop_sdo.specs.declared.task.Task.TheVariants as tasks
+use Rattle.cop_boot.specs.declared.setting.Setting.{Setting}
+use Rattle.cop_boot.specs.declared.«end».Phase.{Phase}
+use Rattle.cop_boot.specs.declared.«end».Phase.TheVariants.{Waiting, Sending, Over}
+use Rattle.cop_boot.specs.declared.member.Member.{Member}
+use Rattle.cop_boot.specs.Settings.{address_of, is_short_value}
+use Rattle.cop_boot.specs.Node.{Node, Moved}
+
+abbrev pub seen : Member → Node
+seen m = record { number = m.node; settings = m.settings.items; boots = m.boots; phase = m.phase }
+
+-- a node whose boot has not begun, with its settings
+abbrev pub unheard : ℕ × Vec Setting → Node
+unheard (number, settings) = record { number = number; settings = settings.items; boots = 0; phase = Waiting 0 }
+
+-- the client waits on the setting that is out
+abbrev pub IsAsking : List Setting → Calling → Phase → Type 0
+IsAsking settings client (Sending done since) = (s : Setting) × (slice_get settings done ≡ Some s) × (client.asking ≡ record { task = tasks.Giving (address_of s); bytes = [] })
+IsAsking settings client (Waiting since) = is_idle client.asking.task ≡ true
+IsAsking settings client (Over e) = is_idle client.asking.task ≡ true
+
+pub record IsMember (m : Member) : Type 0 where
+  pub least : 1 ≤ m.node
+  pub greatest : m.node ≤ 127
+  pub boots : m.boots ≤ 3
+  pub client : m.client.node ≡ m.node
+  pub short : (j : ℕ) (s : Setting) → slice_get m.settings.items j ≡ Some s → is_short_value s ≡ true
+  pub asks : IsAsking m.settings.items m.client m.phase
+
+-- a call moved the node so, and gave this frame
+abbrev pub Moves : Option Frame → Member → Moved → Type 0
+Moves frame m moved = (let out : Moved = record { node = seen m; frame = option_map message_of frame } in out) ≡ moved

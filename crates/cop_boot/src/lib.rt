@@ -1,0 +1,22 @@
+//! The boot manager: it gives each node its settings by SDO, and starts the network when all are ready.
+#![tactic(auto)]
+
+mod bus;
+mod device;
+mod driving;
+mod end;
+mod input;
+mod manager;
+mod member;
+mod schedule;
+mod setting;
+mod turn;
+
+pub use device::Device;
+pub use driving::drive;
+pub use end::End;
+pub use input::Input;
+pub use manager::Manager;
+pub use schedule::run_schedule;
+pub use setting::Setting;
+pub use turn::Turn;

@@ -1,0 +1,67 @@
+//! Boots by turns.
+
+ghost use Rattle.std.specs.Prelude.{◌≡◌, ◌+◌, ◌≤◌, false, ℕ, List, map, vec_len, vec_capacity, OnOk, OnErr};
+ghost use Rattle.cop_dict.specs.Find.{Entry};
+ghost use Rattle.cop_boot.specs.Manager.{open_nodes};
+ghost use Rattle.cop_boot.specs.Booted.{CanBoot, Booted};
+ghost use Rattle.cop_boot.specs.Schedule.{Takes};
+ghost use Rattle.cop_boot.specs.Bus.{IsBus, KeepsOthers, Runs, Made, world_at};
+
+use crate::bus::{Bus, deliver, hear};
+use crate::device::Device;
+use crate::driving::pass;
+use crate::manager::Manager;
+use crate::turn::Turn;
+use std::alloc::{AllocError, Global};
+
+// One turn: a front frame is delivered, or a moment is reached.
+fn take_turn(bus: &mut Bus, manager: &mut Manager, devices: &mut [Device], turn: Turn)
+    requires bus { IsBus bus.old }
+    requires sent { vec_len bus.old.sent + 1 + open_nodes manager.old.nodes ≤ vec_capacity bus.old.sent }
+    requires answers { vec_len bus.old.answers + 1 ≤ vec_capacity bus.old.answers }
+    ensures bus { IsBus bus.new }
+    ensures takes { Takes (world_at manager.old bus.old devices.old) turn (world_at manager.new bus.new devices.new) }
+    ensures sent { (vec_len bus.new.sent + open_nodes manager.new.nodes ≤ vec_len bus.old.sent + 1 + open_nodes manager.old.nodes) × (vec_capacity bus.old.sent ≤ vec_capacity bus.new.sent) }
+    ensures answers { (vec_len bus.new.answers ≤ vec_len bus.old.answers + 1) × (vec_capacity bus.old.answers ≤ vec_capacity bus.new.answers) }
+    ensures names { map (λ n. n.number) manager.new.nodes ≡ map (λ n. n.number) manager.old.nodes }
+    ensures others { KeepsOthers manager.old devices.old devices.new }
+{
+    match turn {
+        Turn::ToNode(node) => {
+            if manager.has(node) {
+                deliver(bus, devices, node);
+            }
+        }
+        Turn::FromNode(node) => {
+            if manager.has(node) {
+                hear(bus, manager, node);
+            }
+        }
+        Turn::Moment(now) => pass(manager, now, &mut bus.sent),
+    }
+}
+
+/// Boots the devices by turns: the manager begins at 0, and each turn delivers the front frame of one channel, to a
+/// node or from it, or hands in a moment. All room is made before the first turn: after an `Err` nothing has changed.
+pub fn run_schedule(
+    alloc: Global,
+    manager: &mut Manager,
+    devices: &mut [Device],
+    turns: &[Turn],
+) -> Result<(), AllocError>
+    requires { manager.old.begun ≡ false }
+    ensures runs { OnOk result (Runs manager.old devices.old turns.now manager.new devices.new) }
+
+    // Where each node's settings are accepted in turn by the dictionary that was built for it: a node that is ready has the planned
+    // dictionary, no node is aborted or restarting, and the nodes are started exactly where all are ready.
+    ensures configures { OnOk result ((built : ℕ → List Entry) → CanBoot manager.old devices.old built → Made manager.old built manager.new devices.new) }
+
+    ensures err { OnErr result ((manager.new ≡ manager.old) × (devices.new ≡ devices.old)) }
+{
+    let mut bus = Bus::new(alloc, 1 + turns.len() + manager.count(), turns.len())?;
+    bus.sent.push(manager.begin(0)).unwrap();
+    for turn in turns {
+        take_turn(&mut bus, manager, devices, *turn);
+    }
+    Ok(())
+}
