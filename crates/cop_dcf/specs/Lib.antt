@@ -1,2 +1,5 @@
 pub mod Identifiers
 pub mod Settings
+pub mod Dcf
+pub mod Changes
+pub mod Pieces

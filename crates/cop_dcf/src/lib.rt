@@ -1,11 +1,16 @@
-//! What a plan sets in each node.
+//! What a plan sets in each node, and the DCF text that says so.
 #![tactic(auto)]
 
+mod hexadecimal;
 mod identifiers;
+mod key_line;
 mod laws;
 mod node_settings;
+mod section_keys;
 mod setting;
+mod writing;
 
 pub use laws::{settings_fit, settings_have_objects};
 pub use node_settings::settings;
 pub use setting::Setting;
+pub use writing::write;

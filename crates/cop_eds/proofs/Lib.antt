@@ -14,3 +14,11 @@ pub mod CodeLemmas
 pub mod TicketLemmas
 pub mod KeyLemmas
 pub mod RefusalLemmas
+pub mod RowLemmas
+pub mod EditLemmas
+pub mod LawfulLemmas
+pub mod ReadingLemmas
+pub mod RawLemmas
+pub mod SpelledLemmas
+pub mod KeepsLemmas
+pub mod InsideLemmas

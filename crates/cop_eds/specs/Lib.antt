@@ -17,3 +17,6 @@ pub mod Found
 pub mod Reading
 pub mod Eds
 pub mod Laws
+pub mod Rows
+pub mod Edits
+pub mod Kept

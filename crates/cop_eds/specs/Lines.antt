@@ -101,6 +101,12 @@ Gives view (Err e) read = Fails e read
 abbrev pub IsWithin : ℕ → Line → Type 0
 IsWithin size line = (line.from ≤ line.to) × (line.to ≤ size) × (line.section ≤ size)
 
+-- the line and its end lie in a text of this length, one behind the other
+pub record IsInside (size : ℕ) (line : Line) : Type 0 where
+  pub bytes : line.from ≤ line.to
+  pub ending : line.to ≤ line.next
+  pub all : line.next ≤ size
+
 -- the same of a function that takes no memory
 abbrev pub Sees : {X Y : Type 0} → (X → Y) → Result X Refusal → Result Y Refusal → Type 0
 Sees view (Ok x) read = read ≡ Ok (view x)

@@ -1,11 +1,12 @@
 //! A text that is accepted, and its readers.
 
-ghost use Rattle.std.specs.Prelude.{◌≡◌, ◌↔◌, Ok, true, option_copied};
-ghost use Rattle.std.specs.List.{Contains};
+ghost use Rattle.std.specs.Prelude.{◌≡◌, ◌↔◌, Ok, true, length, take, option_copied};
+ghost use Rattle.std.specs.List.{All, Contains};
 ghost use Rattle.std.specs.Option.{option_map};
 ghost use Rattle.cop_frame.specs.declared.rates.Rate.{Rate};
-ghost use Rattle.cop_eds.specs.Lines.{Gives, lines_of};
+ghost use Rattle.cop_eds.specs.Lines.{Gives, IsInside, is_keyed, lines_of};
 ghost use Rattle.cop_eds.specs.Reading.{reading};
+ghost use Rattle.cop_eds.specs.Text.{mark_len};
 ghost use Rattle.cop_eds.specs.Steps.{amount_at};
 ghost use Rattle.cop_eds.specs.Rates.{support_of};
 ghost use Rattle.cop_eds.specs.Objects.{objects_of, object_section};
@@ -15,10 +16,12 @@ use crate::amount::{Amount, amount_of};
 use crate::description::Object;
 use crate::fault::{EdsFault, Refusal, Rule};
 use crate::line::{Line, Place};
+use crate::lines::is_keyed;
 use crate::lists::objects;
 use crate::objects::object_in;
 use crate::rates::rates;
 use crate::sections::Sections;
+use crate::text::mark_len;
 use cop_frame::RateSet;
 use std::alloc::Global;
 use std::marker::Model;
@@ -79,11 +82,28 @@ impl<'a> Eds<'a> {
         self.sections.source()
     }
 
-    /// The lines, whose numbers count from 1.
+    /// The mark at the front of the text, before the first line; no bytes where it has none.
+    pub fn mark(&self) -> &'a [u8]
+        ensures { result.now ≡ take (mark_len self.now) self.now }
+    {
+        let source = self.source();
+        &source[..mark_len(source)]
+    }
+
+    /// The lines, whose numbers count from 1. Each stands in the text with its end, which follows it.
     pub fn lines(&self) -> &[Line]
-        ensures { result.now ≡ lines_of self.now }
+        ensures lines { result.now ≡ lines_of self.now }
+        ensures inside { All (IsInside (length self.now)) result.now }
     {
         self.sections.lines()
+    }
+
+    /// Whether a line is a pair of this key in this section.
+    pub fn is_keyed(&self, line: &Line, section: usize, key: &[u8]) -> bool
+        requires { IsInside (length self.now) line.now }
+        ensures { result ≡ is_keyed self.now section key.now line.now }
+    {
+        is_keyed(self.source(), line, section, key)
     }
 
     /// The rates that DeviceInfo supports.

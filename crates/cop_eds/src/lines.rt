@@ -2,10 +2,10 @@
 
 ghost use Rattle.std.specs.Prelude.{◌≡◌, ◌^◌, ◌<◌, length, IfOk};
 ghost use Rattle.std.specs.List.{All};
-ghost use Rattle.cop_eds.specs.Lines.{IsWithin, text_of, lines_of};
+ghost use Rattle.cop_eds.specs.Lines.{IsInside, IsWithin, is_keyed, text_of, lines_of};
 
-use crate::line::{Line, line_of, raw_at};
-use crate::text::mark_len;
+use crate::line::{Kind, Line, line_of, raw_at};
+use crate::text::{key_of, mark_len, same_name};
 use std::alloc::{AllocError, Global};
 
 /// The bytes of a line, without its end.
@@ -14,6 +14,16 @@ pub fn text_of<'a>(source: &'a [u8], line: &Line) -> &'a [u8]
     ensures { result.now ≡ text_of source.now line.now }
 {
     &source[line.from..line.to]
+}
+
+/// Whether a line is a pair of this key in this section.
+pub fn is_keyed(source: &[u8], line: &Line, section: usize, key: &[u8]) -> bool
+    requires { IsInside (length source.now) line.now }
+    ensures { result ≡ is_keyed source.now section key.now line.now }
+{
+    matches!(line.kind, Kind::Pair)
+        && line.section == section
+        && same_name(key_of(&source[line.from..line.to]), key)
 }
 
 /// The lines of a text.

@@ -1,0 +1,257 @@
+//! The DCF text of a node.
+
+ghost use Rattle.std.specs.Prelude.{◌≡◌, ◌++◌, ◌||◌, ◌==◌, not, [], length, get_or, if◌then◌else◌, IfOk, OnOk};
+ghost use Rattle.std.specs.List.{list_any};
+ghost use Rattle.std.specs.Option.{option_copied};
+ghost use Rattle.cop_eds.specs.Lines.{IsInside, lines_of};
+ghost use Rattle.cop_eds.specs.Rows.{row_of, rows_of};
+ghost use Rattle.cop_eds.specs.Edits.{change_of, changed, newline_of};
+ghost use Rattle.cop_dcf.specs.Dcf.{dcf_of};
+ghost use Rattle.cop_dcf.specs.Pieces.{pair_follows, ends_entries, is_wanting, new_lines, whole_line, has_section, is_extended, adds_keys, piece_of, pieces_of, section_of};
+
+use crate::key_line::{KeyLine, SectionKeys};
+use crate::section_keys::{named_sections, section_keys};
+use crate::setting::Setting;
+use cop_eds::{Eds, Kind, Line};
+use cop_frame::Rate;
+use std::alloc::{AllocError, Global};
+
+/// The end of a text's first line; LF where it has none.
+fn newline<'a>(eds: &Eds<'a>) -> &'a [u8]
+    ensures { result.now ≡ newline_of (rows_of eds.now) }
+{
+    let Some(first) = eds.lines().first() else {
+        return b"\n";
+    };
+    if first.to == first.next {
+        return b"\n";
+    }
+    &eds.source()[first.to..first.next]
+}
+
+/// Whether a pair comes before the next header.
+fn pair_follows(lines: &[Line]) -> bool
+    ensures { result ≡ pair_follows lines.now }
+{
+    for line in lines {
+        match line.kind {
+            Kind::Other => {}
+            Kind::Header => return false,
+            Kind::Pair => return true,
+        }
+    }
+    false
+}
+
+/// Whether a line is the last of its section that is its header or a key.
+fn ends_entries(line: &Line, later: &[Line]) -> bool
+    ensures { result ≡ ends_entries line.now later.now }
+{
+    !matches!(line.kind, Kind::Other) && !pair_follows(later)
+}
+
+/// The key that is set, where a line is its pair.
+fn set_key<'b>(eds: &Eds<'_>, line: &Line, keys: &'b [KeyLine]) -> Option<&'b KeyLine>
+    requires { IsInside (length eds.now) line.now }
+    ensures { option_copied result ≡ change_of keys.now (row_of eds.now line.now) }
+{
+    match keys {
+        [] => None,
+        [key, rest @ ..] => {
+            if eds.is_keyed(line, key.section(), key.key()) {
+                Some(key)
+            } else {
+                set_key(eds, line, rest)
+            }
+        }
+    }
+}
+
+/// The bytes of a line: those of the key that is set, where the line is its pair.
+fn body_of<'b>(eds: &Eds<'b>, line: &Line, keys: &'b [KeyLine]) -> &'b [u8]
+    requires { IsInside (length eds.now) line.now }
+    ensures { result.now ≡ (changed keys.now (row_of eds.now line.now)).body }
+{
+    match set_key(eds, line, keys) {
+        Some(key) => key.line(),
+        None => &eds.source()[line.from..line.to],
+    }
+}
+
+/// Whether the section of a key has it not yet.
+fn is_wanting(eds: &Eds<'_>, key: &KeyLine) -> bool
+    ensures { result ≡ is_wanting eds.now key.now }
+{
+    eds.key_line(key.section(), key.key()).is_none()
+}
+
+/// Adds the lines of the keys that are not there yet.
+fn put_new(
+    text: &mut Vec<u8>,
+    eds: &Eds<'_>,
+    keys: &[KeyLine],
+    newline: &[u8],
+) -> Result<(), AllocError>
+    ensures { OnOk result (text.new.items ≡ text.old.items ++ new_lines eds.now newline.now keys.now) }
+{
+    for key in keys {
+        if is_wanting(eds, key) {
+            text.extend_from_slice(key.line())?;
+            text.extend_from_slice(newline)?;
+        }
+    }
+    Ok(())
+}
+
+/// Adds a line with its end. One that others follow has an end, and CR as its last byte stays its own.
+fn put_whole(
+    text: &mut Vec<u8>,
+    newline: &[u8],
+    body: &[u8],
+    ending: &[u8],
+    is_followed: bool,
+) -> Result<(), AllocError>
+    ensures { OnOk result (text.new.items ≡ text.old.items ++ whole_line newline.now body.now ending.now is_followed) }
+{
+    text.extend_from_slice(body)?;
+    if !is_followed || !ending.is_empty() {
+        text.extend_from_slice(ending)?;
+    } else if body.last() == Some(&b'\r') {
+        text.extend_from_slice(b"\r\n")?;
+    } else {
+        text.extend_from_slice(newline)?;
+    }
+    Ok(())
+}
+
+/// Whether FileInfo or DeviceComissioning is absent.
+fn is_extended(eds: &Eds<'_>) -> bool
+    ensures { result ≡ is_extended eds.now }
+{
+    !(eds.section(b"FileInfo").is_some() && eds.section(b"DeviceComissioning").is_some())
+}
+
+/// Whether some key is not there yet.
+fn some_wanting(eds: &Eds<'_>, keys: &[KeyLine]) -> bool
+    ensures { result ≡ list_any (is_wanting eds.now) keys.now }
+{
+    keys.iter().any(|key| is_wanting(eds, key))
+}
+
+/// Whether new keys come behind a line.
+fn adds_keys(eds: &Eds<'_>, keys: &[KeyLine], line: &Line, later: &[Line]) -> bool
+    ensures { result ≡ adds_keys eds.now keys.now line.now later.now }
+{
+    ends_entries(line, later) && some_wanting(eds, keys)
+}
+
+/// Whether anything comes behind a line.
+fn is_followed(eds: &Eds<'_>, adds: bool, later: &[Line]) -> bool
+    ensures { result ≡ ((adds || not (length later.now == 0)) || is_extended eds.now) }
+{
+    (adds || !later.is_empty()) || is_extended(eds)
+}
+
+/// Adds what a line becomes, and the new keys behind it.
+fn put_line(
+    text: &mut Vec<u8>,
+    eds: &Eds<'_>,
+    keys: &[KeyLine],
+    line: &Line,
+    later: &[Line],
+) -> Result<(), AllocError>
+    requires { IsInside (length eds.now) line.now }
+    ensures { OnOk result (text.new.items ≡ text.old.items ++ piece_of eds.now (newline_of (rows_of eds.now)) keys.now line.now later.now) }
+{
+    let newline = newline(eds);
+    let adds = adds_keys(eds, keys, line, later);
+    let body = body_of(eds, line, keys);
+    let ending = &eds.source()[line.to..line.next];
+    let is_followed = is_followed(eds, adds, later);
+    put_whole(text, newline, body, ending, is_followed)?;
+    if adds {
+        put_new(text, eds, keys, newline)?;
+    }
+    Ok(())
+}
+
+/// The keys that are set in a section.
+fn keys_in(table: &[SectionKeys], section: usize) -> &[KeyLine]
+    ensures { result.now ≡ get_or table.now section [] }
+{
+    match table.get(section) {
+        Some(keys) => keys.as_slice(),
+        None => &[],
+    }
+}
+
+/// Adds what the lines become.
+fn put_lines(text: &mut Vec<u8>, eds: &Eds<'_>, table: &[SectionKeys]) -> Result<(), AllocError>
+    ensures { OnOk result (text.new.items ≡ text.old.items ++ pieces_of eds.now (newline_of (rows_of eds.now)) table.now (lines_of eds.now)) }
+{
+    let lines = eds.lines();
+    for (at, line) in lines.iter().enumerate() {
+        let keys = keys_in(table, line.section);
+        put_line(text, eds, keys, line, &lines[at + 1..])?;
+    }
+    Ok(())
+}
+
+/// Adds a section of this name with the keys that are set in it.
+fn put_section(
+    text: &mut Vec<u8>,
+    eds: &Eds<'_>,
+    keys: &[KeyLine],
+    name: &[u8],
+) -> Result<(), AllocError>
+    ensures { OnOk result (text.new.items ≡ text.old.items ++ section_of eds.now (newline_of (rows_of eds.now)) keys.now name.now) }
+{
+    let newline = newline(eds);
+    text.push(b'[')?;
+    text.extend_from_slice(name)?;
+    text.push(b']')?;
+    text.extend_from_slice(newline)?;
+    put_new(text, eds, keys, newline)
+}
+
+/// Adds a section of this name, where it is absent.
+fn put_absent(
+    text: &mut Vec<u8>,
+    eds: &Eds<'_>,
+    keys: &[KeyLine],
+    name: &[u8],
+) -> Result<(), AllocError>
+    ensures { OnOk result (text.new.items ≡ text.old.items ++ (if has_section eds.now name.now then [] else section_of eds.now (newline_of (rows_of eds.now)) keys.now name.now)) }
+{
+    match eds.section(name) {
+        Some(_) => Ok(()),
+        None => put_section(text, eds, keys, name),
+    }
+}
+
+/// The DCF of a node: the EDS text, with the last value of each object that has a setting, the name of its file, and the
+/// node with its name and rate. `Err` is want of memory.
+pub fn write(
+    alloc: Global,
+    eds: &Eds<'_>,
+    settings: &[Setting],
+    node: u8,
+    name: &[u8],
+    rate: Rate,
+    eds_name: &[u8],
+) -> Result<Vec<u8>, AllocError>
+    ensures { IfOk result (λ v. v.items ≡ dcf_of eds.now settings.now node name.now rate eds_name.now) }
+{
+    let table = section_keys(alloc, eds, settings, node, name, rate, eds_name)?;
+    let mut text = Vec::from_slice(alloc, eds.mark())?;
+    put_lines(&mut text, eds, &table)?;
+    let (file, device) = named_sections(eds);
+    put_absent(&mut text, eds, keys_in(&table, file), b"FileInfo")?;
+    put_absent(
+        &mut text,
+        eds,
+        keys_in(&table, device),
+        b"DeviceComissioning",
+    )?;
+    Ok(text)
+}
