@@ -1,16 +1,28 @@
 //! The greatest tables that are taken, and a network of 512 PDOs of which one rate is refused with all.
 
+ghost use Rattle.std.specs.Prelude.{◌<◌};
+
 use cop_engine::{Fault, Files, check_bytes, plan_bytes, test_bytes};
 use cop_frame::Rate;
 use std::alloc::{AllocError, Global};
 use std::fmt::Write;
 use std::test::Fail;
 
+/// A number, and what stands after it.
+fn push_number(text: &mut String, number: u16, after: &str) -> Result<(), AllocError> {
+    write!(text, "{number}{after}")
+}
+
+/// A record's index, and what stands before and after it.
+fn push_index(text: &mut String, before: &str, index: u16, after: &str) -> Result<(), AllocError> {
+    write!(text, "{before}{index:04X}{after}")
+}
+
 /// A table of streams under the identifiers 0, 1, .., each sent once a minute.
-fn streams(alloc: Global, count: u16) -> Result<String, Fail> {
+fn streams(alloc: Global, count: u16) -> Result<String, AllocError> {
     let mut text = String::from_str(alloc, "id,bytes,period,jitter,deadline\n")?;
     for id in 0..count {
-        write!(text, "{id},0,60000000,0,\n")?;
+        push_number(&mut text, id, ",0,60000000,0,\n")?;
     }
     Ok(text)
 }
@@ -38,42 +50,56 @@ const EACH: u16 = 64;
 const NODES: u16 = 8;
 
 /// The communication and the mapping record of a PDO that sends the 64 bits of 2000h.
-fn push_pdo(text: &mut String, pdo: u16) -> Result<(), AllocError> {
-    let (record, mapping) = (0x1800 + u32::from(pdo), 0x1A00 + u32::from(pdo));
-    write!(
+fn push_pdo(text: &mut String, pdo: u16) -> Result<(), AllocError>
+    requires { pdo < 512 }
+{
+    let (record, mapping) = (0x1800 + pdo, 0x1A00 + pdo);
+    push_index(text, "[", record, "]\nObjectType=9\n")?;
+    push_index(
         text,
-        "[{record:04X}]\nObjectType=9\n[{record:04X}sub1]\nDataType=7\nAccessType=rw\n"
+        "[",
+        record,
+        "sub1]\nDataType=7\nAccessType=rw\nDefaultValue=0x80000000\n",
     )?;
-    write!(
+    push_index(
         text,
-        "DefaultValue=0x80000000\n[{record:04X}sub2]\nDataType=5\nAccessType=rw\n"
+        "[",
+        record,
+        "sub2]\nDataType=5\nAccessType=rw\nDefaultValue=255\n",
     )?;
-    write!(
+    push_index(text, "[", mapping, "]\nObjectType=9\n")?;
+    push_index(
         text,
-        "DefaultValue=255\n[{mapping:04X}]\nObjectType=9\n[{mapping:04X}sub0]\n"
+        "[",
+        mapping,
+        "sub0]\nDataType=5\nAccessType=ro\nDefaultValue=1\n",
     )?;
-    write!(
+    push_index(
         text,
-        "DataType=5\nAccessType=ro\nDefaultValue=1\n[{mapping:04X}sub1]\n"
-    )?;
-    write!(text, "DataType=7\nAccessType=ro\nDefaultValue=0x20000040\n")
+        "[",
+        mapping,
+        "sub1]\nDataType=7\nAccessType=ro\nDefaultValue=0x20000040\n",
+    )
+}
+
+/// Where the lists name the two records of a PDO.
+fn push_listed(text: &mut String, pdo: u16) -> Result<(), AllocError>
+    requires { pdo < 512 }
+{
+    push_number(text, 2 * pdo + 2, "=")?;
+    push_index(text, "0x", 0x1800 + pdo, "\n")?;
+    push_number(text, 2 * pdo + 3, "=")?;
+    push_index(text, "0x", 0x1A00 + pdo, "\n")
 }
 
 /// The description of a device with all its PDOs, at 500 and 1000 kbit/s.
 fn device(alloc: Global) -> Result<String, AllocError> {
     let mut text = String::from_str(
         alloc,
-        "[DeviceInfo]\nBaudRate_500=1\nBaudRate_1000=1\n[OptionalObjects]\n",
+        "[DeviceInfo]\nBaudRate_500=1\nBaudRate_1000=1\n[OptionalObjects]\nSupportedObjects=129\n1=0x2000\n",
     )?;
-    write!(text, "SupportedObjects={}\n1=0x2000\n", 2 * EACH + 1)?;
     for pdo in 0..EACH {
-        let (record, mapping) = (0x1800 + u32::from(pdo), 0x1A00 + u32::from(pdo));
-        write!(
-            text,
-            "{}=0x{record:04X}\n{}=0x{mapping:04X}\n",
-            2 * pdo + 2,
-            2 * pdo + 3
-        )?;
+        push_listed(&mut text, pdo)?;
     }
     text.push_str("[2000]\nDataType=0x1B\nAccessType=ro\nPDOMapping=1\n")?;
     for pdo in 0..EACH {
@@ -86,7 +112,8 @@ fn device(alloc: Global) -> Result<String, AllocError> {
 fn nodes(alloc: Global) -> Result<String, AllocError> {
     let mut text = String::from_str(alloc, "row,node,name,eds,period,jitter\n")?;
     for node in 1..=NODES {
-        write!(text, "device,{node},Device {node},many.eds,0,0\n")?;
+        text.push_str("device,")?;
+        push_number(&mut text, node, ",Device,many.eds,0,0\n")?;
     }
     Ok(text)
 }
@@ -94,10 +121,9 @@ fn nodes(alloc: Global) -> Result<String, AllocError> {
 /// Their PDOs, each with a period of a second, and a deadline that 512 of them just meet at 1000 kbit/s.
 fn pdos(alloc: Global) -> Result<String, AllocError> {
     let mut text = String::from_str(alloc, "node,tpdo,period,jitter,deadline,consumers\n")?;
-    for node in 1..=NODES {
-        for tpdo in 1..=EACH {
-            write!(text, "{node},{tpdo},1000000,0,69120,\n")?;
-        }
+    for pdo in 0..EACH * NODES {
+        push_number(&mut text, pdo / EACH + 1, ",")?;
+        push_number(&mut text, pdo % EACH + 1, ",1000000,0,69120,\n")?;
     }
     Ok(text)
 }
