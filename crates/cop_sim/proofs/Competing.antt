@@ -11,7 +11,8 @@ use Rattle.cop_sim.specs.declared.behaviours.Offer.{Offer}
 use Rattle.cop_sim.specs.Play.{Actor, queued_at, Joins, Competes}
 use Rattle.cop_bus.specs.Rings.{RingValue}
 use Rattle.cop_sim.specs.Seats.{may_be_sent, joins_with}
-use Rattle.cop_sim.proofs.Held.{IsHeld, held-waits, held-none, queues, starts}
+use Rattle.cop_sim.specs.Stages.{queues, starts, IsHeld}
+use Rattle.cop_sim.proofs.Held.{held-waits, held-none}
 
 module _ (tau until : ℕ) (steps : List Step) (z : ℕ) (a : Actor) (ring : RingValue) (agrees : ℕ → ℕ → Bool) (same : (u : ℕ) → agrees z u ≡ a.agrees z u) where
   pub may-competes : (next : Option Offer) → IsHeld until steps a next ring → may_be_sent agrees tau z (length ring.waiting) next ≡ true → Competes tau until steps (length steps) z a

@@ -7,14 +7,11 @@ use Rattle.cop_bus.specs.declared.steps.Step.{Step}
 use Rattle.cop_bus.specs.declared.steps.Step.TheVariants.{Start, End}
 use Rattle.cop_bus.specs.Trace.{is_queue, is_start, count_to, nth_that, step_at, running, after, at_of}
 use Rattle.cop_bus.specs.Judge.{id_of, stream_of, last_event, is_in_order, not_before, is_period_later, is_queued_in_time, is_of_length, fits_transfer, has_one_to_send, is_lowest, is_not_idle, broken_by, any_waits}
+use Rattle.cop_sim.specs.Going.{AreFine}
 use Rattle.cop_bus.proofs.Verdict.{Keeps}
 use Rattle.cop_bus.proofs.Found.{pass}
 use Rattle.cop_bus.proofs.Grows.{step_at-more, nth_that-more, none-broken-there, running-more, any_waits-more, no-more, nth_that-between}
 use Rattle.cop_bus.proofs.Appended.{step_at-here, length-one, one-more}
-
--- each of the steps keeps the rules, with what is ahead behind them
-abbrev pub AreFine : ℕ → List Stream → ℕ → List Step → List Step → Type 0
-AreFine tau streams until steps ahead = (i : ℕ) → i < length steps → broken_by tau streams until (steps ++ ahead) i (step_at steps i) ≡ None
 
 -- each start of the steps finds with `more` behind them what it finds with `ahead` there
 abbrev pub FindsTheSame : List Step → List Step → List Step → Type 0

@@ -11,22 +11,10 @@ use Rattle.cop_bus.proofs.StepLemmas.{nth_that-at, bool_cases}
 use Rattle.cop_sim.specs.declared.behaviours.Offer.{Offer}
 use Rattle.cop_sim.specs.Play.{Actor, queued_at, queue_step, next_offer}
 use Rattle.cop_bus.specs.Rings.{RingValue}
+use Rattle.cop_sim.specs.Stages.{queues, starts, IsHeld}
 use Rattle.cop_bus.proofs.Grows.{nth_that-more, count_to-more}
 use Rattle.cop_bus.proofs.Appended.{step_at-here, length-one}
 use Rattle.cop_sim.proofs.Kept.{count-kept, count-raised, next-kept}
-
-abbrev pub queues : ℕ → List Step → ℕ
-queues id steps = count_to (is_queue id) steps (length steps)
-
-abbrev pub starts : ℕ → List Step → ℕ
-starts id steps = count_to (is_start id) steps (length steps)
-
--- After the steps an actor's next offer is at hand, and in its ring stand the instances that wait, first come first.
-pub record IsHeld (until : ℕ) (steps : List Step) (a : Actor) (next : Option Offer) (ring : RingValue) : Type 0 where
-  pub offer : next ≡ next_offer until steps (length steps) a
-  pub its : ring.id ≡ a.stream.id
-  pub count : length ring.waiting ≡ queues a.stream.id steps - starts a.stream.id steps
-  pub each : (k : ℕ) (y : Instance) → slice_get ring.waiting k ≡ Some y → nth_that (is_queue a.stream.id) (starts a.stream.id steps + k) steps ≡ Some (Queue y.at a.stream.id y.event y.frame)
 
 -- an instance waits where the ring is not empty
 pub held-waits : (until : ℕ) (steps : List Step) (a : Actor) (next : Option Offer) (ring : RingValue) → IsHeld until steps a next ring → 0 < length ring.waiting → waits_after steps (length steps) a.stream.id ≡ true

@@ -11,3 +11,12 @@ pub mod Competing
 pub mod Actors
 pub mod Chosen
 pub mod Taken
+pub mod TurnLemmas
+pub mod Places
+pub mod Ending
+pub mod Queueing
+pub mod Queues
+pub mod Starting
+pub mod Finishing
+pub mod Turning
+pub mod Beginning

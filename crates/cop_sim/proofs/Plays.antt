@@ -20,9 +20,9 @@ use Rattle.cop_sim.specs.declared.behaviours.Offer.{Offer}
 use Rattle.cop_sim.specs.Play.{Actor, streams_of, queued_at, queue_step, next_offer, IsPartialPlay, IsPlay, QueuesItsOffers}
 use Rattle.cop_bus.proofs.Grows.{no-more}
 use Rattle.cop_bus.proofs.Appended.{step_at-here, length-one, now-one}
-use Rattle.cop_sim.proofs.Going.{AreFine, keeps-none}
+use Rattle.cop_sim.proofs.Going.{keeps-none}
 use Rattle.cop_sim.proofs.Kept.{at-cases, next-is}
-use Rattle.cop_sim.proofs.Goes.{Goes}
+use Rattle.cop_sim.specs.Going.{Goes, AreFine}
 use Rattle.cop_sim.proofs.Queued.{by-now}
 
 -- a trace of which each step keeps the rules, and the end too

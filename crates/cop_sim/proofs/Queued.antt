@@ -16,9 +16,10 @@ use Rattle.cop_sim.specs.declared.behaviours.Offer.{Offer}
 use Rattle.cop_sim.specs.Play.{Actor, streams_of, queued_at, queue_step, next_offer, next_answer, IsSentAhead, obeys, answer_before, event_of, is_not_before}
 use Rattle.cop_bus.proofs.Grows.{step_at-more, last_event-more}
 use Rattle.cop_bus.proofs.Appended.{step_at-here, length-one, one-more, now-one, last-one, count_to-one, last_event-here}
-use Rattle.cop_sim.proofs.Going.{AreFine, FindsTheSame, finds-more, finds-between, fine-one, running-kept, running-one, keeps-none, order-more, idle-more, runs-idle}
+use Rattle.cop_sim.proofs.Going.{FindsTheSame, finds-more, finds-between, fine-one, running-kept, running-one, keeps-none, order-more, idle-more, runs-idle}
 use Rattle.cop_sim.proofs.Kept.{at-cases, next-is, count-kept, next-kept, before-kept, before-one, offers-one, rising-one, starts-one, lowest-one}
-use Rattle.cop_sim.proofs.Goes.{IsNext, queued_ahead, Goes, order-end, not-before}
+use Rattle.cop_sim.specs.Going.{IsNext, queued_ahead, Goes, AreFine}
+use Rattle.cop_sim.proofs.Goes.{order-end, not-before}
 
 -- no step comes after the last
 pub by-now : (tau : ℕ) (streams : List Stream) (until : ℕ) (steps ahead : List Step) → AreFine tau streams until steps ahead → (d i : ℕ) → i + suc d ≡ length steps → at_of (step_at steps i) ≤ now_of steps
@@ -159,7 +160,7 @@ module _ (tau : ℕ) (actors : List Actor) (until : ℕ) (there : (a : Actor) �
   -- An instance that waits from then on, of another stream than a joiner that was sent.
   module _ (not_idle : is_not_idle (streams_of actors) steps (length steps) (running tau (steps ++ ahead) (length steps)) (queued_at o) ≡ true)
       (apart : (y : Step) → ahead ≡ y ∷ [] → is_queue a.stream.id y ≡ false) where
-    between : FindsTheSame steps ahead (x ∷ ahead)
+    pub between : FindsTheSame steps ahead (x ∷ ahead)
     between = elim goes.sent [
       | inl n ↦ subst (λ t. FindsTheSame steps t (x ∷ t)) (sym n) (finds-more steps (x ∷ []))
       | inr w ↦ (let y = queue_step (w.0).stream.id (w.3).0 in

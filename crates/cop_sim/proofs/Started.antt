@@ -22,7 +22,7 @@ use Rattle.cop_bus.proofs.Grows.{last_event-more, count_to-more, nth_that-more, 
 use Rattle.cop_bus.proofs.Appended.{step_at-here, length-one, one-more, now-one, count_to-one, last_event-here}
 use Rattle.cop_sim.proofs.Going.{FindsTheSame, finds-more, fine-one, running-kept, running-one, keeps-none, order-more, idle-more, start-period, start-time, start-length, runs-idle}
 use Rattle.cop_sim.proofs.Kept.{at-cases, next-is, count-kept, count-raised, next-kept, before-kept, offers-one, rising-one, starts-one, SendsLowestHere, lowest-one}
-use Rattle.cop_sim.proofs.Goes.{IsNext, queued_ahead, Goes}
+use Rattle.cop_sim.specs.Going.{IsNext, queued_ahead, Goes}
 use Rattle.cop_sim.proofs.Queued.{by-now, obeys-is}
 
 -- none with a lower identifier waits, if the lowest of those that compete is sent
@@ -192,7 +192,7 @@ module _ (tau : ℕ) (pos : 1 ≤ tau) (actors : List Actor) (until : ℕ) (ther
     counted : count_to (is_queue id) ((steps ++ x ∷ []) ++ y ∷ []) (length (steps ++ x ∷ [])) ≡ count_to (is_queue id) steps (length steps)
     counted = count_to-more (is_queue id) (steps ++ x ∷ []) (y ∷ []) (length (steps ++ x ∷ [])) (omega arith) ∙ count-kept (is_queue id) steps x refl
 
-    found : nth_that (is_queue id) (count_to (is_start id) steps (length steps)) (steps ++ x ∷ y ∷ []) ≡ Some y
+    pub found : nth_that (is_queue id) (count_to (is_start id) steps (length steps)) (steps ++ x ∷ y ∷ []) ≡ Some y
     found =
         let l = length-one (steps ++ x ∷ []) y in
         let s = step_at-here (steps ++ x ∷ []) y [] in
@@ -200,7 +200,7 @@ module _ (tau : ℕ) (pos : 1 ≤ tau) (actors : List Actor) (until : ℕ) (ther
         subst (λ t. nth_that (is_queue id) (count_to (is_start id) steps (length steps)) t ≡ Some y) (one-more steps x (y ∷ []))
         (ap (λ j. nth_that (is_queue id) j ((steps ++ x ∷ []) ++ y ∷ [])) (all-sent ∙ sym counted) ∙ f ∙ ap Some s)
 
-    long : 1 ≤ o.frame.bits
+    pub long : 1 ≤ o.frame.bits
     long = has-bits a.stream (queued_at o) id o.event o.frame test.2
 
     behind : broken_by tau (streams_of actors) until ((steps ++ x ∷ []) ++ y ∷ []) (length (steps ++ x ∷ [])) y ≡ None

@@ -3,3 +3,5 @@ pub mod Play
 pub mod Sinks
 pub mod Seats
 pub mod Events
+pub mod Going
+pub mod Stages

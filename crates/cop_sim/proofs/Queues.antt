@@ -1,0 +1,197 @@
+-- A queue step of the simulator, and why there is none.
+use Rattle.std.proofs.Common.{◌≡◌, ◌≢◌, ℕ, ◌+◌, ◌-◌, ◌≤◌, ◌<◌, ◌^◌, ◌⊎◌, inl, inr, List, [], ◌∷◌, ◌++◌, length, get_or, slice_get, slice_set, Option, Some, None, Bool, true, false, ◌&&◌, ◌==◌, nat_le, refl, sym, ap, ◌∙◌, subst, arith, suc}
+use Rattle.std.specs.Int.{div_ceil}
+use Rattle.std.specs.Option.{ForSome, option_and_then, option_map_or}
+use Rattle.std.proofs.lemmas.Bool.{cases_eq, cases_lt}
+use Rattle.std.proofs.lemmas.List.{length-set, get_or-set_other}
+use Rattle.cop_frame.specs.Rate.{ticks_of}
+use Rattle.cop_rta.specs.declared.streams.Stream.{Stream}
+use Rattle.cop_bus.specs.declared.steps.Step.{Step}
+use Rattle.cop_bus.specs.Trace.{is_queue, is_start}
+use Rattle.cop_bus.specs.Rings.{RingValue, any_in, is_pdo, most_of}
+use Rattle.cop_bus.proofs.Work.{eq-true, le-true, true-le}
+use Rattle.cop_bus.proofs.Demand.{and-left, and-right, and-true}
+use Rattle.cop_bus.proofs.StepLemmas.{bool_cases}
+use Rattle.cop_bus.proofs.Appended.{last-one}
+use Rattle.cop_plan.specs.Values.{PlanValue}
+use Rattle.cop_sim.specs.declared.behaviours.Offer.{Offer}
+use Rattle.cop_sim.specs.declared.due.Due.{Due}
+use Rattle.cop_sim.specs.declared.faults.SimFault.TheVariants.{Disobeys as DisobeysAt, Backlog}
+use Rattle.cop_sim.specs.Play.{Actor, actors_of, queued_at, queue_step, by_end, next_offer, obeys, IsSentAhead, IsPartialPlay, Disobeys, IsBacklog, answer_before}
+use Rattle.cop_sim.specs.Seats.{next_at, answer_of, IsDueTo}
+use Rattle.cop_sim.specs.Sinks.{IsCause}
+use Rattle.cop_sim.specs.Stages.{AtHand, IsSeat, queues, starts, IsAwaited, IsAt, instance_of, with_last, IsPut, IsFull, IsQueued}
+use Rattle.cop_sim.proofs.Bounded.{few-wait}
+use Rattle.cop_sim.proofs.Held.{held-joined, held-queued}
+use Rattle.cop_sim.proofs.Kept.{count-kept, next-is, by_end-is}
+use Rattle.cop_sim.proofs.Plays.{partial}
+use Rattle.cop_sim.proofs.Places as Places
+use Rattle.cop_sim.proofs.Places.{set-here, set-other, some-one}
+use Rattle.cop_sim.proofs.Queueing as Queueing
+
+pub answered : (until : ℕ) (v : Option Offer) (o : Offer) → option_and_then (by_end until) v ≡ Some o → (v ≡ Some o) × (queued_at o ≤ until)
+answered until None o e = absurd (cc)
+answered until (Some p) o e = let b = by_end-is until p o e in (ap Some b.0, b.1)
+
+joined-cases : (j : Option ℕ) (p : ℕ) → (j ≡ Some p) ⊎ (j ≢ Some p)
+joined-cases None p = inr (λ e. cc)
+joined-cases (Some i) p = elim (cases_eq i p) [ inl e ↦ inl (ap Some e) | inr n ↦ inr (λ e. n (some i p e)) ]
+  where
+    some : (i p : ℕ) → Some i ≡ Some p → i ≡ p
+    some i p e = cc
+
+most-pdo : (k : Stream) (d : ℕ) → is_pdo k ≡ true → k.deadline ≡ Some d → most_of k ≡ div_ceil d k.period
+most-pdo k d e f = rw (e, f) refl
+
+most-fixed : (k : Stream) → is_pdo k ≡ false → most_of k ≡ 64
+most-fixed k e = rw e refl
+
+pdo-range : (k : Stream) → 385 ≤ k.id → k.id ≤ 1407 → is_pdo k ≡ true
+pdo-range k l m = and-true (nat_le 385 k.id) (nat_le k.id 1407) (le-true 385 k.id l) (le-true k.id 1407 m)
+
+pdo-outside : (k : Stream) → (k.id < 385) ⊎ (1407 < k.id) → is_pdo k ≡ false
+pdo-outside k h = elim (bool_cases (is_pdo k)) [
+  | inr f ↦ f
+  | inl t ↦ (let a = true-le 385 k.id (and-left (nat_le 385 k.id) (nat_le k.id 1407) t) in let b = true-le k.id 1407 (and-right (nat_le 385 k.id) (nat_le k.id 1407) t) in
+      elim h [ inl l ↦ absurd (omega (arith, l, a)) | inr l ↦ absurd (omega (arith, l, b)) ])
+]
+
+module _ {B : Type 0} (offer : B → ℕ → Option Offer) (agrees : B → ℕ → ℕ → Bool) (plan : PlanValue) (until : ℕ) (firsts bs : List B) (h : AtHand) (steps : List Step) (at : IsAt offer agrees plan until firsts bs h steps)
+    (d : Due) (first : IsDueTo plan.streams h.next (length h.next) d) (before : ForSome h.running (λ r. queued_at d.offer < r.0)) (idle : h.running ≡ None → any_in h.rings ≡ true → queued_at d.offer ≤ h.now)
+    (a : Actor) (ea : slice_get (actors_of offer agrees plan.streams firsts) d.place ≡ Some a) where
+  abbrev actors : List Actor
+  actors = actors_of offer agrees plan.streams firsts
+
+  abbrev x : Step
+  x = queue_step a.stream.id d.offer
+
+  low : d.place < length plan.streams
+  low = Places.within offer agrees plan until firsts bs h steps at d.place a ea
+
+  abbrev seat : (b : B) × (r : RingValue) × (slice_get bs d.place ≡ Some b) × (slice_get h.rings d.place ≡ Some r) × IsSeat offer agrees until steps a b (next_at h.next d.place) r (get_or h.queued d.place 0)
+  seat = Queueing.seat offer agrees plan until firsts bs h steps at d first before idle a ea
+
+  pub its : d.id ≡ a.stream.id
+  its = sym first.its ∙ Places.id-of offer agrees plan until firsts bs h steps at d.place a ea
+
+  pub in-time : queued_at d.offer ≤ until
+  in-time = Queueing.by-until offer agrees plan until firsts bs h steps at d first before idle a ea
+
+  -- the joiner that is awaited is its
+  module _ (j : h.joined ≡ Some d.place) where
+    waited : IsAwaited actors h.next steps at.ahead (Some d.place)
+    waited = subst (IsAwaited actors h.next steps at.ahead) j at.awaited
+
+    its-own : waited.0 ≡ a
+    its-own = some-one (slice_get actors d.place) waited.0 a waited.1 ea
+
+    same-offer : (waited.3).0 ≡ d.offer
+    same-offer = some-one (next_at h.next d.place) (waited.3).0 d.offer (waited.3).1 first.here
+
+    pub is-ahead : at.ahead ≡ x ∷ []
+    is-ahead = (waited.3).2 ∙ ap (λ (b : Actor). queue_step b.stream.id (waited.3).0 ∷ []) its-own ∙ ap (λ o. queue_step a.stream.id o ∷ []) same-offer
+
+    sent-ahead : queues a.stream.id steps < starts a.stream.id steps
+    sent-ahead = subst (IsSentAhead steps) its-own waited.2
+
+  partial-after : IsPartialPlay (ticks_of plan.rate) actors until (steps ++ x ∷ [])
+  partial-after = elim (joined-cases h.joined d.place) [
+    | inl j ↦ partial plan.rate actors (Places.distinct offer agrees plan until firsts bs h steps at) until (steps ++ x ∷ []) [] (Queueing.goes-joined offer agrees plan until firsts bs h steps at d first before idle a ea (is-ahead j))
+    | inr n ↦ partial plan.rate actors (Places.distinct offer agrees plan until firsts bs h steps at) until (steps ++ x ∷ []) at.ahead (Queueing.goes-behind offer agrees plan until firsts bs h steps at d first before idle a ea n)
+  ]
+
+  module _ (h' : AtHand) (cs : List B) (q : IsQueued offer agrees until d h h' bs cs) (again : (o : Offer) (k : Stream) → next_at h'.next d.place ≡ Some o → slice_get plan.streams d.place ≡ Some k → obeys k (Some d.offer) o ≡ true)
+      (room : get_or h.queued d.place 0 < 2 ^ 64 - 1) where
+    after : answer_of offer until seat.0 ≡ next_offer until (steps ++ x ∷ []) (length (steps ++ x ∷ [])) a
+    after = Queueing.answer-next offer agrees plan until firsts bs h steps at d first before idle a ea h' cs q again room
+
+    still-awaited : h.joined ≢ Some d.place → h'.joined ≡ h.joined → IsAwaited actors h'.next (steps ++ x ∷ []) at.ahead h'.joined
+    still-awaited n e = subst (IsAwaited actors h'.next (steps ++ x ∷ []) at.ahead) (sym e) (go h.joined refl at.awaited)
+      where
+        go : (j : Option ℕ) → h.joined ≡ j → IsAwaited actors h.next steps at.ahead j → IsAwaited actors h'.next (steps ++ x ∷ []) at.ahead j
+        go None r w = w
+        go (Some i) r w =
+            let m : i ≢ d.place = λ f. n (r ∙ ap Some f) in
+            let asked = q.asked seat.0 seat.2 in
+            let f = Places.apart offer agrees plan until firsts bs h steps at d.place i a w.0 ea w.1 m in
+            let c = count-kept (is_queue (w.0).stream.id) steps x f in
+            let s = count-kept (is_start (w.0).stream.id) steps x refl in
+            let l = w.2 in
+            (w.0, w.1, omega (arith, c, s, l), ((w.3).0, ap (λ (xs : List (Option Offer)). next_at xs i) asked.3 ∙ get_or-set_other h.next d.place i (answer_of offer until seat.0) None m ∙ (w.3).1, (w.3).2))
+
+    pub after-queue : IsAt offer agrees plan until firsts cs h' (steps ++ x ∷ [])
+    after-queue = elim (q.put in-time) [
+      | inl p ↦ Queueing.queued-at offer agrees plan until firsts bs h steps at d first before idle a ea h' cs q again room
+          [] (Queueing.goes-joined offer agrees plan until firsts bs h steps at d first before idle a ea (is-ahead p.0)) (Queueing.runs-joined offer agrees plan until firsts bs h steps at d first before idle a ea (is-ahead p.0))
+          seat.1 (ap (λ (rs : List RingValue). slice_get rs d.place) p.2 ∙ seat.3) (λ i n. ap (λ (rs : List RingValue). slice_get rs i) p.2) (ap (λ (rs : List RingValue). length rs) p.2 ∙ at.sized.rings)
+          (held-joined until steps d.offer a (next_at h.next d.place) (answer_of offer until seat.0) seat.1 (sent-ahead p.0) seat.4.held after) refl
+          (subst (IsAwaited actors h'.next (steps ++ x ∷ []) []) (sym p.1) refl)
+      | inr p ↦ (let r = p.2 seat.1 seat.3 in
+          let y = instance_of d in
+          Queueing.queued-at offer agrees plan until firsts bs h steps at d first before idle a ea h' cs q again room
+          at.ahead (Queueing.goes-behind offer agrees plan until firsts bs h steps at d first before idle a ea p.0) (Queueing.runs-behind offer agrees plan until firsts bs h steps at d first before idle a ea p.0)
+          (with_last seat.1 y) (ap (λ (rs : List RingValue). slice_get rs d.place) r.1 ∙ set-here h.rings d.place (with_last seat.1 y) (let n = at.sized.rings in let l = low in omega (arith, l, n)))
+          (λ i n. ap (λ (rs : List RingValue). slice_get rs i) r.1 ∙ set-other h.rings d.place i (with_last seat.1 y) n)
+          (ap (λ (rs : List RingValue). length rs) r.1 ∙ length-set h.rings d.place (with_last seat.1 y) ∙ at.sized.rings)
+          (held-queued until steps d.offer y a (next_at h.next d.place) (answer_of offer until seat.0) seat.1 refl refl refl (Queueing.sent-few offer agrees plan until firsts bs h steps at d first before idle a ea p.0) seat.4.held after) refl
+          (still-awaited p.0 p.1))
+    ]
+
+  -- ---- faults
+
+  pub after-disobeys : (n : ℕ) (failed : Bool) (o : Offer) → n ≡ suc (get_or h.queued d.place 0) → answer_of offer until seat.0 ≡ Some o → obeys a.stream (Some d.offer) o ≡ false →
+      IsCause plan actors (length plan.streams) until failed (DisobeysAt d.place n) × IsPartialPlay (ticks_of plan.rate) actors until (steps ++ x ∷ [])
+  after-disobeys n failed o e f g =
+      let v = answered until (offer seat.0 0) o f in
+      let m : n ≡ suc (queues a.stream.id steps) = e ∙ ap suc seat.4.count in
+      let w : a.offer n ≡ Some o = ap a.offer (let z : n ≡ suc (queues a.stream.id steps + 0) = omega (arith, m) in z) ∙ sym (seat.4.rest 0) ∙ v.0 in
+      let b : answer_before a n ≡ Some d.offer = ap (answer_before a) m ∙ (next-is until steps (length steps) a d.offer (Queueing.is-next offer agrees plan until firsts bs h steps at d first before idle a ea)).0 in
+      ((a, ea, record { offer = o; answered = w; within = v.1; breaks = ap (λ p. obeys a.stream p o) b ∙ g }), partial-after)
+
+  module _ (full : IsFull h.rings h.joined d.place) where
+    abbrev after-steps : List Step
+    after-steps = steps ++ x ∷ []
+
+    too-many : length seat.1.waiting < queues a.stream.id after-steps - starts a.stream.id after-steps
+    too-many =
+        let c = Places.raised-by a.stream.id steps d.offer in
+        let s = count-kept (is_start a.stream.id) steps x refl in
+        let n = seat.4.held.count in
+        let f = Queueing.sent-few offer agrees plan until firsts bs h steps at d first before idle a ea full.0 in
+        omega (arith, c, s, n, f)
+
+    most-full : most_of a.stream ≤ length seat.1.waiting
+    most-full = subst (λ n. n ≤ length seat.1.waiting) seat.4.most (full.1 seat.1 seat.3)
+
+    stream-here : slice_get plan.streams d.place ≡ Some a.stream
+    stream-here = Places.stream-of offer agrees plan until firsts bs h steps at d.place a ea
+
+    -- a PDO's ring is never full
+    not-pdo : length plan.ids ≤ d.place
+    not-pdo = elim (cases_lt d.place (length plan.ids)) [
+      | inr l ↦ l
+      | inl l ↦ (let id : a.stream.id ≡ _ = ap (λ o. option_map_or (λ s. s.id) o 0) (sym stream-here) ∙ at.planned.its d.place l in
+          let least = at.planned.assigned.least d.place l in
+          let greatest = at.planned.assigned.greatest d.place l in
+          let dl = at.planned.on_time.deadlines d.place l in
+          let e : a.stream.deadline ≡ Some dl.0 = subst (λ o. option_and_then (λ (s : Stream). s.deadline) o ≡ Some dl.0) stream-here dl.1 in
+          let m = most-pdo a.stream dl.0 (pdo-range a.stream (omega (arith, id, least)) (omega (arith, id, greatest))) e in
+          let w = few-wait plan at.planned.on_time actors (Places.streams-same offer agrees plan until firsts bs h steps at) until after-steps partial-after a.stream (d.place, l, stream-here) dl.0 e in
+          let t = too-many in let f = most-full in absurd (omega (arith, m, w, t, f)))
+    ]
+
+    is-fixed : most_of a.stream ≡ 64
+    is-fixed = most-fixed a.stream (pdo-outside a.stream
+        (subst (λ o. (option_map_or (λ s. s.id) o 0 < 385) ⊎ (1407 < option_map_or (λ s. s.id) o 0)) stream-here (at.planned.outside d.place not-pdo low)))
+
+    pub after-full : (failed : Bool) → IsCause plan actors (length plan.streams) until failed (Backlog d.id)
+    after-full failed = (
+      (d.place, not-pdo, (a.stream, stream-here, sym its)),
+      record {
+        steps = after-steps;
+        partial = partial-after;
+        queued = ap (is_queue d.id) (last-one steps x) ∙ eq-true a.stream.id d.id (sym its);
+        too_many = (let t = too-many in let f = most-full in let m = is-fixed in
+            subst (λ k. 64 < queues k after-steps - starts k after-steps) (sym its) (omega (arith, t, f, m)));
+      },
+    )

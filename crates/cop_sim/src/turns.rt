@@ -1,0 +1,220 @@
+//! The simulator's turns, each of which takes a step.
+
+ghost use Rattle.std.specs.Prelude.{◌≡◌, ℕ, ◌-◌, ◌≤◌, ◌<◌, ◌^◌, List, true, false, Some, None, length, slice_get, slice_set, OnOk, OnErr, IfErr};
+ghost use Rattle.cop_bus.specs.Rings.{RingValue};
+ghost use Rattle.cop_bus.specs.declared.steps.Step.{Step};
+ghost use Rattle.cop_bus.specs.declared.steps.Step.TheVariants as steps;
+ghost use Rattle.cop_sim.specs.Play.{queued_at, queue_step, obeys};
+ghost use Rattle.cop_sim.specs.declared.behaviours.Offer.{Offer};
+ghost use Rattle.cop_rta.specs.declared.streams.Stream.{Stream};
+ghost use Rattle.cop_sim.specs.Seats.{next_at};
+ghost use Rattle.cop_sim.specs.Stages.{at_hand, AreSized, instance_of, IsPut, IsFull, IsQueued, QueueFault, IsStarted, without_first, IsAt, IsTurned};
+ghost use Rattle.cop_sim.specs.declared.faults.SimFault.TheVariants as faults;
+
+use crate::behaviours::{Behaviour, Offer};
+use crate::choosing::{Sent, choose};
+use crate::due::{Due, first_due};
+use crate::faults::SimFault;
+use crate::playing::{Event, hand, next_event};
+use crate::seats::ask;
+use crate::sinks::Sink;
+use crate::stages::Stage;
+use cop_bus::{Full, Instance, Ring, Step, any_waits, queue};
+use cop_plan::Plan;
+use cop_rta::Stream;
+
+/// The transfer that runs ends.
+pub(crate) fn end_transfer<S: Sink>(
+    stage: &mut Stage,
+    at: u64,
+    id: u16,
+    sink: &mut S,
+) -> Result<(), SimFault>
+    requires { S.has_failed sink.old ≡ false }
+    ensures stage { OnOk result (at_hand stage.new ≡ record (at_hand stage.old) { running = None; now = at }) }
+    ensures taken { OnOk result (S.takes sink.old (steps.End at id) sink.new) }
+    ensures works { OnOk result (S.has_failed sink.new ≡ false) }
+    ensures fault { IfErr result (λ fault. fault ≡ faults.Sink) }
+    ensures failed { OnErr result (S.has_failed sink.new ≡ true) }
+{
+    hand(sink, Step::End { at, id })?;
+    stage.running = None;
+    stage.now = at;
+    Ok(())
+}
+
+// Lets an instance wait in the ring of its place, unless it is the joiner's that was sent.
+fn put(
+    rings: &mut Vec<Ring>,
+    joined: &mut Option<usize>,
+    place: usize,
+    instance: Instance,
+) -> Result<(), Full>
+    requires { place < length rings.old.items }
+    ensures put { OnOk result (IsPut rings.old.items joined.old place instance rings.new.items joined.new) }
+    ensures full { OnErr result (IsFull rings.old.items joined.old place) }
+{
+    if *joined == Some(place) {
+        *joined = None;
+        return Ok(());
+    }
+    queue(rings, place, instance)
+}
+
+// The instance of an offer, which is queued by the end.
+fn instance_of(due: &Due) -> Instance
+    ensures { (until : ℕ) → until < 2 ^ 64 → queued_at due.now.offer ≤ until → result ≡ instance_of due.now }
+{
+    let Offer {
+        event,
+        delay,
+        frame,
+    } = due.offer;
+    Instance {
+        at: event.saturating_add(delay),
+        id: due.id,
+        event,
+        frame,
+    }
+}
+
+fn queue_step(instance: &Instance) -> Step
+    ensures { result ≡ steps.Queue instance.now.at instance.now.id instance.now.event instance.now.frame }
+{
+    Step::Queue {
+        at: instance.at,
+        id: instance.id,
+        event: instance.event,
+        frame: instance.frame,
+    }
+}
+
+/// The offer at hand of a stream is queued, and its behaviour is asked for the next.
+pub(crate) fn queue_offer<B: Behaviour, S: Sink>(
+    streams: &[Stream],
+    until: u64,
+    behaviours: &mut Vec<B>,
+    stage: &mut Stage,
+    due: Due,
+    sink: &mut S,
+) -> Result<(), SimFault>
+    requires sized { AreSized (length streams.now) (at_hand stage.old) }
+    requires behaviours { length behaviours.old.items ≡ length streams.now }
+    requires place { due.place < length streams.now }
+    requires works { S.has_failed sink.old ≡ false }
+    ensures queued { OnOk result (IsQueued B.offer B.agrees until due (at_hand stage.old) (at_hand stage.new) behaviours.old.items behaviours.new.items) }
+    ensures obeys { OnOk result ((o : Offer) (k : Stream) → next_at stage.new.next.items due.place ≡ Some o → slice_get streams.now due.place ≡ Some k → obeys k (Some due.offer) o ≡ true) }
+    ensures taken { OnOk result (queued_at due.offer ≤ until → S.takes sink.old (queue_step due.id due.offer) sink.new) }
+    ensures works { OnOk result (S.has_failed sink.new ≡ false) }
+    ensures fault { IfErr result (λ fault. QueueFault B.offer S.takes until streams.now due (at_hand stage.old) behaviours.old.items sink.old sink.new fault) }
+    ensures failed { IfErr result (λ fault. fault ≡ faults.Sink → S.has_failed sink.new ≡ true) }
+{
+    let place = due.place;
+    let instance = instance_of(&due);
+    if put(&mut stage.rings, &mut stage.joined, place, instance).is_err() {
+        return Err(SimFault::Backlog { id: due.id });
+    }
+    hand(sink, queue_step(&instance))?;
+    stage.now = instance.at;
+    let queued = stage.queued[place].saturating_add(1);
+    stage.queued[place] = queued;
+    match ask(behaviours, place, &streams[place], Some(due.offer), until) {
+        Ok(offer) => {
+            stage.next[place] = offer;
+            Ok(())
+        }
+        Err(_) => Err(SimFault::Disobeys {
+            stream: place,
+            instance: queued,
+        }),
+    }
+}
+
+// Takes the first instance of a place out of its ring.
+fn send(rings: &mut Vec<Ring>, place: usize) -> Option<Instance>
+    requires { place < length rings.old.items }
+    ensures value { (r : RingValue) → slice_get rings.old.items place ≡ Some r → result ≡ slice_get r.waiting 0 }
+    ensures rest { (r : RingValue) → slice_get rings.old.items place ≡ Some r → rings.new.items ≡ slice_set rings.old.items place (without_first r) }
+    ensures count { length rings.new.items ≡ length rings.old.items }
+{
+    rings[place].take()
+}
+
+// The length of a joiner's frame.
+fn bits_of(offer: Option<Offer>) -> u32
+    ensures { (o : Offer) → offer ≡ Some o → result ≡ o.frame.bits }
+{
+    match offer {
+        Some(offer) => offer.frame.bits,
+        None => 0,
+    }
+}
+
+/// The transfer of a stream's first instance that waits starts, or else that of its next offer, which joins.
+pub(crate) fn start_transfer<S: Sink>(
+    stage: &mut Stage,
+    ticks: u32,
+    sent: Sent,
+    sink: &mut S,
+) -> Result<(), SimFault>
+    requires rings { sent.place < length stage.old.rings.items }
+    requires next { sent.place < length stage.old.next.items }
+    requires early { stage.old.now ≤ 4000000000 }
+    requires works { S.has_failed sink.old ≡ false }
+    ensures started { OnOk result (IsStarted ticks sent (at_hand stage.old) (at_hand stage.new)) }
+    ensures taken { OnOk result (S.takes sink.old (steps.Start stage.old.now sent.id) sink.new) }
+    ensures works { OnOk result (S.has_failed sink.new ≡ false) }
+    ensures fault { IfErr result (λ fault. fault ≡ faults.Sink) }
+    ensures failed { OnErr result (S.has_failed sink.new ≡ true) }
+{
+    let place = sent.place;
+    let now = stage.now;
+    hand(
+        sink,
+        Step::Start {
+            at: now,
+            id: sent.id,
+        },
+    )?;
+    let bits = match send(&mut stage.rings, place) {
+        Some(instance) => instance.frame.bits,
+        None => {
+            stage.joined = Some(place);
+            bits_of(stage.next[place])
+        }
+    };
+    stage.running = Some((now + u64::from(bits) * u64::from(ticks), sent.id));
+    Ok(())
+}
+
+/// One turn: the next step is taken, and `false` says that none is left.
+pub(crate) fn turn<B: Behaviour, S: Sink>(
+    plan: &Plan,
+    until: u64,
+    behaviours: &mut Vec<B>,
+    stage: &mut Stage,
+    sink: &mut S,
+) -> Result<bool, SimFault>
+    requires sized { AreSized (length plan.now.streams) (at_hand stage.old) }
+    requires behaviours { length behaviours.old.items ≡ length plan.now.streams }
+    requires early { stage.old.now ≤ 4000000000 }
+    requires works { S.has_failed sink.old ≡ false }
+    ensures works { OnOk result (S.has_failed sink.new ≡ false) }
+    ensures turned { (firsts : List _) (steps : List Step) → IsAt B.offer B.agrees plan.now until firsts behaviours.old.items (at_hand stage.old) steps → length steps < 2 ^ 64 - 1
+        → IsTurned B.offer B.agrees S.takes plan.now until firsts behaviours.new.items (at_hand stage.new) (S.has_failed sink.new) sink.old sink.new steps result }
+{
+    let streams = plan.streams().streams();
+    let ticks = plan.rate().ticks_per_bit();
+    let now = stage.now;
+    let first = first_due(streams, &stage.next);
+    match next_event(stage.running, first, any_waits(&stage.rings), now, until) {
+        Event::End { at, id } => end_transfer(stage, at, id, sink)?,
+        Event::Queue { due } => queue_offer(streams, until, behaviours, stage, due, sink)?,
+        Event::Start => match choose(streams, &stage.next, &stage.rings, behaviours, ticks, now) {
+            Some(sent) => start_transfer(stage, ticks, sent, sink)?,
+            None => return Ok(false),
+        },
+        Event::Nothing => return Ok(false),
+    }
+    Ok(true)
+}
