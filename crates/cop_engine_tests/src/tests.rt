@@ -1,4 +1,6 @@
-use cop_engine::{Fault, Files, check_bytes, plan_bytes, read_all, status, test_bytes};
+use cop_engine::{
+    Fault, Files, check_bytes, judge_bytes, plan_bytes, read_all, status, test_bytes,
+};
 use cop_frame::Rate;
 use std::alloc::{AllocError, Global};
 use std::io;
@@ -361,6 +363,54 @@ fn refusal_files_are_refused(rt: HostRuntime) -> Result<(), Fail> {
         let (refusals, number, place) = *case;
         let found = checked(rt.alloc(), refusals);
         assert_eq!(rt; refused(found)?, Some((number, place)));
+    }
+    Ok(())
+}
+
+/// A run of the valve's plan: the heartbeat, then EMCY, then the PDO, which ends at its deadline but for one tick.
+const VALVE_TRACE: &[u8] = b"kind,moment,id,event,bits,data
+queue,0,0x705,0,65,05
+start,0,0x705,,,
+queue,1,0x85,1,135,0000000000000000
+queue,1,0x181,1,135,0000000000000000
+end,520,0x705,,,
+start,520,0x85,,,
+end,1600,0x85,,,
+start,1600,0x181,,,
+end,2680,0x181,,,
+until,4000,0,,,
+";
+
+#[test]
+fn a_trace_of_the_valve_is_on_time(rt: HostRuntime) -> Result<(), Fail> {
+    let files = eds_files(rt.alloc(), UNIT)?;
+    let text = judge_bytes(rt.alloc(), VALVE, ONE_PDO, &files, VALVE_TRACE)?;
+    assert_eq!(rt; text.as_slice(), b"transfers 3\non time\n".as_slice());
+    Ok(())
+}
+
+/// Traces that are refused, the number and the place.
+const BROKEN_TRACES: &[(&[u8], u8, u64)] = &[
+    (b"kind\n", 69, 0),
+    (
+        b"kind,moment,id,event,bits,data\nqueue,0,0x705,0,65,05\n",
+        69,
+        2,
+    ),
+    (
+        b"kind,moment,id,event,bits,data\nqueue,0,0x705,0,65,05\nuntil,4000,0,,,\n",
+        68,
+        2,
+    ),
+];
+
+#[test]
+fn traces_are_refused(rt: HostRuntime) -> Result<(), Fail> {
+    let files = eds_files(rt.alloc(), UNIT)?;
+    for case in BROKEN_TRACES {
+        let (trace, number, place) = *case;
+        let judged = judge_bytes(rt.alloc(), VALVE, ONE_PDO, &files, trace);
+        assert_eq!(rt; refused(judged)?, Some((number, place)));
     }
     Ok(())
 }
