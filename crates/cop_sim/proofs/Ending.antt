@@ -1,18 +1,18 @@
 -- A transfer ends, and what is at hand after it.
-use Rattle.std.proofs.Common.{◌≡◌, ℕ, ◌+◌, ◌≤◌, ◌<◌, ◌⊎◌, inl, inr, List, [], ◌∷◌, ◌++◌, length, get_or, slice_get, Option, Some, None, Contains, Bool, true, false, refl, sym, ap, ◌∙◌, subst, arith, suc}
+use Rattle.std.proofs.Common.{◌≡◌, ℕ, ◌+◌, ◌≤◌, List, [], ◌∷◌, ◌++◌, length, get_or, Option, Some, None, Contains, Bool, false, refl, sym, ap, ◌∙◌, subst, arith, suc}
 use Rattle.cop_frame.specs.declared.rates.Rate.{Rate}
 use Rattle.cop_frame.specs.Rate.{ticks_of}
 use Rattle.cop_rta.proofs.QueueLemmas.{ticks_pos}
 use Rattle.cop_bus.specs.declared.steps.Step.{Step}
 use Rattle.cop_bus.specs.declared.steps.Step.TheVariants.{End}
-use Rattle.cop_bus.specs.Trace.{is_queue, is_start, running, now_of}
+use Rattle.cop_bus.specs.Trace.{is_queue, is_start, running}
 use Rattle.cop_bus.specs.Rings.{RingValue}
 use Rattle.cop_bus.proofs.Appended.{now-one}
 use Rattle.cop_plan.specs.Values.{PlanValue}
 use Rattle.cop_sim.specs.declared.behaviours.Offer.{Offer}
 use Rattle.cop_sim.specs.Play.{Actor, actors_of, queued_at, queue_step, next_offer, obeys, answer_before}
 use Rattle.cop_sim.specs.Seats.{next_at}
-use Rattle.cop_sim.specs.Stages.{AtHand, AreSized, queues, IsHeld, IsSeat, flipped, IsAwaited, IsAt}
+use Rattle.cop_sim.specs.Stages.{AtHand, IsHeld, IsSeat, flipped, IsAwaited, IsAt}
 use Rattle.cop_sim.proofs.Kept.{count-kept}
 use Rattle.cop_sim.proofs.Goes as Goes
 use Rattle.cop_sim.proofs.Held.{held-other}

@@ -1,10 +1,10 @@
 -- No event is left: the steps are the play.
-use Rattle.std.proofs.Common.{◌≡◌, ℕ, ◌≤◌, ◌<◌, ◌⊎◌, inl, inr, List, [], ◌∷◌, ◌++◌, length, slice_get, Option, Some, None, Contains, Bool, true, false, refl, sym, ap, ◌∙◌, subst, arith, suc}
+use Rattle.std.proofs.Common.{◌≡◌, ℕ, ◌≤◌, ◌<◌, ◌⊎◌, inl, inr, List, [], ◌∷◌, ◌++◌, length, Option, Some, None, Contains, Bool, true, refl, sym, ap, ◌∙◌, subst, arith, suc}
 use Rattle.std.specs.Option.{ForSome}
 use Rattle.cop_frame.specs.Rate.{ticks_of}
 use Rattle.cop_bus.specs.declared.steps.Step.{Step}
-use Rattle.cop_bus.specs.Trace.{running, now_of}
-use Rattle.cop_bus.specs.Judge.{any_waits, is_unfinished, is_not_idle}
+use Rattle.cop_bus.specs.Trace.{running}
+use Rattle.cop_bus.specs.Judge.{is_unfinished, is_not_idle}
 use Rattle.cop_bus.specs.Rings.{any_in}
 use Rattle.cop_bus.proofs.Work.{lt-true}
 use Rattle.cop_plan.specs.Values.{PlanValue}
@@ -12,9 +12,9 @@ use Rattle.cop_sim.specs.declared.behaviours.Offer.{Offer}
 use Rattle.cop_sim.specs.declared.due.Due.{Due}
 use Rattle.cop_sim.specs.declared.playing.Event.TheVariants.{Nothing}
 use Rattle.cop_sim.specs.Events.{IsNextEvent}
-use Rattle.cop_sim.specs.Play.{Actor, actors_of, streams_of, queued_at, queue_step, next_offer, IsPlay}
+use Rattle.cop_sim.specs.Play.{Actor, actors_of, streams_of, queued_at, next_offer, IsPlay}
 use Rattle.cop_sim.specs.Going.{Goes}
-use Rattle.cop_sim.specs.Seats.{next_at, IsDueSoFar}
+use Rattle.cop_sim.specs.Seats.{IsDueSoFar}
 use Rattle.cop_sim.specs.Stages.{AtHand, flipped, IsAwaited, IsAt}
 use Rattle.cop_sim.proofs.Kept.{next-is}
 use Rattle.cop_sim.proofs.Plays.{played}

@@ -1,19 +1,18 @@
 -- The steps of a play, one after another: each leaves a partial play that goes on.
-use Rattle.std.proofs.Common.{◌≡◌, ℕ, ◌+◌, ◌-◌, ◌≤◌, ◌<◌, ◌⊎◌, inl, inr, List, [], ◌∷◌, ◌++◌, length, refl, sym, ◌∙◌, ap, subst, arith, suc, zero, true, false, ◌&&◌, ◌||◌, nat_lt, nat_le}
-use Rattle.std.specs.Prelude.{None, Some, is_some, Contains, ◌==◌}
+use Rattle.std.proofs.Common.{◌≡◌, ℕ, ◌+◌, ◌-◌, ◌≤◌, ◌<◌, ◌⊎◌, inl, inr, List, [], ◌∷◌, ◌++◌, length, refl, sym, ◌∙◌, ap, subst, arith, suc, zero, true, ◌&&◌, ◌||◌, nat_lt, nat_le}
+use Rattle.std.specs.Prelude.{None, Some, Contains, ◌==◌}
 use Rattle.std.proofs.lemmas.Bool.{cases_lt}
 use Rattle.cop_bus.specs.declared.steps.Step.{Step}
-use Rattle.cop_bus.specs.declared.steps.Content.{Content}
 use Rattle.cop_bus.specs.declared.steps.Step.TheVariants.{Queue, End}
-use Rattle.cop_bus.specs.Trace.{is_queue, is_start, count_to, step_at, running, at_of, rank_of, now_of, last_of}
-use Rattle.cop_bus.specs.Judge.{stream_of, last_event, is_in_order, not_before, fits_transfer, is_not_idle, broken_by}
+use Rattle.cop_bus.specs.Trace.{is_queue, is_start, count_to, step_at, running, at_of, rank_of, now_of}
+use Rattle.cop_bus.specs.Judge.{stream_of, last_event, is_in_order, not_before, fits_transfer, is_not_idle}
 use Rattle.cop_bus.proofs.Demand.{and-left, and-right, and-true}
 use Rattle.cop_bus.proofs.Work.{true-le, le-true, lt-true, true-lt, true-eq, eq-true}
 use Rattle.cop_bus.proofs.StepLemmas.{bool_cases}
 use Rattle.cop_bus.proofs.Verdict.{Keeps, keeps}
 use Rattle.cop_bus.proofs.Found.{or-left, or-right}
 use Rattle.cop_sim.specs.declared.behaviours.Offer.{Offer}
-use Rattle.cop_sim.specs.Play.{Actor, streams_of, queued_at, queue_step, next_offer, QueuesItsOffers, SendsTheLowest, QueuesRise, StartsBefore, IsSentAhead, obeys, answer_before, event_of}
+use Rattle.cop_sim.specs.Play.{Actor, streams_of, queued_at, queue_step, next_offer, obeys, event_of}
 use Rattle.cop_bus.proofs.Appended.{step_at-here, length-one, now-one, last_event-here}
 use Rattle.cop_sim.specs.Going.{IsNext, queued_ahead, Goes}
 use Rattle.cop_sim.proofs.Going.{FindsTheSame, finds-more, fine-one, running-kept, running-one, keeps-none, order-more, end-period, end-time, end-length, runs-idle}

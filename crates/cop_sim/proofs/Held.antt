@@ -4,7 +4,7 @@ use Rattle.std.specs.Prelude.{Option, None, Some, slice_get}
 use Rattle.cop_bus.specs.declared.steps.Step.{Step}
 use Rattle.cop_bus.specs.declared.steps.Step.TheVariants.{Queue, Start}
 use Rattle.cop_bus.specs.declared.bus.Instance.{Instance}
-use Rattle.cop_bus.specs.Trace.{is_queue, is_start, count_to, nth_that, bits_of}
+use Rattle.cop_bus.specs.Trace.{is_queue, is_start, nth_that, bits_of}
 use Rattle.cop_bus.specs.Judge.{waits_after}
 use Rattle.cop_bus.proofs.Work.{true-lt, lt-true, eq-true}
 use Rattle.cop_bus.proofs.StepLemmas.{nth_that-at, bool_cases}

@@ -1,12 +1,12 @@
 -- An offer is queued, and what is at hand after it.
-use Rattle.std.proofs.Common.{◌≡◌, ◌≢◌, ℕ, zero, ◌+◌, ◌-◌, ◌≤◌, ◌<◌, ◌^◌, ◌⊎◌, inl, inr, List, [], ◌∷◌, ◌++◌, length, get_or, slice_get, slice_set, Option, Some, None, Contains, Bool, true, false, not, nat_le, refl, sym, ap, ◌∙◌, subst, arith, suc, length-append}
+use Rattle.std.proofs.Common.{◌≡◌, ◌≢◌, ℕ, zero, ◌+◌, ◌-◌, ◌≤◌, ◌<◌, ◌^◌, ◌⊎◌, inl, inr, List, [], ◌∷◌, ◌++◌, length, get_or, slice_get, slice_set, Option, Some, None, Contains, Bool, true, false, not, nat_le, refl, sym, ap, ◌∙◌, subst, arith, suc}
 use Rattle.std.specs.Option.{ForSome, option_and_then}
 use Rattle.std.proofs.lemmas.Bool.{cases_eq}
 use Rattle.std.proofs.lemmas.List.{length-set, get_or-set_same, get_or-set_other}
 use Rattle.cop_frame.specs.Rate.{ticks_of}
 use Rattle.cop_rta.specs.declared.streams.Stream.{Stream}
 use Rattle.cop_bus.specs.declared.steps.Step.{Step}
-use Rattle.cop_bus.specs.Trace.{is_queue, is_start, running, now_of, at_of, step_at}
+use Rattle.cop_bus.specs.Trace.{is_queue, running, now_of, at_of, step_at}
 use Rattle.cop_bus.specs.Judge.{stream_of, any_waits, is_not_idle}
 use Rattle.cop_bus.specs.Rings.{RingValue, any_in}
 use Rattle.cop_bus.proofs.Work.{eq-true, le-true}
@@ -16,10 +16,10 @@ use Rattle.cop_bus.proofs.Appended.{now-one}
 use Rattle.cop_plan.specs.Values.{PlanValue}
 use Rattle.cop_sim.specs.declared.behaviours.Offer.{Offer}
 use Rattle.cop_sim.specs.declared.due.Due.{Due}
-use Rattle.cop_sim.specs.Play.{Actor, actors_of, streams_of, queued_at, queue_step, by_end, next_offer, obeys, answer_before, IsSentAhead}
+use Rattle.cop_sim.specs.Play.{Actor, actors_of, streams_of, queued_at, queue_step, by_end, next_offer, obeys, answer_before}
 use Rattle.cop_sim.specs.Going.{Goes, queued_ahead}
 use Rattle.cop_sim.specs.Seats.{next_at, answer_of, IsAsked, IsDueTo}
-use Rattle.cop_sim.specs.Stages.{AtHand, AreSized, queues, starts, IsHeld, IsSeat, flipped, IsAwaited, IsAt, instance_of, with_last, IsQueued}
+use Rattle.cop_sim.specs.Stages.{AtHand, queues, starts, IsHeld, IsSeat, flipped, IsAwaited, IsAt, IsQueued}
 use Rattle.cop_sim.proofs.Kept.{count-kept, count-raised, next-is, before-one}
 use Rattle.cop_sim.proofs.Going.{FindsTheSame, running-one}
 use Rattle.cop_sim.proofs.Queued as Queued

@@ -1,5 +1,5 @@
 -- A queue step of the simulator, and why there is none.
-use Rattle.std.proofs.Common.{◌≡◌, ◌≢◌, ℕ, ◌+◌, ◌-◌, ◌≤◌, ◌<◌, ◌^◌, ◌⊎◌, inl, inr, List, [], ◌∷◌, ◌++◌, length, get_or, slice_get, slice_set, Option, Some, None, Bool, true, false, ◌&&◌, ◌==◌, nat_le, refl, sym, ap, ◌∙◌, subst, arith, suc}
+use Rattle.std.proofs.Common.{◌≡◌, ◌≢◌, ℕ, ◌+◌, ◌-◌, ◌≤◌, ◌<◌, ◌^◌, ◌⊎◌, inl, inr, List, [], ◌∷◌, ◌++◌, length, get_or, slice_get, Option, Some, None, Bool, true, false, nat_le, refl, sym, ap, ◌∙◌, subst, arith, suc}
 use Rattle.std.specs.Int.{div_ceil}
 use Rattle.std.specs.Option.{ForSome, option_and_then, option_map_or}
 use Rattle.std.proofs.lemmas.Bool.{cases_eq, cases_lt}
@@ -17,10 +17,10 @@ use Rattle.cop_plan.specs.Values.{PlanValue}
 use Rattle.cop_sim.specs.declared.behaviours.Offer.{Offer}
 use Rattle.cop_sim.specs.declared.due.Due.{Due}
 use Rattle.cop_sim.specs.declared.faults.SimFault.TheVariants.{Disobeys as DisobeysAt, Backlog}
-use Rattle.cop_sim.specs.Play.{Actor, actors_of, queued_at, queue_step, by_end, next_offer, obeys, IsSentAhead, IsPartialPlay, Disobeys, IsBacklog, answer_before}
+use Rattle.cop_sim.specs.Play.{Actor, actors_of, queued_at, queue_step, by_end, next_offer, obeys, IsSentAhead, IsPartialPlay, answer_before}
 use Rattle.cop_sim.specs.Seats.{next_at, answer_of, IsDueTo}
 use Rattle.cop_sim.specs.Sinks.{IsCause}
-use Rattle.cop_sim.specs.Stages.{AtHand, IsSeat, queues, starts, IsAwaited, IsAt, instance_of, with_last, IsPut, IsFull, IsQueued}
+use Rattle.cop_sim.specs.Stages.{AtHand, IsSeat, queues, starts, IsAwaited, IsAt, instance_of, with_last, IsFull, IsQueued}
 use Rattle.cop_sim.proofs.Bounded.{few-wait}
 use Rattle.cop_sim.proofs.Held.{held-joined, held-queued}
 use Rattle.cop_sim.proofs.Kept.{count-kept, next-is, by_end-is}

@@ -1,5 +1,5 @@
 -- A transfer starts, and what is at hand after it.
-use Rattle.std.proofs.Common.{◌≡◌, ◌≢◌, ℕ, ◌+◌, ◌-◌, ◌*◌, ◌≤◌, ◌<◌, ◌⊎◌, inl, inr, List, [], ◌∷◌, ◌++◌, length, drop, get_or, slice_get, slice_set, Option, Some, None, Contains, All, Bool, true, false, refl, sym, ap, ◌∙◌, subst, arith, suc}
+use Rattle.std.proofs.Common.{◌≡◌, ℕ, ◌+◌, ◌*◌, ◌≤◌, ◌<◌, ◌⊎◌, inl, inr, List, [], ◌∷◌, ◌++◌, length, drop, get_or, slice_get, slice_set, Option, Some, None, Contains, All, Bool, true, false, refl, sym, ap, ◌∙◌, subst, arith, suc}
 use Rattle.std.specs.Option.{ForSome}
 use Rattle.std.proofs.lemmas.Bool.{cases_eq}
 use Rattle.std.proofs.lemmas.List.{length-set}
@@ -9,8 +9,8 @@ use Rattle.cop_frame.specs.Rate.{ticks_of}
 use Rattle.cop_bus.specs.declared.steps.Step.{Step}
 use Rattle.cop_bus.specs.declared.steps.Step.TheVariants.{Start, Queue}
 use Rattle.cop_bus.specs.declared.bus.Instance.{Instance}
-use Rattle.cop_bus.specs.Trace.{is_queue, is_start, count_to, nth_that, running, now_of, bits_of}
-use Rattle.cop_bus.specs.Judge.{stream_of, any_waits, waits_after}
+use Rattle.cop_bus.specs.Trace.{is_queue, is_start, count_to, nth_that, running, bits_of}
+use Rattle.cop_bus.specs.Judge.{stream_of, any_waits}
 use Rattle.cop_bus.specs.Rings.{RingValue, any_in}
 use Rattle.cop_bus.proofs.Work.{eq-true}
 use Rattle.cop_bus.proofs.Grows.{count_to-more, nth_that-more}
@@ -21,8 +21,8 @@ use Rattle.cop_sim.specs.declared.due.Due.{Due}
 use Rattle.cop_sim.specs.declared.choosing.Sent.{Sent}
 use Rattle.cop_sim.specs.Play.{Actor, actors_of, streams_of, queued_at, queue_step, next_offer, Competes, Joins, IsSentAhead}
 use Rattle.cop_sim.specs.Going.{Goes}
-use Rattle.cop_sim.specs.Seats.{next_at, IsDueSoFar, IsChosen, IsPlaceOf}
-use Rattle.cop_sim.specs.Stages.{AtHand, queues, starts, IsHeld, IsSeat, flipped, IsAwaited, IsAt, without_first, IsStarted}
+use Rattle.cop_sim.specs.Seats.{next_at, IsDueSoFar, IsChosen}
+use Rattle.cop_sim.specs.Stages.{AtHand, starts, IsHeld, IsSeat, flipped, IsAwaited, IsAt, without_first, IsStarted}
 use Rattle.cop_sim.proofs.Kept.{count-kept, count-raised}
 use Rattle.cop_sim.proofs.Going.{finds-more, running-one}
 use Rattle.cop_sim.proofs.Held.{held-waits, held-none, held-started, held-joiner}

@@ -1,5 +1,5 @@
 -- What a list of steps has taken.
-use Rattle.std.proofs.Common.{◌≡◌, List, [], ◌∷◌, ◌++◌, refl, sym, ◌∙◌, ap, append_assoc}
+use Rattle.std.proofs.Common.{◌≡◌, List, [], ◌∷◌, ◌++◌, sym, ◌∙◌, ap, append_assoc}
 use Rattle.cop_bus.specs.declared.steps.Step.{Step}
 use Rattle.cop_sim.specs.Sinks.{Took}
 use Rattle.cop_bus.proofs.Grows.{no-more}

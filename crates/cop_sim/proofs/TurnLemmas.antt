@@ -1,5 +1,5 @@
 -- What the parts of a turn change.
-use Rattle.std.proofs.Common.{◌≡◌, ◌≢◌, ℕ, ◌<◌, ◌++◌, ◌∷◌, [], List, length, get_or, slice_get, slice_set, Option, Some, None, Result, Ok, Err, OnOk, IsOk, ◌↔◌, Bool, true, false, refl, sym, ap, ◌∙◌, subst, eq-eqb, rules, inl, inr, arith}
+use Rattle.std.proofs.Common.{◌≡◌, ◌≢◌, ℕ, ◌<◌, List, length, get_or, slice_get, slice_set, Option, Some, None, Result, Ok, Err, OnOk, IsOk, ◌↔◌, true, false, refl, sym, ◌∙◌, subst, eq-eqb, inr}
 use Rattle.std.specs.Option.{ForSome, option_eq}
 use Rattle.std.proofs.lemmas.List.{get_or-set_same}
 use Rattle.std.proofs.lemmas.Option.{get_or_from_slice_get}

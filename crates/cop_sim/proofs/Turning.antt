@@ -1,6 +1,5 @@
 -- Each turn takes one step of the play.
-use Rattle.std.proofs.Common.{◌≡◌, ℕ, zero, ◌+◌, ◌-◌, ◌*◌, ◌≤◌, ◌<◌, ◌^◌, ◌⊎◌, inl, inr, List, [], ◌∷◌, ◌++◌, length, get_or, slice_get, Option, Some, None, Result, Ok, Err, IsErrAnd, Bool, true, false, nat_lt, cond, refl, sym, ap, ◌∙◌, subst, arith, suc}
-use Rattle.std.specs.Option.{ForSome}
+use Rattle.std.proofs.Common.{◌≡◌, ℕ, zero, ◌-◌, ◌≤◌, ◌<◌, ◌^◌, inl, inr, List, [], ◌∷◌, ◌++◌, length, get_or, slice_get, Option, Some, None, Result, Ok, Err, IsErrAnd, Bool, true, false, nat_lt, cond, refl, sym, ap, ◌∙◌, subst, arith, suc}
 use Rattle.std.proofs.lemmas.Option.{slice_get_within}
 use Rattle.cop_frame.specs.Rate.{ticks_of}
 use Rattle.cop_rta.specs.declared.streams.Stream.{Stream}
@@ -11,7 +10,6 @@ use Rattle.cop_bus.specs.Rings.{RingValue, any_in}
 use Rattle.cop_bus.proofs.Work.{lt-true, true-lt}
 use Rattle.cop_bus.proofs.Found.{or-left}
 use Rattle.cop_bus.proofs.Accepts.{or_cases}
-use Rattle.cop_bus.proofs.StepLemmas.{bool_cases}
 use Rattle.cop_plan.specs.Values.{PlanValue}
 use Rattle.cop_sim.specs.declared.behaviours.Offer.{Offer}
 use Rattle.cop_sim.specs.declared.due.Due.{Due}
@@ -21,10 +19,10 @@ use Rattle.cop_sim.specs.declared.playing.Event.TheVariants.{End, Queue, Start, 
 use Rattle.cop_sim.specs.declared.faults.SimFault.{SimFault}
 use Rattle.cop_sim.specs.declared.faults.SimFault.TheVariants.{Count, Disobeys as DisobeysAt, Backlog, Sink, Memory}
 use Rattle.cop_sim.specs.Events.{IsNextEvent}
-use Rattle.cop_sim.specs.Play.{Actor, actors_of, queued_at, queue_step, obeys, IsPartialPlay, IsPlay}
+use Rattle.cop_sim.specs.Play.{Actor, actors_of, queued_at, queue_step, obeys, IsPartialPlay}
 use Rattle.cop_sim.specs.Sinks.{IsCause}
 use Rattle.cop_sim.specs.Seats.{next_at, IsDueTo, IsDueSoFar, IsChosen, IsChosenSoFar, IsPlaceOf}
-use Rattle.cop_sim.specs.Stages.{AtHand, queues, IsAt, IsQueued, QueueFault, IsStarted, IsFault, IsTurned}
+use Rattle.cop_sim.specs.Stages.{AtHand, IsAt, IsQueued, QueueFault, IsStarted, IsFault, IsTurned}
 use Rattle.cop_sim.proofs.Plays.{partial}
 use Rattle.cop_sim.proofs.Places as Places
 use Rattle.cop_sim.proofs.Ending.{ended-at}

@@ -1,4 +1,4 @@
-use Rattle.std.proofs.Common.{◌+◌, ◌++◌, ◌∷◌, [], List, Option, sym, subst, arith}
+use Rattle.std.proofs.Common.{◌+◌, List, Option, sym, subst, arith}
 use Rattle.cop_sim.specs.declared.behaviours.Offer.{Offer}
 use Rattle.cop_sim.specs.Stages.{AreFirst}
 use Rattle.cop_sim.proofs.Beginning.{first-more}

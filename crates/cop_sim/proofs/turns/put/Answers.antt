@@ -1,5 +1,4 @@
-use Rattle.std.proofs.Common.{◌≡◌, ◌∙◌, sym, rules, Some, true, false, refl}
-use Rattle.std.specs.Option.{option_eq}
+use Rattle.std.proofs.Common.{◌∙◌, sym}
 use Rattle.cop_sim.proofs.TurnLemmas.{put_ok, not_some}
 use Rattle.cop_sim.proofs.turns.put.Goals as goal
 
