@@ -1,0 +1,5 @@
+//! Tests of `cop_dcf`.
+#![tactic(auto)]
+
+#[cfg(test)]
+mod tests;

@@ -1,0 +1,157 @@
+use cop_dcf::{Setting, settings, write};
+use cop_dict::build;
+use cop_eds::parse;
+use cop_frame::Rate;
+use cop_net::{network, read_nodes, read_pdos};
+use cop_plan::{Outcome, plan};
+use std::alloc::Global;
+use std::test::Fail;
+
+const UNIT: &[u8] =
+    b"[FileInfo]\nFileName=unit.eds\n[DeviceInfo]\nBaudRate_250=1\nBaudRate_500=1\nBaudRate_1000=1\n[MandatoryObjects]\nSupportedObjects=1\n1=0x1000\n[OptionalObjects]\nSupportedObjects=3\n1=0x1017\n2=0x1800\n3=0x1A00\n[ManufacturerObjects]\nSupportedObjects=1\n1=0x2000\n[1000]\nDataType=0x0007\nAccessType=ro\n[1017]\nDataType=0x0006\nAccessType=rw\nDefaultValue=0\n[1800]\nObjectType=0x9\nSubNumber=3\n[1800sub0]\nDataType=0x0005\nAccessType=ro\nDefaultValue=2\n[1800sub1]\nDataType=0x0007\nAccessType=rw\nDefaultValue=$NODEID+0x40000180\n[1800sub2]\nDataType=0x0005\nAccessType=rw\nDefaultValue=255\n[1A00]\nObjectType=0x9\nSubNumber=3\n[1A00sub0]\nDataType=0x0005\nAccessType=ro\nDefaultValue=2\n[1A00sub1]\nDataType=0x0007\nAccessType=ro\nDefaultValue=0x20000120\n[1A00sub2]\nDataType=0x0007\nAccessType=ro\nDefaultValue=0x20000220\n[2000]\nObjectType=0x8\nSubNumber=3\n[2000sub0]\nDataType=0x0005\nAccessType=ro\nDefaultValue=2\n[2000sub1]\nDataType=0x0007\nAccessType=ro\nPDOMapping=1\n[2000sub2]\nDataType=0x0007\nAccessType=ro\nPDOMapping=1\n";
+
+const DCF: &[u8] =
+    b"[FileInfo]\nFileName=unit.eds\nLastEDS=unit.eds\n[DeviceInfo]\nBaudRate_250=1\nBaudRate_500=1\nBaudRate_1000=1\n[MandatoryObjects]\nSupportedObjects=1\n1=0x1000\n[OptionalObjects]\nSupportedObjects=3\n1=0x1017\n2=0x1800\n3=0x1A00\n[ManufacturerObjects]\nSupportedObjects=1\n1=0x2000\n[1000]\nDataType=0x0007\nAccessType=ro\n[1017]\nDataType=0x0006\nAccessType=rw\nDefaultValue=0\nParameterValue=0x0064\n[1800]\nObjectType=0x9\nSubNumber=3\n[1800sub0]\nDataType=0x0005\nAccessType=ro\nDefaultValue=2\n[1800sub1]\nDataType=0x0007\nAccessType=rw\nDefaultValue=$NODEID+0x40000180\nParameterValue=0x40000181\n[1800sub2]\nDataType=0x0005\nAccessType=rw\nDefaultValue=255\n[1A00]\nObjectType=0x9\nSubNumber=3\n[1A00sub0]\nDataType=0x0005\nAccessType=ro\nDefaultValue=2\n[1A00sub1]\nDataType=0x0007\nAccessType=ro\nDefaultValue=0x20000120\n[1A00sub2]\nDataType=0x0007\nAccessType=ro\nDefaultValue=0x20000220\n[2000]\nObjectType=0x8\nSubNumber=3\n[2000sub0]\nDataType=0x0005\nAccessType=ro\nDefaultValue=2\n[2000sub1]\nDataType=0x0007\nAccessType=ro\nPDOMapping=1\n[2000sub2]\nDataType=0x0007\nAccessType=ro\nPDOMapping=1\n[DeviceComissioning]\nNodeID=5\nNodeName=Valve\nBaudrate=500\n";
+
+// What the plan of the valve sets in node 5.
+fn valve_settings(alloc: Global) -> Result<Vec<Setting>, Fail> {
+    let nodes = read_nodes(
+        alloc,
+        b"row,node,name,eds,period,jitter\ndevice,5,Valve,unit.eds,0,0\nemcy,5,,,100000,0\nheartbeat,5,,,100000,0\n",
+    )?;
+    let pdos = read_pdos(
+        alloc,
+        b"node,tpdo,period,jitter,deadline,consumers\n5,1,10000,0,670,\n",
+    )?;
+    let file = (
+        String::from_str(alloc, "unit.eds")?,
+        Vec::from_slice(alloc, UNIT)?,
+    );
+    let valve = network(alloc, &nodes, &pdos, &[file])?;
+    let outcome = plan(alloc, &valve)?;
+    let Outcome::Planned(plan) = outcome else {
+        return Err(Fail::from("no rate passes"));
+    };
+    Ok(settings(alloc, &plan, &valve, 5)?)
+}
+
+fn setting(index: u16, sub: u8, value: u32, bytes: u8) -> Setting {
+    Setting {
+        index,
+        sub,
+        value,
+        bytes,
+    }
+}
+
+#[test]
+fn the_valve_has_three_settings(rt: HostRuntime) -> Result<(), Fail> {
+    let found = valve_settings(rt.alloc())?;
+    assert_eq!(rt;
+        found.as_slice(),
+        [
+            setting(0x1800, 1, 0xC0000185, 4),
+            setting(0x1800, 1, 0x40000181, 4),
+            setting(0x1017, 0, 100, 2),
+        ]
+        .as_slice()
+    );
+    Ok(())
+}
+
+#[test]
+fn the_dcf_of_the_valve(rt: HostRuntime) -> Result<(), Fail> {
+    let alloc = rt.alloc();
+    let found = valve_settings(alloc)?;
+    let eds = parse(alloc, UNIT)?;
+    let dcf = write(alloc, &eds, &found, 5, b"Valve", Rate::Kbit500, b"unit.eds")?;
+    assert_eq!(rt; dcf.as_slice(), DCF);
+    // It is read again, and what is written of it is the same.
+    let again = parse(alloc, &dcf)?;
+    let same = write(
+        alloc,
+        &again,
+        &found,
+        5,
+        b"Valve",
+        Rate::Kbit500,
+        b"unit.eds",
+    )?;
+    assert_eq!(rt; same.as_slice(), DCF);
+    let dict = build(alloc, &again, 5)?;
+    assert_eq!(rt;
+        dict.read(0x1800, 1).ok(),
+        Some([0x81, 1, 0, 0x40].as_slice())
+    );
+    assert_eq!(rt; dict.read(0x1017, 0).ok(), Some([100, 0].as_slice()));
+    Ok(())
+}
+
+// The DCF of a text, for a heartbeat of 100 ms.
+fn dcf_of(alloc: Global, text: &[u8]) -> Result<Vec<u8>, Fail> {
+    let eds = parse(alloc, text)?;
+    let beat = [setting(0x1017, 0, 100, 2)];
+    Ok(write(alloc, &eds, &beat, 5, b"Valve", Rate::Kbit500, b"a.eds")?)
+}
+
+/// The three lists of a text with one object, each line with CR LF, LF or LF as its end.
+const LISTS: &str = "[OptionalObjects]\r\nSupportedObjects=1\n1=0x1017\n";
+
+/// What stands behind the lists in an EDS text, and in its DCF.
+const ENDS: &[(&str, &str)] = &[
+    // The last line has no end, and a line is added after it; both sections are there, in other case.
+    (
+        "[fileinfo]\nlasteds=b\n[DeviceComissioning]\n; c\nNodeID=7\n[1017]\nDataType=6\nAccessType=rw",
+        "[fileinfo]\nLastEDS=a.eds\n[DeviceComissioning]\n; c\nNodeID=5\nNodeName=Valve\r\nBaudrate=500\r\n[1017]\nDataType=6\nAccessType=rw\r\nParameterValue=0x0064\r\n",
+    ),
+    // A replaced line keeps its want of an end; an empty value is a key's line as any other.
+    (
+        "[1017]\nDataType=6\nAccessType=rw\n[FileInfo]\n[DeviceComissioning]\nNodeID=\nNodeName=\nBaudrate=",
+        "[1017]\nDataType=6\nAccessType=rw\nParameterValue=0x0064\r\n[FileInfo]\nLastEDS=a.eds\r\n[DeviceComissioning]\nNodeID=5\nNodeName=Valve\nBaudrate=500",
+    ),
+    // A comment after a section's last key stays behind what is added.
+    (
+        "[1017]\nDataType=6\nAccessType=rw\n; c",
+        "[1017]\nDataType=6\nAccessType=rw\nParameterValue=0x0064\r\n; c\r\n[FileInfo]\r\nLastEDS=a.eds\r\n[DeviceComissioning]\r\nNodeID=5\r\nNodeName=Valve\r\nBaudrate=500\r\n",
+    ),
+];
+
+#[test]
+fn ends_of_lines(rt: HostRuntime) -> Result<(), Fail> {
+    let alloc = rt.alloc();
+    for case in ENDS {
+        let (eds, dcf) = *case;
+        let text = format!(in alloc; "{LISTS}{eds}")?;
+        let wanted = format!(in alloc; "{LISTS}{dcf}")?;
+        assert_eq!(rt;
+            dcf_of(alloc, text.as_bytes())?.as_slice(),
+            wanted.as_bytes()
+        );
+    }
+    Ok(())
+}
+
+/// A text without objects, and its DCF.
+const WITHOUT_OBJECTS: &[(&[u8], &[u8])] = &[
+    // A last line that ends in CR keeps it.
+    (
+        b"[a]\nb=c\r",
+        b"[a]\nb=c\r\r\n[FileInfo]\nLastEDS=a.eds\n[DeviceComissioning]\nNodeID=5\nNodeName=Valve\nBaudrate=500\n",
+    ),
+    (
+        b"",
+        b"[FileInfo]\nLastEDS=a.eds\n[DeviceComissioning]\nNodeID=5\nNodeName=Valve\nBaudrate=500\n",
+    ),
+];
+
+#[test]
+fn texts_without_objects(rt: HostRuntime) -> Result<(), Fail> {
+    let alloc = rt.alloc();
+    for case in WITHOUT_OBJECTS {
+        let (text, wanted) = *case;
+        let eds = parse(alloc, text)?;
+        let dcf = write(alloc, &eds, &[], 5, b"Valve", Rate::Kbit500, b"a.eds")?;
+        assert_eq!(rt; dcf.as_slice(), wanted);
+    }
+    Ok(())
+}
