@@ -11,7 +11,7 @@ pub add_ons-requires : goal.add_ons-requires
 add_ons-requires c =
     let net = c.args.network.now in
     let plan = c.args.plan.now in
-    let small : All (λ id. id < 2048) c.ids.result.now = rw c.ids.ensures (ids_small net.equipment.rates net.set (length net.rows) plan c.requires c.rows.ensures.network.rows.count) in
+    let small : All (λ id. id < 2048) c.ids.result.now = rw c.ids.ensures.ids (ids_small net.equipment.rates net.set (length net.rows) plan c.requires c.rows.ensures.network.rows.count) in
     λ index. noted_small c.identifiers-places.result c.rows.result.now c.ids.result.now c.args.node index c.identifiers-places.ensures small
 
 pub returns : goal.returns
@@ -20,7 +20,7 @@ returns c =
     let plan = c.args.plan.now in
     let dict = c.in-Some.dict.now in
     let own : dictionary_of net c.args.node ≡ Some dict = sym c.dictionary.ensures ∙ ap option_copied c.in-Some.is in
-    let knows : KnowsIds c.identifiers-places.result net.rows plan.ids c.args.node = rw (← c.rows.ensures.rows, ← c.ids.ensures) c.identifiers-places.ensures in
+    let knows : KnowsIds c.identifiers-places.result net.rows plan.ids c.args.node = rw (← c.rows.ensures.rows, ← c.ids.ensures.ids) c.identifiers-places.ensures in
     let offs = c.in_ok-add_offs.ensures in
     let ons = c.in_ok-add_ons.ensures in
     let time = rw c.heartbeat.ensures at c.time_set.ensures in
