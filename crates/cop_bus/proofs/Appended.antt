@@ -5,7 +5,6 @@ use Rattle.cop_bus.specs.declared.steps.Step.{Step}
 use Rattle.cop_bus.specs.Trace.{count_to, nth_that, step_at, at_of, last_of, now_of}
 use Rattle.cop_bus.specs.Judge.{last_event, event_or}
 use Rattle.cop_bus.proofs.StepLemmas.{nth_that-skip, nth_that-take, bool_cases, same_some, one-true, one-false}
-
 use Rattle.cop_bus.proofs.Grows.{last_event-more}
 
 pub step_at-here : (xs : List Step) (x : Step) (ys : List Step) → step_at (xs ++ x ∷ ys) (length xs) ≡ x

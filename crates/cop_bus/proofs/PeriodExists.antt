@@ -31,24 +31,30 @@ module _ (tau id : ℕ) (run : List Instance) where
   ]
 
   pub last_clear : (q : ℕ) → (t : ℕ) × IsLastClear tau id run q t
-  last_clear zero = (0, record {
-    not_after = omega arith;
-    clear = All-none;
-    last = λ u a b c. absurd (omega arith);
-  })
+  last_clear zero = (
+    0,
+    record {
+      not_after = omega arith;
+      clear = All-none;
+      last = λ u a b c. absurd (omega arith);
+    },
+  )
     where
       All-none : IsClear tau id run 0
       All-none = elim (all_or_some (Clears 0) (λ y. Clears 0 y → ⊥) run (decided 0)) [ inl a ↦ a | inr w ↦ absurd (w.2 (λ c d. absurd (omega arith))) ]
   last_clear (suc q) = elim (all_or_some (Clears (suc q)) (λ y. Clears (suc q) y → ⊥) run (decided (suc q))) [
     | inl a ↦ (suc q, record { not_after = omega arith; clear = a; last = λ u b c d. absurd (omega arith) })
-    | inr w ↦ (let r = last_clear q in (r.0, record {
+    | inr w ↦ (let r = last_clear q in (
+      r.0,
+      record {
         not_after = (let n = (r.1).not_after in omega arith);
         clear = (r.1).clear;
         last = λ u b c d. (elim (cases_lt u (suc q)) [
           | inl e ↦ (r.1).last u b (omega arith) d
           | inr e ↦ (let same : u ≡ suc q = omega arith in absurd (w.2 (All-contains (Clears (suc q)) run w.0 (subst (λ t. IsClear tau id run t) same d) w.1)))
         ]);
-      }))
+      },
+    ))
   ]
 
 pub period_begins : (rate : Rate) (streams : List Stream) (until : ℕ) (pre : List Instance) (x : Instance) (post : List Instance) (index : ℕ) (m : Stream) →

@@ -3,8 +3,8 @@
 ghost use Rattle.std.specs.Prelude.{◌≡◌, ◌≢◌, ℕ, ◌+◌, ◌<◌, ◌≤◌, ◌∷◌, ◌++◌, [], ◌↔◌, All, IfSome, IfNone, IfOk, OnOk, OnErr, IsOk, IsSome, Some, None, drop, length, slice_get, slice_set, map};
 ghost use Rattle.cop_bus.specs.Rings.{most_of, rings_of, any_in, RingValue};
 
-use circular_buffer::HeapCircularBuffer;
 use crate::bus::Instance;
+use circular_buffer::HeapCircularBuffer;
 use cop_rta::Stream;
 use std::alloc::{AllocError, Global};
 use std::marker::Model;
