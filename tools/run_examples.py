@@ -54,6 +54,9 @@ def faults_of(name):
     status, said = run("check", *tables, f"{folder}/refusals.csv")
     if status != 0 or b" fails\n" in said:
         yield "the check of the stored refusals"
+    if os.path.isfile(f"{folder}/trace.csv"):
+        if run("judge", *tables, f"{folder}/trace.csv") != (0, b"transfers 3\non time\n"):
+            yield "the judgement of the stored trace"
     if indented(plan) not in page:
         yield "the plan in examples/README.md"
 
