@@ -16,9 +16,6 @@ use cop_frame::Frame;
 use std::alloc::Global;
 use std::marker::Model;
 
-#[cfg(test)]
-mod each_first_byte;
-
 /// A download has at most so many bytes.
 const MAX_BYTES: usize = 65_535;
 

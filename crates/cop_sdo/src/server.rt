@@ -13,9 +13,6 @@ use cop_frame::Frame;
 use std::alloc::{AllocError, Global};
 use std::marker::Model;
 
-#[cfg(test)]
-mod each_first_byte;
-
 /// The SDO server of a node.
 #[derive(Drop)]
 pub struct Server {

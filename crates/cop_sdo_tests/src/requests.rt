@@ -1,13 +1,33 @@
-//! Each first byte to a server in each state: the answer, and the state after it.
+//! Each first byte to a server in each state: the answer, and the values after it.
 
-use super::Server;
-use crate::address::Address;
 use crate::tests::{DEVICE, asks, dictionary, says};
-use crate::transfer::Transfer;
 use cop_dict::Dictionary;
 use cop_frame::Frame;
+use cop_sdo::Server;
 use std::alloc::{AllocError, Global};
 use std::test::Fail;
+
+/// An object's index and sub.
+#[derive(Clone, Copy, Debug)]
+struct Address {
+    index: u16,
+    sub: u8,
+}
+
+/// The transfer that runs, with what its next segment has to keep.
+#[derive(Clone, Copy, Debug)]
+enum Transfer {
+    Idle,
+    Download {
+        at: Address,
+        size: Option<usize>,
+        toggle: bool,
+    },
+    Upload {
+        at: Address,
+        toggle: bool,
+    },
+}
 
 const NOWHERE: Address = Address { index: 0, sub: 0 };
 
@@ -137,7 +157,6 @@ const STATES: [State; 7] = [
         requests: &[ASK],
         transfer: Transfer::Upload {
             at: TEN_BYTES,
-            sent: 0,
             toggle: false,
         },
         bytes: b"ten bytes!",
@@ -146,7 +165,6 @@ const STATES: [State; 7] = [
         requests: &[ASK, [0x60, 0, 0, 0, 0, 0, 0, 0]],
         transfer: Transfer::Upload {
             at: TEN_BYTES,
-            sent: 7,
             toggle: true,
         },
         bytes: b"ten bytes!",
@@ -156,20 +174,17 @@ const STATES: [State; 7] = [
 // What is written where, in two parts: what came before, and what the request brings.
 type Written<'a> = Option<(Address, &'a [u8], &'a [u8])>;
 
-// What comes of a request: the answer, and the state with its bytes, in two parts too.
+// What comes of a request: the answer, and what is written.
 #[derive(Clone, Copy)]
 struct After<'a> {
     answer: Option<[u8; 8]>,
-    transfer: Transfer,
-    bytes: (&'a [u8], &'a [u8]),
     written: Written<'a>,
 }
 
-fn idle(answer: Option<[u8; 8]>) -> After<'static> {
+// An answer, where nothing is written.
+fn says_only(answer: Option<[u8; 8]>) -> After<'static> {
     After {
         answer,
-        transfer: Transfer::Idle,
-        bytes: (b"", b""),
         written: None,
     }
 }
@@ -178,7 +193,7 @@ fn idle(answer: Option<[u8; 8]>) -> After<'static> {
 fn aborts(at: Address, code: u32) -> After<'static> {
     let [low, high] = at.index.to_le_bytes();
     let [a, b, c, d] = code.to_le_bytes();
-    idle(Some([0x80, low, high, at.sub, a, b, c, d]))
+    says_only(Some([0x80, low, high, at.sub, a, b, c, d]))
 }
 
 // Where the transfer is, or another address where none runs.
@@ -209,16 +224,7 @@ fn segment<'a>(state: &State, body: &'a [u8; 8]) -> After<'a> {
     }
     let answer = Some([if toggle { 0x30 } else { 0x20 }, 0, 0, 0, 0, 0, 0, 0]);
     if !is_set(first, 1) {
-        return After {
-            answer,
-            transfer: Transfer::Download {
-                at,
-                size,
-                toggle: !toggle,
-            },
-            bytes: (state.bytes, more),
-            written: None,
-        };
+        return says_only(answer);
     }
     if size.is_some_and(|stated| count < stated) {
         return aborts(at, 0x0607_0013);
@@ -230,8 +236,6 @@ fn segment<'a>(state: &State, body: &'a [u8; 8]) -> After<'a> {
 fn stored<'a>(answer: Option<[u8; 8]>, written: (Address, &'a [u8], &'a [u8])) -> After<'a> {
     After {
         answer,
-        transfer: Transfer::Idle,
-        bytes: (b"", b""),
         written: Some(written),
     }
 }
@@ -249,16 +253,7 @@ fn initiate<'a>(target: &Target, body: &'a [u8; 8]) -> After<'a> {
         (Kind::Number, 2) => stored(answer, (at, &body[4..6], b"")),
         (Kind::Text, 2) => aborts(at, 0x0607_0010),
         (_, 3) => stored(answer, (at, given, b"")),
-        (_, bits) => After {
-            answer,
-            transfer: Transfer::Download {
-                at,
-                size: if bits == 1 { Some(2) } else { None },
-                toggle: false,
-            },
-            bytes: (b"", b""),
-            written: None,
-        },
+        (_, _) => says_only(answer),
     }
 }
 
@@ -267,51 +262,22 @@ fn upload(target: &Target, body: &[u8; 8]) -> After<'static> {
     let (low, high, sub) = (body[1], body[2], body[3]);
     match (target.kind, target.value) {
         (Kind::Absent, _) => aborts(target.at, 0x0602_0000),
-        (_, [a, b]) => idle(Some([0x4B, low, high, sub, *a, *b, 0, 0])),
-        (_, [a, b, c]) => idle(Some([0x47, low, high, sub, *a, *b, *c, 0])),
-        (_, value) => After {
-            answer: Some([
-                0x41,
-                low,
-                high,
-                sub,
-                if value.is_empty() { 0 } else { 10 },
-                0,
-                0,
-                0,
-            ]),
-            transfer: Transfer::Upload {
-                at: target.at,
-                sent: 0,
-                toggle: false,
-            },
-            bytes: (value, b""),
-            written: None,
-        },
+        (_, [a, b]) => says_only(Some([0x4B, low, high, sub, *a, *b, 0, 0])),
+        (_, [a, b, c]) => says_only(Some([0x47, low, high, sub, *a, *b, *c, 0])),
+        (_, value) => {
+            let size = if value.is_empty() { 0 } else { 10 };
+            says_only(Some([0x41, low, high, sub, size, 0, 0, 0]))
+        }
     }
 }
 
 // Bits 7 to 5 are 3: the next segment of an upload is asked for, with toggle t.
 fn segment_asked(state: &State, first: u8) -> After<'static> {
     match (state.transfer, is_set(first, 0x10)) {
-        (
-            Transfer::Upload {
-                at,
-                toggle: false,
-                ..
-            },
-            false,
-        ) => After {
-            answer: Some([0, b't', b'e', b'n', b' ', b'b', b'y', b't']),
-            transfer: Transfer::Upload {
-                at,
-                sent: 7,
-                toggle: true,
-            },
-            bytes: (b"ten bytes!", b""),
-            written: None,
-        },
-        (Transfer::Upload { toggle: true, .. }, true) => idle(Some([
+        (Transfer::Upload { toggle: false, .. }, false) => says_only(Some([
+            0, b't', b'e', b'n', b' ', b'b', b'y', b't',
+        ])),
+        (Transfer::Upload { toggle: true, .. }, true) => says_only(Some([
             0x19, b'e', b's', b'!', 0, 0, 0, 0,
         ])),
         (Transfer::Upload { at, .. }, _) => aborts(at, 0x0503_0000),
@@ -326,7 +292,7 @@ fn due<'a>(state: &State, target: &Target, body: &'a [u8; 8]) -> After<'a> {
         1 => initiate(target, body),
         2 => upload(target, body),
         3 => segment_asked(state, body[0]),
-        4 => idle(None),
+        4 => says_only(None),
         _ => aborts(running(state, target.at), 0x0504_0001),
     }
 }
@@ -339,10 +305,6 @@ fn is_joined(all: &[u8], front: &[u8], back: &[u8]) -> bool {
 fn body_of(first: u8, target: &Target) -> [u8; 8] {
     let [low, high] = target.at.index.to_le_bytes();
     [first, low, high, target.at.sub, 2, 0, 0, 0]
-}
-
-fn is_in(server: &Server, transfer: Transfer, bytes: (&[u8], &[u8])) -> bool {
-    server.session.transfer == transfer && is_joined(&server.session.bytes, bytes.0, bytes.1)
 }
 
 // Whether all values are as in another dictionary, but for one that is written.
@@ -372,25 +334,19 @@ fn does_what_is_due(
     target: &Target,
     first: u8,
 ) -> Result<bool, AllocError> {
-    let before = dictionary(alloc, &DEVICE)?;
-    let mut dict = dictionary(alloc, &DEVICE)?;
+    let before = dictionary(alloc, DEVICE)?;
+    let mut dict = dictionary(alloc, DEVICE)?;
     let mut server = brought_to(alloc, &mut dict, state);
-    let is_there = is_in(&server, state.transfer, (state.bytes, b""));
     let body = body_of(first, target);
     let after = due(state, target, &body);
     let answer = server.step(&mut dict, &asks(body));
-    Ok(
-        is_there
-            && answer == after.answer.map(says)
-            && is_in(&server, after.transfer, after.bytes)
-            && is_written(&dict, &before, after.written),
-    )
+    Ok(answer == after.answer.map(says) && is_written(&dict, &before, after.written))
 }
 
 // Whether a server in a state ignores frames of fewer bytes, and to another node.
 fn ignores(alloc: Global, state: &State, first: u8) -> Result<bool, AllocError> {
-    let before = dictionary(alloc, &DEVICE)?;
-    let mut dict = dictionary(alloc, &DEVICE)?;
+    let before = dictionary(alloc, DEVICE)?;
+    let mut dict = dictionary(alloc, DEVICE)?;
     let mut server = brought_to(alloc, &mut dict, state);
     let body = [first, 0, 0x20, 0, 2, 0, 0, 0];
     let mut is_silent = server.step(&mut dict, &Frame::new(0x606, &body)).is_none();
@@ -398,11 +354,7 @@ fn ignores(alloc: Global, state: &State, first: u8) -> Result<bool, AllocError> 
         let answer = server.step(&mut dict, &Frame::new(0x605, &body[..len]));
         is_silent = is_silent && answer.is_none();
     }
-    Ok(
-        is_silent
-            && is_in(&server, state.transfer, (state.bytes, b""))
-            && is_written(&dict, &before, None),
-    )
+    Ok(is_silent && is_written(&dict, &before, None))
 }
 
 #[test]

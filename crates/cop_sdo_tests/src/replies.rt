@@ -1,18 +1,21 @@
-//! Each first byte to a client in each state: what comes of it, and the state after it.
+//! Each first byte to a client in each state: what comes of it, and the bytes that it has then.
 
-use super::Client;
-use crate::address::Address;
-use crate::fault::ClientFault;
-use crate::task::{Progress, Task};
 use crate::tests::{asks, says};
 use cop_frame::Frame;
+use cop_sdo::{Client, ClientFault, Progress};
 use std::alloc::Global;
 use std::test::Fail;
 
-const AT: Address = Address {
-    index: 0x2000,
-    sub: 0,
-};
+/// What the client awaits, with what the next answer has to keep.
+#[derive(Clone, Copy, Debug)]
+enum Task {
+    Idle,
+    Giving,
+    Beginning,
+    Sending { sent: usize, toggle: bool },
+    Asking,
+    Receiving { size: Option<usize>, toggle: bool },
+}
 
 // The call that begins a transfer.
 #[derive(Clone, Copy)]
@@ -60,20 +63,19 @@ const STATES: [State; 11] = [
     State {
         call: Call::Download(&[1]),
         answers: &[],
-        task: Task::Giving { at: AT },
+        task: Task::Giving,
         bytes: b"",
     },
     State {
         call: Call::Download(VALUE),
         answers: &[],
-        task: Task::Beginning { at: AT },
+        task: Task::Beginning,
         bytes: VALUE,
     },
     State {
         call: Call::Download(VALUE),
         answers: &[CONFIRMED],
         task: Task::Sending {
-            at: AT,
             sent: 7,
             toggle: false,
         },
@@ -83,7 +85,6 @@ const STATES: [State; 11] = [
         call: Call::Download(VALUE),
         answers: &[CONFIRMED, CONFIRMED_EVEN],
         task: Task::Sending {
-            at: AT,
             sent: 14,
             toggle: true,
         },
@@ -93,7 +94,6 @@ const STATES: [State; 11] = [
         call: Call::Download(VALUE),
         answers: &[CONFIRMED, CONFIRMED_EVEN, CONFIRMED_ODD],
         task: Task::Sending {
-            at: AT,
             sent: 21,
             toggle: false,
         },
@@ -103,14 +103,13 @@ const STATES: [State; 11] = [
     State {
         call: Call::Upload,
         answers: &[],
-        task: Task::Asking { at: AT },
+        task: Task::Asking,
         bytes: b"",
     },
     State {
         call: Call::Upload,
         answers: &[[0x41, 0, 0x20, 0, 5, 0, 0, 0]],
         task: Task::Receiving {
-            at: AT,
             size: Some(5),
             toggle: false,
         },
@@ -120,7 +119,6 @@ const STATES: [State; 11] = [
         call: Call::Upload,
         answers: &[TEN_BYTES, SEVEN],
         task: Task::Receiving {
-            at: AT,
             size: Some(10),
             toggle: true,
         },
@@ -130,7 +128,6 @@ const STATES: [State; 11] = [
         call: Call::Upload,
         answers: &[[0x40, 0, 0x20, 0, 0, 0, 0, 0]],
         task: Task::Receiving {
-            at: AT,
             size: None,
             toggle: false,
         },
@@ -140,7 +137,6 @@ const STATES: [State; 11] = [
         call: Call::Upload,
         answers: &[[0x40, 0, 0x20, 0, 0, 0, 0, 0], SEVEN],
         task: Task::Receiving {
-            at: AT,
             size: None,
             toggle: true,
         },
@@ -148,19 +144,16 @@ const STATES: [State; 11] = [
     },
 ];
 
-// What comes of an answer, and the state with its bytes, in two parts: what was there and what the
-// answer brings.
+// What comes of an answer, and the bytes, in two parts: what was there and what the answer brings.
 #[derive(Clone, Copy)]
 struct After<'a> {
     progress: Progress,
-    task: Task,
     bytes: (&'a [u8], &'a [u8]),
 }
 
 fn idle(progress: Progress) -> After<'static> {
     After {
         progress,
-        task: Task::Idle,
         bytes: (b"", b""),
     }
 }
@@ -175,29 +168,19 @@ fn is_set(first: u8, bit: u8) -> bool {
     first & bit != 0
 }
 
-// A segment of the value goes, with the toggle that is in it.
-fn sends(segment: [u8; 8], sent: usize) -> After<'static> {
+// A segment of the value goes.
+fn sends(segment: [u8; 8]) -> After<'static> {
     After {
         progress: Progress::Send(asks(segment)),
-        task: Task::Sending {
-            at: AT,
-            sent,
-            toggle: is_set(segment[0], 0x10),
-        },
         bytes: (VALUE, b""),
     }
 }
 
 // A segment is asked for, with a toggle.
-fn receives<'a>(size: Option<usize>, toggle: bool, bytes: (&'a [u8], &'a [u8])) -> After<'a> {
+fn receives<'a>(toggle: bool, bytes: (&'a [u8], &'a [u8])) -> After<'a> {
     let first = if toggle { 0x70 } else { 0x60 };
     After {
         progress: Progress::Send(asks([first, 0, 0, 0, 0, 0, 0, 0])),
-        task: Task::Receiving {
-            at: AT,
-            size,
-            toggle,
-        },
         bytes,
     }
 }
@@ -206,7 +189,6 @@ fn receives<'a>(size: Option<usize>, toggle: bool, bytes: (&'a [u8], &'a [u8])) 
 fn has<'a>(front: &'a [u8], back: &'a [u8]) -> After<'a> {
     After {
         progress: Progress::Done,
-        task: Task::Idle,
         bytes: (front, back),
     }
 }
@@ -217,8 +199,8 @@ fn segment_confirmed(sent: usize, toggle: bool, first: u8) -> After<'static> {
         return ends(0x0503_0000);
     }
     match sent {
-        7 => sends(SEGMENTS[1], 14),
-        14 => sends(SEGMENTS[2], 21),
+        7 => sends(SEGMENTS[1]),
+        14 => sends(SEGMENTS[2]),
         _ => idle(Progress::Done),
     }
 }
@@ -226,8 +208,7 @@ fn segment_confirmed(sent: usize, toggle: bool, first: u8) -> After<'static> {
 // Bits 7 to 5 are 2 while an upload is asked for, by s (bit 0), e (bit 1) and n (bits 2 and 3).
 fn told(body: &[u8; 8]) -> After<'_> {
     match body[0] % 4 {
-        0 => receives(None, false, (b"", b"")),
-        1 => receives(Some(0x0607_0013), false, (b"", b"")),
+        0 | 1 => receives(false, (b"", b"")),
         2 => has(&body[4..], b""),
         _ => has(&body[4..8 - usize::from(body[0] / 4 % 4)], b""),
     }
@@ -245,7 +226,7 @@ fn segment<'a>(state: &State, size: Option<usize>, toggle: bool, body: &'a [u8; 
         return ends(0x0504_0001);
     }
     if !is_set(first, 1) {
-        return receives(size, !toggle, (state.bytes, more));
+        return receives(!toggle, (state.bytes, more));
     }
     if size.is_some_and(|stated| count < stated) {
         return ends(0x0504_0001);
@@ -259,11 +240,11 @@ fn due<'a>(state: &State, body: &'a [u8; 8]) -> After<'a> {
     match (state.task, body[0] / 32) {
         (Task::Idle, _) => idle(Progress::Ignored),
         (_, 4) => idle(Progress::Aborted(0x0607_0013)),
-        (Task::Giving { .. }, 3) if is_here => idle(Progress::Done),
-        (Task::Beginning { .. }, 3) if is_here => sends(SEGMENTS[0], 7),
-        (Task::Sending { sent, toggle, .. }, 1) => segment_confirmed(sent, toggle, body[0]),
-        (Task::Asking { .. }, 2) if is_here => told(body),
-        (Task::Receiving { size, toggle, .. }, 0) => segment(state, size, toggle, body),
+        (Task::Giving, 3) if is_here => idle(Progress::Done),
+        (Task::Beginning, 3) if is_here => sends(SEGMENTS[0]),
+        (Task::Sending { sent, toggle }, 1) => segment_confirmed(sent, toggle, body[0]),
+        (Task::Asking, 2) if is_here => told(body),
+        (Task::Receiving { size, toggle }, 0) => segment(state, size, toggle, body),
         _ => ends(0x0504_0001),
     }
 }
@@ -273,8 +254,8 @@ fn is_joined(all: &[u8], front: &[u8], back: &[u8]) -> bool {
     all.len() == front.len() + back.len() && all.starts_with(front) && all.ends_with(back)
 }
 
-fn is_in(client: &Client, task: Task, bytes: (&[u8], &[u8])) -> bool {
-    client.exchange.task == task && is_joined(client.taken(), bytes.0, bytes.1)
+fn has_taken(client: &Client, bytes: (&[u8], &[u8])) -> bool {
+    is_joined(client.taken(), bytes.0, bytes.1)
 }
 
 fn brought_to(alloc: Global, state: &State) -> Result<Client, ClientFault> {
@@ -297,10 +278,10 @@ fn brought_to(alloc: Global, state: &State) -> Result<Client, ClientFault> {
 // Whether a client in a state does with an answer what is due.
 fn does_what_is_due(alloc: Global, state: &State, body: &[u8; 8]) -> Result<bool, ClientFault> {
     let mut client = brought_to(alloc, state)?;
-    let is_there = is_in(&client, state.task, (state.bytes, b""));
+    let is_there = has_taken(&client, (state.bytes, b""));
     let after = due(state, body);
     let progress = client.step(&says(*body));
-    Ok(is_there && progress == after.progress && is_in(&client, after.task, after.bytes))
+    Ok(is_there && progress == after.progress && has_taken(&client, after.bytes))
 }
 
 // Whether a client in a state ignores frames of fewer bytes, and from another node.
@@ -311,7 +292,7 @@ fn ignores(alloc: Global, state: &State, body: &[u8; 8]) -> Result<bool, ClientF
         let progress = client.step(&Frame::new(0x585, &body[..len]));
         is_silent = is_silent && progress == Progress::Ignored;
     }
-    Ok(is_silent && is_in(&client, state.task, (state.bytes, b"")))
+    Ok(is_silent && has_taken(&client, (state.bytes, b"")))
 }
 
 // The address of the transfer, another index, and another sub.
