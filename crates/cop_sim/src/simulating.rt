@@ -35,7 +35,7 @@ pub fn simulate_into<S: Sink>(
     simulate_over(alloc, plan, behaviours, until, sink)
 }
 
-// The same of behaviours of one type.
+/// The same of behaviours of one type: the core that [`simulate_into`] calls with boxed ones.
 pub fn simulate_over<B: Behaviour, S: Sink>(
     alloc: Global,
     plan: &Plan,
