@@ -244,7 +244,8 @@ fn other_records_are_refused(rt: HostRuntime) -> Result<(), Fail> {
         ("start,100,1,,,\nqueue,100,1,100,4294967296,\n", 2),
         ("queue,100,1,100,47,ABC\n", 1),
         ("queue,100,1,100,47,000000000000000000\n", 1),
-        ("end,100,0x1,,,\n", 1),
+        ("end,100,0x,,,\n", 1),
+        ("end,100,0x1,,,\n", 2),
         ("end,100,1,0,,\n", 1),
     ] {
         let text = under_header(rt.alloc(), records)?;

@@ -79,11 +79,8 @@ fn the_dcf_of_the_valve(rt: HostRuntime) -> Result<(), Fail> {
     )?;
     assert_eq!(rt; same.as_slice(), DCF);
     let dict = build(alloc, &again, 5)?;
-    assert_eq!(rt;
-        dict.read(0x1800, 1).ok(),
-        Some([0x81, 1, 0, 0x40].as_slice())
-    );
-    assert_eq!(rt; dict.read(0x1017, 0).ok(), Some([100, 0].as_slice()));
+    assert_eq!(rt; dict.read(0x1800, 1)?, [0x81, 1, 0, 0x40].as_slice());
+    assert_eq!(rt; dict.read(0x1017, 0)?, [100, 0].as_slice());
     Ok(())
 }
 
