@@ -1,5 +1,5 @@
 -- What is made holds.
-use Rattle.std.proofs.Common.{◌≡◌, ℕ, ◌<◌, ◌≤◌, Bool, List, length, get_or, All, AllPairs, refl, sym, subst, arith, ap, le_of_eq, IsTrue, ◌↔◌}
+use Rattle.std.proofs.Common.{◌≡◌, ℕ, ◌<◌, ◌≤◌, Bool, List, [], ◌∷◌, length, get_or, All, AllPairs, refl, sym, subst, arith, ap, le_of_eq, IsTrue, ◌↔◌}
 use Rattle.std.proofs.lemmas.List.{length-map}
 use Rattle.cop_frame.specs.declared.rates.Rate.{Rate}
 use Rattle.cop_rta.specs.declared.streams.Stream.{Stream}
@@ -11,10 +11,11 @@ use Rattle.cop_cert.specs.declared.refusals.Member.{Member}
 use Rattle.cop_cert.specs.declared.refusals.Refusal.{Refusal}
 use Rattle.cop_cert.specs.Sets.{is_in_trial}
 use Rattle.cop_cert.specs.Evidence.{IsEvidence, is_listed, pdos_of, IsRefusal, last_of}
-use Rattle.cop_cert.specs.Chains.{AllFail, FailTogether, IsWholeEvidence, AreMade, IsMade, HasAtMost}
-use Rattle.cop_cert.proofs.RisingLemmas.{all_of}
+use Rattle.cop_cert.specs.Chains.{AllFail, FailTogether, IsChain, IsWholeEvidence, AreMade, IsMade, HasAtMost}
+use Rattle.cop_cert.specs.Writable.{IsWritableList, IsWritableEvidence, IsWritableRefusal}
+use Rattle.cop_cert.proofs.RisingLemmas.{all_of, rising_members}
 use Rattle.cop_cert.proofs.GapLemmas.{whole_is_short}
-use Rattle.cop_cert.proofs.MakeLemmas.{run_climbs, is_busy_time}
+use Rattle.cop_cert.proofs.MakeLemmas.{run_climbs, is_busy_time, few_instances}
 
 -- tests that answer alike are one
 pub fails_under : (streams : List Stream) (rate : Rate) (members : List ℕ) (here there : ℕ → Bool) → ((k : ℕ) → here k ≡ there k)
@@ -76,3 +77,31 @@ made_is_short bound streams pdos rate members r count inside made =
     let found = all_of pdos r.members (rw made.members_are.pdos_are inside) in
     λ k d below.
     whole_is_short _ (get_or r.members k d).evidence (omega (arith, count, found k d below)) (made.members_are.whole k d below)
+
+chain_writable : (f : ℕ → ℕ) (from : ℕ) (numbers : List ℕ) → IsChain f from horizon numbers → length numbers ≤ 181820 → IsWritableList numbers
+chain_writable f from [] c short = absurd c.follows
+chain_writable f from (a ∷ rest) c short = record { some = omega arith; count = omega (arith, short); fit = c.fit }
+
+whole_is_writable : (p : Place) (e : Evidence) → p.index < length p.streams → IsWholeEvidence p e → IsWritableEvidence e
+whole_is_writable p (Long busy) inside h = chain_writable (busy_at p) 1 busy h.chain (whole_is_short p (Long busy) inside h)
+whole_is_writable p (Late q busy queue) inside h =
+    let short = whole_is_short p (Late q busy queue) inside h in
+    let few = few_instances p inside q _ h.queue_of.first in
+    (
+      omega (arith, few),
+      chain_writable (busy_at p) 1 busy h.busy_time.chain short.0,
+      chain_writable (queueing_at p q) _ queue h.queue_of.waits.chain short.1,
+    )
+
+-- a refusal with the whole chains is one that a file holds
+pub made_is_writable : (bound : ℕ) (streams : List Stream) (pdos : ℕ) (r : Refusal) → pdos ≤ length streams → pdos ≤ 512
+    → IsRefusal bound streams pdos r → IsMade bound streams pdos r.rate (pdos_of r.members) r → IsWritableRefusal r
+made_is_writable bound streams pdos r count few holds made =
+    let inside = all_of pdos r.members holds.inside in
+    record {
+      some = holds.some;
+      rise = rising_members r.members holds.rise;
+      inside = λ k d below. omega (arith, few, inside k d below);
+      evidence = λ k d below.
+          whole_is_writable _ (get_or r.members k d).evidence (omega (arith, count, inside k d below)) (made.members_are.whole k d below);
+    }

@@ -48,6 +48,12 @@ all_of pdos ms h = λ k d below.
     let count : length (pdos_of ms) ≡ length ms = length-map ms (λ m. m.pdo) in
     rw (at_member ms k d below) (h k d.pdo (omega arith))
 
+-- members rise where their numbers do
+pub rising_members : (ms : List Member) → AllPairs (λ a b. a < b) (pdos_of ms) → AllPairs (λ m n. m.pdo < n.pdo) ms
+rising_members ms h = λ i j d lt below.
+    let count : length (pdos_of ms) ≡ length ms = length-map ms (λ m. m.pdo) in
+    rw (at_member ms i d (omega arith), at_member ms j d below) (h i j d.pdo lt (omega arith))
+
 -- the numbers of members that are left
 pub drop_pdos : (ms : List Member) (i : ℕ) → pdos_of (drop i ms) ≡ drop i (pdos_of ms)
 drop_pdos ms zero = refl

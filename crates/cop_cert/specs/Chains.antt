@@ -1,5 +1,5 @@
 -- The lists that are made: whole chains of an equation's values.
-use Rattle.std.specs.Prelude.{◌≡◌, ℕ, ◌+◌, ◌-◌, ◌*◌, ◌<◌, ◌≤◌, ◌⊎◌, Bool, List, [], ◌∷◌, All, AllPairs, length}
+use Rattle.std.specs.Prelude.{◌≡◌, ℕ, ◌+◌, ◌-◌, ◌*◌, ◌^◌, ◌<◌, ◌≤◌, ◌⊎◌, Bool, List, [], ◌∷◌, All, AllPairs, length}
 use Rattle.cop_frame.specs.declared.rates.Rate.{Rate}
 use Rattle.cop_rta.specs.declared.streams.Stream.{Stream}
 use Rattle.cop_rta.specs.Test.{Place, Passes, busy_at, queueing_at, blocking, cost_at, jitter_at, period_at, horizon}
@@ -20,10 +20,11 @@ abbrev pub IsRun : (ℕ → ℕ) → ℕ → List ℕ → Type 0
 IsRun f limit [] = ⊥
 IsRun f limit (a ∷ rest) = Follows f limit a rest
 
--- an equation's values from a number on, of which all but the last are within the limit
+-- an equation's values from a number on, of which all but the last are within the limit, and each fits 64 bits
 pub record IsChain (f : ℕ → ℕ) (from limit : ℕ) (numbers : List ℕ) : Type 0 where
   pub begins : first_of numbers ≡ from
   pub follows : IsRun f limit numbers
+  pub fit : All (λ n. n < 2 ^ 64) numbers
 
 -- a chain that is as long as can be: it ends above the limit or at a solution
 pub record IsWholeChain (f : ℕ → ℕ) (from limit : ℕ) (numbers : List ℕ) : Type 0 where

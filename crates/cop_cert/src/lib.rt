@@ -18,7 +18,8 @@ pub use checking::check;
 pub use faults::{Breach, CertFault, Rule};
 pub use items::Items;
 pub use laws::{
-    evidence_excludes_passing, more_above_asks_no_less, refusal_sets_rule_out, refusals_rule_out,
+    evidence_excludes_passing, made_refusals_are_writable, more_above_asks_no_less,
+    refusal_sets_rule_out, refusals_rule_out, written_refusals_are_read,
 };
 pub use making::{fail_together, make};
 pub use reading::read;

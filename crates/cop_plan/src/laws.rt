@@ -1,10 +1,12 @@
 //! What holds of plans, whatever the streams are.
 
-ghost use Rattle.std.specs.Prelude.{◌≡◌, ◌<◌, ◌≤◌, ℕ, List};
+ghost use Rattle.std.specs.Prelude.{◌≡◌, ◌<◌, ◌≤◌, ℕ, List, length};
 ghost use Rattle.cop_frame.specs.declared.rates.Rate.{Rate};
 ghost use Rattle.cop_rta.specs.declared.streams.Stream.{Stream};
+ghost use Rattle.cop_cert.specs.declared.refusals.Refusal.{Refusal};
+ghost use Rattle.cop_cert.specs.Writable.{AreWritable};
 ghost use Rattle.cop_plan.specs.Orders.{HasPdos, IsPlanOrder};
-ghost use Rattle.cop_plan.specs.Plans.{IsOutcome};
+ghost use Rattle.cop_plan.specs.Plans.{IsOutcome, AreRefusals};
 ghost use Rattle.cop_plan.specs.declared.assigning.Outcome.{Outcome};
 
 /// No set of streams has two orders.
@@ -15,4 +17,9 @@ pub fn order_is_unique()
 /// Some streams and candidate rates have one outcome.
 pub fn one_outcome()
     ensures { (rates : List Rate) (streams : List Stream) (pdos : ℕ) (a b : Outcome) → HasPdos streams pdos → IsOutcome rates streams pdos a → IsOutcome rates streams pdos b → a ≡ b }
+{}
+
+/// The refusals of at most 512 PDOs that a plan carries are refusals that a file holds.
+pub fn refusals_are_writable()
+    ensures { (streams : List Stream) (pdos : ℕ) (Are : Rate → Type 0) (refusals : List Refusal) → pdos ≤ length streams → pdos ≤ 512 → AreRefusals streams pdos Are refusals → AreWritable refusals }
 {}

@@ -1,0 +1,137 @@
+-- What `plan` writes of refusals is what `check` reads, and all of them hold.
+use Rattle.std.proofs.Common.{◌≡◌, ◌↔◌, ℕ, ◌+◌, ◌<◌, ◌≤◌, ◌==◌, Bool, true, false, List, [], ◌∷◌, ◌++◌, length, map, get_or, slice_get, All, IsTrue, Some, Ok, Err, Result, refl, sym, ap, ◌∙◌, subst, arith, length-append}
+use Rattle.std.proofs.lemmas.Option.{slice_get-get_or}
+use Rattle.cop_frame.specs.declared.rates.Rate.{Rate}
+use Rattle.cop_rta.specs.declared.streams.Stream.{Stream}
+use Rattle.cop_rta.specs.Entries.{entry_of}
+use Rattle.cop_rta.proofs.StreamLemmas.{streams_same}
+use Rattle.cop_table.specs.Reading.{◌>>=◌}
+use Rattle.cop_table.specs.Rows.{rows_from}
+use Rattle.cop_cert.specs.declared.refusals.Refusal.{Refusal}
+use Rattle.cop_cert.specs.declared.faults.Breach.{Breach}
+use Rattle.cop_cert.specs.Assignments.{least_id}
+use Rattle.cop_cert.specs.Evidence.{IsRefusal}
+use Rattle.cop_cert.specs.Format.{text_of}
+use Rattle.cop_cert.specs.Writable.{AreWritable}
+use Rattle.cop_cert.specs.Reading as cert
+use Rattle.cop_cert.proofs.RoundTrip.{written_is_read}
+use Rattle.cop_rows.specs.declared.pdo_table.PdoRow.{PdoRow}
+use Rattle.cop_rows.specs.declared.refusals.Refusal as rows
+use Rattle.cop_rows.specs.declared.refusals.Rule.{Rule}
+use Rattle.cop_rows.specs.Refusals.{placed}
+use Rattle.cop_rows.specs.PdoReading.{is_named, pushed, pdo_in, added, rows_in, pdos_of}
+use Rattle.cop_net.specs.declared.faults.Refusal as net
+use Rattle.cop_net.specs.declared.faults.Table.{Table}
+use Rattle.cop_net.specs.declared.faults.Table.TheVariants.{Nodes, Pdos}
+use Rattle.cop_net.specs.Devices.{File}
+use Rattle.cop_net.specs.Tables.{in_table}
+use Rattle.cop_net.specs.Network.{network_of}
+use Rattle.cop_rows.specs.NodeReading.{nodes_of}
+use Rattle.cop_net.proofs.PdoLemmas.{bind_ok}
+use Rattle.cop_plan.specs.Plans.{IsOutcome, IsGreatestRefusal, AreRefusals}
+use Rattle.cop_plan.specs.declared.assigning.Outcome.{Outcome}
+use Rattle.cop_plan.specs.declared.assigning.Outcome.TheVariants.{Planned, Refused}
+use Rattle.cop_plan.proofs.WritableLemmas.{refusals_writable}
+use Rattle.cop_engine.specs.declared.faults.Fault.{Fault}
+use Rattle.cop_engine.specs.declared.faults.Fault.TheVariants as faults
+use Rattle.cop_engine.specs.declared.plans.Files.{Files}
+use Rattle.cop_engine.specs.Networks.{Found, network_in}
+use Rattle.cop_engine.specs.PlanTexts.{refusals_of}
+use Rattle.cop_engine.specs.Plans.{AreFilesOf}
+use Rattle.cop_engine.specs.Checks.{AreChecked, IsCheckOf, ExplainsCheck}
+use Rattle.cop_engine.proofs.OnePlan.{ok_once}
+
+-- ---- a table has at most 512 PDOs
+
+bound : {A B F : Type 0} (r : Result A F) (f : A → Result B F) (x : B) → (r >>= f) ≡ Ok x → (a : A) × (r ≡ Ok a) × (f a ≡ Ok x)
+bound (Ok a) f x h = (a, refl, h)
+bound (Err e) f x h = cc
+
+was_placed : {A : Type 0} (place : ℕ) (r : Result A Rule) (x : A) → placed place r ≡ Ok x → r ≡ Ok x
+was_placed place (Ok a) x h = let same : a ≡ x = cc in rw same refl
+was_placed place (Err rule) x h = absurd (cc)
+
+was_in_table : {A : Type 0} (table : Table) (r : Result A rows.Refusal) (x : A) → in_table table r ≡ Ok x → r ≡ Ok x
+was_in_table table (Ok a) x h = let same : a ≡ x = cc in rw same refl
+was_in_table table (Err e) x h = absurd (cc)
+
+pushed_few : (found more : List PdoRow) (row : PdoRow) → length found ≤ 512 → pushed found row ≡ Ok more → length more ≤ 512
+pushed_few found more row few h = grind (arith, length-append)
+
+from_few : (place : ℕ) (found more : List PdoRow) (texts : List (List (List ℕ))) → length found ≤ 512 → rows_from added place found texts ≡ Ok more → length more ≤ 512
+unfolding rows_from
+from_few place found more [] few h = let same : found ≡ more = cc in subst (λ (rows : List PdoRow). length rows ≤ 512) same few
+from_few place found more (text ∷ texts) few h =
+    let p = bound (added place found text) _ more h in
+    let q = bound (pdo_in text) (pushed found) p.0 (was_placed place _ p.0 p.1) in
+    from_few (place + 1) p.0 more texts (pushed_few found p.0 q.0 few q.2) p.2
+
+table_few : (text : List ℕ) (found : List PdoRow) → pdos_of text ≡ Ok found → length found ≤ 512
+unfolding pdos_of
+table_few text found h =
+    let p = bound (rows_in text) _ found h in
+    from_few 1 [] found p.0 (omega arith) p.2
+
+pub few_rows : (nodes pdos : List ℕ) (files : List File) (found : Found) → network_in nodes pdos files ≡ Ok found → length found.rows ≤ 512
+unfolding network_in
+few_rows nodes pdos files found ok =
+    let p = bind_ok (in_table Nodes (nodes_of nodes)) _ found ok in
+    let q = bind_ok (in_table Pdos (pdos_of pdos)) _ found p.2 in
+    let r = bind_ok (network_of p.0 q.0 files) _ found q.2 in
+    let whole : ◌≡◌ {A = Result Found net.Refusal} (Ok (record { rows = q.0; network = r.0 })) (Ok found) = r.2 in
+    let same : record { rows = q.0; network = r.0 } ≡ found = cc in
+    subst (λ (f : Found). length f.rows ≤ 512) same (table_few pdos q.0 (was_in_table Pdos (pdos_of pdos) q.0 q.1))
+
+-- ---- the refusals of an outcome
+
+outcome_writable : (rates : List Rate) (streams : List Stream) (pdos : ℕ) (o : Outcome) → pdos ≤ length streams → pdos ≤ 512 → IsOutcome rates streams pdos o → AreWritable (refusals_of o)
+outcome_writable rates streams pdos (Planned plan) count few h = refusals_writable streams pdos _ plan.refusals count few h.refused
+outcome_writable rates streams pdos (Refused refusals) count few h = refusals_writable streams pdos _ refusals count few h.refused
+
+outcome_holds : (rates : List Rate) (streams : List Stream) (pdos : ℕ) (o : Outcome) → IsOutcome rates streams pdos o → All (IsGreatestRefusal streams pdos) (refusals_of o)
+outcome_holds rates streams pdos (Planned plan) h = h.refused.each
+outcome_holds rates streams pdos (Refused refusals) h = h.refused.each
+
+all_answered : (streams : List Stream) (pdos : ℕ) (refusals : List Refusal) (answers : List Bool) → AreChecked streams pdos refusals answers (length refusals)
+    → All (IsGreatestRefusal streams pdos) refusals → All (λ answer. answer ≡ true) answers
+all_answered streams pdos [] answers checked all = λ k d below. absurd (omega (arith, below, checked.length_is))
+all_answered streams pdos (r ∷ rs) answers checked all = λ k d below.
+    let inside : k < length (r ∷ rs) = omega (arith, below, checked.length_is) in
+    let here : slice_get (r ∷ rs) k ≡ Some (get_or (r ∷ rs) k r) = slice_get-get_or (r ∷ rs) k r inside in
+    let its : get_or answers k false ≡ true = (checked.each k inside (get_or (r ∷ rs) k r) here).1 (all k r inside).holds in
+    any_default answers k d below its
+  where
+    any_default : (answers : List Bool) (k : ℕ) (d : Bool) → k < length answers → get_or answers k false ≡ true → get_or answers k d ≡ true
+    any_default answers k d below h = grind (arith, h, below, slice_get-get_or answers k d below, slice_get-get_or answers k false below)
+
+module _ (nodes pdos : List ℕ) (eds : List File) (files : Files) (f : AreFilesOf nodes pdos eds files) where
+  -- the refusal file is read as the refusals of the outcome
+  pub read_again : cert.refusals_of files.refusals.items ≡ Ok (refusals_of f.planned.outcome)
+  read_again =
+      rw f.planned.refusals
+      (written_is_read (refusals_of f.planned.outcome)
+      (outcome_writable f.found.network.equipment.rates f.streams (length f.found.rows) f.planned.outcome f.begins.count (few_rows nodes pdos eds f.found f.read) f.planned.planned))
+
+  pub all_hold : (lines : List ℕ) (all : Bool) → IsCheckOf nodes pdos eds files.refusals.items lines all → all ≡ true
+  all_hold lines all c =
+      let found : f.found ≡ c.found = ok_once (network_in nodes pdos eds) f.found c.found f.read c.read in
+      let entries : map entry_of f.streams ≡ map entry_of c.streams = f.streams_are ∙ ap (λ (x : Found). x.network.streams) found ∙ sym c.streams_are in
+      let streams : f.streams ≡ c.streams = streams_same f.streams c.streams entries in
+      let count : length f.found.rows ≡ length c.found.rows = ap (λ (x : Found). length x.rows) found in
+      let refusals : refusals_of f.planned.outcome ≡ c.refusals = ok_once (cert.refusals_of files.refusals.items) _ c.refusals read_again c.refusals_are in
+      let hold : All (IsGreatestRefusal f.streams (length f.found.rows)) (refusals_of f.planned.outcome) =
+      outcome_holds f.found.network.equipment.rates f.streams (length f.found.rows) f.planned.outcome f.planned.planned in
+      let there : All (IsGreatestRefusal c.streams (length f.found.rows)) (refusals_of f.planned.outcome) =
+      subst (λ (s : List Stream). All (IsGreatestRefusal s (length f.found.rows)) (refusals_of f.planned.outcome)) streams hold in
+      let over : All (IsGreatestRefusal c.streams (length c.found.rows)) (refusals_of f.planned.outcome) =
+      subst (λ (n : ℕ). All (IsGreatestRefusal c.streams n) (refusals_of f.planned.outcome)) count there in
+      let mine : All (IsGreatestRefusal c.streams (length c.found.rows)) c.refusals = subst (λ (rs : List Refusal). All (IsGreatestRefusal c.streams (length c.found.rows)) rs) refusals over in
+      c.all_hold.1 (all_answered c.streams (length c.found.rows) c.refusals c.answers c.checked mine)
+
+  -- nothing but want of memory keeps the check from reading it
+  pub only_memory : (fault : Fault) → ExplainsCheck nodes pdos eds files.refusals.items fault → fault ≡ faults.Memory
+  only_memory (faults.Refused number place) (inl h) = let r = h in let clash = r.1 in let read = f.read in cc
+  only_memory (faults.Refused number place) (inr h) = let b = h in let clash = b.3 in let read = read_again in cc
+  only_memory (faults.File name) h = absurd h
+  only_memory faults.Usage h = absurd h
+  only_memory faults.Memory h = refl
