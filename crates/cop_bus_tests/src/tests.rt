@@ -324,3 +324,52 @@ fn joiner_is_sent_first(rt: HostRuntime) -> Result<(), Fail> {
     assert_eq!(rt; bus.start(1084, &[]), None);
     Ok(())
 }
+
+#[test]
+fn faults_are_told_with_rule_and_place(rt: HostRuntime) -> Result<(), Fail> {
+    let cases: &[(BusFault, &str)] = &[
+        (
+            BusFault::Refused {
+                place: 2,
+                number: 66,
+            },
+            "rule 66 is broken at 2",
+        ),
+        (BusFault::Memory, "out of memory"),
+    ];
+    for case in cases {
+        let (fault, wanted) = *case;
+        let text = format!(in rt.alloc(); "{fault}")?;
+        assert_eq!(rt; text.as_str(), wanted);
+    }
+    Ok(())
+}
+
+// 181h every 10 ms: 33,334 instances, each queued, started and ended.
+fn long_trace(alloc: Global) -> Result<Trace, Fail> {
+    let mut steps = Vec::new(alloc);
+    for k in 0..33_334u64 {
+        let at = k * 40_000;
+        steps.push(queue(at, 0x181, at, 135, 8))?;
+        steps.push(start(at, 0x181))?;
+        steps.push(end(at + 540, 0x181))?;
+    }
+    Ok(Trace {
+        until: 33_334 * 40_000,
+        steps,
+    })
+}
+
+// No trace is too long for the judge, the writer or the reader.
+#[test]
+fn hundred_thousand_steps(rt: HostRuntime) -> Result<(), Fail> {
+    let set = two_streams(rt.alloc(), 984)?;
+    let trace = long_trace(rt.alloc())?;
+    let run = judge(rt.alloc(), &set, Rate::Kbit1000, &trace)?;
+    assert_eq!(rt; first_late(&run), None);
+    let text = write_trace(rt.alloc(), &trace)?;
+    let read = read_trace(rt.alloc(), &text)?;
+    assert_eq!(rt; read.steps.len(), 100_002);
+    assert!(rt; read.steps.as_slice() == trace.steps.as_slice());
+    Ok(())
+}

@@ -1,7 +1,7 @@
 -- Refusals of rates, one after the other.
 use Rattle.std.proofs.Common.{◌≡◌, ℕ, ◌+◌, ◌*◌, ◌<◌, ◌≤◌, ◌⊎◌, inl, inr, true, false, List, [], ◌∷◌, ◌++◌, length, get_or, All, Any, Contains, refl, sym, ap, ◌∙◌, subst, arith, le_refl, length-append}
 use Rattle.std.proofs.lemmas.Bool.{cases_eq}
-use Rattle.std.proofs.lemmas.List.{get_or_append_left}
+use Rattle.std.proofs.lemmas.List.{get_or_append_left, length-map}
 use Rattle.std.proofs.lemmas.List.Elements.{All-push}
 use Rattle.std.proofs.lemmas.List.Quantifiers.{all_pairs_push, Any-push}
 use Rattle.cop_frame.specs.declared.rates.Rate.{Rate}
@@ -17,7 +17,7 @@ use Rattle.cop_cert.proofs.SetLemmas.{set_rules_out}
 use Rattle.cop_plan.specs.Fillings.{IsStuck}
 use Rattle.cop_plan.specs.Orders.{IsPlanOrder, IsByPriority}
 use Rattle.cop_plan.specs.Values.{PlanValue, id_of, HaveIds}
-use Rattle.cop_plan.specs.Plans.{IsGreatestRefusal, AreRefusals, IsSlower, IsPlan}
+use Rattle.cop_plan.specs.Plans.{IsGreatestRefusal, AreRefusals, members_in, IsSlower, IsPlan}
 use Rattle.cop_plan.proofs.PlannedLemmas.{order_assigns}
 use Rattle.cop_plan.proofs.FillingLemmas.{listed_at, no_bit}
 use Rattle.cop_plan.proofs.RateLemmas.{rate_at, at_place, place_at, kbits_rise, place_rise}
@@ -158,3 +158,13 @@ plan_is rates streams pdos n i plan refusals same few most low candidate rate_is
       refused = all;
       renamed = rw same at renamed;
     }
+
+members_push : (rs : List Refusal) (r : Refusal) → members_in (rs ++ r ∷ []) ≡ members_in rs + length r.members
+members_push [] r = omega arith
+members_push (s ∷ rs) r = omega (arith, members_push rs r)
+
+-- a refusal more has at most as many members as trials were made for it
+pub least_more : (rs : List Refusal) (r : Refusal) (members : List ℕ) (first before after : ℕ) → pdos_of r.members ≡ members
+    → first + members_in rs ≤ before → before + length members ≤ after → first + members_in (rs ++ r ∷ []) ≤ after
+least_more rs r members first before after are least more =
+    omega (arith, members_push rs r, length-map r.members (λ m. m.pdo), ap length are, least, more)

@@ -296,6 +296,37 @@ count_here pdos done flags h e =
     go : (n m : ℕ) → m ≡ suc n → flags n ≡ true → suc (count n flags) ≡ count m flags
     go n m same f = rw (same, f) (omega arith)
 
+pub none_counted : (flag : ℕ → Bool) → length {A = ℕ} [] ≡ count 0 flag
+unfolding sum_where
+none_counted flag = refl
+
+-- a list that grows with each one that is flagged has as many as there are
+pub counted : (found : List ℕ) (n : ℕ) (flag : ℕ → Bool) → flag n ≡ true → length found ≡ count n flag → length (found ++ n ∷ []) ≡ count (n + 1) flag
+unfolding sum_where
+counted found n flag f e = let next : n + 1 ≡ suc n = omega arith in rw (next, f) (simp length-append (omega (arith, e)))
+
+pub passed_by : (size n : ℕ) (flag : ℕ → Bool) → flag n ≡ false → size ≡ count n flag → size ≡ count (n + 1) flag
+unfolding sum_where
+passed_by size n flag f e = let next : n + 1 ≡ suc n = omega arith in rw (next, f) (omega (arith, e))
+
+-- one that is not flagged is not counted
+pub count_skips : (pdos done : ℕ) (flags : ℕ → Bool) → done < pdos → flags (pdos - 1 - done) ≡ false → count (pdos - (done + 1)) flags ≡ count (pdos - done) flags
+unfolding sum_where
+count_skips pdos done flags h e =
+    let there : pdos - 1 - done ≡ pdos - (done + 1) = omega (arith, h) in
+    go (pdos - (done + 1)) (pdos - done) (omega (arith, h)) (rw there at e)
+  where
+    go : (n m : ℕ) → m ≡ suc n → flags n ≡ false → count n flags ≡ count m flags
+    go n m same f = rw (same, f) (omega arith)
+
+-- where all are looked at, none is left to count
+pub none_left : (pdos done few many : ℕ) (flags : ℕ → Bool) → pdos ≤ done → few ≤ many + count (pdos - done) flags → few ≤ many
+unfolding sum_where
+none_left pdos done few many flags past h =
+    let none : pdos - done ≡ 0 = omega (arith, past) in
+    let low : few ≤ many + 0 = rw none at h in
+    omega (arith, low)
+
 pub count_grows : (pdos done : ℕ) (flags : ℕ → Bool) → count (pdos - (done + 1)) flags ≤ count (pdos - done) flags
 unfolding sum_where
 count_grows pdos done flags = go (cases_lt done pdos)

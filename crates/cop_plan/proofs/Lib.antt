@@ -12,3 +12,4 @@ pub mod NetworkLemmas
 pub mod OnceLemmas
 pub mod ListsOnce
 pub mod OutcomeOnce
+pub mod WritableLemmas

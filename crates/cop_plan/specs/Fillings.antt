@@ -44,3 +44,8 @@ pub record IsStuck (rate : Rate) (streams : List Stream) (pdos : ℕ) (members :
 abbrev pub IsFound : Rate → List Stream → ℕ → Filling → Type 0
 IsFound rate streams pdos (fillings.Whole fill) = IsWhole pdos fill.items × IsFilling rate streams pdos fill.items
 IsFound rate streams pdos (fillings.Stuck members) = IsStuck rate streams pdos members.items
+
+-- how many trials it takes at least: one for each PDO that got its place, or else for each that did not
+abbrev pub least_of : ℕ → Filling → ℕ
+least_of pdos (fillings.Whole fill) = pdos
+least_of pdos (fillings.Stuck members) = length members.items

@@ -1,5 +1,5 @@
 -- What a planner answers.
-use Rattle.std.specs.Prelude.{◌≡◌, ℕ, ◌+◌, ◌<◌, ◌≤◌, List, length, All, AllPairs, Any, Contains}
+use Rattle.std.specs.Prelude.{◌≡◌, ℕ, ◌+◌, ◌<◌, ◌≤◌, List, [], ◌∷◌, length, All, AllPairs, Any, Contains}
 use Rattle.cop_frame.specs.declared.rates.Rate.{Rate}
 use Rattle.cop_frame.specs.Rate.{kbits_of}
 use Rattle.cop_rta.specs.declared.streams.Stream.{Stream}
@@ -61,3 +61,13 @@ IsOutcome rates streams pdos (Refused refusals) = AreAllRefused rates streams pd
 abbrev pub rates_tried : Outcome → ℕ
 rates_tried (Planned plan) = length plan.refusals + 1
 rates_tried (Refused refusals) = length refusals
+
+-- how many members some refusals have together
+abbrev pub members_in : List Refusal → ℕ
+members_in [] = 0
+members_in (r ∷ rs) = length r.members + members_in rs
+
+-- how many trials it takes at least: one for each member of a refusal, and one for each PDO that got its place
+abbrev pub least_trials : ℕ → Outcome → ℕ
+least_trials pdos (Planned plan) = members_in plan.refusals + pdos
+least_trials pdos (Refused refusals) = members_in refusals

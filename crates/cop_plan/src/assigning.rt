@@ -3,7 +3,7 @@
 ghost use Rattle.std.specs.Prelude.{◌≡◌, ◌+◌, ◌*◌, ◌^◌, ◌≤◌, ◌↔◌, length, IfOk, IsTrue};
 ghost use Rattle.cop_cert.specs.Assignments.{AreFixedOutside};
 ghost use Rattle.cop_plan.specs.Values.{HaveDeadlines};
-ghost use Rattle.cop_plan.specs.Plans.{CanAssign, IsOutcome, rates_tried};
+ghost use Rattle.cop_plan.specs.Plans.{CanAssign, IsOutcome, rates_tried, least_trials};
 
 use crate::filling::{Count, Filling, fill};
 use crate::plans::{GREATEST_ID, LEAST_ID, Plan, planned};
@@ -68,7 +68,8 @@ pub fn can_assign(set: &StreamSet, pdos: usize) -> bool
 /// Identifiers of 181h to 57Fh for the PDOs, which are the first streams, at the slowest of some rates at which some
 /// assignment passes the response-time test; and a refusal for each slower one. `Err` is want of memory.
 ///
-/// At each rate it makes n(n+1)/2 trials at most for n PDOs, and counts them.
+/// At each rate it makes n(n+1)/2 trials at most for n PDOs; at least one for each PDO of a plan, and one for each member
+/// of a refusal. It counts them.
 pub fn assign(
     alloc: Global,
     set: &StreamSet,
@@ -81,6 +82,7 @@ pub fn assign(
     ensures outcome { IfOk result (IsOutcome rates.now set.now pdos) }
     ensures rises { count.old.trials ≤ count.new.trials }
     ensures trials { IfOk result (λ outcome. 2 * count.new.trials ≤ 2 * count.old.trials + rates_tried outcome * (pdos * (pdos + 1))) }
+    ensures least { IfOk result (λ outcome. count.old.trials + least_trials pdos outcome ≤ count.new.trials) }
     ensures bounded { 2 * count.new.trials ≤ 2 * count.old.trials + 8 * (pdos * (pdos + 1)) }
 {
     let mut refusals = Items::new(alloc);

@@ -6,7 +6,7 @@ ghost use Rattle.cop_rta.specs.Sums.{sum_where};
 ghost use Rattle.cop_cert.specs.Assignments.{least_id};
 ghost use Rattle.cop_cert.specs.Evidence.{is_listed};
 ghost use Rattle.cop_cert.specs.Sets.{is_in_trial};
-ghost use Rattle.cop_plan.specs.Fillings.{IsFound};
+ghost use Rattle.cop_plan.specs.Fillings.{IsFound, least_of};
 
 use crate::plans::LEAST_ID;
 use cop_frame::Rate;
@@ -41,6 +41,8 @@ fn last_passing(
     requires room { count.old.trials + pdos < 2 ^ 64 }
     ensures rises { count.old.trials ≤ count.new.trials }
     ensures trials { count.new.trials ≤ count.old.trials + sum_where (is_flagged above.now) (λ _. 1) pdos }
+    ensures one { IfOk result (λ found. IfSome found (λ _. count.old.trials + 1 ≤ count.new.trials)) }
+    ensures each { IfOk result (λ found. IfNone found (count.old.trials + sum_where (is_flagged above.now) (λ _. 1) pdos ≤ count.new.trials)) }
     ensures inside { IfOk result (λ found. IfSome found (λ p. p < pdos)) }
     ensures flagged { IfOk result (λ found. IfSome found (λ p. is_flagged above.now p ≡ true)) }
     ensures passes { IfOk result (λ found. IfSome found (λ p. Passes (flagged_place loads.now.streams above.now p loads.now.rate))) }
@@ -77,6 +79,7 @@ fn flagged(alloc: Global, above: &[bool], pdos: usize) -> Result<Vec<usize>, All
     ensures exact { IfOk result (λ found. (k : ℕ) → is_listed found.items k ≡ (nat_lt k pdos && is_flagged above.now k)) }
     ensures rise { IfOk result (λ found. AllPairs (λ m n. m < n) found.items) }
     ensures inside { IfOk result (λ found. All (λ m. m < pdos) found.items) }
+    ensures count { IfOk result (λ found. length found.items ≡ sum_where (is_flagged above.now) (λ _. 1) pdos) }
 {
     let mut found = Vec::new(alloc);
     for pdo in 0..pdos {
@@ -90,7 +93,8 @@ fn flagged(alloc: Global, above: &[bool], pdos: usize) -> Result<Vec<usize>, All
 /// The filling of the places at one rate, from the lowest on: at each the last PDO that passes there with the PDOs that
 /// have no place yet and the fixed frames below 181h above it, and all others below.
 ///
-/// With n PDOs it makes n(n+1)/2 trials at most, and counts them.
+/// With n PDOs it makes n(n+1)/2 trials at most, and at least one for each PDO that gets its place or else for each of
+/// those left; it counts them.
 pub(crate) fn fill(
     alloc: Global,
     set: &StreamSet,
@@ -103,6 +107,7 @@ pub(crate) fn fill(
     ensures found { IfOk result (IsFound rate set.now pdos) }
     ensures rises { count.old.trials ≤ count.new.trials }
     ensures trials { 2 * count.new.trials ≤ 2 * count.old.trials + pdos * (pdos + 1) }
+    ensures least { IfOk result (λ filling. count.old.trials + least_of pdos filling ≤ count.new.trials) }
 {
     let mut flags = [false; StreamSet::MOST];
     let streams = set.streams();

@@ -6,7 +6,8 @@ ghost use Rattle.cop_rta.specs.declared.streams.Stream.{Stream};
 ghost use Rattle.cop_cert.specs.declared.refusals.Refusal.{Refusal};
 ghost use Rattle.cop_cert.specs.Writable.{AreWritable};
 ghost use Rattle.cop_plan.specs.Orders.{HasPdos, IsPlanOrder};
-ghost use Rattle.cop_plan.specs.Plans.{IsOutcome, AreRefusals};
+ghost use Rattle.cop_plan.specs.Plans.{IsOutcome, IsPlan, AreAllRefused};
+ghost use Rattle.cop_plan.specs.Values.{PlanValue};
 ghost use Rattle.cop_plan.specs.declared.assigning.Outcome.{Outcome};
 
 /// No set of streams has two orders.
@@ -19,7 +20,8 @@ pub fn one_outcome()
     ensures { (rates : List Rate) (streams : List Stream) (pdos : ℕ) (a b : Outcome) → HasPdos streams pdos → IsOutcome rates streams pdos a → IsOutcome rates streams pdos b → a ≡ b }
 {}
 
-/// The refusals of at most 512 PDOs that a plan carries are refusals that a file holds.
+/// The refusals of at most 512 PDOs that an outcome carries are refusals that a file holds.
 pub fn refusals_are_writable()
-    ensures { (streams : List Stream) (pdos : ℕ) (Are : Rate → Type 0) (refusals : List Refusal) → pdos ≤ length streams → pdos ≤ 512 → AreRefusals streams pdos Are refusals → AreWritable refusals }
+    ensures plan { (rates : List Rate) (streams : List Stream) (pdos : ℕ) (plan : PlanValue) → pdos ≤ length streams → pdos ≤ 512 → IsPlan rates streams pdos plan → AreWritable plan.refusals }
+    ensures none { (rates : List Rate) (streams : List Stream) (pdos : ℕ) (refusals : List Refusal) → pdos ≤ length streams → pdos ≤ 512 → AreAllRefused rates streams pdos refusals → AreWritable refusals }
 {}

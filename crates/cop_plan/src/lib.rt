@@ -9,6 +9,6 @@ mod plans;
 
 pub use assigning::{Outcome, assign, can_assign};
 pub use filling::Count;
-pub use laws::{one_outcome, order_is_unique};
+pub use laws::{one_outcome, order_is_unique, refusals_are_writable};
 pub use planning::plan;
 pub use plans::Plan;

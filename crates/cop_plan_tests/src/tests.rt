@@ -182,22 +182,54 @@ fn slowest_rates_are_planned(rt: HostRuntime) -> Result<(), Fail> {
     Ok(())
 }
 
+// A table, the candidates, and the whole evidence of the one member of the last refusal, which is the first PDO.
+#[derive(Drop)]
+struct Alone {
+    table: &'static [u8],
+    candidates: &'static [Rate],
+    busy: &'static [u64],
+    queue: &'static [u64],
+}
+
+const ALONE: &[Alone] = &[
+    Alone {
+        table: PAST_THE_DEADLINE,
+        candidates: ALL,
+        busy: &[1, 4320],
+        queue: &[0],
+    },
+    Alone {
+        table: TWO,
+        candidates: &[Rate::Kbit125, Rate::Kbit250],
+        busy: &[1, 8640],
+        queue: &[4320],
+    },
+];
+
+// Whether the one member is the first PDO, with this evidence that its first instance is late.
+fn is_late(refusal: &Refusal, busy: &[u64], queue: &[u64]) -> bool {
+    match refusal.members.as_slice() {
+        [member] => match &member.evidence {
+            Evidence::Late {
+                q,
+                busy: longer,
+                queue: waits,
+            } => {
+                member.pdo == 0 && *q == 0 && longer.as_slice() == busy && waits.as_slice() == queue
+            }
+            Evidence::Long { .. } => false,
+        },
+        _ => false,
+    }
+}
+
 #[test]
-fn one_pdo_past_its_deadline(rt: HostRuntime) -> Result<(), Fail> {
-    let (outcome, _) = answer(rt.alloc(), PAST_THE_DEADLINE, ALL)?;
-    let plan = plan_of(outcome)?;
-    assert_eq!(rt; plan.rate(), Rate::Kbit250);
-    let refusals = plan.refusals();
-    assert_eq!(rt; refusals.len(), 4);
-    let refusal = refusals.last().ok_or("no refusal")?;
-    let member = refusal.members.as_slice().first().ok_or("no member")?;
-    match &member.evidence {
-        Evidence::Late { q, busy, queue } => {
-            assert_eq!(rt; *q, 0);
-            assert_eq!(rt; busy.as_slice(), [1, 4320].as_slice());
-            assert_eq!(rt; queue.as_slice(), [0].as_slice());
-        }
-        Evidence::Long { .. } => assert!(rt; false),
+fn the_last_refusal_has_its_evidence(rt: HostRuntime) -> Result<(), Fail> {
+    for row in ALONE {
+        let (outcome, _) = answer(rt.alloc(), row.table, row.candidates)?;
+        let plan = plan_of(outcome)?;
+        let refusal = plan.refusals().last().ok_or("no refusal")?;
+        assert!(rt; is_late(refusal, row.busy, row.queue));
     }
     Ok(())
 }

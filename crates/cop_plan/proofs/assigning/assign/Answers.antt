@@ -1,6 +1,6 @@
 use Rattle.std.proofs.Common.{◌+◌, ◌*◌, arith, length-append, length}
 use Rattle.cop_plan.proofs.FillingLemmas.{no_bit}
-use Rattle.cop_plan.proofs.AssignLemmas.{stuck_fails, greatest_is_made, passed_over, one_more, all_refused, refused_is_ruled_out, trials_more, plan_is}
+use Rattle.cop_plan.proofs.AssignLemmas.{stuck_fails, greatest_is_made, passed_over, one_more, all_refused, refused_is_ruled_out, trials_more, least_more, plan_is}
 use Rattle.cop_plan.proofs.RateLemmas.{rate_at}
 use Rattle.cop_plan.proofs.assigning.assign.Goals as goal
 use Rattle.cop_plan.proofs.assigning.assign.Goals.{then-contains+in_ok-fill+in-Stuck+in_ok-make-in-Stuck+in_ok-push-in-Stuck, else-contains}
@@ -12,6 +12,10 @@ returns-in-Whole-clause-outcome c =
     plan_is c.args.rates.now c.args.set.now c.args.pdos (length c.in-Whole.fill.items) c.loop-rate.rate-index c.in_ok-planned-in-Whole.field-0 c.loop-rate.refusals
     found.0.count c.requires.can.count c.requires.can.few c.loop-rate-test.true (c.contains.ensures.0 c.if-contains.true) made.rate made.refusals made.count made.order made.by_priority made.renamed
     c.loop-rate.invariant.refused
+
+pub returns-in-Whole-clause-least : goal.returns-in-Whole-clause-least
+returns-in-Whole-clause-least c =
+    rw c.in_ok-planned-in-Whole.ensures.refusals (omega (arith, c.loop-rate.invariant.least, (rw c.in-Whole.is at c.in_ok-fill.ensures.least)))
 
 pub make-requires-clause-fail : goal.make-requires-clause-fail
 make-requires-clause-fail c =
@@ -28,6 +32,9 @@ loop-rate-preserved c = elim c.if-contains.branch [
             c.loop-rate.invariant.refused;
         tried = simp length-append (omega (arith, c.loop-rate.invariant.tried));
         rises = omega (arith, c.loop-rate.invariant.rises, w.in_ok-fill.ensures.rises);
+        least = least_more c.loop-rate.refusals w.in_ok-make-in-Stuck.field-0 w.deref.result.now c.args.count.now.trials c.loop-rate.count.trials w.fill.new.count.trials
+            w.in_ok-make-in-Stuck.ensures.made.members_are.pdos_are c.loop-rate.invariant.least
+            (rw (w.in-Stuck.is, ← w.deref.ensures.value) at w.in_ok-fill.ensures.least);
         trials = simp length-append (trials_more c.loop-rate.count.trials w.fill.new.count.trials c.args.count.now.trials (length c.loop-rate.refusals) (c.args.pdos * (c.args.pdos + 1))
             w.in_ok-fill.ensures.trials c.loop-rate.invariant.trials);
       })
@@ -36,6 +43,7 @@ loop-rate-preserved c = elim c.if-contains.branch [
         (λ member. no_bit c.contains.result (c.contains.ensures.1 member) w.if-contains.false) c.loop-rate.invariant.refused;
     tried = omega (arith, c.loop-rate.invariant.tried);
     rises = c.loop-rate.invariant.rises;
+    least = c.loop-rate.invariant.least;
     trials = c.loop-rate.invariant.trials;
   })
 ]

@@ -1,5 +1,5 @@
 use Rattle.std.proofs.Common.{◌≤◌, ◌+◌, ◌*◌, length}
-use Rattle.cop_plan.specs.Plans.{AreRefusals}
+use Rattle.cop_plan.specs.Plans.{AreRefusals, members_in}
 use Rattle.cop_plan.proofs.AssignLemmas.{IsEarlier}
 use Rattle.cop_plan.proofs.assigning.assign.Given as goal
 
@@ -8,5 +8,6 @@ invariant-loop-rate l = record {
   refused : AreRefusals l.set l.pdos (IsEarlier l.rates l.rate-index) l.refusals;
   tried : length l.refusals ≤ l.rate-index;
   rises : l.fn.count.trials ≤ l.count.trials;
+  least : l.fn.count.trials + members_in l.refusals ≤ l.count.trials;
   trials : 2 * l.count.trials ≤ 2 * l.fn.count.trials + length l.refusals * (l.pdos * (l.pdos + 1));
 }

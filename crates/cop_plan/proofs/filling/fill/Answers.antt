@@ -10,6 +10,7 @@ loop-placed-init c = record {
   goes = rw c.new-fill.ensures.items (goes_from_flags c.args.rate c.args.set.now c.args.pdos c.flag_all.new.out c.flag_all.ensures);
   placed = rw c.new-fill.ensures.items refl;
   rises = omega arith;
+  least = omega arith;
   trials = let same : c.args.pdos - 0 ≡ c.args.pdos = omega arith in rw same (le_refl _);
 }
 
@@ -29,6 +30,7 @@ returns-in_default c = record {
     inside = c.in_ok-flagged.ensures.inside;
   };
   rises = omega (arith, c.loop-placed.invariant.rises, c.in_ok-pdo.ensures.rises);
+  least = omega (arith, c.loop-placed.invariant.least, (rw c.in_default.is at c.in_ok-pdo.ensures.each), c.in_ok-flagged.ensures.count);
   trials =
       trials_end c.last_passing.new.count.trials _ _
       (place_trials c.args.pdos c.loop-placed._placed c.loop-placed.count.trials c.last_passing.new.count.trials c.args.count.now.trials _ c.loop-placed-test.true
@@ -47,6 +49,7 @@ loop-placed-preserved c =
           c.loop-placed.invariant.goes (rw c.in-Some.is at c.in_ok-pdo.ensures.flagged) (rw (c.in-Some.is, c.in_ok-loads.ensures) at c.in_ok-pdo.ensures.passes) (rw (c.in-Some.is, c.in_ok-loads.ensures) at c.in_ok-pdo.ensures.last));
       placed = rw c.in_ok-push.ensures.items (simp length-append (omega (arith, c.loop-placed.invariant.placed)));
       rises = omega (arith, c.loop-placed.invariant.rises, c.in_ok-pdo.ensures.rises);
+      least = omega (arith, c.loop-placed.invariant.least, (rw c.in-Some.is at c.in_ok-pdo.ensures.one));
       trials =
           place_trials c.args.pdos c.loop-placed._placed c.loop-placed.count.trials c.last_passing.new.count.trials c.args.count.now.trials _ c.loop-placed-test.true
           (flagged_left c.args.rate c.args.set.now c.args.pdos c.loop-placed._placed c.loop-placed.fill.items c.loop-placed.above c.loop-placed.invariant.goes c.loop-placed.invariant.placed)
@@ -60,6 +63,7 @@ returns c = record {
       (omega (arith, c.loop-placed.invariant.placed, c.loop-placed-test.false));
   rises = c.loop-placed.invariant.rises;
   trials = trials_end c.loop-placed.count.trials _ _ c.loop-placed.invariant.trials;
+  least = omega (arith, c.loop-placed.invariant.least, c.loop-placed-test.false);
 }
 
 pub returns-in_err-flagged-clause-trials : goal.returns-in_err-flagged-clause-trials

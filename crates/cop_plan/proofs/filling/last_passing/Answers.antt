@@ -3,7 +3,7 @@ use Rattle.std.proofs.lemmas.Bool.{cases_eq}
 use Rattle.std.proofs.lemmas.Option.{unwrap_or-slice_get}
 use Rattle.cop_rta.specs.Test.{is_flagged, Passes}
 use Rattle.cop_rta.specs.Levels.{Flags, place_in}
-use Rattle.cop_plan.proofs.GreedyLemmas.{count_here, count_grows}
+use Rattle.cop_plan.proofs.GreedyLemmas.{count_here, count_skips, count_grows, none_left}
 use Rattle.cop_plan.proofs.FillingLemmas.{no_bit}
 use Rattle.cop_plan.proofs.filling.last_passing.Goals as goal
 use Rattle.cop_plan.proofs.filling.last_passing.Goals.{then-above-pdo+else-passes, else-above-pdo}
@@ -40,6 +40,11 @@ loop-done-preserved c = elim c.if-above-pdo.branch [
       c.loop-done.invariant.trials,
       count_here c.args.pdos c.loop-done.done (is_flagged c.args.above.now) c.loop-done-test.true
           (unwrap_or-slice_get c.args.above.now (c.args.pdos - 1 - c.loop-done.done) false ∙ w.if-above-pdo.true),
+    );    each = omega (
+      arith,
+      c.loop-done.invariant.each,
+      count_here c.args.pdos c.loop-done.done (is_flagged c.args.above.now) c.loop-done-test.true
+          (unwrap_or-slice_get c.args.above.now (c.args.pdos - 1 - c.loop-done.done) false ∙ w.if-above-pdo.true),
     );
   })
   | else-above-pdo w ↦ rw w.count-is (record {
@@ -51,5 +56,17 @@ loop-done-preserved c = elim c.if-above-pdo.branch [
     rises = c.loop-done.invariant.rises;
     few = omega (arith, c.loop-done.invariant.few);
     trials = omega (arith, c.loop-done.invariant.trials, count_grows c.args.pdos c.loop-done.done (is_flagged c.args.above.now));
+    each = omega (
+      arith,
+      c.loop-done.invariant.each,
+      count_skips c.args.pdos c.loop-done.done (is_flagged c.args.above.now) c.loop-done-test.true
+          (unwrap_or-slice_get c.args.above.now (c.args.pdos - 1 - c.loop-done.done) false ∙ w.if-above-pdo.false),
+    );
   })
 ]
+
+pub returns-then-passes-clause-one : goal.returns-then-passes-clause-one
+returns-then-passes-clause-one c = omega (arith, c.loop-done.invariant.rises)
+
+pub returns-clause-each : goal.returns-clause-each
+returns-clause-each c = none_left c.args.pdos c.loop-done.done _ _ (is_flagged c.args.above.now) (omega (arith, c.loop-done-test.false)) c.loop-done.invariant.each

@@ -9,4 +9,5 @@ invariant-loop-done l = record {
   rises : l.fn.count.trials ≤ l.count.trials;
   few : l.count.trials ≤ l.fn.count.trials + l.done;
   trials : l.count.trials + sum_where (is_flagged l.above) (λ _. 1) (l.pdos - l.done) ≤ l.fn.count.trials + sum_where (is_flagged l.above) (λ _. 1) l.pdos;
+  each : l.fn.count.trials + sum_where (is_flagged l.above) (λ _. 1) l.pdos ≤ l.count.trials + sum_where (is_flagged l.above) (λ _. 1) (l.pdos - l.done);
 }
