@@ -44,7 +44,7 @@ files_same rates streams rows a b has x y =
     )
 
 -- what is answered at all is one thing
-ok_once : {A E : Type 0} (r : Result A E) (a b : A) → r ≡ Ok a → r ≡ Ok b → a ≡ b
+pub ok_once : {A E : Type 0} (r : Result A E) (a b : A) → r ≡ Ok a → r ≡ Ok b → a ≡ b
 ok_once {A} {E} r a b x y =
     let both : ◌≡◌ {A = Result A E} (Ok a) (Ok b) = sym x ∙ y in
     cc

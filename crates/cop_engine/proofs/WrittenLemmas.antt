@@ -1,5 +1,5 @@
 -- What `plan` writes of refusals is what `check` reads, and all of them hold.
-use Rattle.std.proofs.Common.{◌≡◌, ◌↔◌, ℕ, ◌+◌, ◌<◌, ◌≤◌, ◌==◌, Bool, true, false, List, [], ◌∷◌, ◌++◌, length, map, get_or, slice_get, All, IsTrue, Some, Ok, Err, Result, refl, sym, ap, ◌∙◌, subst, arith, length-append}
+use Rattle.std.proofs.Common.{◌≡◌, ◌↔◌, ℕ, ◌+◌, ◌<◌, ◌≤◌, ◌==◌, inl, inr, Bool, true, false, List, [], ◌∷◌, ◌++◌, length, map, get_or, slice_get, All, IsTrue, Some, Ok, Err, Result, refl, sym, ap, ◌∙◌, subst, arith, length-append}
 use Rattle.std.proofs.lemmas.Option.{slice_get-get_or}
 use Rattle.cop_frame.specs.declared.rates.Rate.{Rate}
 use Rattle.cop_rta.specs.declared.streams.Stream.{Stream}

@@ -18,7 +18,7 @@ pub use faults::{Fault, status};
 pub use guarantee::{judged_on_time, planner_guarantee};
 pub use inputs::read_all;
 pub use judgements::judge_bytes;
-pub use laws::{one_check, one_plan, one_report};
+pub use laws::{one_check, one_plan, one_report, planned_refusals_hold};
 pub use messages::{check_status, message, plan_status, rate_of, text_status};
 pub use plans::{Files, plan_bytes};
 pub use tests_of_streams::test_bytes;

@@ -15,7 +15,15 @@ fn rates(rt: HostRuntime) {
         assert_eq!(rt; Rate::from_kbits(rate.kbits()), Some(rate));
     }
     assert!(rt; Rate::from_kbits(100).is_none());
-    assert!(rt; Rate::Kbit10 < Rate::Kbit1000);
+}
+
+#[test]
+fn rates_are_ordered_by_kbits(rt: HostRuntime) {
+    for slow in Rate::ALL {
+        for fast in Rate::ALL {
+            assert_eq!(rt; slow < fast, slow.kbits() < fast.kbits());
+        }
+    }
 }
 
 #[test]

@@ -42,3 +42,27 @@ fn records_are_read(rt: HostRuntime) -> Result<(), Fail> {
     }
     Ok(())
 }
+
+// A text under the header, and how many fields each of its records has.
+const SHAPES: &[(&[u8], &[usize])] = &[
+    (b"id,bytes\n", &[]),
+    (b"id,bytes\n1,2\n3", &[2, 1]),
+    // empty lines are no records
+    (b"id,bytes\n\n\n1\n\n", &[1]),
+    // a comma at the end begins one more field
+    (b"id,bytes\n,\n1,,\n", &[2, 3]),
+    // LF, CR LF and CR alone each end a record
+    (b"id,bytes\n1,2\r\n3\r4,5,6", &[2, 1, 3]),
+    // between quotes a comma and a line end are bytes of the field
+    (b"id,bytes\n\"1,2\",\"3\n4\"\n5", &[2, 1]),
+];
+
+#[test]
+fn records_are_lines_cut_at_commas(rt: HostRuntime) -> Result<(), Fail> {
+    for case in SHAPES {
+        let (text, sizes) = *case;
+        let found = ids(&rt, text)?.ok_or("another header")?;
+        assert!(rt; found.iter().map(|record| record.1).eq(sizes.iter().copied()));
+    }
+    Ok(())
+}
