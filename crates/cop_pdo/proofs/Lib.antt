@@ -4,3 +4,4 @@ pub mod BitLemmas
 pub mod MovingLemmas
 pub mod UnpackLemmas
 pub mod LawLemmas
+pub mod SentLemmas

@@ -1,3 +1,4 @@
 pub mod Payload
 pub mod Bits
 pub mod CobIds
+pub mod Sent

@@ -1,18 +1,24 @@
 //! What holds of payloads and COB-IDs, whatever the dictionary is.
 
-ghost use Rattle.std.specs.Prelude.{◌≡◌, ◌<◌, ◌^◌, ◌%◌, ℕ, List, Ok, true, false};
+ghost use Rattle.std.specs.Prelude.{◌≡◌, ◌<◌, ◌+◌, ◌^◌, ◌%◌, ℕ, Bool, List, Ok, Some, true, false, take, drop, slice_get};
+ghost use Rattle.cop_dict.specs.declared.mapping.Direction.{Direction};
+ghost use Rattle.cop_dict.specs.declared.mapping.Mapped.{Mapped};
 ghost use Rattle.cop_dict.specs.Find.{Entry, entry_at};
+ghost use Rattle.cop_dict.specs.Mapping.{is_dummy, total_bits};
 ghost use Rattle.cop_dict.specs.Dict.{written, with_value, initial, initial_communication};
 ghost use Rattle.cop_dict.specs.Pdo.{exists_by};
 ghost use Rattle.cop_pdo.specs.CobIds.{off, on};
-ghost use Rattle.cop_pdo.specs.Payload.{Layout, HasObjects};
-ghost use Rattle.cop_pdo.specs.Bits.{payload_bits, unpacked, is_mapped, value_at, HasProperValues};
+ghost use Rattle.cop_pdo.specs.Payload.{Layout, HasObjects, is_same_layout};
+ghost use Rattle.cop_pdo.specs.Bits.{bits_of_number, bytes_of_bits, bytes_for, mapped_number, payload_bits, unpacked, is_mapped, value_at, HasProperValues};
+ghost use Rattle.cop_pdo.specs.Sent.{HasEntryAt};
 
-/// What leaves the types of a dictionary's objects leaves the objects of a mapping: accepted writes, stores and resets.
+/// What leaves the types of a dictionary's objects leaves the objects of a mapping: accepted writes, stores, resets, and what
+/// is unpacked by any mapping.
 pub fn objects_stay()
     ensures writes { (dict new : List Entry) (index sub : ℕ) (bytes : List ℕ) (layout : Layout) → written dict index sub bytes ≡ Ok new → HasObjects dict layout → HasObjects new layout }
     ensures stores { (dict : List Entry) (index sub : ℕ) (bytes : List ℕ) (layout : Layout) → HasObjects dict layout → HasObjects (with_value index sub bytes dict) layout }
     ensures resets { (dict : List Entry) (layout : Layout) → HasObjects dict layout → HasObjects (initial dict) layout × HasObjects (initial_communication dict) layout }
+    ensures unpacking { (dict : List Entry) (direction : Direction) (entries : List Mapped) (bits : List Bool) (layout : Layout) → HasObjects dict layout → HasObjects (unpacked dict direction entries bits) layout }
 {}
 
 /// To unpack what was packed gives each mapped object the value that it had then, and leaves each other entry as it is now.
@@ -22,6 +28,15 @@ pub fn unpacking_restores()
         → value_at (unpacked now layout.direction layout.entries (payload_bits dict layout)) index sub ≡ value_at dict index sub }
     ensures others { (dict now : List Entry) (layout : Layout) (index sub : ℕ) → is_mapped layout.direction layout.entries index sub ≡ false
         → entry_at (unpacked now layout.direction layout.entries (payload_bits dict layout)) index sub ≡ entry_at now index sub }
+{}
+
+/// What one node sends, the other has: where a sent and a received PDO have the same layout, each object that the received
+/// one maps, by the last entry that maps it, gets the bits of the sent entry that begins at the same bit and is as wide.
+pub fn what_is_sent_is_received()
+    ensures { (sender receiver : List Entry) (sent layout : Layout) (k : ℕ) (m : Mapped) → is_same_layout sent layout ≡ true → HasObjects receiver layout
+        → slice_get layout.entries k ≡ Some m → is_dummy layout.direction m ≡ false → is_mapped layout.direction (drop (k + 1) layout.entries) m.index m.sub ≡ false
+        → (source : Mapped) × HasEntryAt sent (total_bits (take k layout.entries)) m.bits source
+        × (value_at (unpacked receiver layout.direction layout.entries (payload_bits sender sent)) m.index m.sub ≡ Some (bytes_of_bits (bytes_for m.bits) (bits_of_number m.bits (mapped_number sender sent.direction source)))) }
 {}
 
 /// A PDO that is switched off does not exist, and one that is given an identifier exists with it. That it was switched off
