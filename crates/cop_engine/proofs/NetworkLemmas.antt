@@ -1,5 +1,5 @@
 -- What the files say, from what each reading gives.
-use Rattle.std.proofs.Common.{◌≡◌, ℕ, zero, suc, ◌<◌, ◌≤◌, List, [], ◌∷◌, length, slice_get, Option, Some, None, Ok, Err, Result, IfSome, IsTrue, MatchResult, All, Bool, true, ◌↔◌, inl, inr, refl, sym, subst, le_refl, arith}
+use Rattle.std.proofs.Common.{◌≡◌, ℕ, zero, suc, ◌<◌, ◌≤◌, List, [], ◌∷◌, length, slice_get, Some, Ok, Err, Result, IfSome, IsTrue, MatchResult, All, Bool, true, ◌↔◌, inl, inr, refl, sym, subst, le_refl, arith}
 use Rattle.cop_rta.specs.declared.streams.Stream.{Stream}
 use Rattle.cop_cert.specs.Assignments.{least_id}
 use Rattle.cop_cert.proofs.SetLemmas.{refusal_rules_out}
@@ -26,7 +26,7 @@ use Rattle.cop_engine.specs.Reports.{lines_below}
 use Rattle.cop_engine.specs.Checks.{check_line_at, AreChecked, RuleOut, IsCheckOf, ExplainsCheck}
 use Rattle.cop_engine.specs.Faults.{fault_of, fault_of_refusals}
 use Rattle.cop_engine.specs.Networks.{Found, network_in, ExplainsNetwork}
-use Rattle.cop_engine.specs.Plans.{ArePlanned, AreFilesOf}
+use Rattle.cop_engine.specs.Plans.{AreFilesFor, AreFilesOf}
 
 -- what holds of the fault that is answered
 pub err_is : {X : Type 0} (r : Result X Fault) (A : X → Type 0) (B : Fault → Type 0) (fault : Fault) → IsErrAnd r (λ f. f ≡ fault) → B fault → MatchResult r A B
@@ -61,24 +61,25 @@ module _ (nodes pdos : List ℕ) (files : List File) where
   network_explains n rows Memory read also e = tt
 
   network_read : (n : NodeLists) (rows : List PdoRow) (a : Accepted) → in_table Nodes (nodes_of nodes) ≡ Ok n → in_table Pdos (pdos_of pdos) ≡ Ok rows
-      → network_of n rows files ≡ Ok a → network_in nodes pdos files ≡ Ok (record { rows = rows; network = a })
+      → network_of n rows files ≡ Ok a → network_in nodes pdos files ≡ Ok (record { nodes = n; rows = rows; network = a })
   unfolding network_in
   network_read n rows a read also e = rw (read, also, e) refl
 
   pub network_found : (n : NodeLists) (rows : List PdoRow) (network : Net) → in_table Nodes (nodes_of nodes) ≡ Ok n → in_table Pdos (pdos_of pdos) ≡ Ok rows
-      → network_of n rows files ≡ Ok (accepted network) → network_in nodes pdos files ≡ Ok (record { rows = rows; network = accepted network })
+      → network_of n rows files ≡ Ok (accepted network) → network_in nodes pdos files ≡ Ok (record { nodes = n; rows = rows; network = accepted network })
   network_found n rows network read also e = network_read n rows (accepted network) read also e
 
   -- the files of the network's plan are those of the files
   pub files_are : (n : NodeLists) (rows : List PdoRow) (network : Net) (made : Files) → in_table Nodes (nodes_of nodes) ≡ Ok n → in_table Pdos (pdos_of pdos) ≡ Ok rows
-      → network_of n rows files ≡ Ok (accepted network) → network.rows ≡ rows → IsNetwork network → ArePlanned network made → AreFilesOf nodes pdos files made
-  files_are n rows network made read also e same is planned = record {
-    found = record { rows = rows; network = accepted network };
+      → network_of n rows files ≡ Ok (accepted network) → network.nodes ≡ n → network.rows ≡ rows → IsNetwork network → AreFilesFor files network made → AreFilesOf nodes pdos files made
+  files_are n rows network made read also e of same is planned = record {
+    found = record { nodes = n; rows = rows; network = accepted network };
     read = network_read n rows (accepted network) read also e;
     streams = network.set;
     streams_are = refl;
     begins = rw same at is.streams;
-    planned = rw same at planned;
+    network = rw (of, same) at is;
+    planned = rw (of, same) at planned;
   }
 
   -- a fault of the network explains why there is no check
@@ -104,7 +105,7 @@ module _ (nodes pdos : List ℕ) (files : List File) where
       → AreChecked network.set (length network.rows) refusals answers (length refusals) → lines ≡ lines_below (check_line_at refusals answers) (length refusals)
       → (IsTrue all ↔ All (λ answer. answer ≡ true) answers) → IsNetwork network → IsCheckOf nodes pdos files text lines all
   check_is n rows network text lines refusals answers all read also e same told checked are hold is = record {
-    found = record { rows = rows; network = accepted network };
+    found = record { nodes = n; rows = rows; network = accepted network };
     read = network_read n rows (accepted network) read also e;
     streams = network.set;
     streams_are = refl;

@@ -2,7 +2,6 @@
 use Rattle.std.proofs.Common.{◌≡◌, ◌↔◌, ℕ, ◌<◌, Bool, true, false, List, [], ◌∷◌, length, map, get_or, slice_get, All, IsTrue, Some, Ok, Result, refl, sym, ap, ◌∙◌, subst, arith}
 use Rattle.std.proofs.lemmas.List.{ext_get_or}
 use Rattle.std.proofs.lemmas.Option.{slice_get-get_or}
-use Rattle.cop_frame.specs.declared.rates.Rate.{Rate}
 use Rattle.cop_rta.specs.declared.streams.Stream.{Stream}
 use Rattle.cop_rta.specs.declared.verdicts.Verdict.{Verdict}
 use Rattle.cop_rta.specs.Entries.{entry_of}
@@ -11,21 +10,22 @@ use Rattle.cop_cert.specs.declared.refusals.Refusal.{Refusal}
 use Rattle.cop_cert.specs.Format.{text_of}
 use Rattle.cop_rows.specs.declared.pdo_table.PdoRow.{PdoRow}
 use Rattle.cop_net.specs.Devices.{File}
-use Rattle.cop_net.specs.Network.{BeginsWith}
+use Rattle.cop_net.specs.Network.{Net, BeginsWith}
 use Rattle.cop_plan.specs.Orders.{HasPdos}
 use Rattle.cop_plan.specs.declared.assigning.Outcome.{Outcome}
 use Rattle.cop_plan.specs.declared.assigning.Outcome.TheVariants.{Planned, Refused}
 use Rattle.cop_plan.proofs.OutcomeOnce.{outcome_once}
 use Rattle.cop_engine.specs.declared.plans.Files.{Files}
 use Rattle.cop_engine.specs.Reports.{lines_below}
-use Rattle.cop_engine.specs.Networks.{Found, network_in}
+use Rattle.cop_engine.specs.Networks.{Found, network_in, net_of}
+use Rattle.cop_engine.specs.Dcfs.{dcfs_of}
 use Rattle.cop_engine.specs.PlanTexts.{plan_text, is_planned, refusals_of}
 use Rattle.cop_engine.specs.Plans.{ArePlanVerdicts, AreFilesFor, AreFilesOf}
 use Rattle.cop_engine.specs.Checks.{AreChecked, IsCheckOf, check_line_at}
 use Rattle.cop_engine.proofs.LawLemmas.{all_verdicts_same}
 
 abbrev pub SameFiles : Files → Files → Type 0
-SameFiles a b = (a.planned ≡ b.planned) × (a.plan.items ≡ b.plan.items) × (a.refusals.items ≡ b.refusals.items)
+SameFiles a b = (a.planned ≡ b.planned) × (a.plan.items ≡ b.plan.items) × (a.refusals.items ≡ b.refusals.items) × (a.dcf ≡ b.dcf)
 
 has_pdos : (pdos : ℕ) (streams : List Stream) → BeginsWith pdos streams → HasPdos streams pdos
 has_pdos pdos streams h = record { count = h.count; outside = h.outside }
@@ -34,13 +34,14 @@ text_same : (rows : List PdoRow) (outcome : Outcome) (vs ws : List Verdict) → 
 text_same rows (Planned plan) vs ws x y = rw (all_verdicts_same plan.rate plan.streams vs ws (length rows) x y) refl
 text_same rows (Refused refusals) vs ws x y = refl
 
-files_same : (rates : List Rate) (streams : List Stream) (rows : List PdoRow) (a b : Files) → HasPdos streams (length rows) → AreFilesFor rates streams rows a → AreFilesFor rates streams rows b → SameFiles a b
-files_same rates streams rows a b has x y =
-    let same : x.outcome ≡ y.outcome = outcome_once rates streams (length rows) has x.outcome y.outcome x.planned y.planned in
-    let judged : ArePlanVerdicts y.outcome x.verdicts (length rows) = subst (λ (o : Outcome). ArePlanVerdicts o x.verdicts (length rows)) same x.judged in (
+files_same : (eds : List File) (net : Net) (a b : Files) → HasPdos net.set (length net.rows) → AreFilesFor eds net a → AreFilesFor eds net b → SameFiles a b
+files_same eds net a b has x y =
+    let same : x.outcome ≡ y.outcome = outcome_once net.equipment.rates net.set (length net.rows) has x.outcome y.outcome x.planned y.planned in
+    let judged : ArePlanVerdicts y.outcome x.verdicts (length net.rows) = subst (λ (o : Outcome). ArePlanVerdicts o x.verdicts (length net.rows)) same x.judged in (
       x.is_plan ∙ ap is_planned same ∙ sym y.is_plan,
-      x.plan ∙ ap (plan_text rows x.verdicts) same ∙ text_same rows y.outcome x.verdicts y.verdicts judged y.judged ∙ sym y.plan,
+      x.plan ∙ ap (plan_text net.rows x.verdicts) same ∙ text_same net.rows y.outcome x.verdicts y.verdicts judged y.judged ∙ sym y.plan,
       x.refusals ∙ ap (λ (o : Outcome). text_of (refusals_of o)) same ∙ sym y.refusals,
+      x.dcf ∙ ap (dcfs_of eds net) same ∙ sym y.dcf,
     )
 
 -- what is answered at all is one thing
@@ -54,9 +55,9 @@ one_plan nodes pdos eds a b x y =
     let found : x.found ≡ y.found = ok_once (network_in nodes pdos eds) x.found y.found x.read y.read in
     let entries : map entry_of x.streams ≡ map entry_of y.streams = x.streams_are ∙ ap (λ (f : Found). f.network.streams) found ∙ sym y.streams_are in
     let streams : x.streams ≡ y.streams = streams_same x.streams y.streams entries in
-    let there : AreFilesFor y.found.network.equipment.rates x.streams y.found.rows a = subst (λ (f : Found). AreFilesFor f.network.equipment.rates x.streams f.rows a) found x.planned in
-    let mine : AreFilesFor y.found.network.equipment.rates y.streams y.found.rows a = subst (λ (s : List Stream). AreFilesFor y.found.network.equipment.rates s y.found.rows a) streams there in
-    files_same y.found.network.equipment.rates y.streams y.found.rows a b (has_pdos (length y.found.rows) y.streams y.begins) mine y.planned
+    let net : net_of x.found x.streams ≡ net_of y.found y.streams = ap (λ (f : Found). net_of f x.streams) found ∙ ap (net_of y.found) streams in
+    let mine : AreFilesFor eds (net_of y.found y.streams) a = subst (λ (n : Net). AreFilesFor eds n a) net x.planned in
+    files_same eds (net_of y.found y.streams) a b (has_pdos (length y.found.rows) y.streams y.begins) mine y.planned
 
 -- ---- checks
 

@@ -1,5 +1,5 @@
 -- The stream of each row of the table of PDOs.
-use Rattle.std.proofs.Common.{◌≡◌, ℕ, zero, suc, ◌+◌, ◌<◌, ◌≤◌, ◌==◌, ◌⊎◌, inl, inr, Bool, true, false, if◌then◌else◌, find, List, [], ◌∷◌, ◌++◌, length, get_or, slice_get, Option, Some, None, Result, Ok, refl, sym, ap, ◌∙◌, subst, arith}
+use Rattle.std.proofs.Common.{◌≡◌, ℕ, zero, suc, ◌+◌, ◌≤◌, ◌==◌, ◌⊎◌, inl, inr, Bool, true, false, if◌then◌else◌, find, List, [], ◌∷◌, ◌++◌, length, slice_get, Option, Some, None, Result, Ok, refl, sym, ap, subst, arith}
 use Rattle.std.proofs.lemmas.Option.{slice_get_within}
 use Rattle.cop_rta.specs.Entries.{Entry}
 use Rattle.cop_rows.specs.declared.pdo_table.PdoRow.{PdoRow}
@@ -90,8 +90,8 @@ frames_in nodes pdos files found ok =
     let p = bind_ok (in_table Nodes (nodes_of nodes)) _ found ok in
     let q = bind_ok (in_table Pdos (reading.pdos_of pdos)) _ found p.2 in
     let r = bind_ok (network_of p.0 q.0 files) _ found q.2 in
-    let whole : ◌≡◌ {A = Result Found Refusal} (Ok (record { rows = q.0; network = r.0 })) (Ok found) = r.2 in
-    let same : record { rows = q.0; network = r.0 } ≡ found = cc in
+    let whole : ◌≡◌ {A = Result Found Refusal} (Ok (record { nodes = p.0; rows = q.0; network = r.0 })) (Ok found) = r.2 in
+    let same : record { nodes = p.0; rows = q.0; network = r.0 } ≡ found = cc in
     (p.0.frames, subst (λ (f : Found). streams_of p.0.frames f.rows f.network.equipment ≡ Ok f.network.streams) same (network_parts p.0 q.0 files r.0 r.1))
 
 pub row_stream : (nodes pdos : List ℕ) (files : List File) (found : Found) → network_in nodes pdos files ≡ Ok found

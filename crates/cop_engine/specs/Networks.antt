@@ -1,7 +1,9 @@
 -- The network that the files say.
 use Rattle.std.specs.Prelude.{◌≡◌, ℕ, List, Result, Ok, Err}
 use Rattle.cop_table.specs.Reading.{◌>>=◌}
+use Rattle.cop_rta.specs.declared.streams.Stream.{Stream}
 use Rattle.cop_rows.specs.declared.pdo_table.PdoRow.{PdoRow}
+use Rattle.cop_rows.specs.Nodes.{NodeLists}
 use Rattle.cop_rows.specs.NodeReading.{nodes_of}
 use Rattle.cop_rows.specs.PdoReading.{pdos_of}
 use Rattle.cop_net.specs.declared.faults.Refusal.{Refusal}
@@ -9,12 +11,13 @@ use Rattle.cop_net.specs.declared.faults.Table.TheVariants.{Nodes, Pdos}
 use Rattle.cop_net.specs.Devices.{File}
 use Rattle.cop_net.specs.Tables.{in_table}
 use Rattle.cop_net.specs.Faults.{number_of_rule}
-use Rattle.cop_net.specs.Network.{Accepted, network_of}
+use Rattle.cop_net.specs.Network.{Accepted, Net, network_of}
 use Rattle.cop_engine.specs.declared.faults.Fault.{Fault}
 use Rattle.cop_engine.specs.declared.faults.Fault.TheVariants as faults
 
--- the rows of the PDOs and the network
+-- the tables and the network
 pub record Found : Type 0 where
+  pub nodes : NodeLists
   pub rows : List PdoRow
   pub network : Accepted
 
@@ -25,7 +28,11 @@ network_in nodes pdos files = do
   nodes ← in_table Nodes (nodes_of nodes)
   rows ← in_table Pdos (pdos_of pdos)
   network ← network_of nodes rows files
-  Ok (record { rows = rows; network = network })
+  Ok (record { nodes = nodes; rows = rows; network = network })
+
+-- the network with its tables, where its set has these streams
+abbrev pub net_of : Found → List Stream → Net
+net_of found streams = record { nodes = found.nodes; rows = found.rows; equipment = found.network.equipment; set = streams }
 
 -- why there is no network
 abbrev pub ExplainsNetwork : List ℕ → List ℕ → List File → Fault → Type 0

@@ -1,19 +1,18 @@
 -- The files of a plan.
 use Rattle.std.specs.Prelude.{◌≡◌, ℕ, List, length, map, Ok}
-use Rattle.cop_frame.specs.declared.rates.Rate.{Rate}
 use Rattle.cop_rta.specs.declared.streams.Stream.{Stream}
 use Rattle.cop_rta.specs.declared.verdicts.Verdict.{Verdict}
 use Rattle.cop_rta.specs.Entries.{entry_of}
 use Rattle.cop_cert.specs.Format.{text_of}
-use Rattle.cop_rows.specs.declared.pdo_table.PdoRow.{PdoRow}
 use Rattle.cop_net.specs.Devices.{File}
-use Rattle.cop_net.specs.Network.{Net, BeginsWith}
+use Rattle.cop_net.specs.Network.{Net, BeginsWith, IsNetwork}
 use Rattle.cop_plan.specs.declared.assigning.Outcome.{Outcome}
 use Rattle.cop_plan.specs.declared.assigning.Outcome.TheVariants.{Planned, Refused}
 use Rattle.cop_plan.specs.Plans.{IsOutcome}
 use Rattle.cop_engine.specs.declared.plans.Files.{Files}
 use Rattle.cop_engine.specs.Tests.{AreVerdicts}
-use Rattle.cop_engine.specs.Networks.{Found, network_in}
+use Rattle.cop_engine.specs.Networks.{Found, network_in, net_of}
+use Rattle.cop_engine.specs.Dcfs.{dcfs_of}
 use Rattle.cop_engine.specs.PlanTexts.{plan_text, is_planned, refusals_of}
 
 -- what the test says of the PDOs of a plan, under their identifiers
@@ -21,20 +20,17 @@ abbrev pub ArePlanVerdicts : Outcome → List Verdict → ℕ → Type 0
 ArePlanVerdicts (Planned plan) verdicts pdos = AreVerdicts plan.rate plan.streams verdicts pdos
 ArePlanVerdicts (Refused refusals) verdicts pdos = Unit {0}
 
--- The plan's text with the response of each PDO, and the refusal file with the greatest refusal set of each slower
--- candidate, or of each candidate where no rate passes.
-pub record AreFilesFor (rates : List Rate) (streams : List Stream) (rows : List PdoRow) (files : Files) : Type 0 where
+-- The plan's text with the response of each PDO, the refusal file with the greatest refusal set of each slower
+-- candidate, or of each candidate where no rate passes, and the DCF file of each device.
+pub record AreFilesFor (eds : List File) (net : Net) (files : Files) : Type 0 where
   pub outcome : Outcome
-  pub planned : IsOutcome rates streams (length rows) outcome
+  pub planned : IsOutcome net.equipment.rates net.set (length net.rows) outcome
   pub verdicts : List Verdict
-  pub judged : ArePlanVerdicts outcome verdicts (length rows)
+  pub judged : ArePlanVerdicts outcome verdicts (length net.rows)
   pub is_plan : files.planned ≡ is_planned outcome
-  pub plan : files.plan.items ≡ plan_text rows verdicts outcome
+  pub plan : files.plan.items ≡ plan_text net.rows verdicts outcome
   pub refusals : files.refusals.items ≡ text_of (refusals_of outcome)
-
--- the files of the plan of a network
-abbrev pub ArePlanned : Net → Files → Type 0
-ArePlanned network files = AreFilesFor network.equipment.rates network.set network.rows files
+  pub dcf : files.dcf ≡ dcfs_of eds net outcome
 
 -- the files of the network that the tables and the EDS files say, whose first streams are the PDOs
 pub record AreFilesOf (nodes pdos : List ℕ) (eds : List File) (files : Files) : Type 0 where
@@ -43,4 +39,5 @@ pub record AreFilesOf (nodes pdos : List ℕ) (eds : List File) (files : Files) 
   pub streams : List Stream
   pub streams_are : map entry_of streams ≡ found.network.streams
   pub begins : BeginsWith (length found.rows) streams
-  pub planned : AreFilesFor found.network.equipment.rates streams found.rows files
+  pub network : IsNetwork (net_of found streams)
+  pub planned : AreFilesFor eds (net_of found streams) files

@@ -17,7 +17,7 @@ pub fn one_report()
 
 /// The bytes of tables and EDS files have one plan: its files are a function of the bytes.
 pub fn one_plan()
-    ensures { (nodes pdos : List ℕ) (eds : List File) (a b : Files) → AreFilesOf nodes pdos eds a → AreFilesOf nodes pdos eds b → (a.planned ≡ b.planned) × (a.plan.items ≡ b.plan.items) × (a.refusals.items ≡ b.refusals.items) }
+    ensures { (nodes pdos : List ℕ) (eds : List File) (a b : Files) → AreFilesOf nodes pdos eds a → AreFilesOf nodes pdos eds b → (a.planned ≡ b.planned) × (a.plan.items ≡ b.plan.items) × (a.refusals.items ≡ b.refusals.items) × (a.dcf ≡ b.dcf) }
 {}
 
 /// The bytes of tables, EDS files and a refusal file have one check.

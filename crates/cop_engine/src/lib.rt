@@ -2,6 +2,7 @@
 #![tactic(auto)]
 
 mod checks;
+mod dcfs;
 mod faults;
 mod guarantee;
 mod inputs;
@@ -14,6 +15,7 @@ mod reports;
 mod tests_of_streams;
 
 pub use checks::check_bytes;
+pub use dcfs::DcfFile;
 pub use faults::{Fault, status};
 pub use guarantee::{judged_on_time, planner_guarantee};
 pub use inputs::read_all;

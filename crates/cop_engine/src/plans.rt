@@ -3,28 +3,37 @@
 ghost use Rattle.std.specs.Prelude.{◌≡◌, ◌≤◌, length, map, IfOk, MatchResult};
 ghost use Rattle.std.specs.String.{string_bytes};
 ghost use Rattle.cop_engine.specs.Networks.{ExplainsNetwork};
-ghost use Rattle.cop_engine.specs.Plans.{ArePlanned, AreFilesOf};
+ghost use Rattle.cop_engine.specs.Dcfs.{HaveTexts};
+ghost use Rattle.cop_engine.specs.Plans.{AreFilesFor, AreFilesOf};
 
+use crate::dcfs::{DcfFile, dcf_files};
 use crate::faults::Fault;
 use crate::plan_texts::{planned_text, refused_text};
 use crate::tests_of_streams::judge_first;
-use cop_cert::write;
+use cop_cert::{Items, write};
 use cop_net::{Network, network, read_nodes, read_pdos};
 use cop_plan::{Outcome, plan};
 use std::alloc::{AllocError, Global};
 
-/// What `plan` gives: the text of the plan and the refusal file.
+/// What `plan` gives: the text of the plan, the refusal file, and the DCF file of each device.
 #[derive(Drop)]
 pub struct Files {
     /// Whether some rate passes.
     pub planned: bool,
     pub plan: Vec<u8>,
     pub refusals: Vec<u8>,
+    /// By rising node; none where no rate passes.
+    pub dcf: Items<DcfFile>,
 }
 
 /// The files of the plan of a network.
-fn files_of(alloc: Global, network: &Network<'_>) -> Result<Files, AllocError>
-    ensures { IfOk result (ArePlanned network.now) }
+fn files_of(
+    alloc: Global,
+    network: &Network<'_>,
+    eds_files: &[(String, Vec<u8>)],
+) -> Result<Files, AllocError>
+    requires { HaveTexts (map (λ f. record { name = string_bytes f.0; text = f.1.items }) eds_files.now) network.now.nodes.devices }
+    ensures { IfOk result (AreFilesFor (map (λ f. record { name = string_bytes f.0; text = f.1.items }) eds_files.now) network.now) }
 {
     match plan(alloc, network)? {
         Outcome::Planned(plan) => {
@@ -33,16 +42,19 @@ fn files_of(alloc: Global, network: &Network<'_>) -> Result<Files, AllocError>
                 planned: true,
                 plan: planned_text(alloc, network.rows(), &verdicts, &plan)?,
                 refusals: write(alloc, plan.refusals())?,
+                dcf: dcf_files(alloc, network, &plan, eds_files)?,
             })
         }
         Outcome::Refused(refusals) => Ok(Files {
             planned: false,
             plan: refused_text(alloc, refusals.as_slice())?,
             refusals: write(alloc, refusals.as_slice())?,
+            dcf: Items::new(alloc),
         }),
     }
 }
 
+#[tactic(auto, using(crate::proofs::DcfLemmas::have_texts))]
 /// The plan of a network, from its tables and its EDS files: a table of nodes, a table of PDOs, and the EDS files by the
 /// names that the devices give. Otherwise the first rule that they break, or want of memory.
 pub fn plan_bytes(
@@ -56,5 +68,5 @@ pub fn plan_bytes(
     let nodes = read_nodes(alloc, nodes)?;
     let pdos = read_pdos(alloc, pdos)?;
     let network = network(alloc, &nodes, &pdos, eds_files)?;
-    Ok(files_of(alloc, &network)?)
+    Ok(files_of(alloc, &network, eds_files)?)
 }

@@ -317,6 +317,43 @@ fn networks_are_refused(rt: HostRuntime) -> Result<(), Fail> {
     Ok(())
 }
 
+// The DCF of the valve's node.
+const VALVE_DCF: &[u8] =
+    b"[FileInfo]\nFileName=unit.eds\nLastEDS=unit.eds\n[DeviceInfo]\nBaudRate_250=1\nBaudRate_500=1\nBaudRate_1000=1\n[MandatoryObjects]\nSupportedObjects=1\n1=0x1000\n[OptionalObjects]\nSupportedObjects=3\n1=0x1017\n2=0x1800\n3=0x1A00\n[ManufacturerObjects]\nSupportedObjects=1\n1=0x2000\n[1000]\nDataType=0x0007\nAccessType=ro\n[1017]\nDataType=0x0006\nAccessType=rw\nDefaultValue=0\nParameterValue=0x0064\n[1800]\nObjectType=0x9\nSubNumber=3\n[1800sub0]\nDataType=0x0005\nAccessType=ro\nDefaultValue=2\n[1800sub1]\nDataType=0x0007\nAccessType=rw\nDefaultValue=$NODEID+0x40000180\nParameterValue=0x40000181\n[1800sub2]\nDataType=0x0005\nAccessType=rw\nDefaultValue=255\n[1A00]\nObjectType=0x9\nSubNumber=3\n[1A00sub0]\nDataType=0x0005\nAccessType=ro\nDefaultValue=2\n[1A00sub1]\nDataType=0x0007\nAccessType=ro\nDefaultValue=0x20000120\n[1A00sub2]\nDataType=0x0007\nAccessType=ro\nDefaultValue=0x20000220\n[2000]\nObjectType=0x8\nSubNumber=3\n[2000sub0]\nDataType=0x0005\nAccessType=ro\nDefaultValue=2\n[2000sub1]\nDataType=0x0007\nAccessType=ro\nPDOMapping=1\n[2000sub2]\nDataType=0x0007\nAccessType=ro\nPDOMapping=1\n[DeviceComissioning]\nNodeID=5\nNodeName=Valve\nBaudrate=500\n";
+
+// A device at node 7, and one at node 5 with the same EDS file.
+const TWO_VALVES: &[u8] =
+    b"row,node,name,eds,period,jitter\ndevice,7,Other,unit.eds,0,0\ndevice,5,Valve,unit.eds,0,0\n";
+
+#[test]
+fn the_valve_has_a_dcf(rt: HostRuntime) -> Result<(), Fail> {
+    let files = planned(rt.alloc(), VALVE, ONE_PDO, UNIT)?;
+    let dcf = files.dcf.as_slice();
+    assert_eq!(rt; dcf.len(), 1);
+    assert_eq!(rt; dcf[0].name(), "node-005.dcf");
+    assert_eq!(rt; dcf[0].text(), VALVE_DCF);
+    Ok(())
+}
+
+#[test]
+fn dcf_files_stand_by_rising_node(rt: HostRuntime) -> Result<(), Fail> {
+    let cases: &[(&[u8], &[u8], &[u8], &[&str])] = &[
+        (TWO_VALVES, NO_PDO, UNIT, &["node-005.dcf", "node-007.dcf"]),
+        // No rate passes.
+        (ALONE, BUSY_PDO, SLOW, &[]),
+    ];
+    for case in cases {
+        let (nodes, pdos, eds, names) = *case;
+        let files = planned(rt.alloc(), nodes, pdos, eds)?;
+        let dcf = files.dcf.as_slice();
+        assert_eq!(rt; dcf.len(), names.len());
+        for (at, name) in names.iter().enumerate() {
+            assert_eq!(rt; dcf[at].name(), *name);
+        }
+    }
+    Ok(())
+}
+
 // The check of a refusal file against the valve's network.
 fn checked(alloc: Global, refusals: &[u8]) -> Result<(Vec<u8>, bool), Fault> {
     let files = eds_files(alloc, UNIT)?;

@@ -1,8 +1,13 @@
 use Rattle.std.proofs.Common.{subst}
-use Rattle.cop_net.specs.Network.{IsNetwork}
+use Rattle.cop_net.specs.Network.{IsNetwork, accepted}
 use Rattle.cop_engine.specs.Faults.{fault_of}
+use Rattle.cop_engine.proofs.DcfLemmas.{have_texts}
 use Rattle.cop_engine.proofs.NetworkLemmas.{nodes_explain, pdos_explain, network_explains, files_are, err_is}
 use Rattle.cop_engine.proofs.plans.plan_bytes.Goals as goal
+
+pub files_of-requires : goal.files_of-requires
+files_of-requires c =
+    rw c.in_ok-network.ensures.tables.0 (have_texts c.in_ok-nodes.nodes c.in_ok-pdos.pdos _ (accepted c.in_ok-network.network) c.in_ok-network.ensures.exact)
 
 pub returns-in_err-nodes : goal.returns-in_err-nodes
 returns-in_err-nodes c =
@@ -22,4 +27,4 @@ returns-in_err-network c =
 pub returns : goal.returns
 returns c =
     files_are c.args.nodes.now c.args.pdos.now _ c.in_ok-nodes.nodes c.in_ok-pdos.pdos c.in_ok-network.network c.in_ok-files_of.field-0
-    c.in_ok-nodes.ensures c.in_ok-pdos.ensures c.in_ok-network.ensures.exact c.in_ok-network.ensures.tables.1 (subst IsNetwork c.network-2.view_is c.network-2.invariant.0) c.in_ok-files_of.ensures
+    c.in_ok-nodes.ensures c.in_ok-pdos.ensures c.in_ok-network.ensures.exact c.in_ok-network.ensures.tables.0 c.in_ok-network.ensures.tables.1 (subst IsNetwork c.network-2.view_is c.network-2.invariant.0) c.in_ok-files_of.ensures
