@@ -9,7 +9,7 @@ ghost use Rattle.cop_boot.specs.Member.{seen, unheard, IsMember};
 
 use crate::end::{End, Phase};
 use crate::member::Member;
-use crate::setting::Setting;
+use cop_dcf::Setting;
 use cop_frame::Frame;
 use cop_nmt::{Command, command};
 use std::alloc::{AllocError, Global};
@@ -107,6 +107,28 @@ fn all_ready(members: &[Member]) -> bool
     ensures { result ≡ all_ready (map seen members.now) }
 {
     !members.is_empty() && members.iter().all(is_ready)
+}
+
+// Whether all values are of two or four bytes that hold them.
+fn are_short(settings: &[Setting]) -> bool
+    ensures { result ≡ list_all is_short_value settings.now }
+{
+    settings
+        .iter()
+        .all(|setting| setting.bytes == 4 || setting.bytes == 2 && setting.value < 0x1_0000)
+}
+
+/// Whether a plan can be handed to [`Manager::new`]: the nodes are 1 to 127, and the values of their settings are of two
+/// or four bytes that hold them. It takes no memory.
+pub fn can_manage(plan: &BTreeMap<u8, Vec<Setting>>) -> bool
+    ensures { IsTrue result ↔ CanManage plan.now.entries }
+{
+    for (node, settings) in plan {
+        if *node < 1 || *node > 127 || !are_short(settings) {
+            return false;
+        }
+    }
+    true
 }
 
 impl Manager {
