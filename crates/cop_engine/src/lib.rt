@@ -1,6 +1,7 @@
 //! The engines of canplan: from the bytes of tables and files to the bytes of an answer.
 #![tactic(auto)]
 
+mod boots;
 mod checks;
 mod faults;
 mod guarantee;
@@ -12,7 +13,9 @@ mod plan_texts;
 mod plans;
 mod reports;
 mod tests_of_streams;
+mod turns;
 
+pub use boots::boot_bytes;
 pub use checks::check_bytes;
 pub use faults::{Fault, status};
 pub use guarantee::{judged_on_time, planner_guarantee};
