@@ -1,18 +1,20 @@
 -- A manager is made of a plan by nodes, whose numbers rise.
-use Rattle.std.proofs.Common.{◌≡◌, ◌==◌, ℕ, Bool, true, false, List, [], ◌∷◌, ◌++◌, map, refl, ap, sym, subst, ◌∙◌, arith, append_assoc, None}
+use Rattle.std.proofs.Common.{◌≡◌, ◌≤◌, ◌==◌, ◌↔◌, ◌&&◌, nat_le, ℕ, Bool, true, false, All, get_or, List, [], ◌∷◌, ◌++◌, map, refl, ap, sym, subst, ◌∙◌, arith, append_assoc, None}
 use Rattle.std.specs.Global.{Vec}
 use Rattle.std.proofs.Common.{Less, Equal}
 use Rattle.std.specs.Ordering.{nat_cmp}
 use Rattle.std.specs.Cmp.{nat_cmp_is}
-use Rattle.std.specs.List.{AllByRecursion}
+use Rattle.std.specs.List.{AllByRecursion, list_all}
+use Rattle.std.proofs.lemmas.List.Elements.{All-nil, All-cons, All-head, All-rest}
 use Rattle.std.specs.List.Sorted.{IsStrictlySortedBy}
 use Rattle.std.proofs.lemmas.List.{map-append, append-nil}
 use Rattle.std.proofs.lemmas.Bool.Decides.{nat_tests}
-use Rattle.cop_boot.specs.declared.setting.Setting.{Setting}
+use Rattle.cop_dcf.specs.declared.setting.Setting.{Setting}
 use Rattle.cop_boot.specs.declared.member.Member.{Member}
 use Rattle.cop_boot.specs.Manager.{node_of}
 use Rattle.cop_boot.specs.Booted.{Apart}
-use Rattle.cop_boot.specs.Member.{seen, unheard}
+use Rattle.cop_boot.specs.Settings.{is_short_value}
+use Rattle.cop_boot.specs.Member.{seen, unheard, is_managed, CanManage}
 
 abbrev pub Plans : Type 0
 Plans = List (ℕ × Vec Setting)
@@ -52,3 +54,47 @@ plan_apart (x ∷ plan) h = (none plan h.0, plan_apart plan h.1)
 pub made_apart : (plan : Plans) (members : List Member) (rest : Plans) → IsStrictlySortedBy nat_cmp (map (λ e. e.0) plan) → map unheard plan ≡ map seen members ++ map unheard rest → rest ≡ [] → Apart (map seen members)
 made_apart plan members rest h whole none =
     subst Apart (whole ∙ ap (λ rest. map seen members ++ map unheard rest) none ∙ append-nil (map seen members)) (plan_apart plan h)
+
+-- what a managed node says, taken apart
+pub managed_parts : (number : ℕ) (settings : List Setting) → is_managed number settings ≡ true → ((1 ≤ number) × (number ≤ 127)) × All (λ s. is_short_value s ≡ true) settings
+managed_parts number settings h = ((grind (arith, nat_tests), grind (arith, nat_tests)), all_short settings (second (nat_le 1 number && nat_le number 127) (list_all is_short_value settings) h))
+  where
+    second : (a b : Bool) → (a && b) ≡ true → b ≡ true
+    second true b h = h
+    second false b h = cc
+
+    first : (a b : Bool) → (a && b) ≡ true → a ≡ true
+    first true b h = refl
+    first false b h = cc
+
+    all_short : (settings : List Setting) → list_all is_short_value settings ≡ true → All (λ s. is_short_value s ≡ true) settings
+    all_short [] h = All-nil (λ s. is_short_value s ≡ true)
+    all_short (s ∷ rest) h = All-cons (λ s. is_short_value s ≡ true) s rest (first (is_short_value s) (list_all is_short_value rest) h) (all_short rest (second (is_short_value s) (list_all is_short_value rest) h))
+
+pub plan_nodes : (plan : Plans) → CanManage plan → All (λ e. (1 ≤ e.0) × (e.0 ≤ 127)) plan
+plan_nodes plan h = λ k d lt. (managed_parts (get_or plan k d).0 (get_or plan k d).1.items (h k d lt)).0
+
+pub plan_short : (plan : Plans) → CanManage plan → All (λ e. All (λ s. is_short_value s ≡ true) e.1.items) plan
+plan_short plan h = λ k d lt. (managed_parts (get_or plan k d).0 (get_or plan k d).1.items (h k d lt)).1
+
+pub managed_so : (number : ℕ) (settings : List Setting) (short : Bool) → (nat_le 1 number && nat_le number 127) ≡ true → short ≡ list_all is_short_value settings → short ≡ is_managed number settings
+managed_so number settings short node is = rw node is
+
+-- what is left of a plan can be managed exactly where all of it can
+abbrev pub LeavesAll : Plans → Plans → Type 0
+LeavesAll all rest = CanManage rest ↔ CanManage all
+
+pub goes_on : (all it rest : Plans) (one : ℕ × Vec Setting) → it ≡ one ∷ rest → is_managed one.0 one.1.items ≡ true → LeavesAll all it → LeavesAll all rest
+goes_on all it rest one is managed leaves = (
+  λ h. leaves.0 (subst CanManage (sym is) (All-cons (λ e. is_managed e.0 e.1.items ≡ true) one rest managed h)),
+  λ h. All-rest (λ e. is_managed e.0 e.1.items ≡ true) one rest it is (leaves.1 h),
+)
+
+pub is_not : (all it rest : Plans) (one : ℕ × Vec Setting) → it ≡ one ∷ rest → is_managed one.0 one.1.items ≡ false → LeavesAll all it → CanManage all → ⊥
+is_not all it rest one is not leaves h = no (All-head (λ e. is_managed e.0 e.1.items ≡ true) one rest (subst CanManage is (leaves.1 h)))
+  where
+    no : is_managed one.0 one.1.items ≡ true → ⊥
+    no h = cc
+
+pub all_of : (all it : Plans) → it ≡ [] → LeavesAll all it → CanManage all
+all_of all it is leaves = leaves.0 (subst CanManage (sym is) (All-nil (λ e. is_managed e.0 e.1.items ≡ true)))

@@ -23,7 +23,7 @@ use Rattle.cop_sdo.specs.Request as requests
 use Rattle.cop_sdo.specs.Server as acts
 use Rattle.cop_sdo.specs.Server.{Moved as Act, short_of_memory}
 use Rattle.cop_sdo.proofs.Confirmed.{served_so, request_again}
-use Rattle.cop_boot.specs.declared.setting.Setting.{Setting}
+use Rattle.cop_dcf.specs.declared.setting.Setting.{Setting}
 use Rattle.cop_boot.specs.declared.«end».End.{End}
 use Rattle.cop_boot.specs.declared.«end».End.TheVariants.{Ready, Silent}
 use Rattle.cop_boot.specs.declared.«end».Phase.{Phase}

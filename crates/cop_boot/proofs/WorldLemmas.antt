@@ -8,7 +8,7 @@ use Rattle.std.proofs.lemmas.List.Elements.{filter-append}
 use Rattle.cop_sdo.specs.Message.{Message}
 use Rattle.cop_sdo.specs.Reply.{Reply, Confirm, ConfirmSegment, Value, Size, Segment, Abort, Other, reply_of, is_answer}
 use Rattle.cop_sdo.specs.declared.address.Address.{Address}
-use Rattle.cop_boot.specs.declared.setting.Setting.{Setting}
+use Rattle.cop_dcf.specs.declared.setting.Setting.{Setting}
 use Rattle.cop_boot.specs.declared.«end».End.TheVariants.{Silent, Restarting}
 use Rattle.cop_boot.specs.declared.«end».Phase.{Phase}
 use Rattle.cop_boot.specs.declared.«end».Phase.TheVariants.{Waiting, Sending, Over}

@@ -1,11 +1,12 @@
 -- What contracts see of a member, and when its client is where its phase says.
-use Rattle.std.specs.Prelude.{◌≡◌, ◌≤◌, ℕ, true, List, [], slice_get, Option, Some, option_map}
+use Rattle.std.specs.Prelude.{◌≡◌, ◌≤◌, ℕ, Bool, true, ◌&&◌, nat_le, All, List, [], slice_get, Option, Some, option_map}
 use Rattle.std.specs.Global.{Vec}
+use Rattle.std.specs.List.{list_all}
 use Rattle.cop_frame.specs.declared.frames.Frame.{Frame}
 use Rattle.cop_sdo.specs.Message.{message_of}
 use Rattle.cop_sdo.specs.Client.{Calling, is_idle}
 use Rattle.cop_sdo.specs.declared.task.Task.TheVariants as tasks
-use Rattle.cop_boot.specs.declared.setting.Setting.{Setting}
+use Rattle.cop_dcf.specs.declared.setting.Setting.{Setting}
 use Rattle.cop_boot.specs.declared.«end».Phase.{Phase}
 use Rattle.cop_boot.specs.declared.«end».Phase.TheVariants.{Waiting, Sending, Over}
 use Rattle.cop_boot.specs.declared.member.Member.{Member}
@@ -18,6 +19,14 @@ seen m = record { number = m.node; settings = m.settings.items; boots = m.boots;
 -- a node whose boot has not begun, with its settings
 abbrev pub unheard : ℕ × Vec Setting → Node
 unheard (number, settings) = record { number = number; settings = settings.items; boots = 0; phase = Waiting 0 }
+
+-- a node has a number of 1 to 127, and short values
+abbrev pub is_managed : ℕ → List Setting → Bool
+is_managed number settings = (nat_le 1 number && nat_le number 127) && list_all is_short_value settings
+
+-- a manager can be made of settings by nodes
+abbrev pub CanManage : List (ℕ × Vec Setting) → Type 0
+CanManage plan = All (λ e. is_managed e.0 e.1.items ≡ true) plan
 
 -- the client waits on the setting that is out
 abbrev pub IsAsking : List Setting → Calling → Phase → Type 0

@@ -7,7 +7,7 @@ use Rattle.cop_sdo.specs.Message.{Message}
 use Rattle.cop_sdo.specs.Reply.{Reply, Confirm, Abort, reply_of}
 use Rattle.cop_sdo.specs.Answers.{abort_body}
 use Rattle.cop_sdo.specs.Client.{request, give_body, same_address}
-use Rattle.cop_boot.specs.declared.setting.Setting.{Setting}
+use Rattle.cop_dcf.specs.declared.setting.Setting.{Setting}
 use Rattle.cop_boot.specs.declared.«end».End.{End}
 use Rattle.cop_boot.specs.declared.«end».End.TheVariants.{Ready, Aborted, Silent, Restarting}
 use Rattle.cop_boot.specs.declared.«end».Phase.{Phase}

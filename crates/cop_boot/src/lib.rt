@@ -9,14 +9,13 @@ mod input;
 mod manager;
 mod member;
 mod schedule;
-mod setting;
 mod turn;
 
 pub use device::Device;
 pub use driving::drive;
 pub use end::End;
 pub use input::Input;
-pub use manager::Manager;
+pub use cop_dcf::Setting;
+pub use manager::{Manager, can_manage};
 pub use schedule::run_schedule;
-pub use setting::Setting;
 pub use turn::Turn;

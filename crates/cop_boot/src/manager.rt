@@ -1,15 +1,16 @@
 //! The manager of a boot.
 
-ghost use Rattle.std.specs.Prelude.{◌≡◌, ◌<◌, ◌^◌, ◌≤◌, true, false, IfOk, max, ◌∷◌, [], All, map, option_map, option_to_list, length, is_some};
+ghost use Rattle.std.specs.Prelude.{◌≡◌, ◌<◌, ◌^◌, ◌↔◌, ◌&&◌, nat_le, IsTrue, true, false, IfOk, max, ◌∷◌, [], All, map, option_map, option_to_list, length, is_some};
 ghost use Rattle.cop_sdo.specs.Message.{message_of};
 ghost use Rattle.std.specs.List.{position};
 ghost use Rattle.cop_boot.specs.Manager.{begun_at, node_of, comes_from, all_ready, heard, heard_by, reached, first_silent, sent_by, waiting_from, is_ready, end_at};
 ghost use Rattle.cop_boot.specs.Booted.{Apart};
-ghost use Rattle.cop_boot.specs.Member.{seen, unheard, IsMember};
+ghost use Rattle.cop_boot.specs.Member.{seen, unheard, is_managed, CanManage, IsMember};
+ghost use Rattle.cop_boot.specs.Settings.{is_short_value};
 
 use crate::end::{End, Phase};
 use crate::member::Member;
-use crate::setting::Setting;
+use cop_dcf::Setting;
 use cop_frame::Frame;
 use cop_nmt::{Command, command};
 use std::alloc::{AllocError, Global};
@@ -109,14 +110,46 @@ fn all_ready(members: &[Member]) -> bool
     !members.is_empty() && members.iter().all(is_ready)
 }
 
-impl Manager {
-    ghost use Rattle.cop_boot.specs.Settings.{is_short_value};
+// Whether a value has two or four bytes that hold it.
+fn is_short_value(setting: &Setting) -> bool
+    ensures { result ≡ is_short_value setting.now }
+{
+    let Setting { value, bytes, .. } = *setting;
+    bytes == 4 || bytes == 2 && value < 0x1_0000
+}
 
+// Whether a number is a node's.
+fn is_node(node: u8) -> bool
+    ensures { result ≡ (nat_le 1 node && nat_le node 127) }
+{
+    matches!(node, 1..=127)
+}
+
+// Whether a node has a number of 1 to 127, and short values.
+fn is_managed(node: u8, settings: &[Setting]) -> bool
+    ensures { result ≡ is_managed node settings.now }
+{
+    is_node(node) && settings.iter().all(is_short_value)
+}
+
+/// Whether a plan can be handed to [`Manager::new`]: the nodes are 1 to 127, and the values of their settings have two or
+/// four bytes that hold them. It takes no memory.
+pub fn can_manage(plan: &BTreeMap<u8, Vec<Setting>>) -> bool
+    ensures { IsTrue result ↔ CanManage plan.now.entries }
+{
+    for (node, settings) in plan {
+        if !is_managed(*node, settings) {
+            return false;
+        }
+    }
+    true
+}
+
+impl Manager {
     /// A manager of nodes, 1 to 127, each with the settings that it is to have, whose values are of two or four
     /// bytes that hold them. It makes all room here: no later call takes memory.
     pub fn new(alloc: Global, plan: BTreeMap<u8, Vec<Setting>>) -> Result<Manager, AllocError>
-        requires nodes { All (λ e. (1 ≤ e.0) × (e.0 ≤ 127)) plan.entries }
-        requires short { All (λ e. All (λ s. is_short_value s ≡ true) e.1.items) plan.entries }
+        requires { CanManage plan.entries }
         ensures { IfOk result (λ m. m ≡ record { begun = false; clock = 0; started = false; nodes = map unheard plan.entries }) }
     {
         let mut members = Vec::with_capacity(alloc, plan.len())?;

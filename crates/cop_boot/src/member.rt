@@ -11,7 +11,7 @@ ghost use Rattle.cop_boot.specs.declared.«end».Phase.TheVariants.{Over};
 ghost use Rattle.cop_boot.specs.Member.{seen, unheard, IsMember, Moves};
 
 use crate::end::{End, Phase};
-use crate::setting::Setting;
+use cop_dcf::Setting;
 use cop_frame::Frame;
 use cop_sdo::{Client, Progress};
 use std::alloc::Global;

@@ -1,6 +1,7 @@
 //! The engines of canplan: from the bytes of tables and files to the bytes of an answer.
 #![tactic(auto)]
 
+mod boots;
 mod checks;
 mod dcfs;
 mod faults;
@@ -13,7 +14,9 @@ mod plan_texts;
 mod plans;
 mod reports;
 mod tests_of_streams;
+mod turns;
 
+pub use boots::boot_bytes;
 pub use checks::check_bytes;
 pub use dcfs::DcfFile;
 pub use faults::{Fault, status};

@@ -2,7 +2,7 @@ use Rattle.std.proofs.Common.{◌≡◌, ◌≤◌, true, All, refl, sym, subst}
 use Rattle.std.proofs.lemmas.List.Elements.{All-push, All-rest, All-head, All-same, All-nil}
 use Rattle.cop_boot.specs.Member.{IsMember}
 use Rattle.cop_boot.specs.Settings.{is_short_value}
-use Rattle.cop_boot.proofs.PlanLemmas.{one_more, made_apart}
+use Rattle.cop_boot.proofs.PlanLemmas.{one_more, made_apart, plan_nodes, plan_short}
 use Rattle.cop_boot.proofs.manager.Manager.new.Goals as goal
 
 pub loop-node-init : goal.loop-node-init
@@ -11,8 +11,8 @@ loop-node-init c = let i = c.into_iter-node-iterator.ensures.into_iter_gives.0 i
       can = tt;
       finite = tt;
       whole = rw (c.in_ok-members.ensures.items, i) refl;
-      numbers = All-same (λ e. (1 ≤ e.0) × (e.0 ≤ 127)) _ _ i c.requires.nodes;
-      short = All-same (λ e. All (λ s. is_short_value s ≡ true) e.1.items) _ _ i c.requires.short;
+      numbers = All-same (λ e. (1 ≤ e.0) × (e.0 ≤ 127)) _ _ i (plan_nodes c.args.plan.entries c.requires);
+      short = All-same (λ e. All (λ s. is_short_value s ≡ true) e.1.items) _ _ i (plan_short c.args.plan.entries c.requires);
       members = All-same IsMember _ _ c.in_ok-members.ensures.items (All-nil IsMember);
     }
 

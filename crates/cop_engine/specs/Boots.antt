@@ -1,0 +1,96 @@
+-- The boot of a planned network by drawn turns, and what is said of it.
+use Rattle.std.specs.Prelude.{◌≡◌, ◌⊎◌, ℕ, zero, suc, List, [], ◌∷◌, ◌++◌, map, false, true, codes, decimal, length, Option, Some, None, is_some, unwrap_or, if◌then◌else◌, Ok, Bool, ◌^◌, ◌-◌}
+use Rattle.std.specs.List.{flat_map}
+use Rattle.std.specs.Fmt.{digits, padded_integral, format_spec}
+use Rattle.cop_nmt.specs.declared.states.NodeState.TheVariants.{PreOperational}
+use Rattle.cop_sdo.specs.Server.{idle}
+use Rattle.cop_dict.specs.Find.{Entry}
+use Rattle.cop_dict.specs.Dict.{initial}
+use Rattle.cop_rows.specs.NodeReading.{nodes_of}
+use Rattle.cop_rows.specs.PdoReading.{pdos_of}
+use Rattle.cop_net.specs.declared.faults.Table.TheVariants.{Nodes, Pdos}
+use Rattle.cop_net.specs.Devices.{File}
+use Rattle.cop_net.specs.Tables.{in_table}
+use Rattle.cop_net.specs.Network.{Net, IsNetwork, accepted, network_of}
+use Rattle.cop_plan.specs.declared.assigning.Outcome.{Outcome}
+use Rattle.cop_plan.specs.declared.assigning.Outcome.TheVariants.{Planned, Refused}
+use Rattle.cop_plan.specs.Plans.{IsOutcome}
+use Rattle.cop_dcf.specs.Settings.{dictionary_of, node_settings}
+use Rattle.cop_boot.specs.declared.«end».End.{End}
+use Rattle.cop_boot.specs.declared.«end».End.TheVariants.{Ready, Aborted, Silent, Restarting}
+use Rattle.cop_boot.specs.declared.«end».Phase.TheVariants.{Waiting}
+use Rattle.cop_boot.specs.Node.{Node}
+use Rattle.cop_boot.specs.Manager.{Managing, end_at}
+use Rattle.cop_boot.specs.Device.{Attached}
+use Rattle.cop_boot.specs.Bus.{Runs}
+use Rattle.cop_engine.specs.Judgements.{none_passes}
+use Rattle.cop_engine.specs.Turns.{turns_drawn}
+
+-- the nodes from 1 to this one that have a device, by rising number
+unfoldable pub nodes_to : Net → ℕ → List ℕ
+nodes_to net zero = []
+nodes_to net (suc n) = nodes_to net n ++ (if is_some (dictionary_of net (suc n)) then suc n ∷ [] else [])
+
+abbrev pub device_nodes : Net → List ℕ
+device_nodes net = nodes_to net 127
+
+-- a node whose boot has not begun, with the settings that a plan with these identifiers has for it
+abbrev pub managed : Net → List ℕ → ℕ → Node
+managed net ids node = record { number = node; settings = node_settings net ids node; boots = 0; phase = Waiting 0 }
+
+-- the manager of a plan
+abbrev pub manager_of : Net → List ℕ → List ℕ → Managing
+manager_of net ids nodes = record { begun = false; clock = 0; started = false; nodes = map (managed net ids) nodes }
+
+-- the device of a node, as its EDS file describes it: its objects have their initial values
+abbrev pub device_at : Net → ℕ → Attached
+device_at net node = record { number = node; state = PreOperational; dict = initial (unwrap_or (dictionary_of net node) []); server = record { node = node; state = idle } }
+
+-- at least so many hexadecimal digits in upper case, filled with zeros
+abbrev pub hexadecimal_of : ℕ → ℕ → List ℕ
+hexadecimal_of width n = padded_integral (format_spec 32 0 4 width (2 ^ 64 - 1)) false [] (digits 16 true n)
+
+-- what is said of a node's end
+abbrev pub said_of : Option End → List ℕ
+said_of None = codes " undecided\n"
+said_of (Some Ready) = codes " ready\n"
+said_of (Some (Silent node)) = codes " silent\n"
+said_of (Some (Restarting node)) = codes " restarting\n"
+said_of (Some (Aborted node index sub code)) =
+    codes " aborted " ++ (hexadecimal_of 4 index ++ (codes " " ++ (hexadecimal_of 2 sub ++ (codes " " ++ (hexadecimal_of 8 code ++ codes "\n")))))
+
+-- the line of a node
+abbrev pub node_line : Managing → ℕ → List ℕ
+node_line m node = codes "node " ++ (decimal node ++ said_of (end_at m.nodes node))
+
+abbrev pub started_line : Bool → List ℕ
+started_line true = codes "started\n"
+started_line false = codes "not started\n"
+
+-- a line for each node, and one that says whether they were started
+abbrev pub boot_text : Managing → List ℕ → List ℕ
+boot_text m nodes = flat_map (node_line m) nodes ++ started_line m.started
+
+-- A boot of a network by a plan with these identifiers, by the turns that a seed draws, made this of the manager and of the devices,
+-- and the text says so.
+pub record IsBooted (seed : ℕ) (net : Net) (ids text : List ℕ) : Type 0 where
+  pub later : Managing
+  pub after : List Attached
+  pub runs : Runs (manager_of net ids (device_nodes net)) (map (device_at net) (device_nodes net)) (turns_drawn seed (device_nodes net)) later after
+  pub says : text ≡ boot_text later (device_nodes net)
+
+-- where no rate passes nothing is booted
+abbrev pub IsBootedBy : ℕ → Net → Outcome → List ℕ → Type 0
+IsBootedBy seed net (Planned plan) text = IsBooted seed net plan.ids text
+IsBootedBy seed net (Refused refusals) text = text ≡ none_passes
+
+-- the boot of the network that the tables and the EDS files say, by its plan
+pub record IsBootOf (seed : ℕ) (nodes pdos : List ℕ) (eds : List File) (text : List ℕ) : Type 0 where
+  pub net : Net
+  pub network : IsNetwork net
+  pub node_table : in_table Nodes (nodes_of nodes) ≡ Ok net.nodes
+  pub pdo_table : in_table Pdos (pdos_of pdos) ≡ Ok net.rows
+  pub read : network_of net.nodes net.rows eds ≡ Ok (accepted net)
+  pub outcome : Outcome
+  pub planned : IsOutcome net.equipment.rates net.set (length net.rows) outcome
+  pub booted : IsBootedBy seed net outcome text

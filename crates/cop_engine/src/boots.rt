@@ -1,0 +1,185 @@
+//! The boot of a planned network by drawn turns.
+
+ghost use Rattle.std.specs.Prelude.{◌≡◌, ◌≤◌, ◌<◌, ◌×◌, ◌++◌, length, map, All, IfOk, OnOk, MatchResult};
+ghost use Rattle.std.specs.List.{AllPairs, flat_map};
+ghost use Rattle.std.specs.String.{string_bytes};
+ghost use Rattle.cop_dict.specs.Dict.{initial};
+ghost use Rattle.cop_net.specs.Network.{IsNetwork};
+ghost use Rattle.cop_plan.specs.Plans.{IsPlan};
+ghost use Rattle.cop_boot.specs.Member.{unheard};
+ghost use Rattle.cop_engine.specs.Networks.{ExplainsNetwork};
+ghost use Rattle.cop_engine.specs.Boots.{device_nodes, managed, manager_of, device_at, node_line, boot_text, IsBooted, IsBootOf};
+
+use crate::faults::Fault;
+use crate::judgements::none_passes;
+use crate::turns::turns_drawn;
+use cop_boot::{Device, End, Manager, run_schedule};
+use cop_dcf::{Setting, settings};
+use cop_dict::{Dictionary, Object};
+use cop_net::{Network, network, read_nodes, read_pdos};
+use cop_plan::{Outcome, Plan, plan};
+use std::alloc::{AllocError, Global};
+use std::collections::BTreeMap;
+
+/// The nodes that have devices, by rising number.
+fn device_nodes(alloc: Global, network: &Network<'_>) -> Result<Vec<u8>, AllocError>
+    ensures { IfOk result (λ nodes. nodes.items ≡ device_nodes network.now) }
+{
+    let mut nodes = Vec::new(alloc);
+    for node in 1..128 {
+        if network.dictionary(node).is_some() {
+            nodes.push(node)?;
+        }
+    }
+    Ok(nodes)
+}
+
+/// A dictionary with the same objects and their initial values.
+fn initial(alloc: Global, dict: &Dictionary) -> Result<Dictionary, AllocError>
+    ensures { IfOk result (λ copy. copy ≡ initial dict.now) }
+{
+    let mut copy = Dictionary::new(alloc);
+    for object in dict.entries() {
+        copy.push(Object::new(
+            alloc,
+            object.index(),
+            object.sub(),
+            object.description(),
+            object.initial(),
+        )?)?;
+    }
+    Ok(copy)
+}
+
+/// The device of a node, as its EDS file describes it.
+fn device_at(alloc: Global, network: &Network<'_>, node: u8) -> Result<Device, AllocError>
+    requires { (1 ≤ node) × (node ≤ 127) }
+    ensures { IfOk result (λ device. device ≡ device_at network.now node) }
+{
+    let dict = match network.dictionary(node) {
+        Some(dict) => initial(alloc, dict)?,
+        None => Dictionary::new(alloc),
+    };
+    Ok(Device::new(alloc, node, dict))
+}
+
+/// The devices of nodes.
+fn devices_of(
+    alloc: Global,
+    network: &Network<'_>,
+    nodes: &[u8],
+) -> Result<Vec<Device>, AllocError>
+    requires { All (λ node. (1 ≤ node) × (node ≤ 127)) nodes.now }
+    ensures { IfOk result (λ devices. devices.items ≡ map (device_at network.now) nodes.now) }
+{
+    let mut devices = Vec::new(alloc);
+    for node in nodes {
+        devices.push(device_at(alloc, network, *node)?)?;
+    }
+    Ok(devices)
+}
+
+/// What a plan sets in each of the nodes.
+fn settings_by_node(
+    alloc: Global,
+    plan: &Plan,
+    network: &Network<'_>,
+    nodes: &[u8],
+) -> Result<BTreeMap<u8, Vec<Setting>>, AllocError>
+    requires planned { IsPlan network.now.equipment.rates network.now.set (length network.now.rows) plan.now }
+    requires rise { AllPairs (λ node later. node < later) nodes.now }
+    ensures { IfOk result (λ plan_of. map unheard plan_of.entries ≡ map (managed network.now plan.now.ids) nodes.now) }
+{
+    let mut plan_of = BTreeMap::new(alloc);
+    for node in nodes {
+        plan_of.insert(*node, settings(alloc, plan, network, *node)?)?;
+    }
+    Ok(plan_of)
+}
+
+/// The manager of a plan.
+fn manager_of(
+    alloc: Global,
+    plan: &Plan,
+    network: &Network<'_>,
+    nodes: &[u8],
+) -> Result<Manager, AllocError>
+    requires network { IsNetwork network.now }
+    requires planned { IsPlan network.now.equipment.rates network.now.set (length network.now.rows) plan.now }
+    requires nodes { All (λ node. (1 ≤ node) × (node ≤ 127)) nodes.now }
+    requires rise { AllPairs (λ node later. node < later) nodes.now }
+    ensures { IfOk result (λ manager. manager ≡ manager_of network.now plan.now.ids nodes.now) }
+{
+    let plan_of = settings_by_node(alloc, plan, network, nodes)?;
+    Manager::new(alloc, plan_of)
+}
+
+/// The line of a node.
+fn node_line(alloc: Global, node: u8, end: Option<End>) -> Result<String, AllocError> {
+    match end {
+        None => format!(in alloc; "node {node} undecided\n"),
+        Some(End::Ready) => format!(in alloc; "node {node} ready\n"),
+        Some(End::Silent { .. }) => format!(in alloc; "node {node} silent\n"),
+        Some(End::Restarting { .. }) => format!(in alloc; "node {node} restarting\n"),
+        Some(End::Aborted {
+            index, sub, code, ..
+        }) => format!(in alloc; "node {node} aborted {index:04X} {sub:02X} {code:08X}\n"),
+    }
+}
+
+/// What is said of a boot: a line for each node, and whether they were started.
+fn boot_text(alloc: Global, manager: &Manager, nodes: &[u8]) -> Result<Vec<u8>, AllocError>
+    ensures { IfOk result (λ text. text.items ≡ boot_text manager.now nodes.now) }
+{
+    let mut text = Vec::new(alloc);
+    for node in nodes {
+        let line = node_line(alloc, *node, manager.end(*node))?;
+        text.extend_from_slice(line.as_bytes())?;
+    }
+    if manager.started() {
+        text.extend_from_slice(b"started\n")?;
+    } else {
+        text.extend_from_slice(b"not started\n")?;
+    }
+    Ok(text)
+}
+
+/// The boot of a network by its plan.
+fn booted(
+    alloc: Global,
+    seed: u64,
+    network: &Network<'_>,
+    plan: &Plan,
+) -> Result<Vec<u8>, AllocError>
+    requires network { IsNetwork network.now }
+    requires planned { IsPlan network.now.equipment.rates network.now.set (length network.now.rows) plan.now }
+    ensures { IfOk result (λ text. IsBooted seed network.now plan.now.ids text.items) }
+{
+    let nodes = device_nodes(alloc, network)?;
+    let mut manager = manager_of(alloc, plan, network, &nodes)?;
+    let mut devices = devices_of(alloc, network, &nodes)?;
+    let turns = turns_drawn(alloc, seed, &nodes)?;
+    run_schedule(alloc, &mut manager, &mut devices, &turns)?;
+    boot_text(alloc, &manager, &nodes)
+}
+
+/// The boot of the network of some tables and EDS files by its plan: the settings of each node are sent to its device, as its
+/// EDS file describes it, by the turns that a seed draws; and what came of it: a line for each node, and whether they were
+/// started. Where no rate passes that is said. Otherwise the first rule that the network breaks, or want of memory.
+pub fn boot_bytes(
+    alloc: Global,
+    seed: u64,
+    nodes: &[u8],
+    pdos: &[u8],
+    eds_files: &[(String, Vec<u8>)],
+) -> Result<Vec<u8>, Fault>
+    ensures { MatchResult result (λ text. IsBootOf seed nodes.now pdos.now (map (λ f. record { name = string_bytes f.0; text = f.1.items }) eds_files.now) text.items) (λ fault. ExplainsNetwork nodes.now pdos.now (map (λ f. record { name = string_bytes f.0; text = f.1.items }) eds_files.now) fault) }
+{
+    let nodes = read_nodes(alloc, nodes)?;
+    let pdos = read_pdos(alloc, pdos)?;
+    let network = network(alloc, &nodes, &pdos, eds_files)?;
+    match plan(alloc, &network)? {
+        Outcome::Planned(plan) => Ok(booted(alloc, seed, &network, &plan)?),
+        Outcome::Refused(_) => Ok(none_passes(alloc)?),
+    }
+}
