@@ -16,17 +16,17 @@ above event delay before = omega (arith)
 rises : (k : Stream) (b : Offer) (g : Lcg) → queued_at b ≤ queued_at (drawn k (Some b) g)
 rises k b g = above _ _ (queued_at b)
 
-rises-on : (k : Stream) (b : Offer) (g : Lcg) (n : ℕ) → queued_at b ≤ queued_at (drawn_at k (Some b) g n)
+pub rises-on : (k : Stream) (b : Offer) (g : Lcg) (n : ℕ) → queued_at b ≤ queued_at (drawn_at k (Some b) g n)
 rises-on k b g zero = rises k b g
 rises-on k b g (suc n) =
     let one = rises k b g in
     let more = rises-on k (drawn k (Some b) g) (rest (rest (rest g))) n in
     omega (arith, one, more)
 
-fits : (o : Offer) → queued_at o < 2 ^ 64 → fitting o ≡ Some o
+pub fits : (o : Offer) → queued_at o < 2 ^ 64 → fitting o ≡ Some o
 fits o l = ap (λ b. cond b (Some o) None) (lt-true (queued_at o) (2 ^ 64) l)
 
-passes : (o : Offer) → 2 ^ 64 ≤ queued_at o → fitting o ≡ None
+pub passes : (o : Offer) → 2 ^ 64 ≤ queued_at o → fitting o ≡ None
 passes o l = ap (λ b. cond b (Some o) None) (lt-false (queued_at o) (2 ^ 64) l)
 
 -- after an answer, which is over where it was none, come the instances after it

@@ -22,3 +22,4 @@ pub mod Turning
 pub mod Beginning
 pub mod DrawingLemmas
 pub mod Written
+pub mod Obeying

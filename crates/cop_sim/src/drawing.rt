@@ -1,8 +1,9 @@
 //! Behaviours that draw their instances from a seed.
 
 ghost use Rattle.std.specs.Prelude.{◌≡◌, ℕ, ◌+◌, ◌*◌, ◌<◌, ◌≤◌, ◌^◌};
-ghost use Rattle.rand_pcg.specs.Lcg.{started};
-ghost use Rattle.cop_sim.specs.Drawing.{words_of, word, rest, event_after, raised, first_byte, body_of, bits_by, drawn, fitting, seeded_offer, seeded_joins, offer_of, joins_of, fresh};
+ghost use Rattle.cop_rta.specs.declared.streams.Stream.{Stream};
+ghost use Rattle.cop_sim.specs.Play.{Disobeys};
+ghost use Rattle.cop_sim.specs.Drawing.{words_of, word, rest, event_after, raised, first_byte, body_of, bits_by, drawn, fitting, seeded_offer, seeded_joins, seeded_actor, offer_of, joins_of, fresh};
 
 use crate::behaviours::{Behaviour, Offer};
 use crate::seats::queued_at;
@@ -155,3 +156,8 @@ impl Behaviour for Seeded {
         words_of(self.seed ^ start, &self.stream).next_word() % 2 == 1
     }
 }
+
+/// A seeded behaviour obeys: a simulation of such ones is never given up for an answer of theirs.
+pub fn seeded_obeys()
+    ensures { (seed : ℕ) (k : Stream) (until n : ℕ) → Disobeys until (seeded_actor seed k) n → ⊥ }
+{}

@@ -18,7 +18,7 @@ mod traces;
 mod turns;
 
 pub use behaviours::{Behaviour, Offer};
-pub use drawing::Seeded;
+pub use drawing::{Seeded, seeded_obeys};
 pub use faults::SimFault;
 pub use guarantee::plan_guarantee;
 pub use laws::plays_are_kept;
