@@ -1,51 +1,60 @@
 -- Records that a writer has written, one after another.
-use Rattle.std.proofs.Common.{◌≡◌, ◌≢◌, false, ℕ, ◌+◌, ◌<◌, ◌≤◌, List, [], ◌∷◌, ◌++◌, length, map, take, get_or, refl, sym, ◌∙◌, append_assoc, append-nil, Some}
+use Rattle.std.proofs.Common.{◌≡◌, ◌≢◌, false, ℕ, ◌+◌, ◌<◌, ◌≤◌, List, [], ◌∷◌, ◌++◌, length, map, take, get_or, refl, sym, ◌∙◌, append_assoc, append-nil, subst, Option, Some, None}
 use Rattle.std.specs.Io.KnownBytes.{Appends}
-use Rattle.std.specs.List.{flat_map}
 use Rattle.std.proofs.lemmas.Grind.{flat_map-append}
-use Rattle.std.proofs.lemmas.List.{take_more, map_more, take_all}
+use Rattle.std.proofs.lemmas.List.{map_more, take_all}
 use Rattle.csv.specs.Writing.{row_text, default_writer, text_written, writer_setup, fields_written, has_written}
+use Rattle.csv.specs.declared.writer.Writer.{Writer}
 use Rattle.csv.specs.declared.writer.QuoteStyle.TheVariants as style
 use Rattle.cop_bus.specs.Format.{Fields, line, lines}
-use Rattle.cop_bus.specs.Writer.{TextWriter, IsBetween, Adds, written}
+use Rattle.cop_bus.specs.Writer.{IsBetween, Adds}
 
--- one record, as the writer's crate says it
-pub one_written : (old new : TextWriter) (fields : Fields) → IsBetween old → fields_written new ≡ 0 → has_written new ≡ false → writer_setup new ≡ writer_setup old
-    → ((fields_written old ≡ 0) → (has_written old ≡ false) → ((writer_setup old).style ≢ style.NonNumeric) → Appends (text_written (λ v. Some v.items) old) (text_written (λ v. Some v.items) new) (row_text (writer_setup old) fields))
-    → Adds old new (fields ∷ [])
-unfolding line
-one_written old new fields h none clean same bytes =
-    let text = bytes h.fields h.wrote (rw h.setup (λ e. cc e)) in
-    record {
-      between = record { setup = same ∙ h.setup; fields = none; wrote = clean };
-      text = (rw h.setup at text) ∙ rw (append-nil (row_text default_writer fields)) refl;
-    }
+-- ---- known bytes that grow
 
-pub adds_none : (w : TextWriter) → IsBetween w → Adds w w []
-adds_none w h = record { between = h; text = sym (append-nil (written w)) }
+pub appends_none : (known : Option (List ℕ)) → Appends known known []
+appends_none None = tt
+appends_none (Some xs) = sym (append-nil xs)
 
-pub adds_more : (a b c : TextWriter) (rows more : List Fields) → Adds a b rows → Adds b c more → Adds a c (rows ++ more)
-adds_more a b c rows more h k = record {
-  between = k.between;
-  text = k.text ∙ rw (h.text, flat_map-append line rows more) (append_assoc (written a) (lines rows) (lines more));
-}
+pub appends_more : (a b c : Option (List ℕ)) (xs ys : List ℕ) → Appends a b xs → Appends b c ys → Appends a c (xs ++ ys)
+appends_more None b c xs ys h k = tt
+appends_more (Some ws) None c xs ys h k = absurd h
+appends_more (Some ws) (Some bs) None xs ys h k = absurd k
+appends_more (Some ws) (Some bs) (Some cs) xs ys h k = k ∙ rw h (append_assoc ws xs ys)
 
-module _ {X : Type 0} (a b c : TextWriter) (xs : List X) (i : ℕ) (x : X) where
+pub appends_as : (a b : Option (List ℕ)) (xs ys : List ℕ) → xs ≡ ys → Appends a b xs → Appends a b ys
+appends_as a b xs ys e h = subst (λ (zs : List ℕ). Appends a b zs) e h
+
+-- ---- records
+
+module _ {W : Type 0} (contents : W → Option (List ℕ)) where
+  -- one record, as the writer's crate says it
+  pub one_written : (old new : Writer W) (fields : Fields) → IsBetween old → fields_written new ≡ 0 → has_written new ≡ false → writer_setup new ≡ writer_setup old
+      → ((fields_written old ≡ 0) → (has_written old ≡ false) → ((writer_setup old).style ≢ style.NonNumeric) → Appends (text_written contents old) (text_written contents new) (row_text (writer_setup old) fields))
+      → Adds contents old new (fields ∷ [])
+  unfolding line
+  one_written old new fields h none clean same bytes =
+      let text = bytes h.fields h.wrote (rw h.setup (λ e. cc e)) in
+      record {
+        between = record { setup = same ∙ h.setup; fields = none; wrote = clean };
+        text = appends_as (text_written contents old) (text_written contents new) (row_text default_writer fields) (row_text default_writer fields ++ []) (sym (append-nil (row_text default_writer fields))) (rw h.setup at text);
+      }
+
+  pub adds_none : (w : Writer W) → IsBetween w → Adds contents w w []
+  adds_none w h = record { between = h; text = appends_none (text_written contents w) }
+
+  pub adds_more : (a b c : Writer W) (rows more : List Fields) → Adds contents a b rows → Adds contents b c more → Adds contents a c (rows ++ more)
+  adds_more a b c rows more h k = record {
+    between = k.between;
+    text = appends_as (text_written contents a) (text_written contents c) (lines rows ++ lines more) (lines (rows ++ more)) (sym (flat_map-append line rows more))
+        (appends_more (text_written contents a) (text_written contents b) (text_written contents c) (lines rows) (lines more) h.text k.text);
+  }
+
+module _ {W X : Type 0} (contents : W → Option (List ℕ)) (a b c : Writer W) (xs : List X) (i : ℕ) (x : X) where
   -- one value more, of values with a record each
-  pub adds_mapped : (f : X → Fields) → i < length xs → x ≡ get_or xs i x → Adds a b (map f (take i xs)) → Adds b c (f x ∷ []) → Adds a c (map f (take (i + 1) xs))
+  pub adds_mapped : (f : X → Fields) → i < length xs → x ≡ get_or xs i x → Adds contents a b (map f (take i xs)) → Adds contents b c (f x ∷ []) → Adds contents a c (map f (take (i + 1) xs))
   adds_mapped f lt e h k =
-      let more : Adds b c (f (get_or xs i x) ∷ []) = rw (← e) k in
-      rw (map_more f xs i x lt) (adds_more a b c (map f (take i xs)) (f (get_or xs i x) ∷ []) h more)
+      let more : Adds contents b c (f (get_or xs i x) ∷ []) = rw (← e) k in
+      rw (map_more f xs i x lt) (adds_more contents a b c (map f (take i xs)) (f (get_or xs i x) ∷ []) h more)
 
-  -- the same, of values with some records each
-  pub adds_each : (f : X → List Fields) → i < length xs → x ≡ get_or xs i x → Adds a b (flat_map f (take i xs)) → Adds b c (f x) → Adds a c (flat_map f (take (i + 1) xs))
-  adds_each f lt e h k =
-      let more : Adds b c (f (get_or xs i x) ++ []) = rw (append-nil (f (get_or xs i x)), ← e) k in
-      rw (take_more xs i x lt, flat_map-append f (take i xs) (get_or xs i x ∷ []))
-      (adds_more a b c (flat_map f (take i xs)) (f (get_or xs i x) ++ []) h more)
-
-pub all_mapped : {X : Type 0} (a b : TextWriter) (xs : List X) (i : ℕ) (f : X → Fields) → length xs ≤ i → Adds a b (map f (take i xs)) → Adds a b (map f xs)
-all_mapped a b xs i f le h = rw (take_all i xs le) at h
-
-pub all_each : {X : Type 0} (a b : TextWriter) (xs : List X) (i : ℕ) (f : X → List Fields) → length xs ≤ i → Adds a b (flat_map f (take i xs)) → Adds a b (flat_map f xs)
-all_each a b xs i f le h = rw (take_all i xs le) at h
+pub all_mapped : {W X : Type 0} (contents : W → Option (List ℕ)) (a b : Writer W) (xs : List X) (i : ℕ) (f : X → Fields) → length xs ≤ i → Adds contents a b (map f (take i xs)) → Adds contents a b (map f xs)
+all_mapped contents a b xs i f le h = rw (take_all i xs le) at h

@@ -10,3 +10,4 @@ pub mod Entries
 pub mod Reading
 pub mod Bus
 pub mod Rings
+pub mod Piecewise

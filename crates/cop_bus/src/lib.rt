@@ -8,6 +8,7 @@ mod judging;
 mod lateness;
 mod laws;
 mod pending;
+mod piecewise;
 mod reading;
 mod rings;
 mod rules;
@@ -23,6 +24,7 @@ pub use laws::{
     busy_period, clean_is_legal, none_late_is_on_time, passing_is_on_time, passing_waits_bounded,
     started_is_on_time,
 };
+pub use piecewise::TraceWriter;
 pub use reading::read_trace;
 pub use rings::{Full, Ring, any_waits, most_of, queue, rings_of};
 pub use runs::{Run, Trace};

@@ -1,7 +1,7 @@
 //! Writing a trace as a table.
 
-ghost use Rattle.std.specs.Prelude.{◌≡◌, ◌∷◌, [], OnOk, IfOk, map};
-ghost use Rattle.cop_bus.specs.Format.{bytes_of, short, queue_fields, fields_of, text_of};
+ghost use Rattle.std.specs.Prelude.{◌≡◌, ◌∷◌, [], OnOk, IfOk, codes, map};
+ghost use Rattle.cop_bus.specs.Format.{bytes_of, header, short, queue_fields, fields_of, text_of};
 ghost use Rattle.cop_bus.specs.Writer.{IsBetween, Adds};
 
 use crate::runs::Trace;
@@ -9,25 +9,57 @@ use crate::steps::{Content, Step};
 use csv::{Writer, WriterBuilder};
 use itoa::Buffer;
 use std::alloc::{AllocError, Global};
+use std::io::Write;
 
-/// A writer of records into memory.
-type TextWriter = Writer<Vec<u8>>;
+/// A record is not written: the writer failed, or there was no room for its text.
+#[derive(Clone, Copy, Debug)]
+pub(crate) struct NotWritten {}
 
-// A writer into memory fails for want of memory alone.
-fn write_fields(writer: &mut TextWriter, fields: &[&[u8]]) -> Result<(), AllocError>
+impl From<AllocError> for NotWritten {
+    fn from(_error: AllocError) -> NotWritten {
+        NotWritten {}
+    }
+}
+
+impl From<NotWritten> for AllocError {
+    fn from(_error: NotWritten) -> AllocError {
+        AllocError
+    }
+}
+
+fn write_fields<W: Write + Drop>(
+    writer: &mut Writer<W>,
+    fields: &[&[u8]],
+) -> Result<(), NotWritten>
     requires { IsBetween writer.old }
-    ensures { OnOk result (Adds writer.old writer.new (map (λ f. f.now) fields.now ∷ [])) }
+    ensures { OnOk result (Adds W.contents writer.old writer.new (map (λ f. f.now) fields.now ∷ [])) }
 {
     if let Ok(()) = writer.write_fields(fields) {
         return Ok(());
     }
-    Err(AllocError)
+    Err(NotWritten {})
+}
+
+/// The names of the fields.
+pub(crate) fn write_header<W: Write + Drop>(writer: &mut Writer<W>) -> Result<(), NotWritten>
+    requires { IsBetween writer.old }
+    ensures { OnOk result (Adds W.contents writer.old writer.new (header ∷ [])) }
+{
+    write_fields(
+        writer,
+        &[b"kind", b"moment", b"id", b"event", b"bits", b"data"],
+    )
 }
 
 // A record that queues nothing.
-fn write_short(writer: &mut TextWriter, kind: &[u8], at: u64, id: u16) -> Result<(), AllocError>
+fn write_short<W: Write + Drop>(
+    writer: &mut Writer<W>,
+    kind: &[u8],
+    at: u64,
+    id: u16,
+) -> Result<(), NotWritten>
     requires { IsBetween writer.old }
-    ensures { OnOk result (Adds writer.old writer.new (short kind.now at id ∷ [])) }
+    ensures { OnOk result (Adds W.contents writer.old writer.new (short kind.now at id ∷ [])) }
 {
     let mut at_text = Buffer::new();
     let mut id_text = Buffer::new();
@@ -42,6 +74,17 @@ fn write_short(writer: &mut TextWriter, kind: &[u8], at: u64, id: u16) -> Result
     write_fields(writer, &fields)
 }
 
+/// The last record, which tells the end.
+pub(crate) fn write_end<W: Write + Drop>(
+    writer: &mut Writer<W>,
+    until: u64,
+) -> Result<(), NotWritten>
+    requires { IsBetween writer.old }
+    ensures { OnOk result (Adds W.contents writer.old writer.new (short (codes "until") until 0 ∷ [])) }
+{
+    write_short(writer, b"until", until, 0)
+}
+
 // A frame's data bytes.
 fn bytes_of(frame: &Content) -> &[u8]
     ensures { result.now ≡ bytes_of frame.now }
@@ -53,16 +96,16 @@ fn bytes_of(frame: &Content) -> &[u8]
     }
 }
 
-fn write_queue(
+fn write_queue<W: Write + Drop>(
     alloc: Global,
-    writer: &mut TextWriter,
+    writer: &mut Writer<W>,
     at: u64,
     id: u16,
     event: u64,
     frame: &Content,
-) -> Result<(), AllocError>
+) -> Result<(), NotWritten>
     requires { IsBetween writer.old }
-    ensures { OnOk result (Adds writer.old writer.new (queue_fields at id event frame.now ∷ [])) }
+    ensures { OnOk result (Adds W.contents writer.old writer.new (queue_fields at id event frame.now ∷ [])) }
 {
     let mut at_text = Buffer::new();
     let mut id_text = Buffer::new();
@@ -80,9 +123,14 @@ fn write_queue(
     write_fields(writer, &fields)
 }
 
-fn write_step(alloc: Global, writer: &mut TextWriter, step: &Step) -> Result<(), AllocError>
+/// The record of a step.
+pub(crate) fn write_step<W: Write + Drop>(
+    alloc: Global,
+    writer: &mut Writer<W>,
+    step: &Step,
+) -> Result<(), NotWritten>
     requires { IsBetween writer.old }
-    ensures { OnOk result (Adds writer.old writer.new (fields_of step.now ∷ [])) }
+    ensures { OnOk result (Adds W.contents writer.old writer.new (fields_of step.now ∷ [])) }
 {
     match step {
         Step::Queue {
@@ -97,9 +145,13 @@ fn write_step(alloc: Global, writer: &mut TextWriter, step: &Step) -> Result<(),
 }
 
 #[tactic(auto, using(crate::proofs::WriterLemmas::adds_mapped, crate::proofs::WriterLemmas::all_mapped, crate::proofs::WriterLemmas::adds_none))]
-fn write_steps(alloc: Global, writer: &mut TextWriter, steps: &[Step]) -> Result<(), AllocError>
+fn write_steps<W: Write + Drop>(
+    alloc: Global,
+    writer: &mut Writer<W>,
+    steps: &[Step],
+) -> Result<(), NotWritten>
     requires { IsBetween writer.old }
-    ensures { OnOk result (Adds writer.old writer.new (map fields_of steps.now)) }
+    ensures { OnOk result (Adds W.contents writer.old writer.new (map fields_of steps.now)) }
 {
     for step in steps {
         write_step(alloc, writer, step)?;
@@ -113,12 +165,9 @@ pub fn write_trace(alloc: Global, trace: &Trace) -> Result<Vec<u8>, AllocError>
     ensures { IfOk result (λ text. text.items ≡ text_of trace.now.until trace.now.steps.items) }
 {
     let mut writer = WriterBuilder::new().from_writer(Vec::new(alloc));
-    write_fields(
-        &mut writer,
-        &[b"kind", b"moment", b"id", b"event", b"bits", b"data"],
-    )?;
+    write_header(&mut writer)?;
     write_steps(alloc, &mut writer, &trace.steps)?;
-    write_short(&mut writer, b"until", trace.until, 0)?;
+    write_end(&mut writer, trace.until)?;
     if let Ok(text) = writer.into_inner() {
         return Ok(text);
     }

@@ -109,6 +109,7 @@ module _ (nodes pdos : List ℕ) (files : List File) (trace : List ℕ) where
     where
       go : (fault : Fault) → ExplainsTrace plan.rate plan.streams trace fault → ExplainsJudgement nodes pdos files trace fault
       go (faults.Refused number place) h = inr (plan, n, h)
+      go faults.Simulation h = h
       go (faults.File name) h = h
       go faults.Usage h = h
       go faults.Memory h = h

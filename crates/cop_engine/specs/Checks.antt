@@ -58,6 +58,7 @@ abbrev pub ExplainsCheck : List ℕ → List ℕ → List File → List ℕ → 
 ExplainsCheck nodes pdos files text (faults.Refused number place) =
     ((r : net.Refusal) × (network_in nodes pdos files ≡ Err r) × (number ≡ number_of_rule r.rule) × (place ≡ r.place))
     ⊎ ((found : Found) × (network_in nodes pdos files ≡ Ok found) × (b : Breach) × (refusals_of text ≡ Err b) × (number ≡ breaches.number_of_rule b.rule) × (place ≡ b.place))
+ExplainsCheck nodes pdos files text faults.Simulation = ⊥
 ExplainsCheck nodes pdos files text (faults.File name) = ⊥
 ExplainsCheck nodes pdos files text faults.Usage = ⊥
 ExplainsCheck nodes pdos files text faults.Memory = Unit {0}

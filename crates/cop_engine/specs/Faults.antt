@@ -18,6 +18,7 @@ fault_of plans.Memory = faults.Memory
 
 abbrev pub status_of : Fault → ℕ
 status_of (faults.Refused number place) = 3
+status_of faults.Simulation = 3
 status_of (faults.File name) = 5
 status_of faults.Usage = 2
 status_of faults.Memory = 6

@@ -53,6 +53,7 @@ pub record IsJudged (rate : Rate) (streams : List Stream) (trace text : List ℕ
 abbrev pub ExplainsTrace : Rate → List Stream → List ℕ → Fault → Type 0
 ExplainsTrace rate streams trace (faults.Refused number place) =
     (trace_of trace ≡ Err (place, number)) ⊎ ((told : Told) × (trace_of trace ≡ Ok told) × (first_broken (ticks_of rate) streams told.until told.steps ≡ Some (place, number)))
+ExplainsTrace rate streams trace faults.Simulation = ⊥
 ExplainsTrace rate streams trace (faults.File name) = ⊥
 ExplainsTrace rate streams trace faults.Usage = ⊥
 ExplainsTrace rate streams trace faults.Memory = Unit {0}
@@ -82,6 +83,7 @@ abbrev pub ExplainsJudgement : List ℕ → List ℕ → List File → List ℕ 
 ExplainsJudgement nodes pdos files trace (faults.Refused number place) =
     ((r : net.Refusal) × (network_in nodes pdos files ≡ Err r) × (number ≡ number_of_rule r.rule) × (place ≡ r.place))
     ⊎ ((plan : PlanValue) × IsPlannedNetwork nodes pdos files (Planned plan) × ExplainsTrace plan.rate plan.streams trace (faults.Refused number place))
+ExplainsJudgement nodes pdos files trace faults.Simulation = ⊥
 ExplainsJudgement nodes pdos files trace (faults.File name) = ⊥
 ExplainsJudgement nodes pdos files trace faults.Usage = ⊥
 ExplainsJudgement nodes pdos files trace faults.Memory = Unit {0}

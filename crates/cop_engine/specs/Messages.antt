@@ -20,6 +20,7 @@ file_message name = codes "canplan: file " ++ (name ++ codes "\n")
 -- the first line on standard error
 abbrev pub message_of : Fault → List ℕ
 message_of (faults.Refused number place) = refusal_message number place
+message_of faults.Simulation = codes "canplan: simulation refused\n"
 message_of (faults.File name) = file_message (string_bytes name)
 message_of faults.Usage = codes "canplan: usage\n"
 message_of faults.Memory = codes "canplan: memory\n"

@@ -38,6 +38,7 @@ net_of found streams = record { nodes = found.nodes; rows = found.rows; equipmen
 abbrev pub ExplainsNetwork : List ℕ → List ℕ → List File → Fault → Type 0
 ExplainsNetwork nodes pdos files (faults.Refused number place) =
     (r : Refusal) × (network_in nodes pdos files ≡ Err r) × (number ≡ number_of_rule r.rule) × (place ≡ r.place)
+ExplainsNetwork nodes pdos files faults.Simulation = ⊥
 ExplainsNetwork nodes pdos files (faults.File name) = ⊥
 ExplainsNetwork nodes pdos files faults.Usage = ⊥
 ExplainsNetwork nodes pdos files faults.Memory = Unit {0}

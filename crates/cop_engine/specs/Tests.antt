@@ -33,6 +33,7 @@ pub record IsReport (rate : Rate) (text out : List ℕ) : Type 0 where
 -- why there is none
 abbrev pub Explains : List ℕ → Fault → Type 0
 Explains text (faults.Refused number place) = (r : Refusal) × (streams_of text ≡ Err r) × (number ≡ number_of_rule r.rule) × (place ≡ r.place)
+Explains text faults.Simulation = ⊥
 Explains text (faults.File name) = ⊥
 Explains text faults.Usage = ⊥
 Explains text faults.Memory = Unit {0}

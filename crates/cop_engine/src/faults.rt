@@ -17,6 +17,9 @@ use thiserror::Error;
 pub enum Fault {
     #[error("refused {number} {place}")]
     Refused { number: u8, place: u64 },
+    /// The simulation of a run is given up: too many instances of a fixed frame wait.
+    #[error("simulation refused")]
+    Simulation,
     #[error("file {0}")]
     File(String),
     #[error("usage")]
@@ -89,6 +92,7 @@ pub fn status(fault: &Fault) -> u8
 {
     match fault {
         Fault::Refused { .. } => 3,
+        Fault::Simulation => 3,
         Fault::File(_) => 5,
         Fault::Usage => 2,
         Fault::Memory => 6,

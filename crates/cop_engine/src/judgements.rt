@@ -36,7 +36,7 @@ fn push_late(text: &mut Vec<u8>, late: Option<usize>) -> Result<(), AllocError>
 }
 
 /// The text of a judgement.
-fn judged_text(alloc: Global, transfers: usize, late: Option<usize>) -> Result<Vec<u8>, AllocError>
+pub(crate) fn judged_text(alloc: Global, transfers: usize, late: Option<usize>) -> Result<Vec<u8>, AllocError>
     ensures { IfOk result (λ text. text.items ≡ judged_text transfers late) }
 {
     let mut text = Vec::new(alloc);
@@ -48,7 +48,7 @@ fn judged_text(alloc: Global, transfers: usize, late: Option<usize>) -> Result<V
 }
 
 /// What is said where no rate passes.
-pub(crate) fn none_passes(alloc: Global) -> Result<Vec<u8>, AllocError>
+pub fn none_passes(alloc: Global) -> Result<Vec<u8>, AllocError>
     ensures { IfOk result (λ text. text.items ≡ none_passes) }
 {
     let mut text = Vec::new(alloc);

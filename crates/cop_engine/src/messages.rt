@@ -23,6 +23,7 @@ pub fn message(alloc: Global, fault: &Fault) -> Result<String, AllocError>
 {
     match fault {
         Fault::Refused { number, place } => refusal_message(alloc, *number, *place),
+        Fault::Simulation => String::from_str(alloc, "canplan: simulation refused\n"),
         Fault::File(name) => format!(in alloc; "canplan: file {name}\n"),
         Fault::Usage => String::from_str(alloc, "canplan: usage\n"),
         Fault::Memory => String::from_str(alloc, "canplan: memory\n"),

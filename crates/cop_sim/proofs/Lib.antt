@@ -20,3 +20,6 @@ pub mod Starting
 pub mod Finishing
 pub mod Turning
 pub mod Beginning
+pub mod DrawingLemmas
+pub mod Written
+pub mod Obeying

@@ -5,3 +5,5 @@ pub mod Seats
 pub mod Events
 pub mod Going
 pub mod Stages
+pub mod Scripts
+pub mod Drawing

@@ -3,20 +3,26 @@
 
 mod behaviours;
 mod choosing;
+mod drawing;
 mod due;
 mod faults;
 mod guarantee;
 mod laws;
 mod playing;
+mod scripts;
 mod seats;
 mod simulating;
 mod sinks;
 mod stages;
+mod traces;
 mod turns;
 
 pub use behaviours::{Behaviour, Offer};
+pub use drawing::{Seeded, seeded_obeys};
 pub use faults::SimFault;
 pub use guarantee::plan_guarantee;
 pub use laws::plays_are_kept;
+pub use scripts::Scripted;
 pub use simulating::{simulate, simulate_into, simulate_over};
 pub use sinks::{Sink, Steps};
+pub use traces::{TraceSink, traces_are_written};

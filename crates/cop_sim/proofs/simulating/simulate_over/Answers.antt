@@ -43,7 +43,7 @@ returns-in_err-goes_on-clause-left g c =
 pub returns-then-not-goes_on-clause-play : goal.returns-then-not-goes_on-clause-play
 returns-then-not-goes_on-clause-play g c =
     let t = (subst (λ (b : Bool). IsTurned g.B.Behaviour.offer g.B.Behaviour.agrees g.S.Sink.takes c.args.plan.now c.args.until c.args.behaviours.items c.turn.new.behaviours.items (at_hand c.turn.new.stage) (g.S.Sink.has_failed c.turn.new.sink) c.loop-turn.sink c.turn.new.sink c.loop-turn.invariant.1.0 (Ok b)) c.if-not-goes_on.true (c.in_ok-goes_on.ensures.turned c.args.behaviours.items c.loop-turn.invariant.1.0 c.loop-turn.invariant.1.1 (let n = c.loop-turn.invariant.1.3 in let l = c.loop-turn-test.true in omega (arith, n, l)))) in
-    (c.loop-turn.invariant.1.0, t.0, took-same g.S.Sink.takes c.loop-turn.invariant.1.0 c.args.sink.now c.loop-turn.sink c.turn.new.sink c.loop-turn.invariant.1.2 t.1)
+    (c.loop-turn.invariant.1.0, t.0, took-same g.S.Sink.takes c.loop-turn.invariant.1.0 c.args.sink.now c.loop-turn.sink c.turn.new.sink c.loop-turn.invariant.1.2 t.1, (let n = c.loop-turn.invariant.1.3 in let l = c.loop-turn-test.true in omega (arith, n, l)))
 
 pub loop-turn-preserved : goal.loop-turn-preserved
 loop-turn-preserved g c =
