@@ -1,16 +1,16 @@
 -- The identifiers of the PDOs that use a node's communication records.
-use Rattle.std.proofs.Common.{◌≡◌, ◌≢◌, ◌<◌, ◌≤◌, ℕ, zero, suc, ◌+◌, ◌-◌, Bool, true, false, ◌&&◌, ◌||◌, ◌==◌, cond, List, [], ◌∷◌, ◌++◌, map, length, take, set, get_or, replicate, Option, Some, None, All, IfSome, refl, sym, ap, ◌∙◌, arith, add-one, ⊎_elim}
+use Rattle.std.proofs.Common.{◌≡◌, ◌≢◌, ◌<◌, ◌≤◌, ℕ, zero, suc, ◌+◌, ◌-◌, Bool, true, false, ◌||◌, ◌==◌, cond, List, [], ◌∷◌, map, length, take, set, get_or, Option, Some, None, All, IfSome, refl, sym, ap, ◌∙◌, arith, add-one, ⊎_elim}
 use Rattle.std.specs.List.{list_any}
 use Rattle.std.specs.Option.{option_or}
 use Rattle.std.proofs.lemmas.Bool.{cases_eq, ne_eqb}
 use Rattle.std.proofs.lemmas.Bool.Decides.{nat_tests}
-use Rattle.std.proofs.lemmas.List.{get_or-set_same, get_or-set_other, get_or-replicate, map-append, take_more}
+use Rattle.std.proofs.lemmas.List.{get_or-set_same, get_or-set_other, map-append, take_more}
 use Rattle.std.proofs.lemmas.List.Folds.{list_any-append}
 use Rattle.cop_rows.specs.declared.pdo_table.Consumer.{Consumer}
 use Rattle.cop_rows.specs.declared.pdo_table.PdoRow.{PdoRow}
-use Rattle.cop_net.specs.Pdos.{sent_by, taken_by}
+use Rattle.cop_net.specs.Pdos.{taken_by}
 use Rattle.cop_net.specs.Uses.{is_record}
-use Rattle.cop_dcf.specs.Identifiers.{takes, uses, id_at, id_in, IsNoted, KnowsIds}
+use Rattle.cop_dcf.specs.Identifiers.{takes, uses, id_at, IsNoted}
 
 or_none : {A : Type 0} (o : Option A) → option_or o None ≡ o
 or_none None = refl

@@ -5,3 +5,13 @@ pub mod PieceLemmas
 pub mod SectionLemmas
 pub mod DigitLemmas
 pub mod DcfLemmas
+pub mod HomeLemmas
+pub mod WrittenLemmas
+pub mod ChangeLemmas
+pub mod HexLemmas
+pub mod BuildLemmas
+pub mod PlannedLemmas
+pub mod EditedLemmas
+pub mod HeldLemmas
+pub mod RoundLemmas
+pub mod NumberLemmas

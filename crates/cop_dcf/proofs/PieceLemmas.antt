@@ -1,17 +1,16 @@
 -- What stands in a DCF for each line, and for each section that is appended.
-use Rattle.std.proofs.Common.{◌≡◌, ◌≢◌, ◌⊎◌, inl, inr, ◌<◌, ◌≤◌, ℕ, zero, suc, ◌+◌, ◌-◌, Bool, true, false, not, cond, ◌&&◌, ◌||◌, ◌==◌, List, [], ◌∷◌, ◌++◌, codes, map, length, take, drop, get_or, filter, find, Option, Some, None, is_some, refl, sym, ap, ◌∙◌, arith, append_assoc, append-nil, length-append}
-use Rattle.std.specs.Prelude.{slice_index, slice_get, slice_range}
+use Rattle.std.proofs.Common.{◌≡◌, ◌<◌, ◌≤◌, ℕ, suc, ◌+◌, ◌-◌, Bool, true, false, not, cond, ◌&&◌, ◌||◌, ◌==◌, List, [], ◌∷◌, ◌++◌, codes, map, length, take, drop, get_or, find, Option, Some, None, is_some, refl, sym, ap, ◌∙◌, arith, append_assoc, append-nil}
+use Rattle.std.specs.Prelude.{slice_get, slice_range}
 use Rattle.std.specs.List.{list_any}
 use Rattle.std.specs.Option.{option_map, option_map_or}
-use Rattle.std.proofs.lemmas.Bool.Decides.{nat_tests}
 use Rattle.std.proofs.lemmas.List.{take_more, drop_more}
 use Rattle.cop_eds.specs.declared.line.Kind.{Kind}
 use Rattle.cop_eds.specs.declared.line.Kind.TheVariants.{Other, Header, Pair}
 use Rattle.cop_eds.specs.declared.line.Line.{Line}
-use Rattle.cop_eds.specs.Text.{cut, mark_len, end_len}
-use Rattle.cop_eds.specs.Lines.{is_kind, kind_of, header_count, line_of, lines_from, lines_of}
-use Rattle.cop_eds.specs.Sections.{section_of, key_line}
-use Rattle.cop_eds.specs.Rows.{Row, row_of, rows_of, has_name}
+use Rattle.cop_eds.specs.Text.{cut, mark_len}
+use Rattle.cop_eds.specs.Lines.{is_kind, header_count, line_of, lines_from, lines_of}
+use Rattle.cop_eds.specs.Sections.{section_of}
+use Rattle.cop_eds.specs.Rows.{row_of, rows_of, has_name}
 use Rattle.cop_eds.specs.Edits.{Change, pair_of, change_of, changed, section_count, newline_of}
 use Rattle.cop_eds.proofs.RowLemmas.{section_row}
 use Rattle.cop_dcf.specs.Pieces.{pair_follows, is_wanting, new_lines, has_section, is_extended}

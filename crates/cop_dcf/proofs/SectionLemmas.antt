@@ -1,9 +1,8 @@
 -- The sections for the file's name and for the node.
-use Rattle.std.proofs.Common.{◌≡◌, ◌<◌, ◌≤◌, ℕ, zero, suc, ◌+◌, Bool, true, false, not, cond, ◌&&◌, ◌||◌, ◌==◌, List, [], ◌∷◌, ◌++◌, codes, map, length, drop, find, Option, Some, None, refl, sym, ap, ◌∙◌, arith}
+use Rattle.std.proofs.Common.{◌≡◌, ◌≤◌, ℕ, ◌+◌, Bool, true, false, cond, ◌||◌, List, [], ◌∷◌, ◌++◌, codes, map, length, drop, find, Option, Some, None, refl, sym, ap, ◌∙◌, arith}
 use Rattle.std.specs.List.{list_any}
 use Rattle.std.specs.Option.{option_map, option_map_or, option_or}
-use Rattle.std.proofs.lemmas.List.Folds.{find-append, list_any-append}
-use Rattle.cop_eds.specs.declared.line.Kind.{Kind}
+use Rattle.std.proofs.lemmas.List.Folds.{find-append}
 use Rattle.cop_eds.specs.declared.line.Line.{Line}
 use Rattle.cop_eds.specs.Text.{cut, mark_len}
 use Rattle.cop_eds.specs.Names.{same_section}
@@ -12,7 +11,7 @@ use Rattle.cop_eds.specs.Sections.{section_of}
 use Rattle.cop_eds.specs.Rows.{Row, row_of, rows_of, has_name}
 use Rattle.cop_eds.specs.Edits.{header_row, newline_of, section_count, with_section}
 use Rattle.cop_eds.proofs.RowLemmas.{section_row}
-use Rattle.cop_dcf.specs.Dcf.{with_sections, file_number, device_number}
+use Rattle.cop_dcf.specs.Dcf.{file_number, device_number}
 
 -- each line is in the section before it, or begins the next
 unfoldable pub AreLaid : ℕ → List Line → Type 0

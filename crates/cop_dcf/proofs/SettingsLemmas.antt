@@ -1,5 +1,5 @@
 -- What is set in a node, entry by entry.
-use Rattle.std.proofs.Common.{◌≡◌, ◌<◌, ◌≤◌, ℕ, zero, suc, ◌+◌, ◌-◌, ◌*◌, ◌/◌, ◌%◌, ◌^◌, ◌⊎◌, inl, inr, Bool, true, false, ◌&&◌, ◌||◌, ◌==◌, nat_le, cond, List, [], ◌∷◌, ◌++◌, length, take, get_or, find, Option, Some, None, IsSome, is_some, refl, sym, ap, ◌∙◌, arith, append_assoc, append-nil, All, IfSome}
+use Rattle.std.proofs.Common.{◌≡◌, ◌<◌, ◌≤◌, ℕ, zero, suc, ◌+◌, ◌-◌, ◌*◌, ◌^◌, inl, inr, Bool, true, false, ◌||◌, ◌==◌, nat_le, cond, List, [], ◌∷◌, ◌++◌, length, take, get_or, find, Option, Some, None, IsSome, is_some, refl, sym, ap, ◌∙◌, arith, append_assoc, append-nil, All, IfSome}
 use Rattle.std.specs.Prelude.{ℤ, pos}
 use Rattle.std.specs.List.{filter_map, cons_option}
 use Rattle.std.specs.Option.{option_and_then}

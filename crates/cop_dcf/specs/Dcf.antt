@@ -1,5 +1,5 @@
 -- The DCF text of a node (CiA 306, "Device configuration file").
-use Rattle.std.specs.Prelude.{ℕ, zero, suc, ◌+◌, ◌/◌, ◌%◌, Bool, false, ◌==◌, List, [], ◌∷◌, ◌++◌, codes, decimal, reverse, nat_lt, if◌then◌else◌, Option, Some, None, find}
+use Rattle.std.specs.Prelude.{ℕ, zero, suc, ◌+◌, ◌/◌, ◌%◌, Bool, false, ◌==◌, List, [], ◌∷◌, ◌++◌, codes, decimal, reverse, nat_lt, if◌then◌else◌, Option, find}
 use Rattle.std.specs.List.{cons_option, flat_map}
 use Rattle.std.specs.Int.{bytes_low_first}
 use Rattle.std.specs.Option.{option_map, option_map_or}
@@ -7,7 +7,7 @@ use Rattle.cop_frame.specs.declared.rates.Rate.{Rate}
 use Rattle.cop_frame.specs.Rate.{kbits_of}
 use Rattle.cop_eds.specs.Objects.{object_section}
 use Rattle.cop_eds.specs.Rows.{Row, rows_of, has_name}
-use Rattle.cop_eds.specs.Edits.{Change, with_keys, with_section, section_count, newline_of, text_with}
+use Rattle.cop_eds.specs.Edits.{Change, with_keys, with_section, section_count, text_with}
 use Rattle.cop_dcf.specs.declared.setting.Setting.{Setting}
 
 -- the bytes of a setting's value

@@ -3,3 +3,4 @@ pub mod Settings
 pub mod Dcf
 pub mod Changes
 pub mod Pieces
+pub mod Planned

@@ -1,5 +1,5 @@
 -- What a plan sets in a node (CiA 301, "PDO communication parameter record", "Producer heartbeat time").
-use Rattle.std.specs.Prelude.{ℕ, ℤ, pos, ◌≡◌, ◌⊎◌, ◌<◌, ◌*◌, ◌^◌, ◌&&◌, ◌||◌, List, [], ◌∷◌, ◌++◌, if◌then◌else◌, Option, Some, None, IsSome, is_some, option_and_then, option_map, get_or}
+use Rattle.std.specs.Prelude.{ℕ, ℤ, pos, ◌≡◌, ◌⊎◌, ◌<◌, ◌*◌, ◌^◌, ◌||◌, List, [], ◌∷◌, ◌++◌, if◌then◌else◌, Option, Some, None, IsSome, is_some, option_and_then, option_map, get_or}
 use Rattle.std.specs.List.{filter_map}
 use Rattle.std.specs.Ordering.{int_eq}
 use Rattle.cop_dict.specs.Find.{Entry, unsigned32_of, entry_at}

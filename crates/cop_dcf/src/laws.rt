@@ -1,9 +1,16 @@
 //! Laws of what a plan sets in a node.
 
-ghost use Rattle.std.specs.Prelude.{◌≡◌, ◌<◌, ◌^◌, ℕ, List, All, Option, Some, IfSome};
+ghost use Rattle.std.specs.Prelude.{◌≡◌, ◌<◌, ◌≤◌, ◌^◌, ◌*◌, ℕ, List, length, All, Option, Some, Ok, IfSome, IsTrue};
+ghost use Rattle.cop_frame.specs.declared.rates.Rate.{Rate};
+ghost use Rattle.cop_eds.specs.Reading.{reading};
 ghost use Rattle.cop_dict.specs.Find.{Entry};
+ghost use Rattle.cop_dict.specs.Build.{built};
+ghost use Rattle.cop_rows.specs.Names.{is_name};
 ghost use Rattle.cop_net.specs.Network.{Net, IsNetwork};
 ghost use Rattle.cop_dcf.specs.Settings.{settings_of, node_settings, dictionary_of, IsFit, HasObject};
+ghost use Rattle.cop_dcf.specs.declared.setting.Setting.{Setting};
+ghost use Rattle.cop_dcf.specs.Dcf.{dcf_of};
+ghost use Rattle.cop_dcf.specs.Planned.{IsNumber, IsReadAgain};
 
 /// Each setting has 2 or 4 bytes, and its value fits them.
 pub fn settings_fit()
@@ -15,4 +22,11 @@ pub fn settings_fit()
 pub fn settings_have_objects()
     ensures dictionary { (dict : List Entry) (ids : ℕ → Option ℕ) (time : ℕ) → All (HasObject dict) (settings_of dict ids time) }
     ensures network { (net : Net) (ids : List ℕ) (node : ℕ) (dict : List Entry) → dictionary_of net node ≡ Some dict → All (HasObject dict) (node_settings net ids node) }
+{}
+
+/// A DCF is read again. That of an accepted text, where it is not longer than texts may be, is accepted, and the dictionary
+/// that it describes for its node is the planned one: that of the EDS text with the last value of each setting. The
+/// initial values of a dictionary that a DCF describes are the planned values.
+pub fn round_trip()
+    ensures { (text : List ℕ) (settings : List Setting) (node : ℕ) (name : List ℕ) (rate : Rate) (eds_name : List ℕ) (dict : List Entry) → reading text ≡ Ok text → built text node ≡ Ok dict → All (IsNumber dict) settings → IsTrue (is_name name) → IsTrue (is_name eds_name) → node < 2 ^ 8 → length (dcf_of text settings node name rate eds_name) ≤ 4 * 1024 * 1024 → IsReadAgain (dcf_of text settings node name rate eds_name) node dict settings }
 {}

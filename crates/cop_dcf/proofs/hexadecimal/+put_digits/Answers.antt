@@ -1,4 +1,4 @@
-use Rattle.std.proofs.Common.{◌≡◌, ◌<◌, ◌∷◌, ◌++◌, [], ap, ◌∙◌, arith}
+use Rattle.std.proofs.Common.{arith}
 use Rattle.cop_dcf.proofs.DigitLemmas.{byte_more}
 use Rattle.cop_dcf.proofs.hexadecimal.+put_digits.Goals as goal
 

@@ -1,6 +1,6 @@
-use Rattle.std.proofs.Common.{◌≡◌, ◌≤◌, ◌<◌, ◌+◌, ◌∙◌, ℕ, Option, None, get_or, length, sym, arith}
+use Rattle.std.proofs.Common.{◌<◌, ◌+◌, ◌∙◌, ℕ, Option, None, get_or, length, sym, arith}
 use Rattle.std.proofs.lemmas.List.{get_or-replicate, length-replicate}
-use Rattle.cop_dcf.specs.Identifiers.{id_at, uses, IsNoted}
+use Rattle.cop_dcf.specs.Identifiers.{uses, IsNoted}
 use Rattle.cop_dcf.proofs.IdentifierLemmas.{rows_more, all_rows, none_yet}
 use Rattle.cop_dcf.proofs.identifiers.identifiers.Goals as goal
 

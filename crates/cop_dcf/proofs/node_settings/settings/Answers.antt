@@ -1,8 +1,8 @@
-use Rattle.std.proofs.Common.{◌≡◌, ◌<◌, ◌++◌, [], ◌∷◌, Option, Some, List, All, ap, sym, ◌∙◌, length, append-nil}
+use Rattle.std.proofs.Common.{◌≡◌, ◌<◌, ◌++◌, [], Some, All, ap, sym, ◌∙◌, length, append-nil}
 use Rattle.std.specs.List.{cons_option}
 use Rattle.std.specs.Option.{option_copied}
 use Rattle.cop_dcf.specs.Identifiers.{KnowsIds}
-use Rattle.cop_dcf.specs.Settings.{dictionary_of, node_settings}
+use Rattle.cop_dcf.specs.Settings.{dictionary_of}
 use Rattle.cop_dcf.proofs.SettingsLemmas.{ids_small, noted_small, node_settings_are}
 use Rattle.cop_dcf.proofs.node_settings.settings.Goals as goal
 use Rattle.cop_dcf.proofs.node_settings.settings.Goals.{in-Some-time_set+in_ok-push, in_default-time_set}

@@ -1,7 +1,4 @@
-use Rattle.std.proofs.Common.{◌≡◌, ◌∷◌, ◌++◌, [], codes, decimal, ap, sym, ◌∙◌}
-use Rattle.std.specs.List.{filter}
-use Rattle.cop_dcf.specs.Dcf.{device_set}
-use Rattle.cop_dcf.specs.Changes.{is_in}
+use Rattle.std.proofs.Common.{◌∷◌, ◌++◌, [], codes, decimal, ap, ◌∙◌}
 use Rattle.cop_dcf.proofs.TableLemmas.{device_by_section}
 use Rattle.cop_dcf.proofs.section_keys.add_device.Goals as goal
 

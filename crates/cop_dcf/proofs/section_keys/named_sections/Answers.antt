@@ -1,6 +1,4 @@
-use Rattle.std.proofs.Common.{◌≡◌, ◌≤◌, ◌+◌, ap, sym, ◌∙◌, codes, arith}
-use Rattle.cop_eds.specs.Rows.{rows_of}
-use Rattle.cop_eds.specs.Edits.{section_count}
+use Rattle.std.proofs.Common.{◌+◌, ap, sym, ◌∙◌, codes, arith}
 use Rattle.cop_dcf.proofs.SectionLemmas.{section_small, file_here, file_put, device_here, device_first, device_second}
 use Rattle.cop_dcf.proofs.section_keys.named_sections.Goals as goal
 

@@ -1,7 +1,7 @@
 use Rattle.std.proofs.Common.{◌≡◌, ◌≤◌, length, ap, sym, ◌∙◌, arith}
 use Rattle.std.specs.Option.{option_copied}
 use Rattle.cop_eds.specs.Lines.{lines_of}
-use Rattle.cop_eds.specs.Rows.{row_of, rows_of}
+use Rattle.cop_eds.specs.Rows.{rows_of}
 use Rattle.cop_eds.specs.Edits.{section_count}
 use Rattle.cop_dcf.proofs.PieceLemmas.{count_last, count_small}
 use Rattle.cop_dcf.proofs.section_keys.section_count.Goals as goal

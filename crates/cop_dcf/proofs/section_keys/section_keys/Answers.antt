@@ -1,4 +1,4 @@
-use Rattle.std.proofs.Common.{◌≡◌, ◌+◌, ◌∷◌, ◌++◌, [], None, get_or, length, ap, sym, ◌∙◌}
+use Rattle.std.proofs.Common.{◌≡◌, ◌+◌, ◌∷◌, ◌++◌, [], None, get_or, length, ap, ◌∙◌}
 use Rattle.cop_eds.specs.Rows.{rows_of}
 use Rattle.cop_eds.specs.Edits.{section_count}
 use Rattle.cop_dcf.specs.Dcf.{setting_in, values_from, origin_set, device_set, file_number, device_number}

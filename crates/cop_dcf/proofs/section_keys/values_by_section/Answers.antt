@@ -1,5 +1,4 @@
-use Rattle.std.proofs.Common.{◌≡◌, ◌∷◌, ◌++◌, [], ℕ, None, get_or, length, ap, sym, ◌∙◌, arith}
-use Rattle.cop_dcf.specs.Changes.{AreBySection}
+use Rattle.std.proofs.Common.{ℕ, None, get_or, length, ap, ◌∙◌}
 use Rattle.cop_dcf.proofs.TableLemmas.{none_by_section, by_section_next, one_longer}
 use Rattle.cop_dcf.proofs.section_keys.values_by_section.Goals as goal
 

@@ -1,4 +1,4 @@
-use Rattle.std.proofs.Common.{◌≡◌, ap, sym, ◌∙◌}
+use Rattle.std.proofs.Common.{ap, sym, ◌∙◌}
 use Rattle.std.specs.Option.{option_copied}
 use Rattle.cop_dcf.proofs.PieceLemmas.{set_body, own_body}
 use Rattle.cop_dcf.proofs.writing.body_of.Goals as goal

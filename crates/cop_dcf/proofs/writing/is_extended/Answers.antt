@@ -1,6 +1,5 @@
 use Rattle.cop_dcf.proofs.PieceLemmas.{extended_then, extended_else}
-use Rattle.std.proofs.Common.{sym, ap, ◌∙◌}
-use Rattle.std.specs.Option.{is_some}
+use Rattle.std.proofs.Common.{sym, ◌∙◌}
 use Rattle.cop_dcf.proofs.writing.is_extended.Goals as goal
 use Rattle.cop_dcf.proofs.writing.is_extended.Goals.{then-is_some, else-is_some}
 

@@ -1,7 +1,6 @@
-use Rattle.std.proofs.Common.{◌≡◌, ◌∷◌, ◌==◌, ◌-◌, [], List, ℕ, true, cond, length, ap, sym, ◌∙◌, arith}
+use Rattle.std.proofs.Common.{◌≡◌, ◌∷◌, ◌==◌, [], cond, length, ap, sym, ◌∙◌}
 use Rattle.std.specs.Prelude.{slice_range}
 use Rattle.std.specs.Option.{option_copied}
-use Rattle.std.proofs.lemmas.Bool.Decides.{nat_tests}
 use Rattle.cop_eds.specs.Rows.{rows_of}
 use Rattle.cop_eds.specs.Edits.{newline_of}
 use Rattle.cop_dcf.proofs.PieceLemmas.{newline_first, no_end}

@@ -1,5 +1,4 @@
-use Rattle.std.proofs.Common.{◌≡◌, ◌++◌, [], List, ℕ, ap, sym, ◌∙◌, append-nil}
-use Rattle.std.specs.Result.{OnOk}
+use Rattle.std.proofs.Common.{◌++◌, ap, sym, ◌∙◌, append-nil}
 use Rattle.cop_eds.specs.Rows.{rows_of}
 use Rattle.cop_eds.specs.Edits.{newline_of}
 use Rattle.cop_dcf.specs.Pieces.{section_of}

@@ -1,5 +1,5 @@
-use Rattle.std.proofs.Common.{◌≡◌, ◌∷◌, ◌++◌, true, false, get_or, ap, sym, ◌∙◌, arith}
-use Rattle.cop_eds.specs.Edits.{Change, pair_of}
+use Rattle.std.proofs.Common.{◌++◌, ap, sym, ◌∙◌}
+use Rattle.cop_eds.specs.Edits.{pair_of}
 use Rattle.cop_dcf.specs.Pieces.{is_wanting}
 use Rattle.cop_dcf.proofs.PieceLemmas.{wanting_more, there_more}
 use Rattle.cop_dcf.proofs.writing.put_new.Goals as goal
