@@ -60,8 +60,8 @@ said_of (Some (Aborted node index sub code)) =
     codes " aborted " ++ (hexadecimal_of 4 index ++ (codes " " ++ (hexadecimal_of 2 sub ++ (codes " " ++ (hexadecimal_of 8 code ++ codes "\n")))))
 
 -- the line of a node
-abbrev pub node_line : Managing → ℕ → List ℕ
-node_line m node = codes "node " ++ (decimal node ++ said_of (end_at m.nodes node))
+abbrev pub node_line : ℕ → Option End → List ℕ
+node_line node end = codes "node " ++ (decimal node ++ said_of end)
 
 abbrev pub started_line : Bool → List ℕ
 started_line true = codes "started\n"
@@ -69,7 +69,7 @@ started_line false = codes "not started\n"
 
 -- a line for each node, and one that says whether they were started
 abbrev pub boot_text : Managing → List ℕ → List ℕ
-boot_text m nodes = flat_map (node_line m) nodes ++ started_line m.started
+boot_text m nodes = flat_map (λ node. node_line node (end_at m.nodes node)) nodes ++ started_line m.started
 
 -- A boot of a network by a plan with these identifiers, by the turns that a seed draws, made this of the manager and of the devices,
 -- and the text says so.

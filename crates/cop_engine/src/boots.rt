@@ -1,14 +1,15 @@
 //! The boot of a planned network by drawn turns.
 
-ghost use Rattle.std.specs.Prelude.{◌≡◌, ◌≤◌, ◌<◌, ◌×◌, ◌++◌, length, map, All, IfOk, OnOk, MatchResult};
+ghost use Rattle.std.specs.Prelude.{◌≡◌, ◌≤◌, ◌<◌, ◌++◌, length, map, is_some, All, IfOk, OnOk, MatchResult};
 ghost use Rattle.std.specs.List.{AllPairs, flat_map};
 ghost use Rattle.std.specs.String.{string_bytes};
 ghost use Rattle.cop_dict.specs.Dict.{initial};
 ghost use Rattle.cop_net.specs.Network.{IsNetwork};
 ghost use Rattle.cop_plan.specs.Plans.{IsPlan};
+ghost use Rattle.cop_dcf.specs.Settings.{dictionary_of};
 ghost use Rattle.cop_boot.specs.Member.{unheard};
 ghost use Rattle.cop_engine.specs.Networks.{ExplainsNetwork};
-ghost use Rattle.cop_engine.specs.Boots.{device_nodes, managed, manager_of, device_at, node_line, boot_text, IsBooted, IsBootOf};
+ghost use Rattle.cop_engine.specs.Boots.{device_nodes, managed, manager_of, device_at, boot_text, node_line, IsBooted, IsBootOf};
 
 use crate::faults::Fault;
 use crate::judgements::none_passes;
@@ -21,13 +22,20 @@ use cop_plan::{Outcome, Plan, plan};
 use std::alloc::{AllocError, Global};
 use std::collections::BTreeMap;
 
+/// Whether a node has a device.
+fn has_device(network: &Network<'_>, node: u8) -> bool
+    ensures { result ≡ is_some (dictionary_of network.now node) }
+{
+    network.dictionary(node).is_some()
+}
+
 /// The nodes that have devices, by rising number.
 fn device_nodes(alloc: Global, network: &Network<'_>) -> Result<Vec<u8>, AllocError>
     ensures { IfOk result (λ nodes. nodes.items ≡ device_nodes network.now) }
 {
     let mut nodes = Vec::new(alloc);
     for node in 1..128 {
-        if network.dictionary(node).is_some() {
+        if has_device(network, node) {
             nodes.push(node)?;
         }
     }
@@ -115,7 +123,9 @@ fn manager_of(
 }
 
 /// The line of a node.
-fn node_line(alloc: Global, node: u8, end: Option<End>) -> Result<String, AllocError> {
+fn node_line(alloc: Global, node: u8, end: Option<End>) -> Result<String, AllocError>
+    ensures { IfOk result (λ line. string_bytes line ≡ node_line node end) }
+{
     match end {
         None => format!(in alloc; "node {node} undecided\n"),
         Some(End::Ready) => format!(in alloc; "node {node} ready\n"),

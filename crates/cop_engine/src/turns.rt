@@ -1,7 +1,7 @@
 //! The turns of a boot, as a seed draws them.
 
-ghost use Rattle.std.specs.Prelude.{◌≡◌, ◌≤◌, ◌<◌, length, IfOk};
-ghost use Rattle.cop_engine.specs.Turns.{kinds, turn_of, turns_drawn};
+ghost use Rattle.std.specs.Prelude.{◌≡◌, ◌≤◌, ◌<◌, ◌^◌, length, IfOk};
+ghost use Rattle.cop_engine.specs.Turns.{kinds, turn_of, passed_by, turns_drawn};
 
 use cop_boot::Turn;
 use rand_core::utils::NextWord;
@@ -29,6 +29,14 @@ fn turn_of(nodes: &[u8], now: u64, kind: u32) -> Turn
     }
 }
 
+/// The moment after a turn of a kind.
+fn passed_by(now: u64, kind: u32) -> u64
+    requires { now < 2 ^ 63 }
+    ensures { result ≡ passed_by now kind }
+{
+    if kind == 0 { now + STEP } else { now }
+}
+
 /// The turns that a seed draws for the devices of some nodes, 4,000 of each kind on average.
 pub fn turns_drawn(alloc: Global, seed: u64, nodes: &[u8]) -> Result<Vec<Turn>, AllocError>
     requires { length nodes.now ≤ 127 }
@@ -40,9 +48,7 @@ pub fn turns_drawn(alloc: Global, seed: u64, nodes: &[u8]) -> Result<Vec<Turn>, 
     let mut turns = Vec::new(alloc);
     for _turn in 0..TURNS_OF_A_KIND * kinds {
         let kind = generator.next_word() % kinds;
-        if kind == 0 {
-            now += STEP;
-        }
+        now = passed_by(now, kind);
         turns.push(turn_of(nodes, now, kind))?;
     }
     Ok(turns)
