@@ -78,8 +78,8 @@ few_rows nodes pdos files found ok =
     let p = bind_ok (in_table Nodes (nodes_of nodes)) _ found ok in
     let q = bind_ok (in_table Pdos (pdos_of pdos)) _ found p.2 in
     let r = bind_ok (network_of p.0 q.0 files) _ found q.2 in
-    let whole : ◌≡◌ {A = Result Found net.Refusal} (Ok (record { rows = q.0; network = r.0 })) (Ok found) = r.2 in
-    let same : record { rows = q.0; network = r.0 } ≡ found = cc in
+    let whole : ◌≡◌ {A = Result Found net.Refusal} (Ok (record { nodes = p.0; rows = q.0; network = r.0 })) (Ok found) = r.2 in
+    let same : record { nodes = p.0; rows = q.0; network = r.0 } ≡ found = cc in
     subst (λ (f : Found). length f.rows ≤ 512) same (table_few pdos q.0 (was_in_table Pdos (pdos_of pdos) q.0 q.1))
 
 -- ---- the refusals of an outcome
