@@ -134,4 +134,5 @@ module _ (nodes pdos : List ℕ) (eds : List File) (files : Files) (f : AreFiles
   only_memory (faults.Refused number place) (inr h) = let b = h in let clash = b.3 in let read = read_again in cc
   only_memory (faults.File name) h = absurd h
   only_memory faults.Usage h = absurd h
+  only_memory faults.Simulation h = absurd h
   only_memory faults.Memory h = refl
