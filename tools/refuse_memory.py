@@ -95,6 +95,10 @@ def calls_of_program(out):
         tables = [f"{examples}/{name}/nodes.csv", f"{examples}/{name}/pdos.csv"]
         yield f"plan {name}", ["plan", *tables, out]
         yield f"check {name}", ["check", *tables, f"{examples}/{name}/refusals.csv"]
+        yield f"boot {name}", ["boot", "--seed", "1", *tables]
+        yield f"run {name}", ["run", "--seed", "42", "--until", "20000", *tables, f"{out}/trace.csv"]
+    valve = [f"{examples}/valve/nodes.csv", f"{examples}/valve/pdos.csv"]
+    yield "judge valve", ["judge", *valve, f"{examples}/valve/trace.csv"]
 
 
 def report(name, found):
