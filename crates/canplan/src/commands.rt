@@ -1,0 +1,139 @@
+//! The words of the command line, and their help.
+
+use clap::builder::ValueParser;
+use clap::{Arg, ArgAction, Command};
+use std::alloc::{AllocError, Global};
+
+/// The greatest end of a run, in microseconds.
+pub const MOST_UNTIL: u64 = 1000000000;
+
+/// The rate words that the command line takes.
+static RATES: [&str; 8] = ["10", "20", "50", "125", "250", "500", "800", "1000"];
+
+const ABOUT: &str = "Plans, boots, runs and judges CANopen networks on classical CAN";
+
+const AFTER: &str = "With no words: canplan test --rate 125 -
+
+Statuses:
+  0  done
+  2  the words are not understood
+  3  an input is refused (canplan: refused NUMBER PLACE), a refusal fails, or a run is given up
+  4  no rate passes
+  5  a file cannot be read or written, or is above 64 MiB
+  6  out of memory
+
+Times in tables are microseconds, in answers ticks of 250 ns.";
+
+/// A word that has to be there.
+fn operand<'a>(alloc: Global, name: &'a str, help: &'a str) -> Arg<'a> {
+    Arg::new(alloc, name)
+        .required(true)
+        .action(ArgAction::Set)
+        .help(help)
+}
+
+/// A number that has to be there, up to a greatest one.
+fn number<'a>(alloc: Global, name: &'a str, most: u64, help: &'a str) -> Arg<'a> {
+    Arg::new(alloc, name)
+        .long(name)
+        .required(true)
+        .value_parser(ValueParser::unsigned(0, most))
+        .action(ArgAction::Set)
+        .help(help)
+}
+
+/// A subcommand on a network: its two tables.
+fn network_command<'a>(
+    alloc: Global,
+    name: &'a str,
+    about: &'a str,
+) -> Result<Command<'a>, AllocError> {
+    let nodes =
+        "The table of nodes: row,node,name,eds,period,jitter; the EDS files lie in its folder";
+    let pdos = "The table of PDOs: node,tpdo,period,jitter,deadline,consumers";
+    Command::new(alloc, name)
+        .about(about)
+        .arg(operand(alloc, "NODES", nodes))?
+        .arg(operand(alloc, "PDOS", pdos))
+}
+
+fn test_command<'a>(alloc: Global) -> Result<Command<'a>, AllocError> {
+    let rate = Arg::new(alloc, "rate")
+        .long("rate")
+        .required(true)
+        .value_parser(RATES.as_slice())
+        .action(ArgAction::Set)
+        .help("The bit rate in kbit/s");
+    let file = "The table of streams: id,bytes,period,jitter,deadline; - is standard input";
+    Command::new(alloc, "test")
+        .about("Runs the response-time test on a table of streams")
+        .after_help("Example: canplan test --rate 125 streams.csv")
+        .arg(rate)?
+        .arg(operand(alloc, "FILE", file))
+}
+
+fn plan_command<'a>(alloc: Global) -> Result<Command<'a>, AllocError> {
+    let about =
+        "Gives the slowest rate and the identifiers that pass, and a DCF file for each device";
+    let out =
+        "A folder, which has to be there, for plan.txt, refusals.csv and node-005.dcf and so on";
+    network_command(alloc, "plan", about)?
+        .after_help("Example: canplan plan nodes.csv pdos.csv out")
+        .arg(operand(alloc, "OUT", out))
+}
+
+fn check_command<'a>(alloc: Global) -> Result<Command<'a>, AllocError> {
+    let about = "Checks of each refusal that no choice of identifiers passes at its rate";
+    network_command(alloc, "check", about)?
+        .after_help("Example: canplan check nodes.csv pdos.csv out/refusals.csv")
+        .arg(operand(alloc, "REFUSALS", "A refusal file of plan"))
+}
+
+fn boot_command<'a>(alloc: Global) -> Result<Command<'a>, AllocError> {
+    let about = "Boots the planned devices over a simulated bus, each frame delivered in its turn";
+    network_command(alloc, "boot", about)?
+        .after_help("Example: canplan boot --seed 1 nodes.csv pdos.csv")
+        .arg(number(alloc, "seed", u64::MAX, "The number that draws the turns"))
+}
+
+fn run_command<'a>(alloc: Global) -> Result<Command<'a>, AllocError> {
+    let seed = "The number that draws events, delays, lengths and late joiners";
+    let until = "The end of the run in microseconds, at most 1000000000";
+    network_command(
+        alloc,
+        "run",
+        "Runs the plan on a simulated bus, and writes the trace",
+    )?
+    .after_help("Example: canplan run --seed 1 --until 1000000 nodes.csv pdos.csv trace.csv")
+    .arg(operand(alloc, "TRACE", "The file that the trace is written to"))?
+    .arg(number(alloc, "seed", u64::MAX, seed))?
+    .arg(number(alloc, "until", MOST_UNTIL, until))
+}
+
+fn judge_command<'a>(alloc: Global) -> Result<Command<'a>, AllocError> {
+    network_command(
+        alloc,
+        "judge",
+        "Judges a trace of the bus by the plan of a network",
+    )?
+    .after_help("Example: canplan judge nodes.csv pdos.csv trace.csv")
+    .arg(operand(
+        alloc,
+        "TRACE",
+        "The trace: kind,moment,id,event,bits,data; moments in ticks of 250 ns",
+    ))
+}
+
+/// All words that the program understands.
+pub fn command<'a>(alloc: Global) -> Result<Command<'a>, AllocError> {
+    Command::new(alloc, "canplan")
+        .version("0.1.0")
+        .about(ABOUT)
+        .after_help(AFTER)
+        .subcommand(test_command(alloc)?)?
+        .subcommand(plan_command(alloc)?)?
+        .subcommand(check_command(alloc)?)?
+        .subcommand(boot_command(alloc)?)?
+        .subcommand(run_command(alloc)?)?
+        .subcommand(judge_command(alloc)?)
+}
