@@ -30,6 +30,11 @@ def indented(text):
     return b"".join(b"    " + line + b"\n" for line in text.splitlines())
 
 
+def dcf_files(folder):
+    """The DCF files of a folder, by their names."""
+    return {it: bytes_of(f"{folder}/{it}") for it in sorted(os.listdir(folder)) if it.endswith(".dcf")}
+
+
 def altered(refusals):
     """The refusals, the last number of which is one more."""
     begin, _, last = refusals.rstrip(b"\n").rpartition(b",")
@@ -46,6 +51,8 @@ def faults_of(name):
             yield "what plan prints"
         if bytes_of(f"{out}/plan.txt") != plan or bytes_of(f"{out}/refusals.csv") != refusals:
             yield "the files that plan writes"
+        if not dcf_files(folder) or dcf_files(out) != dcf_files(folder):
+            yield "the DCF files that plan writes"
         with open(f"{out}/altered.csv", "wb") as it:
             it.write(altered(refusals))
         status, said = run("check", *tables, f"{out}/altered.csv")

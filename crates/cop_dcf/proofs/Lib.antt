@@ -15,3 +15,4 @@ pub mod EditedLemmas
 pub mod HeldLemmas
 pub mod RoundLemmas
 pub mod NumberLemmas
+pub mod DeviceLemmas

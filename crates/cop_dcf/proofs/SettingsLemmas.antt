@@ -162,7 +162,7 @@ all_fit dict ids time small short =
     (time_fits time (option_and_then time_of (entry_at dict 0x1017 0)) short)
 
 -- the time of a heartbeat in ms has 16 bits
-short_time : (row : Option FrameRow) → IfSome row IsTimed → time_in row < 2 ^ 16
+pub short_time : (row : Option FrameRow) → IfSome row IsTimed → time_in row < 2 ^ 16
 short_time None timed = omega arith
 short_time (Some row) timed = let most = timed.period in omega arith
 

@@ -1,13 +1,18 @@
 -- The planned dictionary of a node, and what its DCF says when it is read again.
-use Rattle.std.specs.Prelude.{◌≡◌, ◌<◌, ◌^◌, ◌*◌, ℕ, Bool, true, false, ◌==◌, List, map, fold, Some, Ok}
+use Rattle.std.specs.Prelude.{◌≡◌, ◌<◌, ◌≤◌, ◌^◌, ◌*◌, ℕ, Bool, true, false, ◌==◌, List, length, map, fold, Some, Ok}
+use Rattle.cop_frame.specs.declared.rates.Rate.{Rate}
 use Rattle.cop_eds.specs.Reading.{reading}
 use Rattle.cop_dict.specs.declared.data_type.DataType.{DataType}
 use Rattle.cop_dict.specs.declared.data_type.DataType.TheVariants as types
 use Rattle.cop_dict.specs.Find.{Entry, entry_at}
 use Rattle.cop_dict.specs.Dict.{with_value}
 use Rattle.cop_dict.specs.Build.{built}
+use Rattle.cop_rows.specs.declared.node_table.DeviceRow.{DeviceRow}
+use Rattle.cop_net.specs.Devices.{File, text_of}
+use Rattle.cop_net.specs.Network.{Net}
 use Rattle.cop_dcf.specs.declared.setting.Setting.{Setting}
-use Rattle.cop_dcf.specs.Dcf.{bytes_of}
+use Rattle.cop_dcf.specs.Dcf.{bytes_of, dcf_of}
+use Rattle.cop_dcf.specs.Settings.{dictionary_of, node_settings}
 
 -- the dictionary with the value of a setting
 abbrev pub with_setting : List Entry → Setting → List Entry
@@ -39,3 +44,13 @@ pub record IsNumber (dict : List Entry) (setting : Setting) : Type 0 where
 pub record IsReadAgain (dcf : List ℕ) (node : ℕ) (dict : List Entry) (settings : List Setting) : Type 0 where
   pub accepted : reading dcf ≡ Ok dcf
   pub dictionary : built dcf node ≡ Ok (map settled (planned dict settings))
+
+-- The same of a node of a network, whose device's text is one of some files and whose PDOs have these identifiers: its
+-- dictionary is the planned one.
+pub record IsNodeReadAgain (net : Net) (files : List File) (ids : List ℕ) (rate : Rate) (node : ℕ) (row : DeviceRow) : Type 0 where
+  pub text : List ℕ
+  pub there : text_of files row.eds ≡ Some text
+  pub dict : List Entry
+  pub dictionary : dictionary_of net node ≡ Some dict
+  pub again : length (dcf_of text (node_settings net ids node) node row.name rate row.eds) ≤ 4 * 1024 * 1024
+      → IsReadAgain (dcf_of text (node_settings net ids node) node row.name rate row.eds) node dict (node_settings net ids node)

@@ -1,16 +1,19 @@
 //! Laws of what a plan sets in a node.
 
-ghost use Rattle.std.specs.Prelude.{◌≡◌, ◌<◌, ◌≤◌, ◌^◌, ◌*◌, ℕ, List, length, All, Option, Some, Ok, IfSome, IsTrue};
+ghost use Rattle.std.specs.Prelude.{◌≡◌, ◌<◌, ◌≤◌, ◌^◌, ◌*◌, ◌==◌, find, ℕ, List, length, All, Option, Some, Ok, IfSome, IsTrue};
 ghost use Rattle.cop_frame.specs.declared.rates.Rate.{Rate};
 ghost use Rattle.cop_eds.specs.Reading.{reading};
 ghost use Rattle.cop_dict.specs.Find.{Entry};
 ghost use Rattle.cop_dict.specs.Build.{built};
+ghost use Rattle.cop_rows.specs.declared.node_table.DeviceRow.{DeviceRow};
 ghost use Rattle.cop_rows.specs.Names.{is_name};
-ghost use Rattle.cop_net.specs.Network.{Net, IsNetwork};
+ghost use Rattle.cop_rows.specs.Nodes.{IsNodeTable};
+ghost use Rattle.cop_net.specs.Devices.{File};
+ghost use Rattle.cop_net.specs.Network.{Net, IsNetwork, accepted, network_of};
 ghost use Rattle.cop_dcf.specs.Settings.{settings_of, node_settings, dictionary_of, IsFit, HasObject};
 ghost use Rattle.cop_dcf.specs.declared.setting.Setting.{Setting};
 ghost use Rattle.cop_dcf.specs.Dcf.{dcf_of};
-ghost use Rattle.cop_dcf.specs.Planned.{IsNumber, IsReadAgain};
+ghost use Rattle.cop_dcf.specs.Planned.{IsNumber, IsReadAgain, IsNodeReadAgain};
 
 /// Each setting has 2 or 4 bytes, and its value fits them.
 pub fn settings_fit()
@@ -29,4 +32,10 @@ pub fn settings_have_objects()
 /// initial values of a dictionary that a DCF describes are the planned values.
 pub fn round_trip()
     ensures { (text : List ℕ) (settings : List Setting) (node : ℕ) (name : List ℕ) (rate : Rate) (eds_name : List ℕ) (dict : List Entry) → reading text ≡ Ok text → built text node ≡ Ok dict → All (IsNumber dict) settings → IsTrue (is_name name) → IsTrue (is_name eds_name) → node < 2 ^ 8 → length (dcf_of text settings node name rate eds_name) ≤ 4 * 1024 * 1024 → IsReadAgain (dcf_of text settings node name rate eds_name) node dict settings }
+{}
+
+/// The same of a node of a network that some tables and EDS files make: its dictionary is planned where the PDOs have these
+/// identifiers.
+pub fn node_round_trip()
+    ensures { (net : Net) (files : List File) (ids : List ℕ) (rate : Rate) (node : ℕ) (row : DeviceRow) → network_of net.nodes net.rows files ≡ Ok (accepted net) → IsNodeTable net.nodes → find (λ row. row.node == node) net.nodes.devices ≡ Some row → All (λ id. id < 2 ^ 11) ids → IsTrue (is_name row.name) → IsTrue (is_name row.eds) → IsNodeReadAgain net files ids rate node row }
 {}

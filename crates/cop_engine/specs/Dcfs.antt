@@ -1,5 +1,5 @@
 -- The DCF files of a plan.
-use Rattle.std.specs.Prelude.{◌≡◌, ℕ, zero, suc, ◌/◌, ◌%◌, ◌==◌, List, [], ◌++◌, codes, decimal, find, option_map, Option, Some, Ok, All}
+use Rattle.std.specs.Prelude.{◌≡◌, ◌≤◌, ◌*◌, length, ℕ, zero, suc, ◌/◌, ◌%◌, ◌==◌, List, [], ◌++◌, codes, decimal, find, option_map, Option, Some, Ok, All}
 use Rattle.std.specs.Option.{option_map_or, option_to_list}
 use Rattle.cop_eds.specs.Reading.{reading}
 use Rattle.cop_rows.specs.declared.node_table.DeviceRow.{DeviceRow}
@@ -8,8 +8,10 @@ use Rattle.cop_net.specs.Network.{Net}
 use Rattle.cop_plan.specs.Values.{PlanValue}
 use Rattle.cop_plan.specs.declared.assigning.Outcome.{Outcome}
 use Rattle.cop_plan.specs.declared.assigning.Outcome.TheVariants.{Planned, Refused}
-use Rattle.cop_dcf.specs.Settings.{node_settings}
+use Rattle.cop_dict.specs.Find.{Entry}
+use Rattle.cop_dcf.specs.Settings.{dictionary_of, node_settings}
 use Rattle.cop_dcf.specs.Dcf.{dcf_of}
+use Rattle.cop_dcf.specs.Planned.{IsReadAgain}
 
 -- the file's name: `node-005.dcf`, with three digits
 abbrev pub dcf_name : ℕ → List ℕ
@@ -50,3 +52,14 @@ HasText eds row = (text : List ℕ) × (text_of eds row.eds ≡ Some text) × (r
 
 abbrev pub HaveTexts : List File → List DeviceRow → Type 0
 HaveTexts eds rows = All (HasText eds) rows
+
+-- The DCF file of a node, where it is not too long for a text, is accepted and says the planned dictionary: that of the
+-- device with the last value of each of the node's settings.
+pub record IsFileReadAgain (net : Net) (plan : PlanValue) (node : ℕ) (file : File) : Type 0 where
+  pub dict : List Entry
+  pub dictionary : dictionary_of net node ≡ Some dict
+  pub again : length file.text ≤ 4 * 1024 * 1024 → IsReadAgain file.text node dict (node_settings net plan.ids node)
+
+abbrev pub AreReadAgain : List File → Net → Outcome → Type 0
+AreReadAgain eds net (Planned plan) = (node : ℕ) (file : File) → dcf_at eds net plan node ≡ Some file → IsFileReadAgain net plan node file
+AreReadAgain eds net (Refused refusals) = Unit {0}

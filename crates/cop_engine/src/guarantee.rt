@@ -3,6 +3,8 @@
 ghost use Rattle.std.specs.Prelude.{ℕ, List};
 ghost use Rattle.cop_net.specs.Devices.{File};
 ghost use Rattle.cop_engine.specs.declared.plans.Files.{Files};
+ghost use Rattle.cop_engine.specs.Networks.{net_of};
+ghost use Rattle.cop_engine.specs.Dcfs.{AreReadAgain};
 ghost use Rattle.cop_engine.specs.Plans.{AreFilesOf};
 ghost use Rattle.cop_engine.specs.Guarantee.{IsGuaranteed};
 ghost use Rattle.cop_engine.specs.Judgements.{IsJudgement, SaysOnTime};
@@ -19,4 +21,11 @@ pub fn planner_guarantee()
 /// By it the judgement of a trace ([`judge_bytes`](crate::judge_bytes)) never says that a PDO is late.
 pub fn judged_on_time()
     ensures { (nodes pdos : List ℕ) (eds : List File) (trace text : List ℕ) → (j : IsJudgement nodes pdos eds trace text) → SaysOnTime j.outcome trace text }
+{}
+
+/// Each DCF file of [`plan_bytes`](crate::plan_bytes) that is not longer than an EDS text may be is read again as what is
+/// planned: it is accepted, and the dictionary that it describes for its node is that of the device with the last value of
+/// each of the node's settings.
+pub fn dcf_round_trip()
+    ensures { (nodes pdos : List ℕ) (eds : List File) (files : Files) → (f : AreFilesOf nodes pdos eds files) → AreReadAgain eds (net_of f.found f.streams) f.planned.outcome }
 {}

@@ -22,7 +22,7 @@ pub use boots::boot_bytes;
 pub use checks::check_bytes;
 pub use dcfs::DcfFile;
 pub use faults::{Fault, status};
-pub use guarantee::{judged_on_time, planner_guarantee};
+pub use guarantee::{dcf_round_trip, judged_on_time, planner_guarantee};
 pub use inputs::read_all;
 pub use judgements::{judge_bytes, none_passes};
 pub use laws::{one_check, one_plan, one_report, planned_refusals_hold};
