@@ -3,7 +3,8 @@
 
     python3 tools/run_examples.py
 
-Each plan also has to stand in examples/README.md, each stored refusal has to hold, and one that is altered to fail.
+Each plan also has to stand in examples/README.md, each stored refusal has to hold, and one that is altered to fail. Each
+network is booted by two seeds.
 """
 import os
 import subprocess
@@ -61,6 +62,9 @@ def faults_of(name):
     status, said = run("check", *tables, f"{folder}/refusals.csv")
     if status != 0 or b" fails\n" in said:
         yield "the check of the stored refusals"
+    for seed in "1", "2":
+        if run("boot", "--seed", seed, *tables) != (0, bytes_of(f"{folder}/boot.txt")):
+            yield f"the boot by seed {seed}"
     if os.path.isfile(f"{folder}/trace.csv"):
         if run("judge", *tables, f"{folder}/trace.csv") != (0, b"transfers 3\non time\n"):
             yield "the judgement of the stored trace"

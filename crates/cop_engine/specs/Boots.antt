@@ -1,10 +1,9 @@
 -- The boot of a planned network by drawn turns, and what is said of it.
-use Rattle.std.specs.Prelude.{◌≡◌, ◌⊎◌, ℕ, zero, suc, List, [], ◌∷◌, ◌++◌, map, false, true, codes, decimal, length, Option, Some, None, is_some, unwrap_or, if◌then◌else◌, Ok, Bool, ◌^◌, ◌-◌}
+use Rattle.std.specs.Prelude.{◌≡◌, ℕ, zero, suc, List, [], ◌∷◌, ◌++◌, map, false, true, codes, decimal, length, Option, Some, None, is_some, unwrap_or, if◌then◌else◌, Ok, Bool, ◌^◌, ◌-◌}
 use Rattle.std.specs.List.{flat_map}
 use Rattle.std.specs.Fmt.{digits, padded_integral, format_spec}
 use Rattle.cop_nmt.specs.declared.states.NodeState.TheVariants.{PreOperational}
 use Rattle.cop_sdo.specs.Server.{idle}
-use Rattle.cop_dict.specs.Find.{Entry}
 use Rattle.cop_dict.specs.Dict.{initial}
 use Rattle.cop_rows.specs.NodeReading.{nodes_of}
 use Rattle.cop_rows.specs.PdoReading.{pdos_of}

@@ -72,11 +72,7 @@ fn device_at(alloc: Global, network: &Network<'_>, node: u8) -> Result<Device, A
 }
 
 /// The devices of nodes.
-fn devices_of(
-    alloc: Global,
-    network: &Network<'_>,
-    nodes: &[u8],
-) -> Result<Vec<Device>, AllocError>
+fn devices_of(alloc: Global, network: &Network<'_>, nodes: &[u8]) -> Result<Vec<Device>, AllocError>
     requires { All (λ node. (1 ≤ node) × (node ≤ 127)) nodes.now }
     ensures { IfOk result (λ devices. devices.items ≡ map (device_at network.now) nodes.now) }
 {
@@ -131,9 +127,14 @@ fn node_line(alloc: Global, node: u8, end: Option<End>) -> Result<String, AllocE
         Some(End::Ready) => format!(in alloc; "node {node} ready\n"),
         Some(End::Silent { .. }) => format!(in alloc; "node {node} silent\n"),
         Some(End::Restarting { .. }) => format!(in alloc; "node {node} restarting\n"),
-        Some(End::Aborted {
-            index, sub, code, ..
-        }) => format!(in alloc; "node {node} aborted {index:04X} {sub:02X} {code:08X}\n"),
+        Some(
+            End::Aborted {
+                index,
+                sub,
+                code,
+                ..
+            },
+        ) => format!(in alloc; "node {node} aborted {index:04X} {sub:02X} {code:08X}\n"),
     }
 }
 

@@ -1,9 +1,5 @@
-use Rattle.std.proofs.Common.{subst}
-use Rattle.cop_net.specs.Network.{IsNetwork}
-use Rattle.cop_plan.specs.declared.assigning.Outcome.TheVariants.{Planned, Refused}
 use Rattle.cop_engine.specs.Faults.{fault_of}
 use Rattle.cop_engine.proofs.NetworkLemmas.{nodes_explain, pdos_explain, network_explains, err_is}
-use Rattle.cop_engine.proofs.BootLemmas.{boot_of}
 use Rattle.cop_engine.proofs.boots.boot_bytes.Goals as goal
 
 pub returns-in_err-nodes : goal.returns-in_err-nodes

@@ -1,4 +1,4 @@
-use Rattle.std.proofs.Common.{◌≡◌, ◌<◌, ◌≤◌, ◌∙◌, ℕ, List, length, map, sym, ap, subst, All}
+use Rattle.std.proofs.Common.{◌<◌, ◌≤◌, ◌∙◌, ℕ, List, length, map, sym, ap, subst, All}
 use Rattle.std.specs.List.{AllPairs}
 use Rattle.cop_engine.specs.Turns.{turns_drawn}
 use Rattle.cop_engine.specs.Boots.{manager_of, device_at}

@@ -1,4 +1,4 @@
-use Rattle.std.proofs.Common.{◌∙◌, ap, rules}
+use Rattle.std.proofs.Common.{◌∙◌, ap}
 use Rattle.cop_engine.proofs.BootLemmas.{push_behind}
 use Rattle.cop_engine.proofs.boots.initial.Goals as goal
 

@@ -1,4 +1,4 @@
-use Rattle.std.proofs.Common.{◌≡◌, ◌≤◌, ◌*◌, ◌-◌}
+use Rattle.std.proofs.Common.{◌≤◌, ◌*◌, ◌-◌}
 use Rattle.cop_engine.specs.Turns.{turns_drawn}
 use Rattle.cop_engine.proofs.TurnLemmas.{IsDrawn}
 use Rattle.cop_engine.proofs.turns.turns_drawn.Given as goal
