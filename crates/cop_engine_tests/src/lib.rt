@@ -5,4 +5,6 @@
 #[cfg(test)]
 mod large;
 #[cfg(test)]
+mod runs;
+#[cfg(test)]
 mod tests;
