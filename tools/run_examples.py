@@ -4,7 +4,7 @@
     python3 tools/run_examples.py
 
 Each plan also has to stand in examples/README.md, each stored refusal has to hold, and one that is altered to fail. Each
-network is booted by two seeds.
+network is booted by two seeds. A run by a seed has to give the stored trace, and the judgement of it what the run said.
 """
 import os
 import subprocess
@@ -68,6 +68,12 @@ def faults_of(name):
     if os.path.isfile(f"{folder}/trace.csv"):
         if run("judge", *tables, f"{folder}/trace.csv") != (0, b"transfers 3\non time\n"):
             yield "the judgement of the stored trace"
+    with tempfile.TemporaryDirectory() as out:
+        status, said = run("run", "--seed", "42", "--until", "20000", *tables, f"{out}/run.csv")
+        if status != 0 or bytes_of(f"{out}/run.csv") != bytes_of(f"{folder}/run.csv"):
+            yield "the seeded run"
+        if run("judge", *tables, f"{out}/run.csv") != (0, said):
+            yield "the judgement of the seeded run"
     if indented(plan) not in page:
         yield "the plan in examples/README.md"
 

@@ -7,4 +7,6 @@ mod boots;
 #[cfg(test)]
 mod large;
 #[cfg(test)]
+mod runs;
+#[cfg(test)]
 mod tests;

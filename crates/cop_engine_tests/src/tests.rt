@@ -109,7 +109,7 @@ fn large_inputs_are_file_faults(rt: HostRuntime) {
 }
 
 // The sample device.
-const UNIT: &[u8] = b"[FileInfo]
+pub(crate) const UNIT: &[u8] = b"[FileInfo]
 FileName=unit.eds
 [DeviceInfo]
 BaudRate_250=1
@@ -181,7 +181,7 @@ PDOMapping=1
 ";
 
 // A device that supports 125 kbit/s alone.
-const SLOW: &[u8] = b"[DeviceInfo]
+pub(crate) const SLOW: &[u8] = b"[DeviceInfo]
 BaudRate_125=1
 [OptionalObjects]
 SupportedObjects=2
@@ -216,25 +216,25 @@ AccessType=ro
 PDOMapping=1
 ";
 
-const VALVE: &[u8] =
+pub(crate) const VALVE: &[u8] =
     b"row,node,name,eds,period,jitter\ndevice,5,Valve,unit.eds,0,0\nemcy,5,,,100000,0\nheartbeat,5,,,100000,0\n";
 
-const ALONE: &[u8] = b"row,node,name,eds,period,jitter\ndevice,5,Valve,unit.eds,0,0\n";
+pub(crate) const ALONE: &[u8] = b"row,node,name,eds,period,jitter\ndevice,5,Valve,unit.eds,0,0\n";
 
 const NO_PDO: &[u8] = b"node,tpdo,period,jitter,deadline,consumers\n";
 
-const ONE_PDO: &[u8] = b"node,tpdo,period,jitter,deadline,consumers\n5,1,10000,0,670,\n";
+pub(crate) const ONE_PDO: &[u8] = b"node,tpdo,period,jitter,deadline,consumers\n5,1,10000,0,670,\n";
 
 const SLOW_PDO: &[u8] = b"node,tpdo,period,jitter,deadline,consumers\n5,1,10000,0,10000,\n";
 
-const BUSY_PDO: &[u8] = b"node,tpdo,period,jitter,deadline,consumers\n5,1,500,0,500,\n";
+pub(crate) const BUSY_PDO: &[u8] = b"node,tpdo,period,jitter,deadline,consumers\n5,1,500,0,500,\n";
 
 const NOTHING_REFUSED: &[u8] = b"rate,pdo,what,value\n0,0,version,1\n";
 
 const VALVE_REFUSED: &[u8] =
     b"rate,pdo,what,value\n0,0,version,1\n250,1,late,0\n250,1,busy,1\n250,1,busy,5360\n250,1,queue,1040\n250,1,queue,3200\n";
 
-fn eds_files(alloc: Global, text: &[u8]) -> Result<Vec<(String, Vec<u8>)>, AllocError> {
+pub(crate) fn eds_files(alloc: Global, text: &[u8]) -> Result<Vec<(String, Vec<u8>)>, AllocError> {
     let mut bytes = Vec::new(alloc);
     bytes.extend_from_slice(text)?;
     let name = String::from_str(alloc, "unit.eds")?;
