@@ -1,22 +1,20 @@
 -- The DCF files of a plan are read again.
-use Rattle.std.proofs.Common.{◌≡◌, ◌<◌, ◌≤◌, ◌*◌, ◌^◌, ◌==◌, ℕ, Bool, true, false, cond, List, [], ◌∷◌, length, map, find, option_map, Option, Some, None, Result, Ok, Err, All, IsTrue, refl, sym, ap, ◌∙◌, subst, arith}
+use Rattle.std.proofs.Common.{◌≡◌, ◌≤◌, ◌*◌, ◌==◌, ℕ, Bool, true, false, cond, List, [], ◌∷◌, length, map, find, option_map, Option, Some, None, Result, Ok, Err, All, refl, sym, ap, ◌∙◌, subst}
 use Rattle.std.specs.Option.{option_map_or}
 use Rattle.cop_rta.specs.declared.streams.Stream.{Stream}
 use Rattle.cop_rta.specs.Entries.{Entry, entry_of}
 use Rattle.std.proofs.lemmas.List.Elements.{All-head, All-tail}
 use Rattle.cop_eds.proofs.EditLemmas.{sections_equal, found_test}
 use Rattle.cop_rows.specs.declared.node_table.DeviceRow.{DeviceRow}
-use Rattle.cop_rows.specs.Names.{is_name}
-use Rattle.cop_rows.specs.Nodes.{NodeLists}
 use Rattle.cop_rows.specs.NodeReading.{nodes_of}
 use Rattle.cop_rows.specs.PdoReading.{pdos_of}
 use Rattle.cop_rows.specs.declared.refusals.Refusal as rows
 use Rattle.cop_net.specs.declared.faults.Refusal.{Refusal}
 use Rattle.cop_net.specs.declared.faults.Table.{Table}
 use Rattle.cop_net.specs.declared.faults.Table.TheVariants.{Nodes, Pdos}
-use Rattle.cop_net.specs.Devices.{File, text_of}
+use Rattle.cop_net.specs.Devices.{File}
 use Rattle.cop_net.specs.Tables.{in_table}
-use Rattle.cop_net.specs.Network.{Net, Accepted, IsNetwork, accepted, network_of}
+use Rattle.cop_net.specs.Network.{Net, IsNetwork, accepted, network_of}
 use Rattle.cop_net.proofs.PdoLemmas.{bind_ok}
 use Rattle.cop_plan.specs.Values.{PlanValue}
 use Rattle.cop_plan.specs.Plans.{IsPlan, IsOutcome}
