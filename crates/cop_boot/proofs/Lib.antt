@@ -10,3 +10,5 @@ pub mod PlanLemmas
 pub mod SentLemmas
 pub mod BusLemmas
 pub mod TurnLemmas
+pub mod InTurn
+pub mod PlanInTurn

@@ -7,3 +7,5 @@ pub mod Schedule
 pub mod Booted
 pub mod Member
 pub mod Bus
+pub mod Accepts
+pub mod PlanSettings

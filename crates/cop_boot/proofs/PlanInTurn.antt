@@ -1,0 +1,281 @@
+-- What a plan sets in a dictionary that admits it is accepted in turn.
+use Rattle.std.proofs.Common.{◌≡◌, ℕ, zero, suc, ◌<◌, Bool, true, false, cond, ◌&&◌, ◌||◌, ◌==◌, nat_lt, List, [], ◌∷◌, ◌++◌, length, get_or, All, refl, ap, sym, subst, ◌∙◌, arith, Option, Some, None, Contains, IfSome, IsSome, is_some}
+use Rattle.std.specs.Prelude.{ℤ, pos, option_map}
+use Rattle.std.specs.List.{filter_map, cons_option}
+use Rattle.std.specs.Option.{option_and_then}
+use Rattle.std.specs.Ordering.{int_eq}
+use Rattle.std.specs.Result.{is_ok}
+use Rattle.std.specs.Int.{bytes_low_first}
+use Rattle.std.proofs.lemmas.Bool.Decides.{nat_tests}
+use Rattle.std.proofs.lemmas.Option.{get_or_from_slice_get, slice_get-get_or}
+use Rattle.cop_dict.specs.declared.data_type.DataType.{DataType}
+use Rattle.cop_dict.specs.declared.data_type.DataType.TheVariants as types
+use Rattle.cop_dict.specs.Types.{width_of, is_unsigned32}
+use Rattle.cop_dict.specs.Number.{number}
+use Rattle.cop_dict.specs.Find.{Entry, entry_at, is_at, is_before, unsigned32_of, IsSorted}
+use Rattle.cop_dict.specs.Pdo.{is_cob_id, is_communication, is_mapping, exists_by}
+use Rattle.cop_dict.specs.Dict.{written, valued, refused_alone}
+use Rattle.cop_dict.proofs.DictLemmas.{own_place}
+use Rattle.cop_pdo.specs.CobIds as pdo
+use Rattle.cop_net.specs.Settings.{word, beats_by, has_or_takes, time_of, is_unsigned16}
+use Rattle.cop_dcf.specs.declared.setting.Setting.{Setting}
+use Rattle.cop_dcf.specs.Settings.{cob_id_set, off_set, on_set, set_of, time_set, heartbeat_set, settings_of}
+use Rattle.cop_boot.specs.Settings.{bytes_of, planned, AcceptsInTurn}
+use Rattle.cop_boot.specs.Accepts.{IsElsewhere, AreApart, TakesAlone, TakesEach, HaveValues}
+use Rattle.cop_boot.specs.PlanSettings.{Admits}
+use Rattle.cop_boot.proofs.InTurn.{kept_by_all, in_turn, turns_append, planned_append, have_values, accepted_alone, switch_alone}
+
+-- what is set of an entry is at its COB-ID
+abbrev pub AtCobId : Entry → Setting → Type 0
+AtCobId e s = (is_cob_id e ≡ true) × ((s.index ≡ e.index) × (s.sub ≡ 1))
+
+abbrev pub Own : (Entry → Option Setting) → Type 0
+Own f = (e : Entry) → IfSome (f e) (AtCobId e)
+
+pub off_own : (ids : ℕ → Option ℕ) → Own (set_of off_set ids)
+off_own ids e = by_test (is_cob_id e) refl (unsigned32_of e)
+  where
+    by_used : (b : Bool) (v : ℕ) → is_cob_id e ≡ true → IfSome (cond b (Some (cob_id_set e.index (pdo.off v))) None) (AtCobId e)
+    by_used true v h = (h, (refl, refl))
+    by_used false v h = tt
+
+    by_test : (b : Bool) → is_cob_id e ≡ b → (o : Option ℕ) → IfSome (cond b (option_and_then (off_set (ids e.index) e.index) o) None) (AtCobId e)
+    by_test false h o = tt
+    by_test true h None = tt
+    by_test true h (Some v) = by_used (is_some (ids e.index) || exists_by v) v h
+
+pub on_own : (ids : ℕ → Option ℕ) → Own (set_of on_set ids)
+on_own ids e = by_test (is_cob_id e) refl (unsigned32_of e) (ids e.index)
+  where
+    by_test : (b : Bool) → is_cob_id e ≡ b → (o id : Option ℕ) → IfSome (cond b (option_and_then (on_set id e.index) o) None) (AtCobId e)
+    by_test false h o id = tt
+    by_test true h None id = tt
+    by_test true h (Some v) None = tt
+    by_test true h (Some v) (Some id) = (h, (refl, refl))
+
+get_or_same : {X : Type 0} (xs : List X) (i : ℕ) (d e : X) → i < length xs → get_or xs i e ≡ get_or xs i d
+get_or_same xs i d e lt = get_or_from_slice_get xs i (get_or xs i d) e (slice_get-get_or xs i d lt)
+
+second : (a b : Bool) → (a && b) ≡ true → b ≡ true
+second true b h = h
+second false b h = cc
+
+sub_of : (e : Entry) → is_cob_id e ≡ true → e.sub ≡ 1
+sub_of e h = let t = second (is_communication e.index) (e.sub == 1) h in grind (arith, nat_tests)
+
+free_of : (e : Entry) → is_cob_id e ≡ true → is_mapping e.index ≡ false
+free_of e h = grind (arith, nat_tests)
+
+-- ---- settings of entries that stand in order are apart
+abbrev IsBehind : Entry → Entry → Type 0
+IsBehind x y = is_before y.index y.sub x ≡ true
+
+sorted_rest : (x : Entry) (xs : List Entry) → IsSorted (x ∷ xs) → IsSorted xs
+sorted_rest x xs h = λ i j d lt inside. h (suc i) (suc j) d (omega arith) (omega arith)
+
+sorted_head : (x : Entry) (xs : List Entry) → IsSorted (x ∷ xs) → All (IsBehind x) xs
+sorted_head x xs h = λ k d lt. h 0 (suc k) d (omega arith) (omega arith)
+
+all_head : {X : Type 0} (P : X → Type 0) (x : X) (xs : List X) → All P (x ∷ xs) → P x
+all_head P x xs h = h 0 x (omega arith)
+
+all_tail : {X : Type 0} (P : X → Type 0) (x : X) (xs : List X) → All P (x ∷ xs) → All P xs
+all_tail P x xs h = λ k d lt. h (suc k) d (omega arith)
+
+module _ (f : Entry → Option Setting) (own : Own f) where
+  elsewhere : (x : Entry) (xs : List Entry) → is_cob_id x ≡ true → All (IsBehind x) xs → IsElsewhere x.index 1 (filter_map f xs)
+  elsewhere x [] cob h = tt
+  elsewhere x (y ∷ ys) cob h = by_first (f y) (own y) (elsewhere x ys cob (all_tail (IsBehind x) y ys h))
+    where
+      other : (s : Setting) → AtCobId y s → (s.index == x.index) && (s.sub == 1) ≡ false
+      other s at =
+          let behind : is_before y.index y.sub x ≡ true = all_head (IsBehind x) y ys h in
+          let sx : x.sub ≡ 1 = sub_of x cob in
+          let sy : y.sub ≡ 1 = sub_of y at.0 in
+          let i : s.index ≡ y.index = at.1.0 in
+          apart s.index y.index y.sub x.index x.sub s.sub i sx sy behind
+        where
+          apart : (a b c d e g : ℕ) → a ≡ b → e ≡ 1 → c ≡ 1 → (nat_lt d b || ((d == b) && nat_lt e c)) ≡ true → (a == d) && (g == 1) ≡ false
+          apart a b c d e g ab e1 c1 t = grind (arith, nat_tests)
+
+      by_first : (o : Option Setting) → IfSome o (AtCobId y) → IsElsewhere x.index 1 (filter_map f ys) → IsElsewhere x.index 1 (cons_option o (filter_map f ys))
+      by_first None at rest = rest
+      by_first (Some s) at rest = (other s at, rest)
+
+  pub apart_of : (xs : List Entry) → IsSorted xs → AreApart (filter_map f xs)
+  apart_of [] h = tt
+  apart_of (x ∷ xs) h = by_first (f x) (own x) (apart_of xs (sorted_rest x xs h))
+    where
+      by_first : (o : Option Setting) → IfSome o (AtCobId x) → AreApart (filter_map f xs) → AreApart (cons_option o (filter_map f xs))
+      by_first None at rest = rest
+      by_first (Some s) at rest = (rw (at.1.0, at.1.1) (elsewhere x xs at.0 (sorted_head x xs h)), rest)
+
+  pub takes_of : (dict xs : List Entry) → All (λ e. IfSome (f e) (TakesAlone dict)) xs → TakesEach dict (filter_map f xs)
+  takes_of dict [] h = tt
+  takes_of dict (x ∷ xs) h = by_first (f x) (all_head (λ e. IfSome (f e) (TakesAlone dict)) x xs h) (takes_of dict xs (all_tail (λ e. IfSome (f e) (TakesAlone dict)) x xs h))
+    where
+      by_first : (o : Option Setting) → IfSome o (TakesAlone dict) → TakesEach dict (filter_map f xs) → TakesEach dict (cons_option o (filter_map f xs))
+      by_first None at rest = rest
+      by_first (Some s) at rest = (at, rest)
+
+  abbrev pub HasValue : List Entry → List Entry → Setting → Type 0
+  HasValue dict new s = entry_at new s.index s.sub ≡ option_map (valued (bytes_of s)) (entry_at dict s.index s.sub)
+
+  pub values_of : (dict new xs : List Entry) → HaveValues dict new (filter_map f xs) → (k : ℕ) (d : Entry) → k < length xs → IfSome (f (get_or xs k d)) (HasValue dict new)
+  values_of dict new [] h k d lt = absurd (omega arith)
+  values_of dict new (x ∷ xs) h zero d lt = by_first (f x) h
+    where
+      by_first : (o : Option Setting) → HaveValues dict new (cons_option o (filter_map f xs)) → IfSome o (HasValue dict new)
+      by_first None h = tt
+      by_first (Some s) h = h.0
+  values_of dict new (x ∷ xs) h (suc k) d lt = values_of dict new xs (by_first (f x) h) k d (omega arith)
+    where
+      by_first : (o : Option Setting) → HaveValues dict new (cons_option o (filter_map f xs)) → HaveValues dict new (filter_map f xs)
+      by_first None h = h
+      by_first (Some s) h = h.1
+
+  -- none of them is the heartbeat's
+  pub no_beat : (xs : List Entry) → IsElsewhere 0x1017 0 (filter_map f xs)
+  no_beat [] = tt
+  no_beat (x ∷ xs) = by_first (f x) (own x) (no_beat xs)
+    where
+      other : (s : Setting) → s.sub ≡ 1 → (s.index == 0x1017) && (s.sub == 0) ≡ false
+      other s sub = grind (arith, nat_tests)
+
+      by_first : (o : Option Setting) → IfSome o (AtCobId x) → IsElsewhere 0x1017 0 (filter_map f xs) → IsElsewhere 0x1017 0 (cons_option o (filter_map f xs))
+      by_first None at rest = rest
+      by_first (Some s) at rest = (other s at.1.1, rest)
+
+first : (a b : Bool) → (a && b) ≡ true → a ≡ true
+first true b h = refl
+first false b h = cc
+
+-- what is found at an address has it
+place_of : (dict : List Entry) (e : Entry) → entry_at dict 0x1017 0 ≡ Some e → e.index ≡ 0x1017
+place_of [] e h = cc
+place_of (x ∷ xs) e h = by_test (is_at 0x1017 0 x) refl h (place_of xs e)
+  where
+    at : (x : Entry) → is_at 0x1017 0 x ≡ true → x.index ≡ 0x1017
+    at x t = grind (arith, nat_tests)
+
+    by_test : (b : Bool) → is_at 0x1017 0 x ≡ b → cond b (Some x) (entry_at xs 0x1017 0) ≡ Some e → (entry_at xs 0x1017 0 ≡ Some e → e.index ≡ 0x1017) → e.index ≡ 0x1017
+    by_test true t h later = let same : x ≡ e = cc in subst (λ (y : Entry). y.index ≡ 0x1017) same (at x t)
+    by_test false t h later = later h
+
+narrow : (t : DataType) → is_unsigned16 t ≡ true → IsSome (width_of t)
+narrow types.Unsigned16 h = refl
+narrow _ h = cc
+
+-- an UNSIGNED32 has one width
+wide : (e : Entry) (v : ℕ) → unsigned32_of e ≡ Some v → IsSome (width_of e.description.data_type)
+wide e v h = by_type e.description.data_type h
+  where
+    by_type : (t : DataType) → cond (is_unsigned32 t) (Some (number e.value)) None ≡ Some v → IsSome (width_of t)
+    by_type types.Unsigned32 h = refl
+    by_type _ h = cc
+
+module _ (dict : List Entry) (ids : ℕ → Option ℕ) (time : ℕ) (can : Admits dict ids time) where
+  inside : (k : ℕ) (d : Entry) → k < length dict → Contains dict (get_or dict k d)
+  inside k d lt = (k, lt, same)
+    where
+      same : get_or dict k (get_or dict k d) ≡ get_or dict k d
+      same = get_or_same dict k d (get_or dict k d) lt
+
+  -- what is switched off is taken
+  off_goes : (e : Entry) (v : ℕ) → entry_at dict e.index 1 ≡ Some e → is_cob_id e ≡ true → unsigned32_of e ≡ Some v → refused_alone e (word (pdo.off v)) ≡ None → TakesAlone dict (cob_id_set e.index (pdo.off v))
+  off_goes e v there cob is h = record { entry = e; at = there; free = free_of e cob; width = wide e v is; accepts = h }
+
+  off_by_id : (e : Entry) (v : ℕ) → Contains dict e → entry_at dict e.index 1 ≡ Some e → is_cob_id e ≡ true → unsigned32_of e ≡ Some v → (o : Option ℕ) → ids e.index ≡ o → (b : Bool) → exists_by v ≡ b
+      → IfSome (cond (is_some o || b) (Some (cob_id_set e.index (pdo.off v))) None) (TakesAlone dict)
+  off_by_id e v inside there cob is (Some id) own b ex = off_goes e v there cob is (switch_alone dict e.index v id e there cob (can.used e v id inside cob is own)).0
+  off_by_id e v inside there cob is None own true ex = off_goes e v there cob is (accepted_alone dict e.index 1 (word (pdo.off v)) e there (free_of e cob) (can.unused e v inside cob is ex))
+  off_by_id e v inside there cob is None own false ex = tt
+
+  off_taken : (e : Entry) → Contains dict e → IfSome (set_of off_set ids e) (TakesAlone dict)
+  off_taken e inside = by_test (is_cob_id e) refl (unsigned32_of e) refl
+    where
+      there : is_cob_id e ≡ true → entry_at dict e.index 1 ≡ Some e
+      there cob = ap (entry_at dict e.index) (sym (sub_of e cob)) ∙ own_place dict e can.sorted inside
+
+      by_test : (b : Bool) → is_cob_id e ≡ b → (o : Option ℕ) → unsigned32_of e ≡ o → IfSome (cond b (option_and_then (off_set (ids e.index) e.index) o) None) (TakesAlone dict)
+      by_test false cob o is = tt
+      by_test true cob None is = tt
+      by_test true cob (Some v) is = off_by_id e v inside (there cob) cob is (ids e.index) refl (exists_by v) refl
+
+  offs_accepted : AcceptsInTurn dict (filter_map (set_of off_set ids) dict)
+  offs_accepted =
+      in_turn (filter_map (set_of off_set ids) dict) dict (apart_of (set_of off_set ids) (off_own ids) dict can.sorted)
+      (takes_of (set_of off_set ids) (off_own ids) dict dict (λ k d lt. off_taken (get_or dict k d) (inside k d lt)))
+
+  -- what is switched on is taken then
+  on_goes : (new : List Entry) (e : Entry) (v id : ℕ) → Contains dict e → entry_at dict e.index 1 ≡ Some e → is_cob_id e ≡ true → unsigned32_of e ≡ Some v → ids e.index ≡ Some id
+      → entry_at new e.index 1 ≡ Some (valued (word (pdo.off v)) e) → TakesAlone new (cob_id_set e.index (pdo.on v id))
+  on_goes new e v id inside there cob is own now = record {
+    entry = valued (word (pdo.off v)) e;
+    at = now;
+    free = free_of e cob;
+    width = wide e v is;
+    accepts = (switch_alone dict e.index v id e there cob (can.used e v id inside cob is own)).1;
+  }
+
+  on_taken : (new : List Entry) (e : Entry) → Contains dict e → IfSome (set_of off_set ids e) (λ s. entry_at new s.index s.sub ≡ option_map (valued (bytes_of s)) (entry_at dict s.index s.sub))
+      → IfSome (set_of on_set ids e) (TakesAlone new)
+  on_taken new e inside has = by_test (is_cob_id e) refl (unsigned32_of e) refl (ids e.index) refl has
+    where
+      there : is_cob_id e ≡ true → entry_at dict e.index 1 ≡ Some e
+      there cob = ap (entry_at dict e.index) (sym (sub_of e cob)) ∙ own_place dict e can.sorted inside
+
+      by_test : (b : Bool) → is_cob_id e ≡ b → (o : Option ℕ) → unsigned32_of e ≡ o → (id : Option ℕ) → ids e.index ≡ id
+          → IfSome (cond b (option_and_then (off_set id e.index) o) None) (λ s. entry_at new s.index s.sub ≡ option_map (valued (bytes_of s)) (entry_at dict s.index s.sub))
+          → IfSome (cond b (option_and_then (on_set id e.index) o) None) (TakesAlone new)
+      by_test false cob o is id own has = tt
+      by_test true cob None is id own has = tt
+      by_test true cob (Some v) is None own has = tt
+      by_test true cob (Some v) is (Some id) own has = on_goes new e v id inside (there cob) cob is own (has ∙ ap (option_map (valued (word (pdo.off v)))) (there cob))
+
+  ons_accepted : AcceptsInTurn (planned (filter_map (set_of off_set ids) dict) dict) (filter_map (set_of on_set ids) dict)
+  ons_accepted =
+      let have : HaveValues dict (planned (filter_map (set_of off_set ids) dict) dict) (filter_map (set_of off_set ids) dict) = have_values (filter_map (set_of off_set ids) dict) dict (apart_of (set_of off_set ids) (off_own ids) dict can.sorted) in
+      in_turn (filter_map (set_of on_set ids) dict) (planned (filter_map (set_of off_set ids) dict) dict) (apart_of (set_of on_set ids) (on_own ids) dict can.sorted)
+      (takes_of (set_of on_set ids) (on_own ids) (planned (filter_map (set_of off_set ids) dict) dict) dict
+      (λ k d lt. on_taken (planned (filter_map (set_of off_set ids) dict) dict) (get_or dict k d) (inside k d lt) (values_of (set_of off_set ids) (off_own ids) dict (planned (filter_map (set_of off_set ids) dict) dict) dict have k d lt)))
+
+  -- and so is the heartbeat's time
+  time_accepted : (new : List Entry) → entry_at new 0x1017 0 ≡ entry_at dict 0x1017 0 → AcceptsInTurn new (time_set time (option_and_then time_of (entry_at dict 0x1017 0)))
+  time_accepted new same = by_entry (entry_at dict 0x1017 0) refl can.beats
+    where
+      by_free : (n : ℕ) → n ≡ 0x1017 → is_mapping n ≡ false
+      by_free n h = grind (arith, nat_tests)
+
+      one : (e : Entry) → entry_at dict 0x1017 0 ≡ Some e → is_unsigned16 e.description.data_type ≡ true → is_ok (written dict 0x1017 0 (bytes_low_first 0 2 time)) ≡ true → TakesAlone new (heartbeat_set time)
+      one e at type ok = record {
+        entry = e;
+        at = same ∙ at;
+        free = by_free e.index (place_of dict e at);
+        width = narrow e.description.data_type type;
+        accepts = accepted_alone dict 0x1017 0 (bytes_low_first 0 2 time) e at (by_free e.index (place_of dict e at)) ok;
+      }
+
+      by_now : (e : Entry) → entry_at dict 0x1017 0 ≡ Some e → (now : ℤ) → (b : Bool) → (b || (is_unsigned16 e.description.data_type && is_ok (written dict 0x1017 0 (bytes_low_first 0 2 time)))) ≡ true
+          → AcceptsInTurn new (cond b [] (heartbeat_set time ∷ []))
+      by_now e at now true h = tt
+      by_now e at now false h = in_turn (heartbeat_set time ∷ []) new (tt, tt) (one e at (first (is_unsigned16 e.description.data_type) _ h) (second (is_unsigned16 e.description.data_type) _ h), tt)
+
+      by_time : (e : Entry) → entry_at dict 0x1017 0 ≡ Some e → (o : Option ℤ) → has_or_takes dict time e o ≡ true → AcceptsInTurn new (time_set time o)
+      by_time e at None h = tt
+      by_time e at (Some now) h = by_now e at now (int_eq now (pos time)) h
+
+      by_entry : (o : Option Entry) → entry_at dict 0x1017 0 ≡ o → beats_by dict time o ≡ true → AcceptsInTurn new (time_set time (option_and_then time_of o))
+      by_entry None at h = tt
+      by_entry (Some e) at h = by_time e at (time_of e) h
+
+  pub plan_accepted : AcceptsInTurn dict (settings_of dict ids time)
+  plan_accepted =
+      let same : entry_at (planned (filter_map (set_of on_set ids) dict) (planned (filter_map (set_of off_set ids) dict) dict)) 0x1017 0 ≡ entry_at dict 0x1017 0 =
+      kept_by_all (filter_map (set_of on_set ids) dict) (planned (filter_map (set_of off_set ids) dict) dict) 0x1017 0 (no_beat (set_of on_set ids) (on_own ids) dict)
+      ∙ kept_by_all (filter_map (set_of off_set ids) dict) dict 0x1017 0 (no_beat (set_of off_set ids) (off_own ids) dict) in
+      both (filter_map (set_of off_set ids) dict) (filter_map (set_of on_set ids) dict) (time_set time (option_and_then time_of (entry_at dict 0x1017 0))) offs_accepted ons_accepted
+      (time_accepted (planned (filter_map (set_of on_set ids) dict) (planned (filter_map (set_of off_set ids) dict) dict)) same)
+    where
+      both : (a b t : List Setting) → AcceptsInTurn dict a → AcceptsInTurn (planned a dict) b → AcceptsInTurn (planned b (planned a dict)) t → AcceptsInTurn dict ((a ++ b) ++ t)
+      both a b t h i j = turns_append (a ++ b) t dict (turns_append a b dict h i) (subst (λ now. AcceptsInTurn now t) (sym (planned_append a b dict)) j)

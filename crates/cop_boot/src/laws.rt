@@ -1,0 +1,33 @@
+//! Laws of the definitions that contracts cite: when settings are accepted in turn, and what they give.
+
+ghost use Rattle.std.specs.Prelude.{◌≡◌, ℕ, List, true, Option, Some, None};
+ghost use Rattle.cop_dict.specs.Find.{Entry, entry_at};
+ghost use Rattle.cop_dict.specs.Pdo.{is_cob_id};
+ghost use Rattle.cop_dict.specs.Dict.{valued, refused_alone};
+ghost use Rattle.cop_pdo.specs.CobIds.{off, on};
+ghost use Rattle.cop_net.specs.Settings.{word, takes};
+ghost use Rattle.cop_dcf.specs.declared.setting.Setting.{Setting};
+ghost use Rattle.cop_boot.specs.Settings.{AcceptsInTurn, planned};
+ghost use Rattle.cop_dcf.specs.Settings.{settings_of};
+ghost use Rattle.cop_boot.specs.PlanSettings.{Admits};
+ghost use Rattle.cop_boot.specs.Accepts.{AreApart, IsElsewhere, TakesEach, HaveValues};
+
+/// Settings at different addresses are accepted in turn, where each is accepted alone. Afterwards each has its value, and
+/// each other object is as it was.
+pub fn apart_are_accepted()
+    ensures accepted { (settings : List Setting) (dict : List Entry) → AreApart settings → TakesEach dict settings → AcceptsInTurn dict settings }
+    ensures values { (settings : List Setting) (dict : List Entry) → AreApart settings → HaveValues dict (planned settings dict) settings }
+    ensures others { (settings : List Setting) (dict : List Entry) (index sub : ℕ) → IsElsewhere index sub settings → entry_at (planned settings dict) index sub ≡ entry_at dict index sub }
+{}
+
+/// A COB-ID that can be switched off and then on in one dictionary can be so in each in which its entry is the same.
+pub fn switched_off_then_on()
+    ensures { (dict : List Entry) (index cob_id id : ℕ) (e : Entry) → entry_at dict index 1 ≡ Some e → is_cob_id e ≡ true → takes dict index cob_id id ≡ true
+        → (refused_alone e (word (off cob_id)) ≡ None) × (refused_alone (valued (word (off cob_id)) e) (word (on cob_id id)) ≡ None) }
+{}
+
+/// What a plan sets in a dictionary that admits it is accepted in turn: all PDOs that it switches off, then those that it
+/// switches on with their identifiers, at last the heartbeat's time.
+pub fn plan_is_accepted()
+    ensures { (dict : List Entry) (ids : ℕ → Option ℕ) (time : ℕ) → Admits dict ids time → AcceptsInTurn dict (settings_of dict ids time) }
+{}
