@@ -1,3 +1,5 @@
+ghost use Rattle.std.specs.Prelude.{◌≡◌, false, IfOk};
+
 use cop_boot::{Device, End, Input, Manager, Setting, Turn, can_manage, drive, run_schedule};
 use cop_dict::build;
 use cop_eds::parse;
@@ -33,7 +35,9 @@ fn cob_id(value: u32) -> Setting {
 }
 
 /// A manager of nodes from 5 on, whose TPDO is switched off, and then gets the identifier 181h, 182h and so on.
-fn manager(alloc: Global, nodes: &[u8]) -> Result<Manager, Fail> {
+fn manager(alloc: Global, nodes: &[u8]) -> Result<Manager, Fail>
+    ensures { IfOk result (λ manager. manager.begun ≡ false) }
+{
     let mut plan = BTreeMap::new(alloc);
     for node in nodes.iter().copied() {
         let own = u32::from(node);
