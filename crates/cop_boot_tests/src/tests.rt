@@ -1,3 +1,5 @@
+ghost use Rattle.std.specs.Prelude.{◌≡◌, false, IfOk};
+
 use cop_boot::{Device, End, Input, Manager, Setting, Turn, can_manage, drive, run_schedule};
 use cop_dict::build;
 use cop_eds::parse;
@@ -33,7 +35,9 @@ fn cob_id(value: u32) -> Setting {
 }
 
 /// A manager of nodes from 5 on, whose TPDO is switched off, and then gets the identifier 181h, 182h and so on.
-fn manager(alloc: Global, nodes: &[u8]) -> Result<Manager, Fail> {
+fn manager(alloc: Global, nodes: &[u8]) -> Result<Manager, Fail>
+    ensures { IfOk result (λ manager. manager.begun ≡ false) }
+{
     let mut plan = BTreeMap::new(alloc);
     for node in nodes.iter().copied() {
         let own = u32::from(node);
@@ -75,20 +79,30 @@ fn is_frame(found: Option<Frame>, wanted: Option<Sent>) -> bool {
 }
 
 const BOOT_UP: Sent = (0x705, &[0]);
+
 const CONFIRMED: Sent = (0x585, &[0x60, 0x00, 0x18, 0x01, 0, 0, 0, 0]);
+
 const REFUSED: Sent = (0x585, &[0x80, 0x00, 0x18, 0x01, 0x22, 0, 0, 0x08]);
+
 const OFF: Sent = (0x605, &[0x23, 0x00, 0x18, 0x01, 0x85, 0x01, 0x00, 0xC0]);
+
 const ON: Sent = (0x605, &[0x23, 0x00, 0x18, 0x01, 0x81, 0x01, 0x00, 0x40]);
+
 const GIVEN_UP: Sent = (0x605, &[0x80, 0x00, 0x18, 0x01, 0, 0, 0x04, 0x05]);
+
 const RESET: Sent = (0x000, &[130, 0]);
+
 const START: Sent = (0x000, &[1, 0]);
+
 const ABORTED: End = End::Aborted {
     node: 5,
     index: 0x1800,
     sub: 1,
     code: 0x0800_0022,
 };
+
 const SILENT: End = End::Silent { node: 5 };
+
 const RESTARTING: End = End::Restarting { node: 5 };
 
 /// A frame that the manager hears, or a moment that is reached.
@@ -219,10 +233,19 @@ fn node_by_node_and_by_turns(rt: HostRuntime) -> Result<(), Fail> {
         let mut manager = manager(alloc, &[5, 6])?;
         let mut devices = devices(alloc, &[5, 6])?;
         run_schedule(alloc, &mut manager, &mut devices, &turns)?;
-        assert_eq!(rt; (manager.end(5), manager.end(6)), (Some(End::Ready), Some(End::Ready)));
+        assert_eq!(rt;
+            (manager.end(5), manager.end(6)),
+            (Some(End::Ready), Some(End::Ready))
+        );
         assert!(rt; manager.started());
-        assert_eq!(rt; cob_id_in(alloc, &devices, 0)?.as_slice(), [0x81, 0x01, 0, 0x40].as_slice());
-        assert_eq!(rt; cob_id_in(alloc, &devices, 1)?.as_slice(), [0x82, 0x01, 0, 0x40].as_slice());
+        assert_eq!(rt;
+            cob_id_in(alloc, &devices, 0)?.as_slice(),
+            [0x81, 0x01, 0, 0x40].as_slice()
+        );
+        assert_eq!(rt;
+            cob_id_in(alloc, &devices, 1)?.as_slice(),
+            [0x82, 0x01, 0, 0x40].as_slice()
+        );
     }
     Ok(())
 }
@@ -238,7 +261,10 @@ fn a_node_without_a_device(rt: HostRuntime) -> Result<(), Fail> {
     let mut manager = manager(alloc, &[5, 6, 7])?;
     let mut devices = devices(alloc, &[5, 6])?;
     run_schedule(alloc, &mut manager, &mut devices, &turns)?;
-    assert_eq!(rt; (manager.end(5), manager.end(6)), (Some(End::Ready), Some(End::Ready)));
+    assert_eq!(rt;
+        (manager.end(5), manager.end(6)),
+        (Some(End::Ready), Some(End::Ready))
+    );
     assert_eq!(rt; manager.end(7), Some(End::Silent { node: 7 }));
     assert!(rt; !manager.started());
     Ok(())
@@ -251,14 +277,26 @@ const EXCHANGES: &[Exchange] = &[
     (OFF, Some(CONFIRMED), NodeState::PreOperational),
     (ON, Some(CONFIRMED), NodeState::PreOperational),
     // Frames of other nodes, or of another length, are ignored.
-    ((0x606, &[0x40, 0x00, 0x18, 0x01, 0, 0, 0, 0]), None, NodeState::PreOperational),
-    ((0x605, &[0x40, 0x00, 0x18, 0x01]), None, NodeState::PreOperational),
+    (
+        (0x606, &[0x40, 0x00, 0x18, 0x01, 0, 0, 0, 0]),
+        None,
+        NodeState::PreOperational,
+    ),
+    (
+        (0x605, &[0x40, 0x00, 0x18, 0x01]),
+        None,
+        NodeState::PreOperational,
+    ),
     // Stopped, it gives no SDO answer.
     ((0x000, &[2, 5]), None, NodeState::Stopped),
     (OFF, None, NodeState::Stopped),
     (START, None, NodeState::Operational),
     // A reset gives it its initial values.
-    ((0x000, &[0x81, 5]), Some(BOOT_UP), NodeState::PreOperational),
+    (
+        (0x000, &[0x81, 5]),
+        Some(BOOT_UP),
+        NodeState::PreOperational,
+    ),
     (
         (0x605, &[0x40, 0x00, 0x18, 0x01, 0, 0, 0, 0]),
         Some((0x585, &[0x43, 0x00, 0x18, 0x01, 0x85, 0x01, 0, 0x40])),
