@@ -27,10 +27,7 @@ impl From<NotWritten> for AllocError {
     }
 }
 
-fn write_fields<W: Write + Drop>(
-    writer: &mut Writer<W>,
-    fields: &[&[u8]],
-) -> Result<(), NotWritten>
+fn write_fields<W: Write + Drop>(writer: &mut Writer<W>, fields: &[&[u8]]) -> Result<(), NotWritten>
     requires { IsBetween writer.old }
     ensures { OnOk result (Adds W.contents writer.old writer.new (map (λ f. f.now) fields.now ∷ [])) }
 {

@@ -36,7 +36,11 @@ fn push_late(text: &mut Vec<u8>, late: Option<usize>) -> Result<(), AllocError>
 }
 
 /// The text of a judgement.
-pub(crate) fn judged_text(alloc: Global, transfers: usize, late: Option<usize>) -> Result<Vec<u8>, AllocError>
+pub(crate) fn judged_text(
+    alloc: Global,
+    transfers: usize,
+    late: Option<usize>,
+) -> Result<Vec<u8>, AllocError>
     ensures { IfOk result (λ text. text.items ≡ judged_text transfers late) }
 {
     let mut text = Vec::new(alloc);

@@ -69,11 +69,7 @@ impl<W: Write + Drop> Sink for Recorder<W> {
 }
 
 // The behaviours of streams by a seed.
-fn behaviours_of(
-    alloc: Global,
-    seed: u64,
-    streams: &[Stream],
-) -> Result<Vec<Seeded>, AllocError>
+fn behaviours_of(alloc: Global, seed: u64, streams: &[Stream]) -> Result<Vec<Seeded>, AllocError>
     ensures { IfOk result (λ behaviours. behaviours.items ≡ map (fresh seed) streams.now) }
 {
     let mut behaviours = Vec::new(alloc);
