@@ -31,11 +31,14 @@ module _ (f : ℕ → ℕ) (limit : ℕ) where
   chain_push : (from last next : ℕ) (numbers : List ℕ) → IsChain f from limit numbers → last_of numbers ≡ last → last ≤ limit → last < next → next ≡ f last → next < 2 ^ 64
       → IsChain f from limit (numbers ++ next ∷ []) × (last_of (numbers ++ next ∷ []) ≡ next)
   chain_push from last next [] c ends within more is fits = absurd c.follows
-  chain_push from last next (a ∷ rest) c ends within more is fits = (record {
+  chain_push from last next (a ∷ rest) c ends within more is fits = (
+    record {
       begins = c.begins;
       follows = follows_push a next rest c.follows (rw ends within) (rw ends more) (rw ends is);
       fit = All-append (λ n. n < 2 ^ 64) (a ∷ rest) (next ∷ []) c.fit (one_fits next fits);
-    }, last_push a next rest)
+    },
+    last_push a next rest,
+  )
 
   pub chain_more : (from last next : ℕ) (numbers more : List ℕ) → Chained f from limit numbers last → more ≡ numbers ++ next ∷ [] → last ≤ limit → next ≢ last → next ≡ f last → next < 2 ^ 64 → f last ≤ f next
       → Chained f from limit more next

@@ -86,8 +86,7 @@ whole_is_writable : (p : Place) (e : Evidence) â†’ p.index < length p.streams â†
 whole_is_writable p (Long busy) inside h = chain_writable (busy_at p) 1 busy h.chain (whole_is_short p (Long busy) inside h)
 whole_is_writable p (Late q busy queue) inside h =
     let short = whole_is_short p (Late q busy queue) inside h in
-    let few = few_instances p inside q _ h.queue_of.first in
-    (
+    let few = few_instances p inside q _ h.queue_of.first in (
       omega (arith, few),
       chain_writable (busy_at p) 1 busy h.busy_time.chain short.0,
       chain_writable (queueing_at p q) _ queue h.queue_of.waits.chain short.1,

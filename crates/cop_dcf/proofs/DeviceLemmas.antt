@@ -77,9 +77,6 @@ step files found next row h =
       devices = ap (λ (e : Equipment). e.devices) (sym made);
     }
 
-is_node : ℕ → DeviceRow → Bool
-is_node node row = row.node == node
-
 -- the rows of other nodes leave a node's device as it is
 others : (files : List File) (node : ℕ) (rows : List DeviceRow) (found more : Equipment) → folded (device_added (text_of files)) found rows ≡ Ok more
     → find (λ row. row.node == node) rows ≡ None → get_or more.devices node None ≡ get_or found.devices node None

@@ -159,9 +159,6 @@ none_before text settings = find_none (is_of text 0) (reverse settings) each
 
 -- ---- the change of a section
 
-own_name : same_name (codes "ParameterValue") (codes "ParameterValue") ≡ true
-own_name = refl
-
 values_find : (f : ℕ → Option Setting) (section first count : ℕ) → first ≤ section → section < first + count
     → find (hits section (codes "ParameterValue")) (values_from f first count) ≡ option_map (value_set section) (f section)
 unfolding values_from

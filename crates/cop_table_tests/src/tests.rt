@@ -62,7 +62,12 @@ fn records_are_lines_cut_at_commas(rt: HostRuntime) -> Result<(), Fail> {
     for case in SHAPES {
         let (text, sizes) = *case;
         let found = ids(&rt, text)?.ok_or("another header")?;
-        assert!(rt; found.iter().map(|record| record.1).eq(sizes.iter().copied()));
+        assert!(rt;
+            found
+                .iter()
+                .map(|record| record.1)
+                .eq(sizes.iter().copied())
+        );
     }
     Ok(())
 }

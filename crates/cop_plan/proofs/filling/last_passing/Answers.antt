@@ -40,7 +40,8 @@ loop-done-preserved c = elim c.if-above-pdo.branch [
       c.loop-done.invariant.trials,
       count_here c.args.pdos c.loop-done.done (is_flagged c.args.above.now) c.loop-done-test.true
           (unwrap_or-slice_get c.args.above.now (c.args.pdos - 1 - c.loop-done.done) false ∙ w.if-above-pdo.true),
-    );    each = omega (
+    );
+    each = omega (
       arith,
       c.loop-done.invariant.each,
       count_here c.args.pdos c.loop-done.done (is_flagged c.args.above.now) c.loop-done-test.true
