@@ -12,3 +12,4 @@ pub mod BusLemmas
 pub mod TurnLemmas
 pub mod InTurn
 pub mod PlanInTurn
+pub mod NetworkAdmits

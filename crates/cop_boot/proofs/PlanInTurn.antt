@@ -60,7 +60,7 @@ second : (a b : Bool) → (a && b) ≡ true → b ≡ true
 second true b h = h
 second false b h = cc
 
-sub_of : (e : Entry) → is_cob_id e ≡ true → e.sub ≡ 1
+pub sub_of : (e : Entry) → is_cob_id e ≡ true → e.sub ≡ 1
 sub_of e h = let t = second (is_communication e.index) (e.sub == 1) h in grind (arith, nat_tests)
 
 free_of : (e : Entry) → is_cob_id e ≡ true → is_mapping e.index ≡ false

@@ -1,15 +1,18 @@
 //! Laws of the definitions that contracts cite: when settings are accepted in turn, and what they give.
 
-ghost use Rattle.std.specs.Prelude.{◌≡◌, ℕ, List, true, Option, Some, None};
+ghost use Rattle.std.specs.Prelude.{◌≡◌, ℕ, List, All, true, Option, Some, None};
 ghost use Rattle.cop_dict.specs.Find.{Entry, entry_at};
 ghost use Rattle.cop_dict.specs.Pdo.{is_cob_id};
 ghost use Rattle.cop_dict.specs.Dict.{valued, refused_alone};
 ghost use Rattle.cop_pdo.specs.CobIds.{off, on};
+ghost use Rattle.cop_net.specs.Heartbeats.{heartbeat_of};
+ghost use Rattle.cop_net.specs.Network.{Net, IsNetwork};
 ghost use Rattle.cop_net.specs.Settings.{word, takes};
 ghost use Rattle.cop_dcf.specs.declared.setting.Setting.{Setting};
 ghost use Rattle.cop_boot.specs.Settings.{AcceptsInTurn, planned};
-ghost use Rattle.cop_dcf.specs.Settings.{settings_of};
-ghost use Rattle.cop_boot.specs.PlanSettings.{Admits};
+ghost use Rattle.cop_dcf.specs.Identifiers.{id_at};
+ghost use Rattle.cop_dcf.specs.Settings.{settings_of, node_settings, dictionary_of};
+ghost use Rattle.cop_boot.specs.PlanSettings.{Admits, IsPdoId};
 ghost use Rattle.cop_boot.specs.Accepts.{AreApart, IsElsewhere, TakesEach, HaveValues};
 
 /// Settings at different addresses are accepted in turn, where each is accepted alone. Afterwards each has its value, and
@@ -30,4 +33,13 @@ pub fn switched_off_then_on()
 /// switches on with their identifiers, at last the heartbeat's time.
 pub fn plan_is_accepted()
     ensures { (dict : List Entry) (ids : ℕ → Option ℕ) (time : ℕ) → Admits dict ids time → AcceptsInTurn dict (settings_of dict ids time) }
+{}
+
+/// The device of each node of an accepted network admits what a plan sets in it, so its settings, written in their order to
+/// its dictionary, are all accepted, whatever identifiers from 181h to 57Fh the plan gives.
+pub fn networks_take_their_settings()
+    ensures admitted { (net : Net) (ids : List ℕ) (node : ℕ) (dict : List Entry) → IsNetwork net → All IsPdoId ids → dictionary_of net node ≡ Some dict
+        → Admits dict (id_at net.rows ids node) (heartbeat_of net.nodes.frames node) }
+    ensures accepted { (net : Net) (ids : List ℕ) (node : ℕ) (dict : List Entry) → IsNetwork net → All IsPdoId ids → dictionary_of net node ≡ Some dict
+        → AcceptsInTurn dict (node_settings net ids node) }
 {}

@@ -78,7 +78,7 @@ step files found next row h =
     }
 
 -- the rows of other nodes leave a node's device as it is
-others : (files : List File) (node : ℕ) (rows : List DeviceRow) (found more : Equipment) → folded (device_added (text_of files)) found rows ≡ Ok more
+pub others : (files : List File) (node : ℕ) (rows : List DeviceRow) (found more : Equipment) → folded (device_added (text_of files)) found rows ≡ Ok more
     → find (λ row. row.node == node) rows ≡ None → get_or more.devices node None ≡ get_or found.devices node None
 unfolding folded
 others files node [] found more h none = let same : found ≡ more = cc in ap (λ (e : Equipment). get_or e.devices node None) (sym same)
@@ -174,11 +174,11 @@ settable_in frames rows equipment made h =
     (p.0.used, q.1)
 
 -- the equipment of a network
-record IsEquipped (nodes : NodeLists) (rows : List PdoRow) (files : List File) (made : Accepted) : Type 0 where
-  devices : devices_of files nodes.devices ≡ Ok made.equipment
-  streams : streams_of nodes.frames rows made.equipment ≡ Ok made.streams
+pub record IsEquipped (nodes : NodeLists) (rows : List PdoRow) (files : List File) (made : Accepted) : Type 0 where
+  pub devices : devices_of files nodes.devices ≡ Ok made.equipment
+  pub streams : streams_of nodes.frames rows made.equipment ≡ Ok made.streams
 
-equipped : (nodes : NodeLists) (rows : List PdoRow) (files : List File) (made : Accepted) → network_of nodes rows files ≡ Ok made → IsEquipped nodes rows files made
+pub equipped : (nodes : NodeLists) (rows : List PdoRow) (files : List File) (made : Accepted) → network_of nodes rows files ≡ Ok made → IsEquipped nodes rows files made
 unfolding network_of
 equipped nodes rows files made ok =
     let p = bind_ok (devices_of files nodes.devices) _ made ok in
