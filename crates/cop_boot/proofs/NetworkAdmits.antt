@@ -10,8 +10,9 @@ use Rattle.cop_dict.specs.declared.abort.Abort.{Abort}
 use Rattle.cop_dict.specs.declared.mapping.Direction.TheVariants as directions
 use Rattle.cop_dict.specs.Find.{Entry, entry_at, unsigned32_of, IsSorted}
 use Rattle.cop_dict.specs.Pdo.{is_cob_id, exists_by, keeps_pdo}
-use Rattle.cop_dict.specs.Dict.{◌>>=◌, written}
+use Rattle.cop_dict.specs.Dict.{◌>>=◌, written, initial, initial_communication}
 use Rattle.cop_dict.proofs.BuildLemmas.{built_sorted}
+use Rattle.cop_dict.proofs.BuiltLemmas.{built_stays}
 use Rattle.cop_dict.proofs.DictLemmas.{own_place}
 use Rattle.cop_pdo.specs.CobIds.{off, on}
 use Rattle.cop_pdo.specs.Payload.{Layout, communication_of, payload_of, is_same_layout}
@@ -335,3 +336,8 @@ module _ (net : Net) (is : IsNetwork net) (ids : List ℕ) (range : All IsPdoId 
     unused = unused_goes_off;
     beats = subst (λ (d : List Entry). beats d (heartbeat_of net.nodes.frames node) ≡ true) same (beating net is.files is.made is.nodes node own_row.0 own_row.1);
   }
+
+  -- and a reset leaves them as they were built
+  pub network_resets : (initial entries ≡ entries) × (initial_communication entries ≡ entries)
+  network_resets =
+      subst (λ (d : List Entry). (initial d ≡ d) × (initial_communication d ≡ d)) same (built_stays described.text node described.entries described.described)

@@ -35,9 +35,10 @@ use Rattle.cop_plan.specs.Plans.{IsOutcome}
 use Rattle.cop_boot.specs.declared.turn.Turn.{Turn}
 use Rattle.cop_boot.specs.Manager.{Managing}
 use Rattle.cop_boot.specs.Device.{Attached}
-use Rattle.cop_boot.specs.Bus.{Runs}
+use Rattle.cop_boot.specs.Bus.{Runs, Made}
+use Rattle.cop_boot.specs.Booted.{CanBoot}
 use Rattle.cop_engine.specs.Turns.{turns_drawn}
-use Rattle.cop_engine.specs.Boots.{nodes_to, device_nodes, managed, manager_of, device_at, boot_text, IsBooted, IsBootedBy, IsBootOf}
+use Rattle.cop_engine.specs.Boots.{nodes_to, device_nodes, managed, manager_of, dictionary_at, device_at, boot_text, IsBooted, IsBootedBy, IsBootOf}
 
 pub get_or_same : {X : Type 0} (xs : List X) (i : ℕ) (d e : X) → i < length xs → get_or xs i e ≡ get_or xs i d
 get_or_same xs i d e lt = get_or_from_slice_get xs i (get_or xs i d) e (slice_get-get_or xs i d lt)
@@ -183,7 +184,7 @@ module _ (net : Net) (ids : List ℕ) where
           let at : get_or (take i nodes) k d ≡ get_or nodes k d = get_or-take i nodes k d inside in
           omega arith
 
-  short_of : (s : Setting) → IsFit s → is_short_value s ≡ true
+  pub short_of : (s : Setting) → IsFit s → is_short_value s ≡ true
   short_of s fit = elim fit.size [
     | inl two ↦ let small : s.value < 2 ^ (8 * 2) = subst (λ bytes. s.value < 2 ^ (8 * bytes)) two fit.value in two_short s.bytes s.value two small
     | inr four ↦ rw four refl
@@ -215,14 +216,20 @@ module _ (net : Net) (ids : List ℕ) where
 -- what a boot made, put together
 pub booted_so : {E : Type 0} (seed : ℕ) (net : Net) (ids nodes shown : List ℕ) (manager later : Managing) (devices after : List Attached) (turns : List Turn) (r : Result (Vec ℕ) E)
     → nodes ≡ device_nodes net → manager ≡ manager_of net ids nodes → devices ≡ map (device_at net) nodes → turns ≡ turns_drawn seed nodes → shown ≡ nodes
-    → Runs manager devices turns later after → IfOk r (λ text. text.items ≡ boot_text later shown) → IfOk r (λ text. IsBooted seed net ids text.items)
-booted_so seed net ids nodes shown manager later devices after turns (Err e) are made there drawn same runs said = tt
-booted_so seed net ids nodes shown manager later devices after turns (Ok text) are made there drawn same runs said = record {
+    → Runs manager devices turns later after
+    → CanBoot (manager_of net ids (device_nodes net)) (map (device_at net) (device_nodes net)) (dictionary_at net) → ((built : ℕ → List Entry) → CanBoot manager devices built → Made manager built later after)
+    → IfOk r (λ text. text.items ≡ boot_text later shown) → IfOk r (λ text. IsBooted seed net ids text.items)
+booted_so seed net ids nodes shown manager later devices after turns (Err e) are made there drawn same runs can configures said = tt
+booted_so seed net ids nodes shown manager later devices after turns (Ok text) are made there drawn same runs can configures said = record {
   later = later;
   after = after;
   runs = subst (λ ts. Runs (manager_of net ids (device_nodes net)) (map (device_at net) (device_nodes net)) ts later after) (drawn ∙ ap (turns_drawn seed) are)
       (subst (λ ds. Runs (manager_of net ids (device_nodes net)) ds turns later after) (there ∙ ap (λ ns. map (device_at net) ns) are)
       (subst (λ m. Runs m devices turns later after) (made ∙ ap (manager_of net ids) are) runs));
+  made = subst (λ m. Made m (dictionary_at net) later after) (made ∙ ap (manager_of net ids) are)
+      (configures (dictionary_at net)
+      (subst (λ m. CanBoot m devices (dictionary_at net)) (sym (made ∙ ap (manager_of net ids) are))
+      (subst (λ ds. CanBoot (manager_of net ids (device_nodes net)) ds (dictionary_at net)) (sym (there ∙ ap (λ ns. map (device_at net) ns) are)) can)));
   says = said ∙ ap (boot_text later) (same ∙ are);
 }
 

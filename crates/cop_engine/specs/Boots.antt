@@ -4,6 +4,7 @@ use Rattle.std.specs.List.{flat_map}
 use Rattle.std.specs.Fmt.{digits, padded_integral, format_spec}
 use Rattle.cop_nmt.specs.declared.states.NodeState.TheVariants.{PreOperational}
 use Rattle.cop_sdo.specs.Server.{idle}
+use Rattle.cop_dict.specs.Find.{Entry}
 use Rattle.cop_dict.specs.Dict.{initial}
 use Rattle.cop_rows.specs.NodeReading.{nodes_of}
 use Rattle.cop_rows.specs.PdoReading.{pdos_of}
@@ -21,7 +22,7 @@ use Rattle.cop_boot.specs.declared.«end».Phase.TheVariants.{Waiting}
 use Rattle.cop_boot.specs.Node.{Node}
 use Rattle.cop_boot.specs.Manager.{Managing, end_at}
 use Rattle.cop_boot.specs.Device.{Attached}
-use Rattle.cop_boot.specs.Bus.{Runs}
+use Rattle.cop_boot.specs.Bus.{Runs, Made}
 use Rattle.cop_engine.specs.Judgements.{none_passes}
 use Rattle.cop_engine.specs.Turns.{turns_drawn}
 
@@ -41,9 +42,13 @@ managed net ids node = record { number = node; settings = node_settings net ids 
 abbrev pub manager_of : Net → List ℕ → List ℕ → Managing
 manager_of net ids nodes = record { begun = false; clock = 0; started = false; nodes = map (managed net ids) nodes }
 
--- the device of a node, as its EDS file describes it: its objects have their initial values
+-- the dictionary that a node's device begins with: its objects have their initial values
+abbrev pub dictionary_at : Net → ℕ → List Entry
+dictionary_at net node = initial (unwrap_or (dictionary_of net node) [])
+
+-- the device of a node, as its EDS file describes it
 abbrev pub device_at : Net → ℕ → Attached
-device_at net node = record { number = node; state = PreOperational; dict = initial (unwrap_or (dictionary_of net node) []); server = record { node = node; state = idle } }
+device_at net node = record { number = node; state = PreOperational; dict = dictionary_at net node; server = record { node = node; state = idle } }
 
 -- at least so many hexadecimal digits in upper case, filled with zeros
 abbrev pub hexadecimal_of : ℕ → ℕ → List ℕ
@@ -70,12 +75,14 @@ started_line false = codes "not started\n"
 abbrev pub boot_text : Managing → List ℕ → List ℕ
 boot_text m nodes = flat_map (λ node. node_line node (end_at m.nodes node)) nodes ++ started_line m.started
 
--- A boot of a network by a plan with these identifiers, by the turns that a seed draws, made this of the manager and of the devices,
--- and the text says so.
+-- A boot of a network by a plan with these identifiers, by the turns that a seed draws, made this of the manager and of the devices:
+-- a node that is ready has the planned dictionary, no node is aborted or restarting, and the nodes are started exactly where
+-- all are ready. The text says so.
 pub record IsBooted (seed : ℕ) (net : Net) (ids text : List ℕ) : Type 0 where
   pub later : Managing
   pub after : List Attached
   pub runs : Runs (manager_of net ids (device_nodes net)) (map (device_at net) (device_nodes net)) (turns_drawn seed (device_nodes net)) later after
+  pub made : Made (manager_of net ids (device_nodes net)) (dictionary_at net) later after
   pub says : text ≡ boot_text later (device_nodes net)
 
 -- where no rate passes nothing is booted
