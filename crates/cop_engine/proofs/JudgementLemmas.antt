@@ -1,5 +1,5 @@
 -- A judged trace has no late PDO.
-use Rattle.std.proofs.Common.{◌≡◌, ℕ, ◌<◌, ◌≤◌, ◌⊎◌, inl, inr, List, length, map, get_or, slice_get, option_map, Option, Some, None, Ok, Err, Result, IfSome, MatchResult, All, refl, sym, ap, ◌∙◌, subst, arith}
+use Rattle.std.proofs.Common.{◌≡◌, ℕ, ◌≤◌, inl, inr, List, length, get_or, slice_get, option_map, Option, Some, None, Ok, Err, Result, IfSome, MatchResult, All, refl, sym, ap, ◌∙◌, subst, arith}
 use Rattle.std.proofs.lemmas.Bool.{cases_lt}
 use Rattle.std.proofs.lemmas.Option.{slice_get-map, slice_get-get_or}
 use Rattle.std.specs.Global.{Vec}
@@ -10,7 +10,7 @@ use Rattle.cop_rta.specs.Entries.{Entry, entry_of}
 use Rattle.cop_bus.specs.declared.steps.Step.{Step}
 use Rattle.cop_bus.specs.declared.faults.BusFault.{BusFault}
 use Rattle.cop_bus.specs.declared.faults.BusFault.TheVariants as bus
-use Rattle.cop_bus.specs.Run.{Instance, IsOnTime}
+use Rattle.cop_bus.specs.Run.{IsOnTime}
 use Rattle.cop_bus.specs.Trace.{instances, IsLegalTrace}
 use Rattle.cop_bus.specs.Judge.{first_broken, IsFaultOf}
 use Rattle.cop_bus.specs.Late.{first_late}
@@ -34,7 +34,7 @@ use Rattle.cop_sim.proofs.GuaranteeLemmas.{kept}
 use Rattle.cop_engine.specs.declared.faults.Fault.{Fault}
 use Rattle.cop_engine.specs.declared.faults.Fault.TheVariants as faults
 use Rattle.cop_engine.specs.Faults.{fault_of, fault_of_trace}
-use Rattle.cop_engine.specs.Networks.{Found, network_in, ExplainsNetwork}
+use Rattle.cop_engine.specs.Networks.{ExplainsNetwork}
 use Rattle.cop_engine.specs.Judgements.{IsJudged, IsJudgedBy, ExplainsTrace, IsPlannedNetwork, IsJudgement, ExplainsJudgement, SaysOnTime, judged_text, transfers_in}
 use Rattle.cop_engine.proofs.GuaranteeLemmas.{was_there, fine}
 use Rattle.cop_engine.proofs.NetworkLemmas.{network_found}

@@ -1,5 +1,5 @@
 -- What the files say, from what each reading gives.
-use Rattle.std.proofs.Common.{◌≡◌, ℕ, zero, suc, ◌<◌, ◌≤◌, List, [], ◌∷◌, length, slice_get, Option, Some, None, Ok, Err, Result, IfSome, IsTrue, MatchResult, All, Bool, true, ◌↔◌, inl, inr, refl, sym, subst, le_refl, arith}
+use Rattle.std.proofs.Common.{◌≡◌, ℕ, zero, suc, ◌<◌, ◌≤◌, List, [], ◌∷◌, length, slice_get, Some, Ok, Err, Result, IfSome, IsTrue, MatchResult, All, Bool, true, ◌↔◌, inl, inr, refl, sym, subst, le_refl, arith}
 use Rattle.cop_rta.specs.declared.streams.Stream.{Stream}
 use Rattle.cop_cert.specs.Assignments.{least_id}
 use Rattle.cop_cert.proofs.SetLemmas.{refusal_rules_out}

@@ -1,5 +1,5 @@
 -- The seeded run of a plan, from what the simulator gives.
-use Rattle.std.proofs.Common.{◌≡◌, ℕ, ◌+◌, ◌-◌, ◌*◌, ◌<◌, ◌≤◌, ◌^◌, ◌⊎◌, inl, inr, min, List, [], ◌∷◌, length, map, slice_get, Option, Some, None, Result, Ok, Err, MatchResult, Bool, true, false, cond, refl, sym, ap, ◌∙◌, subst, arith}
+use Rattle.std.proofs.Common.{◌≡◌, ℕ, ◌+◌, ◌-◌, ◌<◌, ◌^◌, inl, inr, min, List, [], ◌∷◌, length, map, slice_get, Option, None, Result, Ok, Err, MatchResult, Bool, cond, refl, sym, ap, ◌∙◌, subst, arith}
 use Rattle.std.specs.declared.io.traits.Write.{Ghosts}
 use Rattle.std.proofs.lemmas.Option.{slice_get-map}
 use Rattle.cop_frame.specs.Rate.{ticks_of}

@@ -1,5 +1,5 @@
 -- What `plan` writes of refusals is what `check` reads, and all of them hold.
-use Rattle.std.proofs.Common.{◌≡◌, ◌↔◌, ℕ, ◌+◌, ◌<◌, ◌≤◌, ◌==◌, inl, inr, Bool, true, false, List, [], ◌∷◌, ◌++◌, length, map, get_or, slice_get, All, IsTrue, Some, Ok, Err, Result, refl, sym, ap, ◌∙◌, subst, arith, length-append}
+use Rattle.std.proofs.Common.{◌≡◌, ℕ, ◌+◌, ◌<◌, ◌≤◌, inl, inr, Bool, true, false, List, [], ◌∷◌, length, map, get_or, slice_get, All, Some, Ok, Err, Result, refl, sym, ap, ◌∙◌, subst, arith, length-append}
 use Rattle.std.proofs.lemmas.Option.{slice_get-get_or}
 use Rattle.cop_frame.specs.declared.rates.Rate.{Rate}
 use Rattle.cop_rta.specs.declared.streams.Stream.{Stream}
@@ -8,10 +8,6 @@ use Rattle.cop_rta.proofs.StreamLemmas.{streams_same}
 use Rattle.cop_table.specs.Reading.{◌>>=◌}
 use Rattle.cop_table.specs.Rows.{rows_from}
 use Rattle.cop_cert.specs.declared.refusals.Refusal.{Refusal}
-use Rattle.cop_cert.specs.declared.faults.Breach.{Breach}
-use Rattle.cop_cert.specs.Assignments.{least_id}
-use Rattle.cop_cert.specs.Evidence.{IsRefusal}
-use Rattle.cop_cert.specs.Format.{text_of}
 use Rattle.cop_cert.specs.Writable.{AreWritable}
 use Rattle.cop_cert.specs.Reading as cert
 use Rattle.cop_cert.proofs.RoundTrip.{written_is_read}
@@ -19,7 +15,7 @@ use Rattle.cop_rows.specs.declared.pdo_table.PdoRow.{PdoRow}
 use Rattle.cop_rows.specs.declared.refusals.Refusal as rows
 use Rattle.cop_rows.specs.declared.refusals.Rule.{Rule}
 use Rattle.cop_rows.specs.Refusals.{placed}
-use Rattle.cop_rows.specs.PdoReading.{is_named, pushed, pdo_in, added, rows_in, pdos_of}
+use Rattle.cop_rows.specs.PdoReading.{pushed, pdo_in, added, rows_in, pdos_of}
 use Rattle.cop_net.specs.declared.faults.Refusal as net
 use Rattle.cop_net.specs.declared.faults.Table.{Table}
 use Rattle.cop_net.specs.declared.faults.Table.TheVariants.{Nodes, Pdos}
@@ -28,7 +24,7 @@ use Rattle.cop_net.specs.Tables.{in_table}
 use Rattle.cop_net.specs.Network.{network_of}
 use Rattle.cop_rows.specs.NodeReading.{nodes_of}
 use Rattle.cop_net.proofs.PdoLemmas.{bind_ok}
-use Rattle.cop_plan.specs.Plans.{IsOutcome, IsGreatestRefusal, AreRefusals}
+use Rattle.cop_plan.specs.Plans.{IsOutcome, IsGreatestRefusal}
 use Rattle.cop_plan.specs.declared.assigning.Outcome.{Outcome}
 use Rattle.cop_plan.specs.declared.assigning.Outcome.TheVariants.{Planned, Refused}
 use Rattle.cop_plan.proofs.WritableLemmas.{refusals_writable}

@@ -15,7 +15,7 @@ use Rattle.cop_net.specs.Devices.{File}
 use Rattle.cop_net.specs.Network.{BeginsWith}
 use Rattle.cop_net.specs.Faults.{number_of_rule}
 use Rattle.cop_plan.specs.Values.{PlanValue}
-use Rattle.cop_plan.specs.Plans.{IsPlan, IsOutcome}
+use Rattle.cop_plan.specs.Plans.{IsOutcome}
 use Rattle.cop_plan.specs.declared.assigning.Outcome.{Outcome}
 use Rattle.cop_plan.specs.declared.assigning.Outcome.TheVariants.{Planned, Refused}
 use Rattle.cop_engine.specs.declared.faults.Fault.{Fault}

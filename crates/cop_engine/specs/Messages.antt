@@ -1,5 +1,5 @@
 -- What the program says of a fault, its status, and the words of the command line that it reads.
-use Rattle.std.specs.Prelude.{◌≡◌, ℕ, List, ◌++◌, Bool, codes, decimal, Option, Some, if◌then◌else◌}
+use Rattle.std.specs.Prelude.{◌≡◌, ℕ, List, ◌++◌, Bool, codes, decimal, Some, if◌then◌else◌}
 use Rattle.std.specs.String.{string_bytes}
 use Rattle.std.specs.Str.{bytes_eq}
 use Rattle.cop_frame.specs.declared.rates.Rate.{Rate}

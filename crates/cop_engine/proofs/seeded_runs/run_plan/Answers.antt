@@ -1,8 +1,6 @@
 use Rattle.std.proofs.Common.{◌∙◌, sym, ap, map, refl, List}
 use Rattle.cop_rta.specs.declared.streams.Stream.{Stream}
 use Rattle.cop_sim.specs.Drawing.{fresh}
-use Rattle.cop_engine.specs.Recorders.{IsFinished}
-use Rattle.cop_engine.specs.Runs.{IsRun, ExplainsRun, IsOfWriting}
 use Rattle.cop_engine.proofs.RunLemmas.{cause_explains, writing_explains, run_is, each_arm}
 use Rattle.cop_engine.proofs.seeded_runs.run_plan.Goals as goal
 
