@@ -13,3 +13,4 @@ pub mod TurnLemmas
 pub mod InTurn
 pub mod PlanInTurn
 pub mod NetworkAdmits
+pub mod PlannedLemmas

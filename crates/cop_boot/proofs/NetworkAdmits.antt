@@ -1,5 +1,5 @@
 -- The devices of an accepted network admit what a plan sets in them.
-use Rattle.std.proofs.Common.{◌≡◌, ◌≢◌, ℕ, zero, suc, ◌+◌, ◌<◌, ◌≤◌, ◌⊎◌, inl, inr, Bool, true, false, not, cond, ◌&&◌, ◌||◌, ◌==◌, List, [], ◌∷◌, ◌++◌, length, get_or, map, find, replicate, All, Contains, Option, Some, None, option_map, Result, Ok, Err, refl, sym, ap, subst, ◌∙◌, arith, true≢false}
+use Rattle.std.proofs.Common.{◌≡◌, ◌≢◌, ℕ, zero, suc, ◌+◌, ◌^◌, ◌<◌, ◌≤◌, ◌⊎◌, inl, inr, Bool, true, false, not, cond, ◌&&◌, ◌||◌, ◌==◌, List, [], ◌∷◌, ◌++◌, length, get_or, map, find, replicate, All, Contains, Option, Some, None, option_map, Result, Ok, Err, refl, sym, ap, subst, ◌∙◌, arith, true≢false}
 use Rattle.std.specs.Option.{option_and_then}
 use Rattle.std.specs.Result.{is_ok}
 use Rattle.std.specs.List.{list_any}
@@ -341,3 +341,30 @@ module _ (net : Net) (is : IsNetwork net) (ids : List ℕ) (range : All IsPdoId 
   pub network_resets : (initial entries ≡ entries) × (initial_communication entries ≡ entries)
   network_resets =
       subst (λ (d : List Entry). (initial d ≡ d) × (initial_communication d ≡ d)) same (built_stays described.text node described.entries described.described)
+
+  -- each COB-ID is an UNSIGNED32
+  pub network_plain : (e : Entry) → Contains entries e → is_cob_id e ≡ true → (v : ℕ) × (unsigned32_of e ≡ Some v)
+  network_plain e inside cob = by_number (unsigned32_of e) refl
+    where
+      no_number : unsigned32_of e ≡ None → (b : Bool) → is_used moves.traffic.used node e.index ≡ b → ⊥
+      no_number none true u =
+          let at : IsUsableAt net.equipment.devices node e.index =
+          used_usable net.equipment.devices moves.traffic.used node e.index (all_usable net.equipment.devices net.rows no_traffic moves.traffic moves.found (All-nil (IsUsed net.equipment.devices))) u in
+          let has : option_and_then unsigned32_of (entry_at entries e.index 1) ≡ None = rw (at_own e inside cob) none in
+          let never : false ≡ true = rw has at (usable_here e.index at) in
+          true≢false (sym never)
+      no_number none false u =
+          let off : stays_on entries e ≡ false = not_both (stays_on entries e) (is_used moves.traffic.used node e.index) (none_of moves.traffic.used node entries entries e no_stray inside) u in
+          let keeps : keeps_pdo e ≡ true = rw none refl in
+          let never : true ≡ false = rw (cob, keeps, none) at off in
+          true≢false never
+
+      by_number : (o : Option ℕ) → unsigned32_of e ≡ o → (v : ℕ) × (unsigned32_of e ≡ Some v)
+      by_number (Some v) is_v = (v, is_v)
+      by_number None none = absurd (no_number none (is_used moves.traffic.used node e.index) refl)
+
+  pub ids_low : (index id : ℕ) → id_at net.rows ids node index ≡ Some id → id < 2 ^ 11
+  ids_low index id own =
+      let u = id_usable net.equipment.devices net.rows no_traffic moves.traffic moves.found (All-nil (IsUsed net.equipment.devices)) ids range node index id own in
+      let high = u.1.1 in
+      omega (arith, high)

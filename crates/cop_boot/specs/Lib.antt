@@ -9,3 +9,4 @@ pub mod Member
 pub mod Bus
 pub mod Accepts
 pub mod PlanSettings
+pub mod PlannedPdos

@@ -1,7 +1,8 @@
 //! Laws of the definitions that contracts cite: when settings are accepted in turn, and what they give.
 
-ghost use Rattle.std.specs.Prelude.{◌≡◌, ℕ, List, All, true, Option, Some, None};
-ghost use Rattle.cop_dict.specs.Find.{Entry, entry_at};
+ghost use Rattle.std.specs.Prelude.{◌≡◌, ℕ, List, All, Contains, true, Option, Some, None};
+ghost use Rattle.std.specs.Option.{option_and_then};
+ghost use Rattle.cop_dict.specs.Find.{Entry, entry_at, unsigned32_of};
 ghost use Rattle.cop_dict.specs.Pdo.{is_cob_id};
 ghost use Rattle.cop_dict.specs.Dict.{valued, refused_alone};
 ghost use Rattle.cop_pdo.specs.CobIds.{off, on};
@@ -13,6 +14,7 @@ ghost use Rattle.cop_boot.specs.Settings.{AcceptsInTurn, planned};
 ghost use Rattle.cop_dcf.specs.Identifiers.{id_at};
 ghost use Rattle.cop_dcf.specs.Settings.{settings_of, node_settings, dictionary_of};
 ghost use Rattle.cop_boot.specs.PlanSettings.{Admits, IsPdoId};
+ghost use Rattle.cop_boot.specs.PlannedPdos.{IsAsPlanned};
 ghost use Rattle.cop_boot.specs.Accepts.{AreApart, IsElsewhere, TakesEach, HaveValues};
 
 /// Settings at different addresses are accepted in turn, where each is accepted alone. Afterwards each has its value, and
@@ -42,4 +44,11 @@ pub fn networks_take_their_settings()
         → Admits dict (id_at net.rows ids node) (heartbeat_of net.nodes.frames node) }
     ensures accepted { (net : Net) (ids : List ℕ) (node : ℕ) (dict : List Entry) → IsNetwork net → All IsPdoId ids → dictionary_of net node ≡ Some dict
         → AcceptsInTurn dict (node_settings net ids node) }
+{}
+
+/// In a device that has the settings of a plan of its network exactly the PDOs that the plan uses exist, a sender's with its
+/// identifier and a receiver's with that of its sender.
+pub fn planned_pdos_exist()
+    ensures { (net : Net) (ids : List ℕ) (node : ℕ) (dict : List Entry) (e : Entry) → IsNetwork net → All IsPdoId ids → dictionary_of net node ≡ Some dict → Contains dict e → is_cob_id e ≡ true
+        → IsAsPlanned (id_at net.rows ids node e.index) (option_and_then unsigned32_of (entry_at (planned (node_settings net ids node) dict) e.index 1)) }
 {}
