@@ -1,7 +1,8 @@
 #!/usr/bin/env python3
 """Runs `rt ci` and tells where its processor time goes: by crate, for its library, its tests and its must-fail edits.
 
-usage: tools/gate_times.py [LOG]    in a clean clone; what `rt ci` says goes to LOG (gate.log where none is given)
+usage: tools/gate_times.py [LOG]    at the top of a clean clone, with nothing else running on the machine; what `rt ci`
+                                    says goes to LOG (gate.log where none is given)
 
 The tests of a crate NAME are those inside it and those of the crate NAME_tests. Times are user and system time in
 seconds, read of each checker while it runs; the last line is that of the whole run as the system counts it.
@@ -36,6 +37,8 @@ def checker(pid):
         return None
     if "/rt-edit" in folder:
         return crate, "edits"
+    if not f"{folder}/".startswith(f"{os.getcwd()}/"):
+        return None
     if crate.endswith("_tests"):
         return crate.removesuffix("_tests"), "tests"
     return crate, "tests" if "--test" in words else "library"
