@@ -4,6 +4,8 @@ use Rattle.std.proofs.lemmas.List.Elements.{All-nil, All-cons, All-append}
 use Rattle.cop_table.specs.Reading.{◌>>=◌}
 use Rattle.cop_table.specs.Records.{field}
 use Rattle.cop_table.specs.Rows.{rows_from}
+use Rattle.cop_rows.specs.declared.refusals.Column.{Column}
+use Rattle.cop_rows.specs.declared.refusals.Column.TheVariants as columns
 use Rattle.cop_rows.specs.declared.refusals.Rule.{Rule}
 use Rattle.cop_rows.specs.declared.refusals.Rule.TheVariants as rules
 use Rattle.cop_rows.specs.declared.refusals.Refusal.{Refusal}
@@ -13,7 +15,7 @@ use Rattle.cop_rows.specs.Names.{is_name}
 use Rattle.cop_rows.specs.Fields.{number_within, name_of}
 use Rattle.cop_rows.specs.Nodes.{NodeLists}
 use Rattle.cop_rows.specs.Refusals.{placed, refuse}
-use Rattle.cop_rows.specs.NodeReading.{kind_of, is_device, frame_in, device_in, or_value, as_device, as_frame, row_in, has_device, has_frame, pushed, added, first_lacking, unless_lacking, with_devices, no_rows, rows_in, node_rows_of, nodes_of}
+use Rattle.cop_rows.specs.NodeReading.{kind_of, is_device, frame_in, device_in, or_word, as_device, as_frame, row_in, has_device, has_frame, pushed, added, first_lacking, unless_lacking, with_devices, no_rows, rows_in, node_rows_of, nodes_of}
 
 -- the device and its EDS file have names
 abbrev pub HasNames : DeviceRow → Type 0
@@ -23,24 +25,24 @@ bind_ok : {A B F : Type 0} (r : Result A F) (f : A → Result B F) (x : B) → (
 bind_ok (Ok a) f x h = (a, refl, h)
 bind_ok (Err e) f x h = cc
 
-name_is : (text name : List ℕ) → name_of text ≡ Ok name → IsTrue (is_name name)
-name_is text name h = by_test (is_name text) refl h
+name_is : (column : Column) (text name : List ℕ) → name_of column text ≡ Ok name → IsTrue (is_name name)
+name_is column text name h = by_test (is_name text) refl h
   where
-    by_test : (b : Bool) → is_name text ≡ b → ◌≡◌ {A = Result (List ℕ) Rule} (cond b (Ok text) (Err rules.Value)) (Ok name) → IsTrue (is_name name)
+    by_test : (b : Bool) → is_name text ≡ b → ◌≡◌ {A = Result (List ℕ) Rule} (cond b (Ok text) (Err (rules.Value column))) (Ok name) → IsTrue (is_name name)
     by_test true is k = let same : text ≡ name = cc in ap is_name (sym same) ∙ is
     by_test false is k = cc
 
 device_names : (place : ℕ) (row : List (List ℕ)) (d : DeviceRow) → device_in place row ≡ Ok d → HasNames d
 unfolding device_in
 device_names place row d h =
-    let one = bind_ok (number_within 1 127 (field row 1)) _ d h in
-    let two = bind_ok (number_within 0 0 (field row 4)) _ d one.2 in
-    let three = bind_ok (number_within 0 0 (field row 5)) _ d two.2 in
-    let four = bind_ok (name_of (field row 2)) _ d three.2 in
-    let five = bind_ok (name_of (field row 3)) _ d four.2 in
+    let one = bind_ok (number_within columns.Node 1 127 (field row 1)) _ d h in
+    let two = bind_ok (number_within columns.Period 0 0 (field row 4)) _ d one.2 in
+    let three = bind_ok (number_within columns.Jitter 0 0 (field row 5)) _ d two.2 in
+    let four = bind_ok (name_of columns.Name (field row 2)) _ d three.2 in
+    let five = bind_ok (name_of columns.Eds (field row 3)) _ d four.2 in
     let whole : ◌≡◌ {A = Result DeviceRow Rule} (Ok (record { place = place; node = one.0; name = four.0; eds = five.0 })) (Ok d) = five.2 in
     let same : record { place = place; node = one.0; name = four.0; eds = five.0 } ≡ d = cc in
-    subst HasNames same (name_is (field row 2) four.0 four.1, name_is (field row 3) five.0 five.1)
+    subst HasNames same (name_is columns.Name (field row 2) four.0 four.1, name_is columns.Eds (field row 3) five.0 five.1)
 
 placed_ok : {A : Type 0} (place : ℕ) (r : Result A Rule) (x : A) → placed place r ≡ Ok x → r ≡ Ok x
 placed_ok place (Ok y) x h = let same : y ≡ x = cc in ap Ok same
@@ -70,10 +72,10 @@ step_names lists next place row h all = by_tests (not (length row == 6)) (is_dev
             let same : record { devices = lists.devices; frames = lists.frames ++ f ∷ [] } ≡ next = cc in
             subst (λ (x : NodeLists). All HasNames x.devices) same all
 
-    by_tests : (a b : Bool) → (cond a (Err rules.Fields) (cond b (as_device (device_in place row)) (as_frame (or_value (kind_of (field row 0)) >>= λ kind. frame_in place kind row))) >>= pushed lists) ≡ Ok next → All HasNames next.devices
+    by_tests : (a b : Bool) → (cond a (Err rules.Fields) (cond b (as_device (device_in place row)) (as_frame (or_word (kind_of (field row 0)) >>= λ kind. frame_in place kind row))) >>= pushed lists) ≡ Ok next → All HasNames next.devices
     by_tests true b k = cc
     by_tests false true k = of_device (device_in place row) refl k
-    by_tests false false k = of_frame (or_value (kind_of (field row 0)) >>= λ kind. frame_in place kind row) k
+    by_tests false false k = of_frame (or_word (kind_of (field row 0)) >>= λ kind. frame_in place kind row) k
 
 rows_names : (place : ℕ) (lists more : NodeLists) (rows : List (List (List ℕ))) → rows_from added place lists rows ≡ Ok more → All HasNames lists.devices → All HasNames more.devices
 unfolding rows_from

@@ -1,6 +1,7 @@
 -- The consumers that a text names.
 use Rattle.std.proofs.Common.{◌≡◌, ℕ, ◌+◌, ◌<◌, true, false, List, [], ◌∷◌, ◌++◌, length, refl, sym, ◌∙◌, Option, Some, None, Result, Ok, Err, MatchOption, Bor, IfSome, is_some, ap, append_assoc, ◌==◌}
 use Rattle.cop_rows.specs.declared.pdo_table.Consumer.{Consumer}
+use Rattle.cop_rows.specs.declared.refusals.Column.TheVariants as columns
 use Rattle.cop_rows.specs.declared.refusals.Rule.TheVariants as rules
 use Rattle.cop_rows.specs.Fields.{parts, each}
 use Rattle.cop_table.specs.Reading.{◌>>=◌}
@@ -11,7 +12,7 @@ use Rattle.cop_rows.proofs.PartLemmas.{parts_some}
 -- a text with two dots names none
 pub three_parts : (text rest first second : List ℕ) (more : Option (Bor (List ℕ))) → parts 46 text ≡ first ∷ parts 46 rest
     → MatchOption more (parts 46 rest ≡ second ∷ []) (λ r. (parts 46 rest ≡ second ∷ parts 46 r.now) × (length r.now < length rest))
-    → is_some more ≡ true → Err rules.Value ≡ consumer_of text
+    → is_some more ≡ true → Err (rules.Value columns.Consumers) ≡ consumer_of text
 three_parts text rest first second None e h some = cc
 three_parts text rest first second (Some r) e h some = let p = parts_some 46 r.now in rw (e, h.0, p.2) refl
 

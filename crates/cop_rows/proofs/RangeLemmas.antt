@@ -4,6 +4,8 @@ use Rattle.std.proofs.lemmas.List.Elements.{All-nil, All-cons}
 use Rattle.std.proofs.lemmas.Bool.Decides.{nat_tests}
 use Rattle.cop_table.specs.Reading.{◌>>=◌}
 use Rattle.cop_table.specs.Numbers.{number_of}
+use Rattle.cop_rows.specs.declared.refusals.Column.{Column}
+use Rattle.cop_rows.specs.declared.refusals.Column.TheVariants as columns
 use Rattle.cop_rows.specs.declared.refusals.Rule.TheVariants as rules
 use Rattle.cop_rows.specs.declared.pdo_table.Consumer.{Consumer}
 use Rattle.cop_rows.specs.Fields.{parts, each, number_within, within, is_within}
@@ -15,24 +17,24 @@ bound : {A B F : Type 0} (r : Result A F) (f : A → Result B F) (y : B) → (r 
 bound (Ok x) f y h = (x, refl, h)
 bound (Err e) f y h = cc
 
-in_range : (least most n m : ℕ) (t : Bool) → is_within least most n ≡ t → (if t then Ok n else Err rules.Value) ≡ Ok m → (least ≤ m) × (m ≤ most)
-in_range least most n m true t h =
+in_range : (column : Column) (least most n m : ℕ) (t : Bool) → is_within least most n ≡ t → (if t then Ok n else Err (rules.Value column)) ≡ Ok m → (least ≤ m) × (m ≤ most)
+in_range column least most n m true t h =
     let e : n ≡ m = cc in rw (← e) (grind (arith, nat_tests), grind (arith, nat_tests))
-in_range least most n m false t h = cc
+in_range column least most n m false t h = cc
 
-ranged : (least most : ℕ) (o : Option ℕ) (m : ℕ) → within least most o ≡ Ok m → (least ≤ m) × (m ≤ most)
-ranged least most None m h = cc
-ranged least most (Some n) m h = in_range least most n m (is_within least most n) refl h
+ranged : (column : Column) (least most : ℕ) (o : Option ℕ) (m : ℕ) → within column least most o ≡ Ok m → (least ≤ m) × (m ≤ most)
+ranged column least most None m h = cc
+ranged column least most (Some n) m h = in_range column least most n m (is_within least most n) refl h
 
 consumer_from_ok : (texts : List (List ℕ)) (c : Consumer) → consumer_from texts ≡ Ok c → IsConsumer c
 consumer_from_ok [] c h = cc
 consumer_from_ok (first ∷ []) c h = cc
 consumer_from_ok (first ∷ second ∷ []) c h =
-    let p = bound (number_within 1 127 first) _ c h in
-    let q = bound (number_within 1 512 second) _ c p.2 in
+    let p = bound (number_within columns.Consumers 1 127 first) _ c h in
+    let q = bound (number_within columns.Consumers 1 512 second) _ c p.2 in
     let e : record { node = p.0; rpdo = q.0 } ≡ c = cc in
-    let n = ranged 1 127 (number_of 10 first) p.0 p.1 in
-    let r = ranged 1 512 (number_of 10 second) q.0 q.1 in
+    let n = ranged columns.Consumers 1 127 (number_of 10 first) p.0 p.1 in
+    let r = ranged columns.Consumers 1 512 (number_of 10 second) q.0 q.1 in
     rw (← e) (record { node_least = n.0; node_most = n.1; rpdo_least = r.0; rpdo_most = r.1 })
 consumer_from_ok (first ∷ second ∷ third ∷ more) c h = cc
 

@@ -3,6 +3,7 @@ use Rattle.std.specs.Prelude.{ℕ, Bool, ◌&&◌, List, [], ◌∷◌, ◌==◌
 use Rattle.cop_table.specs.Reading.{◌>>=◌}
 use Rattle.cop_table.specs.Numbers.{number_of}
 use Rattle.cop_table.specs.Records.{under_header, BadHeader}
+use Rattle.cop_rows.specs.declared.refusals.Column.{Column}
 use Rattle.cop_rows.specs.declared.refusals.Rule.{Rule}
 use Rattle.cop_rows.specs.declared.refusals.Rule.TheVariants as rules
 use Rattle.cop_rows.specs.declared.refusals.Refusal.{Refusal}
@@ -12,17 +13,17 @@ use Rattle.cop_rows.specs.Names.{is_name}
 abbrev pub is_within : ℕ → ℕ → ℕ → Bool
 is_within least most n = nat_le least n && nat_le n most
 
-abbrev pub within : ℕ → ℕ → Option ℕ → Result ℕ Rule
-within least most None = Err rules.Value
-within least most (Some n) = if is_within least most n then Ok n else Err rules.Value
+abbrev pub within : Column → ℕ → ℕ → Option ℕ → Result ℕ Rule
+within column least most None = Err (rules.Value column)
+within column least most (Some n) = if is_within least most n then Ok n else Err (rules.Value column)
 
--- the number that 1 to 10 decimal digits write, in a range
-abbrev pub number_within : ℕ → ℕ → List ℕ → Result ℕ Rule
-number_within least most text = within least most (number_of 10 text)
+-- the number that 1 to 10 decimal digits write in a column, in a range
+abbrev pub number_within : Column → ℕ → ℕ → List ℕ → Result ℕ Rule
+number_within column least most text = within column least most (number_of 10 text)
 
--- a name is its own text
-abbrev pub name_of : List ℕ → Result (List ℕ) Rule
-name_of text = if is_name text then Ok text else Err rules.Value
+-- a name in a column is its own text
+abbrev pub name_of : Column → List ℕ → Result (List ℕ) Rule
+name_of column text = if is_name text then Ok text else Err (rules.Value column)
 
 abbrev pub with_first : ℕ → List (List ℕ) → List (List ℕ)
 with_first b [] = (b ∷ []) ∷ []

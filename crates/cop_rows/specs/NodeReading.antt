@@ -5,6 +5,8 @@ use Rattle.std.specs.Str.{bytes_eq}
 use Rattle.cop_table.specs.Reading.{◌>>=◌}
 use Rattle.cop_table.specs.Records.{field}
 use Rattle.cop_table.specs.Rows.{rows_from}
+use Rattle.cop_rows.specs.declared.refusals.Column.{Column}
+use Rattle.cop_rows.specs.declared.refusals.Column.TheVariants as columns
 use Rattle.cop_rows.specs.declared.refusals.Rule.{Rule}
 use Rattle.cop_rows.specs.declared.refusals.Rule.TheVariants as rules
 use Rattle.cop_rows.specs.declared.refusals.Refusal.{Refusal}
@@ -51,45 +53,46 @@ is_heartbeat Heartbeat = true
 
 -- node 0, or 1 to 127
 abbrev pub node_in : FrameKind → List ℕ → Result ℕ Rule
-node_in kind text = if has_node kind then number_within 1 127 text else number_within 0 0 text
+node_in kind text = if has_node kind then number_within columns.Node 1 127 text else number_within columns.Node 0 0 text
 
 -- 0 for never, or 100 to 60,000,000, for a heartbeat whole milliseconds
 abbrev pub is_period : FrameKind → ℕ → Bool
 is_period kind n = (n == 0) || (is_within 100 60000000 n && (not (is_heartbeat kind) || (n % 1000 == 0)))
 
 abbrev pub if_period : FrameKind → ℕ → Result ℕ Rule
-if_period kind n = if is_period kind n then Ok n else Err rules.Value
+if_period kind n = if is_period kind n then Ok n else Err (rules.Value columns.Period)
 
 abbrev pub period_in : FrameKind → List ℕ → Result ℕ Rule
-period_in kind text = number_within 0 60000000 text >>= if_period kind
+period_in kind text = number_within columns.Period 0 60000000 text >>= if_period kind
 
--- a field that is to be empty
-abbrev pub no_text : List ℕ → Result (Unit {0}) Rule
-no_text text = if length text == 0 then Ok tt else Err rules.Value
+-- a column's field that is to be empty
+abbrev pub no_text : Column → List ℕ → Result (Unit {0}) Rule
+no_text column text = if length text == 0 then Ok tt else Err (rules.Value column)
 
 -- the row of a frame
 unfoldable pub frame_in : ℕ → FrameKind → List (List ℕ) → Result FrameRow Rule
 frame_in place kind row = do
   node ← node_in kind (field row 1)
-  no_name ← no_text (field row 2)
-  no_eds ← no_text (field row 3)
+  no_name ← no_text columns.Name (field row 2)
+  no_eds ← no_text columns.Eds (field row 3)
   period ← period_in kind (field row 4)
-  jitter ← number_within 0 60000000 (field row 5)
+  jitter ← number_within columns.Jitter 0 60000000 (field row 5)
   Ok (record { place = place; kind = kind; node = node; period = period; jitter = jitter })
 
 -- the row of a device, whose period and jitter are 0
 unfoldable pub device_in : ℕ → List (List ℕ) → Result DeviceRow Rule
 device_in place row = do
-  node ← number_within 1 127 (field row 1)
-  period ← number_within 0 0 (field row 4)
-  jitter ← number_within 0 0 (field row 5)
-  name ← name_of (field row 2)
-  eds ← name_of (field row 3)
+  node ← number_within columns.Node 1 127 (field row 1)
+  period ← number_within columns.Period 0 0 (field row 4)
+  jitter ← number_within columns.Jitter 0 0 (field row 5)
+  name ← name_of columns.Name (field row 2)
+  eds ← name_of columns.Eds (field row 3)
   Ok (record { place = place; node = node; name = name; eds = eds })
 
-abbrev pub or_value : {A : Type 0} → Option A → Result A Rule
-or_value None = Err rules.Value
-or_value (Some x) = Ok x
+-- the row's word is one of those
+abbrev pub or_word : {A : Type 0} → Option A → Result A Rule
+or_word None = Err (rules.Value columns.Row)
+or_word (Some x) = Ok x
 
 abbrev pub as_device : Result DeviceRow Rule → Result Row Rule
 as_device device = device >>= λ device. Ok (variants.Device device)
@@ -102,7 +105,7 @@ abbrev pub row_in : ℕ → List (List ℕ) → Result Row Rule
 row_in place row =
     if not (length row == 6) then Err rules.Fields
     else if is_device (field row 0) then as_device (device_in place row)
-    else as_frame (or_value (kind_of (field row 0)) >>= λ kind. frame_in place kind row)
+    else as_frame (or_word (kind_of (field row 0)) >>= λ kind. frame_in place kind row)
 
 -- whether a device row has this node
 abbrev pub has_device : List DeviceRow → ℕ → Bool

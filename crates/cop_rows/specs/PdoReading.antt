@@ -4,6 +4,7 @@ use Rattle.std.specs.List.{list_any}
 use Rattle.cop_table.specs.Reading.{◌>>=◌}
 use Rattle.cop_table.specs.Records.{field}
 use Rattle.cop_table.specs.Rows.{rows_from}
+use Rattle.cop_rows.specs.declared.refusals.Column.TheVariants as columns
 use Rattle.cop_rows.specs.declared.refusals.Rule.{Rule}
 use Rattle.cop_rows.specs.declared.refusals.Rule.TheVariants as rules
 use Rattle.cop_rows.specs.declared.refusals.Refusal.{Refusal}
@@ -15,11 +16,11 @@ use Rattle.cop_rows.specs.Refusals.{placed}
 
 -- a node and an RPDO, of the two parts between which a dot stands
 abbrev pub consumer_from : List (List ℕ) → Result Consumer Rule
-consumer_from [] = Err rules.Value
-consumer_from (first ∷ []) = Err rules.Value
+consumer_from [] = Err (rules.Value columns.Consumers)
+consumer_from (first ∷ []) = Err (rules.Value columns.Consumers)
 consumer_from (first ∷ second ∷ []) =
-    number_within 1 127 first >>= λ node. number_within 1 512 second >>= λ rpdo. Ok (record { node = node; rpdo = rpdo })
-consumer_from (first ∷ second ∷ third ∷ more) = Err rules.Value
+    number_within columns.Consumers 1 127 first >>= λ node. number_within columns.Consumers 1 512 second >>= λ rpdo. Ok (record { node = node; rpdo = rpdo })
+consumer_from (first ∷ second ∷ third ∷ more) = Err (rules.Value columns.Consumers)
 
 abbrev pub consumer_of : List ℕ → Result Consumer Rule
 consumer_of text = consumer_from (parts 46 text)
@@ -47,11 +48,11 @@ pub record IsNumbers (n : Numbers) : Type 0 where
 -- the numbers of a record, or the least rule that it breaks
 unfoldable pub numbers_in : List (List ℕ) → Result Numbers Rule
 numbers_in row = if not (length row == 6) then Err rules.Fields else do
-  node ← number_within 1 127 (field row 0)
-  tpdo ← number_within 1 512 (field row 1)
-  period ← number_within 100 60000000 (field row 2)
-  jitter ← number_within 0 60000000 (field row 3)
-  deadline ← number_within 1 60000000 (field row 4)
+  node ← number_within columns.Node 1 127 (field row 0)
+  tpdo ← number_within columns.Tpdo 1 512 (field row 1)
+  period ← number_within columns.Period 100 60000000 (field row 2)
+  jitter ← number_within columns.Jitter 0 60000000 (field row 3)
+  deadline ← number_within columns.Deadline 1 60000000 (field row 4)
   Ok (record { node = node; tpdo = tpdo; period = period; jitter = jitter; deadline = deadline })
 
 abbrev pub with_consumers : Numbers → List Consumer → PdoRow

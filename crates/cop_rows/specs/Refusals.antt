@@ -11,7 +11,7 @@ use Rattle.cop_rows.specs.declared.refusals.RecordFault.TheVariants as records
 abbrev pub number_of_rule : Rule → ℕ
 number_of_rule rules.Header = 40
 number_of_rule rules.Fields = 40
-number_of_rule rules.Value = 41
+number_of_rule (rules.Value column) = 41
 number_of_rule rules.RowRepeated = 42
 number_of_rule rules.NoDevice = 42
 number_of_rule rules.PdoRepeated = 44

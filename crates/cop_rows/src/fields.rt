@@ -7,13 +7,18 @@ ghost use Rattle.cop_rows.specs.Fields.{number_within, name_of, parts};
 ghost use Rattle.cop_rows.specs.Refusals.{broken};
 
 use crate::names::Name;
-use crate::refusals::{RecordFault, Rule};
+use crate::refusals::{Column, Rule};
 use cop_table::number;
 use std::alloc::Global;
 
-/// The number of a field of 1 to 10 decimal digits, in a range.
-pub(crate) fn number_within(least: u64, most: u64, field: &[u8]) -> Result<u64, Rule>
-    ensures value { result ≡ number_within least most field.now }
+/// The number of a column's field of 1 to 10 decimal digits, in a range.
+pub(crate) fn number_within(
+    column: Column,
+    least: u64,
+    most: u64,
+    field: &[u8],
+) -> Result<u64, Rule>
+    ensures value { result ≡ number_within column least most field.now }
     ensures range { IfOk result (λ n. (least ≤ n) × (n ≤ most)) }
 {
     match number(10, field) {
@@ -21,10 +26,10 @@ pub(crate) fn number_within(least: u64, most: u64, field: &[u8]) -> Result<u64, 
             if n >= least && n <= most {
                 Ok(n)
             } else {
-                Err(Rule::Value)
+                Err(Rule::Value(column))
             }
         }
-        None => Err(Rule::Value),
+        None => Err(Rule::Value(column)),
     }
 }
 

@@ -16,4 +16,4 @@ pub use node_table::{DeviceRow, FrameKind, FrameRow, NodeTable};
 pub use nodes::read_nodes;
 pub use pdo_table::{Consumer, Consumers, PdoRow, PdoTable};
 pub use pdos::read_pdos;
-pub use refusals::{Refusal, RowFault, Rule};
+pub use refusals::{Column, Refusal, RowFault, Rule};

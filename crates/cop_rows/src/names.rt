@@ -10,7 +10,7 @@ ghost use Rattle.cop_rows.specs.Names.{is_name, is_name_code};
 ghost use Rattle.cop_rows.specs.Fields.{name_of};
 ghost use Rattle.cop_rows.specs.Refusals.{broken};
 
-use crate::refusals::{RecordFault, Rule};
+use crate::refusals::{Column, RecordFault, Rule};
 use std::alloc::{AllocError, Global};
 use std::cmp::Ordering;
 use std::marker::Model;
@@ -53,12 +53,12 @@ fn is_name(text: &[u8]) -> bool
 }
 
 impl Name {
-    /// The name that a text is.
-    pub(crate) fn read(alloc: Global, text: &[u8]) -> Result<Name, RecordFault>
-        ensures { Gives (λ name. name) broken result (name_of text.now) }
+    /// The name that a column's text is.
+    pub(crate) fn read(alloc: Global, column: Column, text: &[u8]) -> Result<Name, RecordFault>
+        ensures { Gives (λ name. name) broken result (name_of column text.now) }
     {
         if !is_name(text) {
-            return Err(RecordFault::Broken(Rule::Value));
+            return Err(RecordFault::Broken(Rule::Value(column)));
         }
         Ok(Name {
             bytes: Vec::from_slice(alloc, text)?,

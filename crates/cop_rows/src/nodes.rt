@@ -10,7 +10,7 @@ use crate::fields::number_within;
 use crate::names::Name;
 use crate::node_rows::{NodeRows, Row, has_node};
 use crate::node_table::{DeviceRow, FrameKind, FrameRow, NodeTable};
-use crate::refusals::{RecordFault, Refusal, RowFault, Rule};
+use crate::refusals::{Column, RecordFault, Refusal, RowFault, Rule};
 use cop_table::{Record, Records, TableError, under_header};
 use std::alloc::Global;
 
@@ -51,9 +51,9 @@ fn node_in(kind: FrameKind, field: &[u8]) -> Result<u64, Rule>
     ensures most { IfOk result (λ node. node ≤ 127) }
 {
     if has_node(kind) {
-        number_within(1, 127, field)
+        number_within(Column::Node, 1, 127, field)
     } else {
-        number_within(0, 0, field)
+        number_within(Column::Node, 0, 0, field)
     }
 }
 
@@ -72,22 +72,22 @@ fn period_in(kind: FrameKind, field: &[u8]) -> Result<u64, Rule>
     ensures value { result ≡ period_in kind field.now }
     ensures most { IfOk result (λ period. period ≤ 60000000) }
 {
-    let period = number_within(0, 60_000_000, field)?;
+    let period = number_within(Column::Period, 0, 60_000_000, field)?;
     if is_period(kind, period) {
         Ok(period)
     } else {
-        Err(Rule::Value)
+        Err(Rule::Value(Column::Period))
     }
 }
 
-/// Refuses a field that is not empty.
-fn no_text(field: &[u8]) -> Result<(), Rule>
-    ensures { result ≡ no_text field.now }
+/// Refuses a column's field that is not empty.
+fn no_text(column: Column, field: &[u8]) -> Result<(), Rule>
+    ensures { result ≡ no_text column field.now }
 {
     if field.is_empty() {
         Ok(())
     } else {
-        Err(Rule::Value)
+        Err(Rule::Value(column))
     }
 }
 
@@ -98,10 +98,10 @@ fn frame_in(place: u64, kind: FrameKind, row: &Record) -> Result<FrameRow, Rule>
     ensures ranges { IfOk result IsFrameRow }
 {
     let node = node_in(kind, row.field(1))?;
-    no_text(row.field(2))?;
-    no_text(row.field(3))?;
+    no_text(Column::Name, row.field(2))?;
+    no_text(Column::Eds, row.field(3))?;
     let period = period_in(kind, row.field(4))?;
-    let jitter = number_within(0, 60_000_000, row.field(5))?;
+    let jitter = number_within(Column::Jitter, 0, 60_000_000, row.field(5))?;
     Ok(FrameRow {
         place,
         kind,
@@ -117,12 +117,12 @@ fn device_in(alloc: Global, place: u64, row: &Record) -> Result<DeviceRow, Recor
     ensures value { Gives (λ device. device) broken result (device_in place row.now) }
     ensures ranges { IfOk result IsDeviceRow }
 {
-    let node = number_within(1, 127, row.field(1))?;
+    let node = number_within(Column::Node, 1, 127, row.field(1))?;
     // The period and the jitter of a device are 0.
-    number_within(0, 0, row.field(4))?;
-    number_within(0, 0, row.field(5))?;
-    let name = Name::read(alloc, row.field(2))?;
-    let eds = Name::read(alloc, row.field(3))?;
+    number_within(Column::Period, 0, 0, row.field(4))?;
+    number_within(Column::Jitter, 0, 0, row.field(5))?;
+    let name = Name::read(alloc, Column::Name, row.field(2))?;
+    let eds = Name::read(alloc, Column::Eds, row.field(3))?;
     Ok(DeviceRow {
         place,
         node: node as u8,
@@ -142,7 +142,7 @@ fn row_in(alloc: Global, place: u64, row: &Record) -> Result<Row, RecordFault>
     if is_device(row.field(0)) {
         return Ok(Row::Device(device_in(alloc, place, row)?));
     }
-    let kind = kind_of(row.field(0)).ok_or(Rule::Value)?;
+    let kind = kind_of(row.field(0)).ok_or(Rule::Value(Column::Row))?;
     Ok(Row::Frame(frame_in(place, kind, row)?))
 }
 

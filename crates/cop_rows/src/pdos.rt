@@ -9,7 +9,7 @@ ghost use Rattle.cop_rows.specs.Pdos.{IsPdoRow};
 use crate::fields::{cut, number_within};
 use crate::pdo_rows::PdoRows;
 use crate::pdo_table::{Consumer, Consumers, PdoRow, PdoTable};
-use crate::refusals::{RecordFault, Refusal, RowFault, Rule};
+use crate::refusals::{Column, RecordFault, Refusal, RowFault, Rule};
 use cop_table::{Record, Records, TableError, under_header};
 use std::alloc::Global;
 
@@ -42,11 +42,11 @@ fn numbers_in(row: &Record) -> Result<Numbers, Rule>
     if row.len() != 6 {
         return Err(Rule::Fields);
     }
-    let node = number_within(1, 127, row.field(0))?;
-    let tpdo = number_within(1, 512, row.field(1))?;
-    let period = number_within(100, 60_000_000, row.field(2))?;
-    let jitter = number_within(0, 60_000_000, row.field(3))?;
-    let deadline = number_within(1, 60_000_000, row.field(4))?;
+    let node = number_within(Column::Node, 1, 127, row.field(0))?;
+    let tpdo = number_within(Column::Tpdo, 1, 512, row.field(1))?;
+    let period = number_within(Column::Period, 100, 60_000_000, row.field(2))?;
+    let jitter = number_within(Column::Jitter, 0, 60_000_000, row.field(3))?;
+    let deadline = number_within(Column::Deadline, 1, 60_000_000, row.field(4))?;
     Ok(Numbers {
         node: node as u8,
         tpdo: tpdo as u16,
@@ -61,14 +61,14 @@ fn consumer_in(text: &[u8]) -> Result<Consumer, Rule>
     ensures { result ≡ consumer_of text.now }
 {
     let (first, Some(rest)) = cut(text, b'.') else {
-        return Err(Rule::Value);
+        return Err(Rule::Value(Column::Consumers));
     };
     let (second, more) = cut(rest, b'.');
     if more.is_some() {
-        return Err(Rule::Value);
+        return Err(Rule::Value(Column::Consumers));
     }
-    let node = number_within(1, 127, first)?;
-    let rpdo = number_within(1, 512, second)?;
+    let node = number_within(Column::Consumers, 1, 127, first)?;
+    let rpdo = number_within(Column::Consumers, 1, 512, second)?;
     Ok(Consumer {
         node: node as u8,
         rpdo: rpdo as u16,

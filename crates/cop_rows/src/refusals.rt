@@ -8,6 +8,20 @@ ghost use Rattle.cop_rows.specs.Refusals.{number_of_rule, fault_at};
 use std::alloc::AllocError;
 use thiserror::Error;
 
+/// A column of a table, by the name in its header.
+#[derive(Clone, Copy, PartialEq, Eq, Debug)]
+pub enum Column {
+    Row,
+    Node,
+    Name,
+    Eds,
+    Tpdo,
+    Period,
+    Jitter,
+    Deadline,
+    Consumers,
+}
+
 /// The rule that a table breaks.
 #[derive(Clone, Copy, PartialEq, Eq, Debug)]
 pub enum Rule {
@@ -15,8 +29,8 @@ pub enum Rule {
     Header,
     /// The record has another number of fields.
     Fields,
-    /// A number, a range, a word or a name.
-    Value,
+    /// A number, a range, a word or a name in this column.
+    Value(Column),
     /// An earlier record has the same word and node.
     RowRepeated,
     /// The row's node has no device row; at place 0: there is no device row at all.
@@ -34,7 +48,7 @@ impl Rule {
     {
         match self {
             Rule::Header | Rule::Fields => 40,
-            Rule::Value => 41,
+            Rule::Value(_) => 41,
             Rule::RowRepeated | Rule::NoDevice => 42,
             Rule::PdoRepeated => 44,
             Rule::Full => 49,
