@@ -42,6 +42,16 @@ fn number<'a>(alloc: Global, name: &'a str, most: u64, help: &'a str) -> Arg<'a>
         .help(help)
 }
 
+/// The word that asks for faults in words.
+fn explain_flag<'a>(alloc: Global) -> Arg<'a> {
+    Arg::new(alloc, "explain")
+        .long("explain")
+        .action(ArgAction::SetTrue)
+        .help(
+            "Says of a fault in words where it stands, what is wanted and what is usually behind it",
+        )
+}
+
 /// A subcommand on a network: its two tables.
 fn network_command<'a>(
     alloc: Global,
@@ -54,7 +64,8 @@ fn network_command<'a>(
     Command::new(alloc, name)
         .about(about)
         .arg(operand(alloc, "NODES", nodes))?
-        .arg(operand(alloc, "PDOS", pdos))
+        .arg(operand(alloc, "PDOS", pdos))?
+        .arg(explain_flag(alloc))
 }
 
 fn test_command<'a>(alloc: Global) -> Result<Command<'a>, AllocError> {
@@ -69,7 +80,8 @@ fn test_command<'a>(alloc: Global) -> Result<Command<'a>, AllocError> {
         .about("Runs the response-time test on a table of streams")
         .after_help("Example: canplan test --rate 125 streams.csv")
         .arg(rate)?
-        .arg(operand(alloc, "FILE", file))
+        .arg(operand(alloc, "FILE", file))?
+        .arg(explain_flag(alloc))
 }
 
 fn plan_command<'a>(alloc: Global) -> Result<Command<'a>, AllocError> {
@@ -124,6 +136,18 @@ fn judge_command<'a>(alloc: Global) -> Result<Command<'a>, AllocError> {
     ))
 }
 
+fn explain_command<'a>(alloc: Global) -> Result<Command<'a>, AllocError> {
+    let number = Arg::new(alloc, "NUMBER")
+        .required(true)
+        .value_parser(ValueParser::unsigned(1, 69))
+        .action(ArgAction::Set)
+        .help("The number of a rule, as in canplan: refused NUMBER PLACE");
+    Command::new(alloc, "explain")
+        .about("Says what the rule of a refusal is, what is usually behind it, and what is right")
+        .after_help("Example: canplan explain 41")
+        .arg(number)
+}
+
 /// All words that the program understands.
 pub fn command<'a>(alloc: Global) -> Result<Command<'a>, AllocError> {
     Command::new(alloc, "canplan")
@@ -135,5 +159,6 @@ pub fn command<'a>(alloc: Global) -> Result<Command<'a>, AllocError> {
         .subcommand(check_command(alloc)?)?
         .subcommand(boot_command(alloc)?)?
         .subcommand(run_command(alloc)?)?
-        .subcommand(judge_command(alloc)?)
+        .subcommand(judge_command(alloc)?)?
+        .subcommand(explain_command(alloc)?)
 }

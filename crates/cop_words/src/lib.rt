@@ -1,0 +1,14 @@
+//! What canplan says in words: the rules by their numbers, what a column of a table wants, and where a record stands.
+#![tactic(auto)]
+
+mod columns;
+mod explanations;
+mod network_words;
+mod places;
+mod words;
+
+pub use columns::{header, wanted};
+pub use explanations::{Explanation, explained};
+pub use network_words::{Network, network_words};
+pub use places::{Place, line_at, record_at};
+pub use words::{Source, record_words, rule_words};

@@ -1,0 +1,178 @@
+//! What is said of a network that is refused.
+
+use crate::columns::{header, name_of, wanted};
+use crate::places::{line_at, record_at};
+use crate::words::{Source, push_place, push_rule, push_shown};
+use cop_dict::MappingFault;
+use cop_net::{DeviceRow, PlanFault, Refusal, Rule, Table, network, read_nodes, read_pdos};
+use std::alloc::{AllocError, Global};
+
+/// A network's tables, and its EDS files by their names.
+#[derive(Clone, Copy)]
+pub struct Network<'a> {
+    pub nodes: Source<'a>,
+    pub pdos: Source<'a>,
+    pub eds_files: &'a [(String, Vec<u8>)],
+}
+
+/// Reads a network, and nothing more.
+fn read(alloc: Global, files: Network<'_>) -> Result<(), PlanFault> {
+    let nodes = read_nodes(alloc, files.nodes.text)?;
+    let pdos = read_pdos(alloc, files.pdos.text)?;
+    network(alloc, &nodes, &pdos, files.eds_files)?;
+    Ok(())
+}
+
+/// What a rule of records wants.
+fn row_words(alloc: Global, table: Table, rule: cop_rows::Rule) -> Result<String, AllocError> {
+    let (header, seen) = (header(table), "an earlier record has the same");
+    match rule {
+        cop_rows::Rule::Header => format!(in alloc; "wanted as the first record: {header}\n"),
+        cop_rows::Rule::Fields => format!(in alloc; "wanted are six fields: {header}\n"),
+        cop_rows::Rule::Value(column) => {
+            let (name, wanted) = (name_of(column), wanted(table, column));
+            format!(in alloc; "wanted in column {name}: {wanted}\n")
+        }
+        cop_rows::Rule::RowRepeated => format!(in alloc; "{seen} row and node\n"),
+        cop_rows::Rule::PdoRepeated => format!(in alloc; "{seen} node and tpdo\n"),
+        cop_rows::Rule::NoDevice => String::from_str(alloc, "its device row is missing\n"),
+        cop_rows::Rule::Full => String::from_str(alloc, "there are more than 512\n"),
+    }
+}
+
+/// The number of the rule that a mapping breaks.
+fn mapping_number(fault: MappingFault) -> u8 {
+    match fault {
+        MappingFault::Absent => 20,
+        MappingFault::TooLong => 21,
+        MappingFault::NoObject => 22,
+        MappingFault::NotMappable => 23,
+    }
+}
+
+/// Adds what a rule of networks says beyond its number.
+fn push_more(words: &mut Vec<u8>, alloc: Global, refusal: &Refusal) -> Result<(), AllocError> {
+    match refusal.rule {
+        Rule::Record(rule) => {
+            words.extend_from_slice(row_words(alloc, refusal.table, rule)?.as_bytes())?;
+            Ok(())
+        }
+        Rule::Eds(Some(broken)) => push_rule(words, alloc, broken.rule.number()),
+        Rule::Transmit(Some(fault)) => push_rule(words, alloc, mapping_number(fault)),
+        Rule::Receive(Some(fault)) => push_rule(words, alloc, mapping_number(fault)),
+        _ => Ok(()),
+    }
+}
+
+/// The text of the first file of a name.
+fn text_named<'a>(files: &'a [(String, Vec<u8>)], name: &[u8]) -> Option<&'a [u8]> {
+    match files {
+        [] => None,
+        [file, rest @ ..] => {
+            if file.0.as_bytes() == name {
+                Some(file.1.as_slice())
+            } else {
+                text_named(rest, name)
+            }
+        }
+    }
+}
+
+/// Adds the line of a device's EDS text that breaks a rule.
+fn push_eds_line(
+    words: &mut Vec<u8>,
+    alloc: Global,
+    files: Network<'_>,
+    device: &DeviceRow,
+    line: usize,
+) -> Result<(), AllocError> {
+    let Some(text) = text_named(files.eds_files, device.eds.as_bytes()) else {
+        return Ok(());
+    };
+    match line_at(text, line) {
+        Some(place) => push_place(words, alloc, "its EDS file", &place),
+        None => Ok(()),
+    }
+}
+
+/// Adds the name of a device and of its EDS file.
+fn push_device(words: &mut Vec<u8>, alloc: Global, device: &DeviceRow) -> Result<(), AllocError> {
+    let node = device.node;
+    let begin = format!(in alloc; "node {node} is ")?;
+    words.extend_from_slice(begin.as_bytes())?;
+    push_shown(words, device.name.as_bytes())?;
+    words.extend_from_slice(b", by the EDS file ")?;
+    push_shown(words, device.eds.as_bytes())?;
+    words.push(b'\n')?;
+    Ok(())
+}
+
+/// The node of the PDO of a record.
+fn sender(alloc: Global, pdos: &[u8], record: u64) -> Option<u8> {
+    let table = read_pdos(alloc, pdos).ok()?;
+    let place = usize::try_from(record.checked_sub(1)?).ok()?;
+    Some(table.rows().get(place)?.node)
+}
+
+/// Adds what is known of the device that a refusal is about: its own record's, or that of the PDO's sender.
+fn push_devices(
+    words: &mut Vec<u8>,
+    alloc: Global,
+    files: Network<'_>,
+    refusal: &Refusal,
+) -> Result<(), AllocError> {
+    let Ok(nodes) = read_nodes(alloc, files.nodes.text) else {
+        return Ok(());
+    };
+    let sender = match refusal.table {
+        Table::Nodes => None,
+        Table::Pdos => sender(alloc, files.pdos.text, refusal.place),
+    };
+    for device in nodes.devices() {
+        let own = refusal.table == Table::Nodes && device.place == refusal.place;
+        if own || sender == Some(device.node) {
+            push_device(words, alloc, device)?;
+            if let Rule::Eds(Some(broken)) = refusal.rule {
+                push_eds_line(words, alloc, files, device, broken.line)?;
+            }
+        }
+    }
+    Ok(())
+}
+
+/// Adds the name of a file, where no record is to be shown.
+fn push_file(words: &mut Vec<u8>, alloc: Global, name: &str) -> Result<(), AllocError> {
+    let line = format!(in alloc; "{name}\n")?;
+    words.extend_from_slice(line.as_bytes())?;
+    Ok(())
+}
+
+/// What is said of a refusal: the record as it stands in its table, the device, what is wanted, and the rule.
+fn refusal_words(
+    alloc: Global,
+    files: Network<'_>,
+    refusal: &Refusal,
+) -> Result<Vec<u8>, AllocError> {
+    let table = match refusal.table {
+        Table::Nodes => files.nodes,
+        Table::Pdos => files.pdos,
+    };
+    let mut words = Vec::new(alloc);
+    match record_at(table.text, refusal.place) {
+        Some(place) => push_place(&mut words, alloc, table.name, &place)?,
+        None => push_file(&mut words, alloc, table.name)?,
+    }
+    push_devices(&mut words, alloc, files, refusal)?;
+    push_more(&mut words, alloc, refusal)?;
+    push_rule(&mut words, alloc, refusal.rule.number())?;
+    Ok(words)
+}
+
+/// Why a network's files are refused, in words. Nothing where they are not, and nothing where memory is wanting to tell.
+pub fn network_words(alloc: Global, files: Network<'_>) -> Result<Vec<u8>, AllocError> {
+    match read(alloc, files) {
+        Ok(()) => Ok(Vec::new(alloc)),
+        Err(PlanFault::Memory) => Ok(Vec::new(alloc)),
+        Err(PlanFault::Refused(refusal)) => refusal_words(alloc, files, &refusal),
+    }
+}

@@ -1,0 +1,83 @@
+//! What is said of a rule, and of the record or line that breaks it.
+
+use crate::explanations::explained;
+use crate::places::{Place, record_at};
+use std::alloc::{AllocError, Global};
+
+/// The most bytes of a record or a line that are shown.
+const SHOWN: usize = 120;
+
+/// A text that is read, and the name of its file.
+#[derive(Clone, Copy, Debug)]
+pub struct Source<'a> {
+    pub name: &'a str,
+    pub text: &'a [u8],
+}
+
+/// A byte as it may be shown: one that is no printable character of ASCII as a question mark.
+fn shown(byte: u8) -> u8 {
+    if byte >= 0x20 && byte < 0x7F {
+        byte
+    } else {
+        b'?'
+    }
+}
+
+/// Adds the first bytes of a text as they may be shown.
+pub(crate) fn push_shown(words: &mut Vec<u8>, text: &[u8]) -> Result<(), AllocError> {
+    for byte in text.iter().take(SHOWN) {
+        words.push(shown(*byte))?;
+    }
+    if text.len() > SHOWN {
+        words.extend_from_slice(b" ..")?;
+    }
+    Ok(())
+}
+
+/// Adds the name of a file and a line of it with its text.
+pub(crate) fn push_place(
+    words: &mut Vec<u8>,
+    alloc: Global,
+    name: &str,
+    place: &Place<'_>,
+) -> Result<(), AllocError> {
+    let line = place.line;
+    let begin = format!(in alloc; "{name}, line {line}: ")?;
+    words.extend_from_slice(begin.as_bytes())?;
+    push_shown(words, place.text)?;
+    words.push(b'\n')?;
+    Ok(())
+}
+
+/// Adds the lines on a rule: what is broken, what is usually behind it, and what is right.
+pub(crate) fn push_rule(words: &mut Vec<u8>, alloc: Global, number: u8) -> Result<(), AllocError> {
+    let Some(found) = explained(number) else {
+        return Ok(());
+    };
+    let (rule, cause, right) = (found.rule, found.cause, found.right);
+    let lines = format!(in alloc; "rule {number}: {rule}\nusually: {cause}\nright: {right}\n")?;
+    words.extend_from_slice(lines.as_bytes())?;
+    Ok(())
+}
+
+/// What the rule of a number says. Nothing for a number that no refusal has.
+pub fn rule_words(alloc: Global, number: u8) -> Result<Vec<u8>, AllocError> {
+    let mut words = Vec::new(alloc);
+    push_rule(&mut words, alloc, number)?;
+    Ok(words)
+}
+
+/// What is said of a record that is refused: where it stands, and the rule that it breaks.
+pub fn record_words(
+    alloc: Global,
+    source: Source<'_>,
+    number: u8,
+    record: u64,
+) -> Result<Vec<u8>, AllocError> {
+    let mut words = Vec::new(alloc);
+    if let Some(place) = record_at(source.text, record) {
+        push_place(&mut words, alloc, source.name, &place)?;
+    }
+    push_rule(&mut words, alloc, number)?;
+    Ok(words)
+}

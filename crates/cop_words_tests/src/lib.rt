@@ -1,0 +1,6 @@
+//! Tests of the words that canplan says.
+
+#![tactic(auto)]
+
+#[cfg(test)]
+mod tests;

@@ -1,0 +1,442 @@
+use cop_words::{Network, Source, explained, line_at, network_words, record_at, record_words};
+use std::alloc::{AllocError, Global};
+use std::str;
+use std::test::Fail;
+
+const NODES: &str = "row,node,name,eds,period,jitter\ndevice,5,Valve,unit.eds,0,0\n";
+
+const PDOS: &str = "node,tpdo,period,jitter,deadline,consumers\n5,1,10000,0,670,\n";
+
+/// A device that sends one PDO of 32 bits and receives one.
+const UNIT: &str = "[DeviceInfo]
+BaudRate_250=1
+[OptionalObjects]
+SupportedObjects=5
+1=0x1017
+2=0x1400
+3=0x1600
+4=0x1800
+5=0x1A00
+[ManufacturerObjects]
+SupportedObjects=1
+1=0x2000
+[1017]
+DataType=0x0006
+AccessType=rw
+[1400]
+ObjectType=9
+[1400sub1]
+DataType=7
+AccessType=rw
+DefaultValue=$NODEID+0x200
+[1600]
+ObjectType=9
+[1600sub0]
+DataType=5
+AccessType=rw
+DefaultValue=1
+[1600sub1]
+DataType=7
+AccessType=rw
+DefaultValue=0x20000020
+[1800]
+ObjectType=9
+[1800sub1]
+DataType=7
+AccessType=rw
+DefaultValue=$NODEID+0x40000180
+[1800sub2]
+DataType=5
+AccessType=rw
+DefaultValue=255
+[1A00]
+ObjectType=9
+[1A00sub0]
+DataType=5
+AccessType=rw
+DefaultValue=1
+[1A00sub1]
+DataType=7
+AccessType=rw
+DefaultValue=0x20000020
+[2000]
+DataType=7
+AccessType=rw
+PDOMapping=1
+";
+
+fn files(alloc: Global, text: &str) -> Result<Vec<(String, Vec<u8>)>, AllocError> {
+    let mut files = Vec::new(alloc);
+    files.push((
+        String::from_str(alloc, "unit.eds")?,
+        Vec::from_slice(alloc, text.as_bytes())?,
+    ))?;
+    Ok(files)
+}
+
+/// The words on a network.
+fn words(alloc: Global, nodes: &str, pdos: &str, eds: &str) -> Result<String, Fail> {
+    let files = files(alloc, eds)?;
+    let network = Network {
+        nodes: Source {
+            name: "nodes.csv",
+            text: nodes.as_bytes(),
+        },
+        pdos: Source {
+            name: "pdos.csv",
+            text: pdos.as_bytes(),
+        },
+        eds_files: &files,
+    };
+    let said = network_words(alloc, network)?;
+    match str::from_utf8(&said) {
+        Ok(text) => Ok(String::from_str(alloc, text)?),
+        Err(_) => Err(Fail::from("no text")),
+    }
+}
+
+/// Mistakes in the table of nodes: a record, and what the words begin with and have in them.
+const NODE_MISTAKES: &[(&str, &str, &str)] = &[
+    (
+        "devise,5,Valve,unit.eds,0,0",
+        "nodes.csv, line 2: devise,5,",
+        "in column row: device, nmt",
+    ),
+    (
+        ",5,Valve,unit.eds,0,0",
+        "nodes.csv, line 2: ,5,",
+        "in column row: device",
+    ),
+    (
+        "device,128,Valve,unit.eds,0,0",
+        "nodes.csv, line 2: ",
+        "in column node: 1 to 127",
+    ),
+    (
+        "device,0,Valve,unit.eds,0,0",
+        "nodes.csv, line 2: ",
+        "in column node: 1 to 127",
+    ),
+    (
+        "device,x,Valve,unit.eds,0,0",
+        "nodes.csv, line 2: ",
+        "in column node: 1 to 127",
+    ),
+    (
+        "nmt,5,,,1000,0",
+        "nodes.csv, line 2: nmt,5",
+        "in column node: 1 to 127, and 0 of nmt",
+    ),
+    (
+        "device,5,,unit.eds,0,0",
+        "nodes.csv, line 2: ",
+        "in column name: 1 to 40 letters",
+    ),
+    (
+        "device,5,Val/ve,unit.eds,0,0",
+        "nodes.csv, line 2: ",
+        "in column name: ",
+    ),
+    (
+        "emcy,5,Valve,,1000,0",
+        "nodes.csv, line 2: emcy",
+        "in column name: ",
+    ),
+    (
+        "device,5,Valve,,0,0",
+        "nodes.csv, line 2: ",
+        "in column eds: the name of a file",
+    ),
+    (
+        "emcy,5,,unit.eds,1000,0",
+        "nodes.csv, line 2: emcy",
+        "in column eds: ",
+    ),
+    (
+        "device,5,Valve,unit.eds,10,0",
+        "nodes.csv, line 2: ",
+        "in column period: 100 to 60000000",
+    ),
+    (
+        "emcy,5,,,99,0",
+        "nodes.csv, line 2: emcy",
+        "in column period: 100 to 60000000",
+    ),
+    (
+        "heartbeat,5,,,1500,0",
+        "nodes.csv, line 2: heartbeat",
+        "in column period: ",
+    ),
+    (
+        "emcy,5,,,60000001,0",
+        "nodes.csv, line 2: emcy",
+        "in column period: ",
+    ),
+    (
+        "emcy,5,,,1000,60000001",
+        "nodes.csv, line 2: emcy",
+        "in column jitter: 0 to 60000000",
+    ),
+    (
+        "device,5,Valve,unit.eds,0,1",
+        "nodes.csv, line 2: ",
+        "in column jitter: 0 to 60000000",
+    ),
+    (
+        "device,5,Valve,unit.eds,0",
+        "nodes.csv, line 2: ",
+        "wanted are six fields: row,node",
+    ),
+    (
+        "emcy,6,,,1000,0",
+        "nodes.csv, line 2: emcy,6",
+        "its device row is missing",
+    ),
+    (
+        "device,5,Valve,unit.eds,0,0\ndevice,5,Other,unit.eds,0,0",
+        "nodes.csv, line 3: ",
+        "the same row and node",
+    ),
+    (
+        "\n\nemcy,7,,,x,0",
+        "nodes.csv, line 4: emcy,7",
+        "in column period: ",
+    ),
+];
+
+/// The same of the table of PDOs.
+const PDO_MISTAKES: &[(&str, &str, &str)] = &[
+    (
+        "0,1,10000,0,670,",
+        "pdos.csv, line 2: ",
+        "in column node: 1 to 127",
+    ),
+    (
+        "5,513,10000,0,670,",
+        "pdos.csv, line 2: ",
+        "in column tpdo: 1 to 512",
+    ),
+    (
+        "5,1,99,0,670,",
+        "pdos.csv, line 2: ",
+        "in column period: 100 to 60000000 microseconds",
+    ),
+    (
+        "5,1,10 ms,0,670,",
+        "pdos.csv, line 2: ",
+        "in column period: ",
+    ),
+    (
+        "5,1,10000,-1,670,",
+        "pdos.csv, line 2: ",
+        "in column jitter: 0 to 60000000 microseconds",
+    ),
+    (
+        "5,1,10000,0,,",
+        "pdos.csv, line 2: ",
+        "in column deadline: 1 to 60000000 microseconds",
+    ),
+    (
+        "5,1,10000,0,0,",
+        "pdos.csv, line 2: ",
+        "in column deadline: ",
+    ),
+    (
+        "5,1,10000,0,670,11",
+        "pdos.csv, line 2: ",
+        "in column consumers: node.rpdo such as",
+    ),
+    (
+        "5,1,10000,0,670,5.1  5.2",
+        "pdos.csv, line 2: ",
+        "in column consumers: ",
+    ),
+    (
+        "5,1,10000,0,670,5.1.2",
+        "pdos.csv, line 2: ",
+        "in column consumers: ",
+    ),
+    (
+        "5,1,10000,0,670,128.1",
+        "pdos.csv, line 2: ",
+        "in column consumers: ",
+    ),
+    (
+        "5,1,10000,0,670",
+        "pdos.csv, line 2: ",
+        "wanted are six fields: node,tpdo",
+    ),
+    (
+        "5,1,10000,0,670,\n5,1,10000,0,670,",
+        "pdos.csv, line 3: ",
+        "the same node and tpdo",
+    ),
+    (
+        "6,1,10000,0,670,",
+        "pdos.csv, line 2: 6,1",
+        "rule 45: the TPDO has no payload",
+    ),
+    (
+        "5,2,10000,0,670,",
+        "pdos.csv, line 2: 5,2",
+        "rule 20: a mapping record",
+    ),
+    (
+        "5,1,10000,0,670,5.2",
+        "pdos.csv, line 2: ",
+        "rule 48: the RPDO has no payload",
+    ),
+    ("5,1,10000,0,670,5.1 5.1", "pdos.csv, line 2: ", "rule 48: "),
+    (
+        "5,2,10000,0,670,",
+        "pdos.csv, line 2: ",
+        "node 5 is Valve, by the EDS file unit.eds\n",
+    ),
+];
+
+/// Mistakes in the EDS text of the device: a part of it, and what stands there in its place.
+const EDS_MISTAKES: &[(&str, &str, &str, &str)] = &[
+    (
+        "[1017]",
+        "[1017",
+        "its EDS file, line 13: [1017",
+        "rule 10: ",
+    ),
+    (
+        "[1017]",
+        "[1400]",
+        "its EDS file, line 16: [1400]",
+        "rule 11: ",
+    ),
+    (
+        "AccessType=rw\n[1400]",
+        "DataType=6\n[1400]",
+        "its EDS file, line 15: DataType=6",
+        "rule 12: ",
+    ),
+    (
+        "$NODEID+0x200",
+        "20x",
+        "its EDS file, line 21: DefaultValue=20x",
+        "rule 13: ",
+    ),
+    (
+        "$NODEID+0x200",
+        "0200",
+        "its EDS file, line 21: DefaultValue=0200",
+        "rule 14: ",
+    ),
+    (
+        "1=0x1017",
+        "1=0x1018",
+        "its EDS file, line 5: 1=0x1018",
+        "rule 15: ",
+    ),
+    (
+        "ObjectType=9\n[1400sub1]",
+        "ObjectType=4\n[1400sub1]",
+        "its EDS file, line 17: ObjectType=4",
+        "rule 16: ",
+    ),
+    (
+        "BaudRate_250=1",
+        "BaudRate_250=0",
+        "nodes.csv",
+        "rule 52: no bit rate",
+    ),
+    (
+        "DefaultValue=255",
+        "DefaultValue=1",
+        "pdos.csv, line 2: ",
+        "rule 47: ",
+    ),
+    (
+        "PDOMapping=1",
+        "PDOMapping=0",
+        "pdos.csv, line 2: ",
+        "rule 23: ",
+    ),
+];
+
+/// Whether the words on a mistake begin so and have this in them.
+fn says(said: &str, begin: &str, part: &str) -> bool {
+    said.starts_with(begin) && said.contains(part)
+}
+
+#[test]
+fn mistakes_in_the_table_of_nodes(rt: HostRuntime) -> Result<(), Fail> {
+    for case in NODE_MISTAKES {
+        let (record, begin, part) = *case;
+        let nodes = format!(in rt.alloc(); "row,node,name,eds,period,jitter\n{record}\n")?;
+        let said = words(rt.alloc(), &nodes, PDOS, UNIT)?;
+        assert!(rt; says(&said, begin, part), "{said}");
+    }
+    Ok(())
+}
+
+#[test]
+fn mistakes_in_the_table_of_pdos(rt: HostRuntime) -> Result<(), Fail> {
+    for case in PDO_MISTAKES {
+        let (record, begin, part) = *case;
+        let pdos = format!(in rt.alloc();
+            "node,tpdo,period,jitter,deadline,consumers\n{record}\n"
+        )?;
+        let said = words(rt.alloc(), NODES, &pdos, UNIT)?;
+        assert!(rt; says(&said, begin, part), "{said}");
+    }
+    Ok(())
+}
+
+#[test]
+fn mistakes_in_the_eds_text(rt: HostRuntime) -> Result<(), Fail> {
+    for case in EDS_MISTAKES {
+        let (old, new, place, part) = *case;
+        let Some((before, after)) = UNIT.split_once(old) else {
+            return Err(Fail::from("no such part"));
+        };
+        let eds = format!(in rt.alloc(); "{before}{new}{after}")?;
+        let said = words(rt.alloc(), NODES, PDOS, &eds)?;
+        assert!(rt; said.contains(place) && said.contains(part), "{said}");
+    }
+    Ok(())
+}
+
+#[test]
+fn each_rule_is_explained(rt: HostRuntime) {
+    let ranges: &[(u8, u8)] = &[(1, 6), (10, 18), (20, 23), (30, 36), (40, 52), (60, 69)];
+    for range in ranges {
+        let (first, last) = *range;
+        for number in first..=last {
+            assert!(rt; explained(number).is_some());
+        }
+    }
+    assert!(rt; explained(53).is_none());
+}
+
+#[test]
+fn records_and_lines_are_found(rt: HostRuntime) -> Result<(), Fail> {
+    let text = b"a,b\r\n\r\n\"1\n2\",3\n4,5".as_slice();
+    let cases: &[(u64, u64, &[u8])] = &[(0, 1, b"a,b"), (1, 3, b"\"1\n2\",3"), (2, 5, b"4,5")];
+    for case in cases {
+        let (number, line, record) = *case;
+        let Some(place) = record_at(text, number) else {
+            return Err(Fail::from("no such record"));
+        };
+        assert_eq!(rt; place.line, line);
+        assert_eq!(rt; place.text, record);
+    }
+    assert!(rt; record_at(text, 3).is_none());
+    assert!(rt; line_at(text, 0).is_none());
+    Ok(())
+}
+
+#[test]
+fn a_record_is_shown_without_control_characters(rt: HostRuntime) -> Result<(), Fail> {
+    let source = Source {
+        name: "streams.csv",
+        text: b"id\n0x181,\x1B[2J",
+    };
+    let said = record_words(rt.alloc(), source, 2, 1)?;
+    assert!(rt; said.starts_with(b"streams.csv, line 2: 0x181,?[2J\nrule 2: a record"));
+    Ok(())
+}
