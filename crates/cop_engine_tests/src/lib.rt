@@ -7,6 +7,8 @@ mod boots;
 #[cfg(test)]
 mod large;
 #[cfg(test)]
+mod outlets;
+#[cfg(test)]
 mod runs;
 #[cfg(test)]
 mod tests;

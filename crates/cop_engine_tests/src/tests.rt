@@ -221,7 +221,7 @@ pub(crate) const VALVE: &[u8] =
 
 pub(crate) const ALONE: &[u8] = b"row,node,name,eds,period,jitter\ndevice,5,Valve,unit.eds,0,0\n";
 
-const NO_PDO: &[u8] = b"node,tpdo,period,jitter,deadline,consumers\n";
+pub(crate) const NO_PDO: &[u8] = b"node,tpdo,period,jitter,deadline,consumers\n";
 
 pub(crate) const ONE_PDO: &[u8] = b"node,tpdo,period,jitter,deadline,consumers\n5,1,10000,0,670,\n";
 
@@ -322,7 +322,7 @@ const VALVE_DCF: &[u8] =
     b"[FileInfo]\nFileName=unit.eds\nLastEDS=unit.eds\n[DeviceInfo]\nBaudRate_250=1\nBaudRate_500=1\nBaudRate_1000=1\n[MandatoryObjects]\nSupportedObjects=1\n1=0x1000\n[OptionalObjects]\nSupportedObjects=3\n1=0x1017\n2=0x1800\n3=0x1A00\n[ManufacturerObjects]\nSupportedObjects=1\n1=0x2000\n[1000]\nDataType=0x0007\nAccessType=ro\n[1017]\nDataType=0x0006\nAccessType=rw\nDefaultValue=0\nParameterValue=0x0064\n[1800]\nObjectType=0x9\nSubNumber=3\n[1800sub0]\nDataType=0x0005\nAccessType=ro\nDefaultValue=2\n[1800sub1]\nDataType=0x0007\nAccessType=rw\nDefaultValue=$NODEID+0x40000180\nParameterValue=0x40000181\n[1800sub2]\nDataType=0x0005\nAccessType=rw\nDefaultValue=255\n[1A00]\nObjectType=0x9\nSubNumber=3\n[1A00sub0]\nDataType=0x0005\nAccessType=ro\nDefaultValue=2\n[1A00sub1]\nDataType=0x0007\nAccessType=ro\nDefaultValue=0x20000120\n[1A00sub2]\nDataType=0x0007\nAccessType=ro\nDefaultValue=0x20000220\n[2000]\nObjectType=0x8\nSubNumber=3\n[2000sub0]\nDataType=0x0005\nAccessType=ro\nDefaultValue=2\n[2000sub1]\nDataType=0x0007\nAccessType=ro\nPDOMapping=1\n[2000sub2]\nDataType=0x0007\nAccessType=ro\nPDOMapping=1\n[DeviceComissioning]\nNodeID=5\nNodeName=Valve\nBaudrate=500\n";
 
 // A device at node 7, and one at node 5 with the same EDS file.
-const TWO_VALVES: &[u8] =
+pub(crate) const TWO_VALVES: &[u8] =
     b"row,node,name,eds,period,jitter\ndevice,7,Other,unit.eds,0,0\ndevice,5,Valve,unit.eds,0,0\n";
 
 #[test]
