@@ -3,12 +3,12 @@
 
 mod columns;
 mod explanations;
-mod network_words;
+mod networks;
 mod places;
 mod words;
 
 pub use columns::{header, wanted};
 pub use explanations::{Explanation, explained};
-pub use network_words::{Network, network_words};
+pub use networks::{Network, network_words};
 pub use places::{Place, line_at, record_at};
 pub use words::{Source, record_words, rule_words};

@@ -1,0 +1,5 @@
+use Rattle.std.proofs.Common.{length}
+use Rattle.cop_words.proofs.networks.+text_named.Given as goal
+
+abbrev pub decreases-text_named : goal.decreases-text_named
+decreases-text_named l = length l.files.now
