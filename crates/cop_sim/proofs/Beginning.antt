@@ -1,5 +1,5 @@
 -- Before the first step: each behaviour was asked once.
-use Rattle.std.proofs.Common.{◌≡◌, ℕ, zero, ◌+◌, ◌<◌, inl, inr, List, [], ◌∷◌, ◌++◌, length, get_or, slice_get, slice_set, replicate, Option, Some, None, Result, Ok, Err, IsErrAnd, IfErr, Bool, true, false, refl, sym, ap, ◌∙◌, subst, arith, suc, length-append}
+use Rattle.std.proofs.Common.{◌≡◌, ℕ, zero, ◌+◌, ◌<◌, inl, inr, List, [], ◌∷◌, ◌++◌, length, get_or, slice_get, slice_set, replicate, Option, Some, None, Result, Ok, Err, IsErrAnd, IfErr, Bool, true, false, refl, sym, ap, ◌∙◌, subst, arith, suc, length-append, map}
 use Rattle.std.specs.Option.{ForSome}
 use Rattle.std.proofs.lemmas.Bool.{cases_lt}
 use Rattle.std.proofs.lemmas.Option.{slice_get_within, get_or_from_slice_get}
@@ -78,6 +78,15 @@ first-at offer agrees (k ∷ ks) (b ∷ bs) (suc i) a e = first-at offer agrees 
 zeros : (xs : List ℕ) (i : ℕ) → ((k : ℕ) → get_or xs k 0 ≡ 0) → get_or xs i 0 ≡ 0
 zeros xs i h = h i
 
+abbrev pub ids_of : List Stream → List ℕ
+ids_of ks = map (λ k. k.id) ks
+
+-- nothing waits in the rings at first
+pub none-waits : (ks : List Stream) (i : ℕ) (r : RingValue) → slice_get (rings_of ks) i ≡ Some r → r.waiting ≡ []
+none-waits [] i r f = absurd (cc)
+none-waits (l ∷ ks) zero r f = (let q : record { id = l.id; waiting = []; most = most_of l } ≡ r = cc in ap (λ (v : RingValue). v.waiting) (sym q))
+none-waits (l ∷ ks) (suc i) r f = none-waits ks i r f
+
 ring-at : (ks : List Stream) (i : ℕ) (k : Stream) (r : RingValue) → slice_get ks i ≡ Some k → slice_get (rings_of ks) i ≡ Some r → (r.id ≡ k.id) × (r.waiting ≡ []) × (r.most ≡ most_of k)
 ring-at [] i k r e f = absurd (cc)
 ring-at (l ∷ ks) zero k r e f = (let p : l ≡ k = cc in let q : record { id = l.id; waiting = []; most = most_of l } ≡ r = cc in
@@ -87,14 +96,15 @@ ring-at (l ∷ ks) (suc i) k r e f = ring-at ks i k r e f
 module _ {B : Type 0} (offer : B → ℕ → Option Offer) (agrees : B → ℕ → ℕ → Bool) (plan : PlanValue) (until : ℕ) (bs cs : List B) (next : List (Option Offer)) (queued : List ℕ) where
   -- no step was taken
   pub begun : IsPlanned plan → AreDistinct plan.streams → length bs ≡ length plan.streams → AreFirst offer agrees until plan.streams bs cs next (length plan.streams) → length queued ≡ length plan.streams → ((k : ℕ) → get_or queued k 0 ≡ 0) →
-      IsAt offer agrees plan until bs cs (record { next = next; rings = rings_of plan.streams; queued = queued; running = None; joined = None; now = 0 }) []
+      IsAt offer agrees plan until bs cs (record { ids = ids_of plan.streams; next = next; rings = rings_of plan.streams; queued = queued; running = None; joined = None; now = 0 }) []
   begun planned distinct count firsts many zero-each = record {
     planned = planned;
     distinct = distinct;
     firsts_are = count;
     ahead = [];
     goes = begins (ticks_of plan.rate) (actors_of offer agrees plan.streams bs) until;
-    sized = record { next = firsts.long; rings = length-map plan.streams _; queued = many };
+    sized = record { ids = length-map plan.streams _; next = firsts.long; rings = length-map plan.streams _; queued = many };
+    ids_are = refl;
     behaviours_are = firsts.many ∙ count;
     seats = seat;
     runs = refl;
@@ -138,12 +148,13 @@ module _ {B : Type 0} (offer : B → ℕ → Option Offer) (agrees : B → ℕ �
       subst (λ j. IsCause plan (actors_of offer agrees plan.streams bs) m until failed (DisobeysAt i j)) (sym e)
       (actor_of offer agrees k.0 b.0, a, record { offer = w.0; answered = v.0; within = v.1; breaks = w.2 })
 
-  pub begun-of : (ss : List Stream) (rings : List RingValue) → plan.streams ≡ ss → IsPlanned plan → AreDistinct plan.streams → length bs ≡ length ss → AreFirst offer agrees until ss bs cs next (length ss) → rings ≡ rings_of ss → length queued ≡ length ss → ((k : ℕ) → get_or queued k 0 ≡ 0) →
-      IsAt offer agrees plan until bs cs (record { next = next; rings = rings; queued = queued; running = None; joined = None; now = 0 }) []
-  begun-of ss rings e planned distinct count firsts are many zero-each =
+  pub begun-of : (ss : List Stream) (ids : List ℕ) (rings : List RingValue) → plan.streams ≡ ss → IsPlanned plan → AreDistinct plan.streams → length bs ≡ length ss → AreFirst offer agrees until ss bs cs next (length ss) → ids ≡ ids_of ss → rings ≡ rings_of ss → length queued ≡ length ss → ((k : ℕ) → get_or queued k 0 ≡ 0) →
+      IsAt offer agrees plan until bs cs (record { ids = ids; next = next; rings = rings; queued = queued; running = None; joined = None; now = 0 }) []
+  begun-of ss ids rings e planned distinct count firsts named are many zero-each =
       let long : length ss ≡ length plan.streams = ap (λ (s : List Stream). length s) (sym e) in
-      subst (λ (rs : List RingValue). IsAt offer agrees plan until bs cs (record { next = next; rings = rs; queued = queued; running = None; joined = None; now = 0 }) []) (ap rings_of e ∙ sym are)
-      (begun planned distinct (count ∙ long) (subst (λ (s : List Stream). AreFirst offer agrees until s bs cs next (length s)) (sym e) firsts) (many ∙ long) zero-each)
+      subst (λ (is : List ℕ). IsAt offer agrees plan until bs cs (record { ids = is; next = next; rings = rings; queued = queued; running = None; joined = None; now = 0 }) []) (ap ids_of e ∙ sym named)
+      (subst (λ (rs : List RingValue). IsAt offer agrees plan until bs cs (record { ids = ids_of plan.streams; next = next; rings = rs; queued = queued; running = None; joined = None; now = 0 }) []) (ap rings_of e ∙ sym are)
+      (begun planned distinct (count ∙ long) (subst (λ (s : List Stream). AreFirst offer agrees until s bs cs next (length s)) (sym e) firsts) (many ∙ long) zero-each))
 
   pub first-cause : (ss : List Stream) (failed : Bool) (m : ℕ) (fault : SimFault) → ss ≡ plan.streams → length bs ≡ length plan.streams → FirstFault offer until ss bs fault → IsCause plan (actors_of offer agrees plan.streams bs) m until failed fault
   first-cause ss failed m (DisobeysAt i n) e count h =

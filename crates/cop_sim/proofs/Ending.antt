@@ -81,7 +81,8 @@ module _ {B : Type 0} (offer : B → ℕ → Option Offer) (agrees : B → ℕ �
       firsts_are = at.firsts_are;
       ahead = [];
       goes = Goes.ended (ticks_of plan.rate) (pos plan.rate) actors until (Places.there offer agrees plan until firsts bs h steps at) steps at.ahead at.goes id e runs-so within later;
-      sized = record { next = at.sized.next; rings = at.sized.rings; queued = at.sized.queued };
+      sized = record { ids = at.sized.ids; next = at.sized.next; rings = at.sized.rings; queued = at.sized.queued };
+      ids_are = at.ids_are;
       behaviours_are = at.behaviours_are;
       seats = λ i a b r p q s. seat-other offer agrees until steps x a b (next_at h.next i) r (get_or h.queued i 0) refl refl (at.seats i a b r p q s);
       runs = sym (ap flipped (Goes.runs-after (ticks_of plan.rate) (pos plan.rate) actors until (Places.there offer agrees plan until firsts bs h steps at) steps at.ahead at.goes id e runs-so within later));

@@ -10,6 +10,8 @@ pub mod Held
 pub mod Competing
 pub mod Actors
 pub mod Chosen
+pub mod RankLemmas
+pub mod HandLemmas
 pub mod Taken
 pub mod TurnLemmas
 pub mod Places

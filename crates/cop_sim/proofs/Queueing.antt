@@ -188,10 +188,12 @@ module _ {B : Type 0} (offer : B → ℕ → Option Offer) (agrees : B → ℕ �
         ahead = ahead';
         goes = goes';
         sized = record {
+          ids = ap (λ (xs : List ℕ). length xs) q.ids ∙ at.sized.ids;
           next = ap (λ (xs : List (Option Offer)). length xs) asked.3 ∙ length-set h.next d.place (answer_of offer until seat.0) ∙ at.sized.next;
           rings = many;
           queued = ap (λ (xs : List ℕ). length xs) counted ∙ length-set h.queued d.place (suc (get_or h.queued d.place 0)) ∙ at.sized.queued;
         };
+        ids_are = q.ids ∙ at.ids_are;
         behaviours_are = ap (λ (ys : List B). length ys) asked.1 ∙ length-set bs d.place asked.0 ∙ at.behaviours_are;
         seats = seats';
         runs = q.running ∙ at.runs ∙ ap flipped (sym runs');

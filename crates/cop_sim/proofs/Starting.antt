@@ -128,10 +128,12 @@ module _ {B : Type 0} (offer : B → ℕ → Option Offer) (agrees : B → ℕ �
       ahead = ahead';
       goes = goes';
       sized = record {
+        ids = ap (λ (xs : List ℕ). length xs) st.ids ∙ at.sized.ids;
         next = ap (λ (xs : List (Option Offer)). length xs) st.next ∙ at.sized.next;
         rings = ap (λ (rs : List RingValue). length rs) rings-are ∙ length-set h.rings s.place (without_first seat.1) ∙ at.sized.rings;
         queued = ap (λ (xs : List ℕ). length xs) st.queued ∙ at.sized.queued;
       };
+      ids_are = st.ids ∙ at.ids_are;
       behaviours_are = at.behaviours_are;
       seats = λ i b v r e f g. subst (λ (xs : List (Option Offer)). IsSeat offer agrees until (steps ++ x ∷ []) b v (next_at xs i) r (get_or h'.queued i 0)) (sym st.next)
           (subst (λ (xs : List ℕ). IsSeat offer agrees until (steps ++ x ∷ []) b v (next_at h.next i) r (get_or xs i 0)) (sym st.queued) (seats' i b v r e f g));

@@ -22,6 +22,7 @@ use Rattle.cop_sim.specs.Events.{IsNextEvent}
 use Rattle.cop_sim.specs.Play.{Actor, actors_of, queued_at, queue_step, obeys, IsPartialPlay}
 use Rattle.cop_sim.specs.Sinks.{IsCause}
 use Rattle.cop_sim.specs.Seats.{next_at, IsDueTo, IsDueSoFar, IsChosen, IsChosenSoFar, IsPlaceOf}
+use Rattle.cop_sim.specs.Hands.{AreTheirs}
 use Rattle.cop_sim.specs.Stages.{AtHand, IsAt, IsQueued, QueueFault, IsStarted, IsFault, IsTurned}
 use Rattle.cop_sim.proofs.Plays.{partial}
 use Rattle.cop_sim.proofs.Places as Places
@@ -56,6 +57,19 @@ module _ {B S : Type 0} (offer : B → ℕ → Option Offer) (agrees : B → ℕ
 
   pub turned-sink : (failed : Bool) (s t : S) (fault : SimFault) → fault ≡ Sink → failed ≡ true → IsFault takes plan actors until failed s t steps fault
   turned-sink failed s t fault e f = subst (IsFault takes plan actors until failed s t steps) (sym e) (record { cause = f; left = partial-now })
+
+  -- each ring is that of the stream at its place
+  pub theirs : AreTheirs plan.streams h.rings
+  theirs j k r e f =
+      let l = slice_get_within plan.streams j k e in
+      let a = Places.actor-there offer agrees plan until firsts bs h steps at j l in
+      let b = Places.behaviour-there offer agrees plan until firsts bs h steps at j l in
+      let s = at.seats j a.0 b.0 r a.1 b.1 f in
+      let q = some-stream a.0.stream k (sym (Places.stream-of offer agrees plan until firsts bs h steps at j a.0 a.1) ∙ e) in
+      s.held.its ∙ ap (λ (v : Stream). v.id) q
+    where
+      some-stream : (x y : Stream) → Some x ≡ Some y → x ≡ y
+      some-stream x y e = cc
 
   module _ (due : Option Due) (first : IsDueSoFar plan.streams h.next (length h.next) due) where
     pub turned-end : (cs : List B) (h' : AtHand) (failed : Bool) (s t : S) (e id : ℕ) → cs ≡ bs → IsNextEvent h.running due (any_in h.rings) h.now until (End e id) → h' ≡ record h { running = None; now = e } → takes s (step.End e id) t →
@@ -146,19 +160,15 @@ module _ {B S : Type 0} (offer : B → ℕ → Option Offer) (agrees : B → ℕ
 
 -- ---- the same by what each call was given
 
-pub due-here : (ss tt : List Stream) (next next' : List (Option Offer)) (due : Option Due) → ss ≡ tt → next ≡ next' → IsDueSoFar ss next (length next) due → IsDueSoFar tt next' (length next') due
-due-here ss tt next next' due e f h = subst (λ (n : List (Option Offer)). IsDueSoFar tt n (length n) due) f (subst (λ (s : List Stream). IsDueSoFar s next (length next) due) e h)
+pub event-here : (running : Option (ℕ × ℕ)) (due : Option Due) (waits : Bool) (rings : List RingValue) (now until : ℕ) (event : Event) → waits ≡ any_in rings → IsNextEvent running due waits now until event → IsNextEvent running due (any_in rings) now until event
+event-here running due waits rings now until event e h = subst (λ (b : Bool). IsNextEvent running due b now until event) e h
 
-pub event-here : (running : Option (ℕ × ℕ)) (due : Option Due) (waits : Bool) (rings rings' : List RingValue) (now until : ℕ) (event : Event) → waits ≡ any_in rings → rings ≡ rings' → IsNextEvent running due waits now until event → IsNextEvent running due (any_in rings') now until event
-event-here running due waits rings rings' now until event e f h = subst (λ (b : Bool). IsNextEvent running due b now until event) (e ∙ ap any_in f) h
-
-pub chosen-here : {B : Type 0} (agrees : B → ℕ → ℕ → Bool) (bs : List B) (ss tt : List Stream) (next next' : List (Option Offer)) (rings rings' : List RingValue) (tau tau' now : ℕ) (o : Option Sent) → ss ≡ tt → next ≡ next' → rings ≡ rings' → tau ≡ tau' →
-    IsChosenSoFar agrees ss next rings bs tau now (length ss) o → IsChosenSoFar agrees tt next' rings' bs tau' now (length tt) o
-chosen-here agrees bs ss tt next next' rings rings' tau tau' now o e f g i h =
-    subst (λ (t : ℕ). IsChosenSoFar agrees tt next' rings' bs t now (length tt) o) i
-    (subst (λ (r : List RingValue). IsChosenSoFar agrees tt next' r bs tau now (length tt) o) g
-    (subst (λ (n : List (Option Offer)). IsChosenSoFar agrees tt n rings bs tau now (length tt) o) f
-    (subst (λ (s : List Stream). IsChosenSoFar agrees s next rings bs tau now (length s) o) e h)))
+pub chosen-here : {B : Type 0} (agrees : B → ℕ → ℕ → Bool) (bs : List B) (ss tt : List Stream) (next : List (Option Offer)) (due : Option Due) (rings : List RingValue) (tau tau' now : ℕ) (o : Option Sent) → ss ≡ tt → tau ≡ tau' →
+    (IsDueSoFar ss next (length next) due → AreTheirs ss rings → IsChosenSoFar agrees ss next rings bs tau now (length ss) o) →
+    IsDueSoFar tt next (length next) due → AreTheirs tt rings → IsChosenSoFar agrees tt next rings bs tau' now (length tt) o
+chosen-here agrees bs ss tt next due rings tau tau' now o e i h =
+    subst (λ (t : ℕ). IsDueSoFar tt next (length next) due → AreTheirs tt rings → IsChosenSoFar agrees tt next rings bs t now (length tt) o) i
+    (subst (λ (s : List Stream). IsDueSoFar s next (length next) due → AreTheirs s rings → IsChosenSoFar agrees s next rings bs tau now (length s) o) e h)
 
 pub err-turned : {B S : Type 0} (offer : B → ℕ → Option Offer) (agrees : B → ℕ → ℕ → Bool) (takes : S → Step → S → Type 0) (plan : PlanValue) (until : ℕ) (firsts bs : List B) (h : AtHand) (failed : Bool) (s t : S) (steps : List Step) (r : Result Bool SimFault) (fault : SimFault) →
     IsErrAnd r (λ f. f ≡ fault) → IsFault takes plan (actors_of offer agrees plan.streams firsts) until failed s t steps fault → IsTurned offer agrees takes plan until firsts bs h failed s t steps r

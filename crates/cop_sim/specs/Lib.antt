@@ -2,6 +2,8 @@ pub mod Guarantee
 pub mod Play
 pub mod Sinks
 pub mod Seats
+pub mod Ranks
+pub mod Hands
 pub mod Events
 pub mod Going
 pub mod Stages

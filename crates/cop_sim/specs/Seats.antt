@@ -30,10 +30,10 @@ abbrev pub IsDueSoFar : List Stream → List (Option Offer) → ℕ → Option D
 IsDueSoFar streams next n None = (j : ℕ) → j < n → next_at next j ≡ None
 IsDueSoFar streams next n (Some d) = IsDueTo streams next n d
 
--- it comes before the one that was found
-abbrev pub comes_before : ℕ → Offer → Option Due → Bool
-comes_before id o None = true
-comes_before id o (Some d) = nat_lt (queued_at o) (queued_at d.offer) || ((queued_at o == queued_at d.offer) && nat_lt id d.id)
+-- the first offer at hand, if there is one, is queued before a moment
+abbrev pub is_due_before : Option Due → ℕ → Bool
+is_due_before None m = false
+is_due_before (Some d) m = nat_lt (queued_at d.offer) m
 
 -- what a behaviour b answers, as far as it is queued by the end
 abbrev pub answer_of : {B : Type 0} → (B → ℕ → Option Offer) → ℕ → B → Option Offer

@@ -1,5 +1,5 @@
 -- The simulator between two steps.
-use Rattle.std.specs.Prelude.{◌≡◌, ◌≢◌, ℕ, ◌+◌, ◌-◌, ◌*◌, ◌<◌, ◌≤◌, ◌^◌, ◌⊎◌, List, [], ◌∷◌, ◌++◌, Option, None, Some, Bool, true, false, suc, length, drop, get_or, slice_get, slice_set, Result, Ok, Err}
+use Rattle.std.specs.Prelude.{◌≡◌, ◌≢◌, ℕ, ◌+◌, ◌-◌, ◌*◌, ◌<◌, ◌≤◌, ◌^◌, ◌⊎◌, List, [], ◌∷◌, ◌++◌, Option, None, Some, Bool, true, false, suc, length, map, drop, get_or, slice_get, slice_set, Result, Ok, Err}
 use Rattle.cop_frame.specs.Rate.{ticks_of}
 use Rattle.cop_rta.specs.declared.streams.Stream.{Stream}
 use Rattle.cop_rta.specs.Streams.{AreDistinct}
@@ -21,9 +21,10 @@ use Rattle.cop_sim.specs.declared.choosing.Sent.{Sent}
 use Rattle.cop_sim.specs.Seats.{next_at, answer_of, IsAsked}
 use Rattle.cop_sim.specs.Sinks.{IsCause}
 
--- what is at hand: of each stream, by place, the next offer, the ring of the instances that wait and how many were queued;
+-- what is at hand: of each stream, by place, the identifier, the next offer, the ring of the instances that wait and how many were queued;
 -- the transfer that runs, the place of a joiner that was sent and is not queued yet, and the moment
 pub record AtHand : Type 0 where
+  pub ids : List ℕ
   pub next : List (Option Offer)
   pub rings : List RingValue
   pub queued : List ℕ
@@ -32,10 +33,11 @@ pub record AtHand : Type 0 where
   pub now : ℕ
 
 abbrev pub at_hand : Stage → AtHand
-at_hand s = record { next = s.next.items; rings = s.rings.items; queued = s.queued.items; running = s.running; joined = s.joined; now = s.now }
+at_hand s = record { ids = s.offers.ids; next = s.offers.next; rings = s.waiting; queued = s.queued.items; running = s.running; joined = s.joined; now = s.now }
 
 -- one for each stream
 pub record AreSized (count : ℕ) (h : AtHand) : Type 0 where
+  pub ids : length h.ids ≡ count
   pub next : length h.next ≡ count
   pub rings : length h.rings ≡ count
   pub queued : length h.queued ≡ count
@@ -84,6 +86,7 @@ pub record IsAt {B : Type 0} (offer : B → ℕ → Option Offer) (agrees : B �
   pub ahead : List Step
   pub goes : Goes (ticks_of plan.rate) (actors_of offer agrees plan.streams firsts) until steps ahead
   pub sized : AreSized (length plan.streams) h
+  pub ids_are : h.ids ≡ map (λ k. k.id) plan.streams
   pub behaviours_are : length behaviours ≡ length plan.streams
   pub seats : (i : ℕ) (a : Actor) (b : B) (r : RingValue) → slice_get (actors_of offer agrees plan.streams firsts) i ≡ Some a → slice_get behaviours i ≡ Some b → slice_get h.rings i ≡ Some r →
       IsSeat offer agrees until steps a b (next_at h.next i) r (get_or h.queued i 0)
@@ -130,6 +133,7 @@ IsFull rings joined place = (joined ≢ Some place) × ((r : RingValue) → slic
 -- the stage after an offer is queued and its behaviour is asked again
 pub record IsQueued {B : Type 0} (offer : B → ℕ → Option Offer) (agrees : B → ℕ → ℕ → Bool) (until : ℕ) (d : Due) (h h' : AtHand) (bs cs : List B) : Type 0 where
   pub put : queued_at d.offer ≤ until → IsPut h.rings h.joined d.place (instance_of d) h'.rings h'.joined
+  pub ids : h'.ids ≡ h.ids
   pub running : h'.running ≡ h.running
   pub now : queued_at d.offer ≤ until → h'.now ≡ queued_at d.offer
   pub queued : get_or h.queued d.place 0 < 2 ^ 64 - 1 → h'.queued ≡ slice_set h.queued d.place (suc (get_or h.queued d.place 0))
@@ -147,6 +151,7 @@ QueueFault offer takes until streams d h bs s t Memory = ⊥
 
 -- the stage after a transfer starts, of an instance that waits or else of a joiner
 pub record IsStarted (ticks : ℕ) (s : Sent) (h h' : AtHand) : Type 0 where
+  pub ids : h'.ids ≡ h.ids
   pub next : h'.next ≡ h.next
   pub queued : h'.queued ≡ h.queued
   pub now : h'.now ≡ h.now

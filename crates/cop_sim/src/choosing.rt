@@ -1,11 +1,15 @@
 //! Who is sent at a start.
 
-ghost use Rattle.std.specs.Prelude.{◌≡◌, ◌^◌, ◌<◌, ◌==◌, length, Some};
+ghost use Rattle.std.specs.Prelude.{◌≡◌, ◌^◌, ◌<◌, ◌==◌, length, IfSome, Some};
 ghost use Rattle.cop_sim.specs.Play.{queued_at};
-ghost use Rattle.cop_sim.specs.Seats.{joins_with, may_be_sent, IsChosenSoFar, is_lower, lower_of};
+ghost use Rattle.cop_sim.specs.Seats.{joins_with, may_be_sent, IsDueSoFar, IsChosenSoFar, is_due_before, is_lower, lower_of};
+ghost use Rattle.cop_sim.specs.Hands.{AreTheirs};
 
 use crate::behaviours::{Behaviour, Offer};
+use crate::due::Due;
+use crate::offers::Offers;
 use crate::seats::queued_at;
+use crate::waiting::Waiting;
 use cop_bus::Ring;
 use cop_rta::Stream;
 
@@ -74,8 +78,8 @@ fn lower_of(chosen: Option<Sent>, place: usize, id: u16, may: bool) -> Option<Se
     }
 }
 
-/// The lowest of the streams of which an instance waits or joins.
-pub(crate) fn choose<B: Behaviour>(
+// The lowest of the streams of which an instance waits or joins, all of which are looked at.
+fn choose_of_all<B: Behaviour>(
     streams: &[Stream],
     next: &[Option<Offer>],
     rings: &[Ring],
@@ -96,4 +100,46 @@ pub(crate) fn choose<B: Behaviour>(
         chosen = lower_of(chosen, i, id, may);
     }
     chosen
+}
+
+fn is_due_before(due: Option<Due>, moment: u128) -> bool
+    ensures { result ≡ is_due_before due moment }
+{
+    match due {
+        Some(due) => queued_at(&due.offer) < moment,
+        None => false,
+    }
+}
+
+/// The lowest of the streams of which an instance waits or joins, by the first offer at hand. Where that is queued a bit
+/// time after the start or later no stream joins, and none but the first that waits is looked at.
+pub(crate) fn choose<B: Behaviour>(
+    streams: &[Stream],
+    offers: &Offers,
+    waiting: &Waiting,
+    behaviours: &Vec<B>,
+    ticks: u32,
+    now: u64,
+    first: Option<Due>,
+) -> Option<Sent>
+    requires early { now < 2 ^ 33 }
+    requires next { length offers.now.next ≡ length streams.now }
+    requires rings { length waiting.now ≡ length streams.now }
+    requires behaviours { length behaviours.now.items ≡ length streams.now }
+    ensures within { IfSome result (λ s. s.place < length streams.now) }
+    ensures chosen { IsDueSoFar streams.now offers.now.next (length offers.now.next) first → AreTheirs streams.now waiting.now
+        → IsChosenSoFar B.agrees streams.now offers.now.next waiting.now behaviours.now.items ticks now (length streams.now) result }
+{
+    if is_due_before(first, u128::from(now) + u128::from(ticks)) {
+        choose_of_all(
+            streams,
+            offers.next(),
+            waiting.rings(),
+            behaviours,
+            ticks,
+            now,
+        )
+    } else {
+        waiting.lowest()
+    }
 }

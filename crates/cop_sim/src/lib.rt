@@ -8,7 +8,9 @@ mod due;
 mod faults;
 mod guarantee;
 mod laws;
+mod offers;
 mod playing;
+mod ranking;
 mod scripts;
 mod seats;
 mod simulating;
@@ -16,6 +18,7 @@ mod sinks;
 mod stages;
 mod traces;
 mod turns;
+mod waiting;
 
 pub use behaviours::{Behaviour, Offer};
 pub use drawing::{Seeded, seeded_obeys};

@@ -1,25 +1,25 @@
 //! The simulator's turns, each of which takes a step.
 
-ghost use Rattle.std.specs.Prelude.{◌≡◌, ℕ, ◌-◌, ◌≤◌, ◌<◌, ◌^◌, List, true, false, Some, None, length, slice_get, slice_set, OnOk, OnErr, IfErr};
-ghost use Rattle.cop_bus.specs.Rings.{RingValue};
+ghost use Rattle.std.specs.Prelude.{◌≡◌, ℕ, ◌-◌, ◌≤◌, ◌<◌, ◌^◌, List, true, false, Some, None, length, slice_get, OnOk, OnErr, IfErr};
 ghost use Rattle.cop_bus.specs.declared.steps.Step.{Step};
 ghost use Rattle.cop_bus.specs.declared.steps.Step.TheVariants as steps;
 ghost use Rattle.cop_sim.specs.Play.{queued_at, queue_step, obeys};
 ghost use Rattle.cop_sim.specs.declared.behaviours.Offer.{Offer};
 ghost use Rattle.cop_rta.specs.declared.streams.Stream.{Stream};
 ghost use Rattle.cop_sim.specs.Seats.{next_at};
-ghost use Rattle.cop_sim.specs.Stages.{at_hand, AreSized, instance_of, IsPut, IsFull, IsQueued, QueueFault, IsStarted, without_first, IsAt, IsTurned};
+ghost use Rattle.cop_sim.specs.Stages.{at_hand, AreSized, instance_of, IsPut, IsFull, IsQueued, QueueFault, IsStarted, IsAt, IsTurned};
 ghost use Rattle.cop_sim.specs.declared.faults.SimFault.TheVariants as faults;
 
 use crate::behaviours::{Behaviour, Offer};
 use crate::choosing::{Sent, choose};
-use crate::due::{Due, first_due};
+use crate::due::Due;
 use crate::faults::SimFault;
 use crate::playing::{Event, hand, next_event};
 use crate::seats::ask;
 use crate::sinks::Sink;
 use crate::stages::Stage;
-use cop_bus::{Full, Instance, Ring, Step, any_waits, queue};
+use crate::waiting::Waiting;
+use cop_bus::{Full, Instance, Step};
 use cop_plan::Plan;
 use cop_rta::Stream;
 
@@ -45,20 +45,20 @@ pub(crate) fn end_transfer<S: Sink>(
 
 // Lets an instance wait in the ring of its place, unless it is the joiner's that was sent.
 fn put(
-    rings: &mut Vec<Ring>,
+    waiting: &mut Waiting,
     joined: &mut Option<usize>,
     place: usize,
     instance: Instance,
 ) -> Result<(), Full>
-    requires { place < length rings.old.items }
-    ensures put { OnOk result (IsPut rings.old.items joined.old place instance rings.new.items joined.new) }
-    ensures full { OnErr result (IsFull rings.old.items joined.old place) }
+    requires { place < length waiting.old }
+    ensures put { OnOk result (IsPut waiting.old joined.old place instance waiting.new joined.new) }
+    ensures full { OnErr result (IsFull waiting.old joined.old place) }
 {
     if *joined == Some(place) {
         *joined = None;
         return Ok(());
     }
-    queue(rings, place, instance)
+    waiting.queue(place, instance)
 }
 
 // The instance of an offer, which is queued by the end.
@@ -103,7 +103,7 @@ pub(crate) fn queue_offer<B: Behaviour, S: Sink>(
     requires place { due.place < length streams.now }
     requires works { S.has_failed sink.old ≡ false }
     ensures queued { OnOk result (IsQueued B.offer B.agrees until due (at_hand stage.old) (at_hand stage.new) behaviours.old.items behaviours.new.items) }
-    ensures obeys { OnOk result ((o : Offer) (k : Stream) → next_at stage.new.next.items due.place ≡ Some o → slice_get streams.now due.place ≡ Some k → obeys k (Some due.offer) o ≡ true) }
+    ensures obeys { OnOk result ((o : Offer) (k : Stream) → next_at stage.new.offers.next due.place ≡ Some o → slice_get streams.now due.place ≡ Some k → obeys k (Some due.offer) o ≡ true) }
     ensures taken { OnOk result (queued_at due.offer ≤ until → S.takes sink.old (queue_step due.id due.offer) sink.new) }
     ensures works { OnOk result (S.has_failed sink.new ≡ false) }
     ensures fault { IfErr result (λ fault. QueueFault B.offer S.takes until streams.now due (at_hand stage.old) behaviours.old.items sink.old sink.new fault) }
@@ -111,7 +111,7 @@ pub(crate) fn queue_offer<B: Behaviour, S: Sink>(
 {
     let place = due.place;
     let instance = instance_of(&due);
-    if put(&mut stage.rings, &mut stage.joined, place, instance).is_err() {
+    if put(&mut stage.waiting, &mut stage.joined, place, instance).is_err() {
         return Err(SimFault::Backlog { id: due.id });
     }
     hand(sink, queue_step(&instance))?;
@@ -120,7 +120,7 @@ pub(crate) fn queue_offer<B: Behaviour, S: Sink>(
     stage.queued[place] = queued;
     match ask(behaviours, place, &streams[place], Some(due.offer), until) {
         Ok(offer) => {
-            stage.next[place] = offer;
+            stage.offers.set(place, offer);
             Ok(())
         }
         Err(_) => Err(SimFault::Disobeys {
@@ -128,16 +128,6 @@ pub(crate) fn queue_offer<B: Behaviour, S: Sink>(
             instance: queued,
         }),
     }
-}
-
-// Takes the first instance of a place out of its ring.
-fn send(rings: &mut Vec<Ring>, place: usize) -> Option<Instance>
-    requires { place < length rings.old.items }
-    ensures value { (r : RingValue) → slice_get rings.old.items place ≡ Some r → result ≡ slice_get r.waiting 0 }
-    ensures rest { (r : RingValue) → slice_get rings.old.items place ≡ Some r → rings.new.items ≡ slice_set rings.old.items place (without_first r) }
-    ensures count { length rings.new.items ≡ length rings.old.items }
-{
-    rings[place].take()
 }
 
 // The length of a joiner's frame.
@@ -157,8 +147,8 @@ pub(crate) fn start_transfer<S: Sink>(
     sent: Sent,
     sink: &mut S,
 ) -> Result<(), SimFault>
-    requires rings { sent.place < length stage.old.rings.items }
-    requires next { sent.place < length stage.old.next.items }
+    requires rings { sent.place < length stage.old.waiting }
+    requires next { sent.place < length stage.old.offers.next }
     requires early { stage.old.now ≤ 4000000000 }
     requires works { S.has_failed sink.old ≡ false }
     ensures started { OnOk result (IsStarted ticks sent (at_hand stage.old) (at_hand stage.new)) }
@@ -176,11 +166,11 @@ pub(crate) fn start_transfer<S: Sink>(
             id: sent.id,
         },
     )?;
-    let bits = match send(&mut stage.rings, place) {
+    let bits = match stage.waiting.take(place) {
         Some(instance) => instance.frame.bits,
         None => {
             stage.joined = Some(place);
-            bits_of(stage.next[place])
+            bits_of(stage.offers.next()[place])
         }
     };
     stage.running = Some((now + u64::from(bits) * u64::from(ticks), sent.id));
@@ -206,11 +196,19 @@ pub(crate) fn turn<B: Behaviour, S: Sink>(
     let streams = plan.streams().streams();
     let ticks = plan.rate().ticks_per_bit();
     let now = stage.now;
-    let first = first_due(streams, &stage.next);
-    match next_event(stage.running, first, any_waits(&stage.rings), now, until) {
+    let first = stage.offers.first();
+    match next_event(stage.running, first, stage.waiting.any_waits(), now, until) {
         Event::End { at, id } => end_transfer(stage, at, id, sink)?,
         Event::Queue { due } => queue_offer(streams, until, behaviours, stage, due, sink)?,
-        Event::Start => match choose(streams, &stage.next, &stage.rings, behaviours, ticks, now) {
+        Event::Start => match choose(
+            streams,
+            &stage.offers,
+            &stage.waiting,
+            behaviours,
+            ticks,
+            now,
+            first,
+        ) {
             Some(sent) => start_transfer(stage, ticks, sent, sink)?,
             None => return Ok(false),
         },

@@ -1,17 +1,19 @@
-use Rattle.std.proofs.Common.{arith, ◌≡◌, ◌∙◌, refl, ap, subst, Some, false}
+use Rattle.std.proofs.Common.{arith, ◌≡◌, ◌∙◌, refl, ap, sym, subst, Some, false}
 use Rattle.std.proofs.lemmas.List.{get_or_default}
 use Rattle.cop_rta.specs.declared.streams.Stream.{Stream}
 use Rattle.cop_bus.specs.declared.bus.Instance.{Instance}
 use Rattle.cop_bus.specs.declared.steps.Step.{Step}
 use Rattle.cop_bus.specs.declared.steps.Step.TheVariants.{Queue}
 use Rattle.cop_sim.specs.Play.{obeys}
+use Rattle.cop_sim.specs.Hands.{OffersValue}
+use Rattle.cop_sim.specs.Seats.{next_at}
 use Rattle.cop_sim.proofs.TurnLemmas.{next_obeys, same_stream}
 use Rattle.cop_sim.proofs.turns.queue_offer.Goals as goal
 
 pub returns-in-Ok-clause-obeys : goal.returns-in-Ok-clause-obeys
 returns-in-Ok-clause-obeys g c o k e there =
-    next_obeys c.args.streams.now c.args.stage.now.next.items c.args.due.place c.index-streams-place.result k (Some c.args.due.offer) c.in-Ok.offer o
-    (omega (arith, c.requires.place, c.requires.sized.next)) c.index-streams-place.is there e c.in-Ok.ensures.obeys
+    next_obeys c.args.streams.now c.args.stage.now.offers.next c.args.due.place c.index-streams-place.result k (Some c.args.due.offer) c.in-Ok.offer o
+    (omega (arith, c.requires.place, c.requires.sized.next)) c.index-streams-place.is there (ap (λ (v : OffersValue). next_at v.next c.args.due.place) (sym c.set.ensures) ∙ e) c.in-Ok.ensures.obeys
 
 pub returns-in-Err-clause-fault : goal.returns-in-Err-clause-fault
 returns-in-Err-clause-fault g c = (

@@ -3,7 +3,7 @@ use Rattle.cop_frame.specs.Rate.{ticks_of}
 use Rattle.cop_rta.specs.declared.streams.Stream.{Stream}
 use Rattle.cop_sim.specs.declared.playing.Event.TheVariants.{End, Queue, Start, Nothing}
 use Rattle.cop_sim.specs.Stages.{at_hand, QueueFault, IsStarted}
-use Rattle.cop_sim.proofs.Turning.{turned-sink, turned-end, turned-nothing, turned-queue, queue-fault, chosen-some, turned-start, due-here, event-here, chosen-here, err-turned}
+use Rattle.cop_sim.proofs.Turning.{turned-sink, turned-end, turned-nothing, turned-queue, queue-fault, chosen-some, turned-start, theirs, event-here, chosen-here, err-turned}
 use Rattle.cop_sim.proofs.turns.turn.Goals as goal
 
 pub returns-in_err-end_transfer-in-End-clause-turned :
@@ -16,7 +16,7 @@ pub returns-in_err-queue_offer-in-Queue-clause-turned :
     goal.returns-in_err-queue_offer-in-Queue-clause-turned
 returns-in_err-queue_offer-in-Queue-clause-turned g c firsts steps at short =
     err-turned g.B.Behaviour.offer g.B.Behaviour.agrees g.S.Sink.takes c.args.plan.now c.args.until firsts c.queue_offer.new.behaviours.items (at_hand c.queue_offer.new.stage) (g.S.Sink.has_failed c.queue_offer.new.sink) c.args.sink.now c.queue_offer.new.sink steps c.from_residual-in_err-queue_offer-in-Queue.result _ c.from_residual-in_err-queue_offer-in-Queue.ensures.1
-    (queue-fault g.B.Behaviour.offer g.B.Behaviour.agrees g.S.Sink.takes c.args.plan.now c.args.until firsts c.args.behaviours.now.items (at_hand c.args.stage.now) steps at c.first_due-first.result (due-here c.streams-streams.result.now c.args.plan.now.streams c.deref.result.now c.args.stage.now.next.items c.first_due-first.result (c.streams-streams.ensures.items ∙ c.streams.ensures.items) c.deref.ensures.value c.first_due-first.ensures) c.in-Queue.due (event-here c.args.stage.now.running c.first_due-first.result c.any_waits.result c.deref-2.result.now c.args.stage.now.rings.items c.args.stage.now.now c.args.until (Queue c.in-Queue.due) c.any_waits.ensures c.deref-2.ensures.value c.in-Queue.ensures) short (g.S.Sink.has_failed c.queue_offer.new.sink) c.args.sink.now c.queue_offer.new.sink _
+    (queue-fault g.B.Behaviour.offer g.B.Behaviour.agrees g.S.Sink.takes c.args.plan.now c.args.until firsts c.args.behaviours.now.items (at_hand c.args.stage.now) steps at c.first-first.result (c.first-first.ensures.first c.args.plan.now.streams at.ids_are) c.in-Queue.due (event-here c.args.stage.now.running c.first-first.result c.any_waits.result c.args.stage.now.waiting c.args.stage.now.now c.args.until (Queue c.in-Queue.due) c.any_waits.ensures c.in-Queue.ensures) short (g.S.Sink.has_failed c.queue_offer.new.sink) c.args.sink.now c.queue_offer.new.sink _
     (subst (λ (ss : List Stream). QueueFault g.B.Behaviour.offer g.S.Sink.takes c.args.until ss c.in-Queue.due (at_hand c.args.stage.now) c.args.behaviours.now.items c.args.sink.now c.queue_offer.new.sink c.in_err-queue_offer-in-Queue.field-0.0) (c.streams-streams.ensures.items ∙ c.streams.ensures.items) c.in_err-queue_offer-in-Queue.ensures.fault)
     c.in_err-queue_offer-in-Queue.ensures.failed)
 
@@ -28,23 +28,23 @@ returns-in_err-start_transfer-in-Some-clause-turned g c firsts steps at short =
 
 pub returns-in-None-clause-turned : goal.returns-in-None-clause-turned
 returns-in-None-clause-turned g c firsts steps at short =
-    absurd (chosen-some g.B.Behaviour.offer g.B.Behaviour.agrees g.S.Sink.takes c.args.plan.now c.args.until firsts c.args.behaviours.now.items (at_hand c.args.stage.now) steps at c.first_due-first.result (due-here c.streams-streams.result.now c.args.plan.now.streams c.deref.result.now c.args.stage.now.next.items c.first_due-first.result (c.streams-streams.ensures.items ∙ c.streams.ensures.items) c.deref.ensures.value c.first_due-first.ensures) (event-here c.args.stage.now.running c.first_due-first.result c.any_waits.result c.deref-2.result.now c.args.stage.now.rings.items c.args.stage.now.now c.args.until Start c.any_waits.ensures c.deref-2.ensures.value c.in-Start.ensures)
-    (chosen-here g.B.Behaviour.agrees c.args.behaviours.now.items c.streams-streams.result.now c.args.plan.now.streams c.deref-in-Start.result.now c.args.stage.now.next.items c.deref-in-Start-2.result.now c.args.stage.now.rings.items c.ticks_per_bit-ticks.result (ticks_of c.args.plan.now.rate) c.args.stage.now.now None (c.streams-streams.ensures.items ∙ c.streams.ensures.items) c.deref-in-Start.ensures.value c.deref-in-Start-2.ensures.value (c.ticks_per_bit-ticks.ensures.ticks ∙ ap ticks_of c.rate.ensures) c.in-None.ensures))
+    absurd (chosen-some g.B.Behaviour.offer g.B.Behaviour.agrees g.S.Sink.takes c.args.plan.now c.args.until firsts c.args.behaviours.now.items (at_hand c.args.stage.now) steps at c.first-first.result (c.first-first.ensures.first c.args.plan.now.streams at.ids_are) (event-here c.args.stage.now.running c.first-first.result c.any_waits.result c.args.stage.now.waiting c.args.stage.now.now c.args.until Start c.any_waits.ensures c.in-Start.ensures)
+    (chosen-here g.B.Behaviour.agrees c.args.behaviours.now.items c.streams-streams.result.now c.args.plan.now.streams c.args.stage.now.offers.next c.first-first.result c.args.stage.now.waiting c.ticks_per_bit-ticks.result (ticks_of c.args.plan.now.rate) c.args.stage.now.now None (c.streams-streams.ensures.items ∙ c.streams.ensures.items) (c.ticks_per_bit-ticks.ensures.ticks ∙ ap ticks_of c.rate.ensures) c.in-None.ensures.chosen (c.first-first.ensures.first c.args.plan.now.streams at.ids_are) (theirs g.B.Behaviour.offer g.B.Behaviour.agrees g.S.Sink.takes c.args.plan.now c.args.until firsts c.args.behaviours.now.items (at_hand c.args.stage.now) steps at)))
 
 pub returns-in-Nothing-clause-turned : goal.returns-in-Nothing-clause-turned
 returns-in-Nothing-clause-turned g c firsts steps at short =
-    turned-nothing g.B.Behaviour.offer g.B.Behaviour.agrees g.S.Sink.takes c.args.plan.now c.args.until firsts c.args.behaviours.now.items (at_hand c.args.stage.now) steps at c.first_due-first.result (due-here c.streams-streams.result.now c.args.plan.now.streams c.deref.result.now c.args.stage.now.next.items c.first_due-first.result (c.streams-streams.ensures.items ∙ c.streams.ensures.items) c.deref.ensures.value c.first_due-first.ensures) c.args.behaviours.now.items (at_hand c.args.stage.now) (g.S.Sink.has_failed c.args.sink.now) c.args.sink.now (event-here c.args.stage.now.running c.first_due-first.result c.any_waits.result c.deref-2.result.now c.args.stage.now.rings.items c.args.stage.now.now c.args.until Nothing c.any_waits.ensures c.deref-2.ensures.value c.in-Nothing.ensures)
+    turned-nothing g.B.Behaviour.offer g.B.Behaviour.agrees g.S.Sink.takes c.args.plan.now c.args.until firsts c.args.behaviours.now.items (at_hand c.args.stage.now) steps at c.first-first.result (c.first-first.ensures.first c.args.plan.now.streams at.ids_are) c.args.behaviours.now.items (at_hand c.args.stage.now) (g.S.Sink.has_failed c.args.sink.now) c.args.sink.now (event-here c.args.stage.now.running c.first-first.result c.any_waits.result c.args.stage.now.waiting c.args.stage.now.now c.args.until Nothing c.any_waits.ensures c.in-Nothing.ensures)
 
 pub returns-in_ok-end_transfer-in-End-clause-turned :
     goal.returns-in_ok-end_transfer-in-End-clause-turned
 returns-in_ok-end_transfer-in-End-clause-turned g c firsts steps at short =
-    turned-end g.B.Behaviour.offer g.B.Behaviour.agrees g.S.Sink.takes c.args.plan.now c.args.until firsts c.args.behaviours.now.items (at_hand c.args.stage.now) steps at c.first_due-first.result (due-here c.streams-streams.result.now c.args.plan.now.streams c.deref.result.now c.args.stage.now.next.items c.first_due-first.result (c.streams-streams.ensures.items ∙ c.streams.ensures.items) c.deref.ensures.value c.first_due-first.ensures) c.args.behaviours.now.items (at_hand c.end_transfer.new.stage) (g.S.Sink.has_failed c.end_transfer.new.sink) c.args.sink.now c.end_transfer.new.sink c.in-End.at c.in-End.id refl (event-here c.args.stage.now.running c.first_due-first.result c.any_waits.result c.deref-2.result.now c.args.stage.now.rings.items c.args.stage.now.now c.args.until (End c.in-End.at c.in-End.id) c.any_waits.ensures c.deref-2.ensures.value c.in-End.ensures)
+    turned-end g.B.Behaviour.offer g.B.Behaviour.agrees g.S.Sink.takes c.args.plan.now c.args.until firsts c.args.behaviours.now.items (at_hand c.args.stage.now) steps at c.first-first.result (c.first-first.ensures.first c.args.plan.now.streams at.ids_are) c.args.behaviours.now.items (at_hand c.end_transfer.new.stage) (g.S.Sink.has_failed c.end_transfer.new.sink) c.args.sink.now c.end_transfer.new.sink c.in-End.at c.in-End.id refl (event-here c.args.stage.now.running c.first-first.result c.any_waits.result c.args.stage.now.waiting c.args.stage.now.now c.args.until (End c.in-End.at c.in-End.id) c.any_waits.ensures c.in-End.ensures)
     c.in_ok-end_transfer-in-End.ensures.stage c.in_ok-end_transfer-in-End.ensures.taken
 
 pub returns-in_ok-queue_offer-in-Queue-clause-turned :
     goal.returns-in_ok-queue_offer-in-Queue-clause-turned
 returns-in_ok-queue_offer-in-Queue-clause-turned g c firsts steps at short =
-    turned-queue g.B.Behaviour.offer g.B.Behaviour.agrees g.S.Sink.takes c.args.plan.now c.args.until firsts c.args.behaviours.now.items (at_hand c.args.stage.now) steps at c.first_due-first.result (due-here c.streams-streams.result.now c.args.plan.now.streams c.deref.result.now c.args.stage.now.next.items c.first_due-first.result (c.streams-streams.ensures.items ∙ c.streams.ensures.items) c.deref.ensures.value c.first_due-first.ensures) c.in-Queue.due (event-here c.args.stage.now.running c.first_due-first.result c.any_waits.result c.deref-2.result.now c.args.stage.now.rings.items c.args.stage.now.now c.args.until (Queue c.in-Queue.due) c.any_waits.ensures c.deref-2.ensures.value c.in-Queue.ensures) short (at_hand c.queue_offer.new.stage) c.queue_offer.new.behaviours.items (g.S.Sink.has_failed c.queue_offer.new.sink) c.args.sink.now c.queue_offer.new.sink
+    turned-queue g.B.Behaviour.offer g.B.Behaviour.agrees g.S.Sink.takes c.args.plan.now c.args.until firsts c.args.behaviours.now.items (at_hand c.args.stage.now) steps at c.first-first.result (c.first-first.ensures.first c.args.plan.now.streams at.ids_are) c.in-Queue.due (event-here c.args.stage.now.running c.first-first.result c.any_waits.result c.args.stage.now.waiting c.args.stage.now.now c.args.until (Queue c.in-Queue.due) c.any_waits.ensures c.in-Queue.ensures) short (at_hand c.queue_offer.new.stage) c.queue_offer.new.behaviours.items (g.S.Sink.has_failed c.queue_offer.new.sink) c.args.sink.now c.queue_offer.new.sink
     c.in_ok-queue_offer-in-Queue.ensures.queued
     (λ o k e f. c.in_ok-queue_offer-in-Queue.ensures.obeys o k e (ap (λ (ss : List Stream). slice_get ss c.in-Queue.due.place) (c.streams-streams.ensures.items ∙ c.streams.ensures.items) ∙ f))
     c.in_ok-queue_offer-in-Queue.ensures.taken
@@ -52,8 +52,8 @@ returns-in_ok-queue_offer-in-Queue-clause-turned g c firsts steps at short =
 pub returns-in_ok-start_transfer-in-Some-clause-turned :
     goal.returns-in_ok-start_transfer-in-Some-clause-turned
 returns-in_ok-start_transfer-in-Some-clause-turned g c firsts steps at short =
-    turned-start g.B.Behaviour.offer g.B.Behaviour.agrees g.S.Sink.takes c.args.plan.now c.args.until firsts c.args.behaviours.now.items (at_hand c.args.stage.now) steps at c.first_due-first.result (due-here c.streams-streams.result.now c.args.plan.now.streams c.deref.result.now c.args.stage.now.next.items c.first_due-first.result (c.streams-streams.ensures.items ∙ c.streams.ensures.items) c.deref.ensures.value c.first_due-first.ensures) (event-here c.args.stage.now.running c.first_due-first.result c.any_waits.result c.deref-2.result.now c.args.stage.now.rings.items c.args.stage.now.now c.args.until Start c.any_waits.ensures c.deref-2.ensures.value c.in-Start.ensures) c.in-Some.sent
-    (chosen-here g.B.Behaviour.agrees c.args.behaviours.now.items c.streams-streams.result.now c.args.plan.now.streams c.deref-in-Start.result.now c.args.stage.now.next.items c.deref-in-Start-2.result.now c.args.stage.now.rings.items c.ticks_per_bit-ticks.result (ticks_of c.args.plan.now.rate) c.args.stage.now.now (Some c.in-Some.sent) (c.streams-streams.ensures.items ∙ c.streams.ensures.items) c.deref-in-Start.ensures.value c.deref-in-Start-2.ensures.value (c.ticks_per_bit-ticks.ensures.ticks ∙ ap ticks_of c.rate.ensures) c.in-Some.ensures)
+    turned-start g.B.Behaviour.offer g.B.Behaviour.agrees g.S.Sink.takes c.args.plan.now c.args.until firsts c.args.behaviours.now.items (at_hand c.args.stage.now) steps at c.first-first.result (c.first-first.ensures.first c.args.plan.now.streams at.ids_are) (event-here c.args.stage.now.running c.first-first.result c.any_waits.result c.args.stage.now.waiting c.args.stage.now.now c.args.until Start c.any_waits.ensures c.in-Start.ensures) c.in-Some.sent
+    (chosen-here g.B.Behaviour.agrees c.args.behaviours.now.items c.streams-streams.result.now c.args.plan.now.streams c.args.stage.now.offers.next c.first-first.result c.args.stage.now.waiting c.ticks_per_bit-ticks.result (ticks_of c.args.plan.now.rate) c.args.stage.now.now (Some c.in-Some.sent) (c.streams-streams.ensures.items ∙ c.streams.ensures.items) (c.ticks_per_bit-ticks.ensures.ticks ∙ ap ticks_of c.rate.ensures) c.in-Some.ensures.chosen (c.first-first.ensures.first c.args.plan.now.streams at.ids_are) (theirs g.B.Behaviour.offer g.B.Behaviour.agrees g.S.Sink.takes c.args.plan.now c.args.until firsts c.args.behaviours.now.items (at_hand c.args.stage.now) steps at))
     (at_hand c.start_transfer.new.stage) c.args.behaviours.now.items (g.S.Sink.has_failed c.start_transfer.new.sink) c.args.sink.now c.start_transfer.new.sink refl
     (subst (λ (t : ℕ). IsStarted t c.in-Some.sent (at_hand c.args.stage.now) (at_hand c.start_transfer.new.stage)) (c.ticks_per_bit-ticks.ensures.ticks ∙ ap ticks_of c.rate.ensures) c.in_ok-start_transfer-in-Some.ensures.started)
     c.in_ok-start_transfer-in-Some.ensures.taken
