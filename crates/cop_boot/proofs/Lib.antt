@@ -3,6 +3,8 @@ pub mod DriveLemmas
 pub mod StageLemmas
 pub mod WorldLemmas
 pub mod BootLemmas
+pub mod ReadyLemmas
+pub mod CommandLemmas
 pub mod MemberLemmas
 pub mod HearingLemmas
 pub mod LoopLemmas

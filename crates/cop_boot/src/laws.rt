@@ -10,7 +10,8 @@ ghost use Rattle.cop_net.specs.Heartbeats.{heartbeat_of};
 ghost use Rattle.cop_net.specs.Network.{Net, IsNetwork};
 ghost use Rattle.cop_net.specs.Settings.{word, takes};
 ghost use Rattle.cop_dcf.specs.declared.setting.Setting.{Setting};
-ghost use Rattle.cop_boot.specs.Settings.{AcceptsInTurn, planned};
+ghost use Rattle.cop_dcf.specs.Planned.{planned};
+ghost use Rattle.cop_boot.specs.Settings.{AcceptsInTurn};
 ghost use Rattle.cop_dcf.specs.Identifiers.{id_at};
 ghost use Rattle.cop_dcf.specs.Settings.{settings_of, node_settings, dictionary_of};
 ghost use Rattle.cop_boot.specs.PlanSettings.{Admits, IsPdoId};
@@ -21,8 +22,8 @@ ghost use Rattle.cop_boot.specs.Accepts.{AreApart, IsElsewhere, TakesEach, HaveV
 /// each other object is as it was.
 pub fn apart_are_accepted()
     ensures accepted { (settings : List Setting) (dict : List Entry) → AreApart settings → TakesEach dict settings → AcceptsInTurn dict settings }
-    ensures values { (settings : List Setting) (dict : List Entry) → AreApart settings → HaveValues dict (planned settings dict) settings }
-    ensures others { (settings : List Setting) (dict : List Entry) (index sub : ℕ) → IsElsewhere index sub settings → entry_at (planned settings dict) index sub ≡ entry_at dict index sub }
+    ensures values { (settings : List Setting) (dict : List Entry) → AreApart settings → HaveValues dict (planned dict settings) settings }
+    ensures others { (settings : List Setting) (dict : List Entry) (index sub : ℕ) → IsElsewhere index sub settings → entry_at (planned dict settings) index sub ≡ entry_at dict index sub }
 {}
 
 /// A COB-ID that can be switched off and then on in one dictionary can be so in each in which its entry is the same.
@@ -50,5 +51,5 @@ pub fn networks_take_their_settings()
 /// identifier and a receiver's with that of its sender.
 pub fn planned_pdos_exist()
     ensures { (net : Net) (ids : List ℕ) (node : ℕ) (dict : List Entry) (e : Entry) → IsNetwork net → All IsPdoId ids → dictionary_of net node ≡ Some dict → Contains dict e → is_cob_id e ≡ true
-        → IsAsPlanned (id_at net.rows ids node e.index) (option_and_then unsigned32_of (entry_at (planned (node_settings net ids node) dict) e.index 1)) }
+        → IsAsPlanned (id_at net.rows ids node e.index) (option_and_then unsigned32_of (entry_at (planned dict (node_settings net ids node)) e.index 1)) }
 {}

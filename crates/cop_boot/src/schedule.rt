@@ -3,7 +3,7 @@
 ghost use Rattle.std.specs.Prelude.{◌≡◌, ◌+◌, ◌≤◌, false, ℕ, List, map, vec_len, vec_capacity, OnOk, OnErr};
 ghost use Rattle.cop_dict.specs.Find.{Entry};
 ghost use Rattle.cop_boot.specs.Manager.{open_nodes};
-ghost use Rattle.cop_boot.specs.Booted.{CanBoot, Booted};
+ghost use Rattle.cop_boot.specs.Booted.{CanBoot, ReadyInTime};
 ghost use Rattle.cop_boot.specs.Schedule.{Takes};
 ghost use Rattle.cop_boot.specs.Bus.{IsBus, KeepsOthers, Runs, Made, world_at};
 
@@ -55,6 +55,10 @@ pub fn run_schedule(
     // Where each node's settings are accepted in turn by the dictionary that was built for it: a node that is ready has the planned
     // dictionary, no node is aborted or restarting, and the nodes are started exactly where all are ready.
     ensures configures { OnOk result ((built : ℕ → List Entry) → CanBoot manager.old devices.old built → Made manager.old built manager.new devices.new) }
+
+    // A node with a device is ready where its turns, to it and then from it, have come in turn once more than it has settings,
+    // whatever stands between, as long as every moment is below 4,000,000.
+    ensures in_time { OnOk result ((built : ℕ → List Entry) → CanBoot manager.old devices.old built → ReadyInTime manager.old devices.old turns.now manager.new) }
 
     ensures err { OnErr result ((manager.new ≡ manager.old) × (devices.new ≡ devices.old)) }
 {
