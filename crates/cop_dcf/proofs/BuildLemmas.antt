@@ -1,5 +1,5 @@
 -- The dictionary of a text with values set is the old one with these values.
-use Rattle.std.proofs.Common.{◌≡◌, ◌<◌, ℕ, zero, suc, ◌-◌, ◌^◌, Bool, true, false, cond, nat_le, List, [], ◌∷◌, map, Option, Some, None, Result, Ok, refl, ap, ◌∙◌, codes, arith, ℤ}
+use Rattle.std.proofs.Common.{◌≡◌, ◌<◌, ℕ, zero, suc, ◌-◌, ◌^◌, Bool, true, false, nat_le, List, [], ◌∷◌, map, Option, Some, None, Ok, refl, ap, ◌∙◌, codes, arith, ℤ}
 use Rattle.std.proofs.lemmas.Bool.Decides.{nat_tests}
 use Rattle.std.specs.Int.{bytes_low_first}
 use Rattle.std.specs.Option.{option_map_or}

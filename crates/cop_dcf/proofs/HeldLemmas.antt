@@ -10,8 +10,8 @@ use Rattle.std.proofs.lemmas.List.Elements.{All-head, All-tail}
 use Rattle.std.proofs.lemmas.List.Folds.{find-append, list_all-append}
 use Rattle.cop_frame.specs.declared.rates.Rate.{Rate}
 use Rattle.cop_eds.specs.declared.description.Object.{Object}
-use Rattle.cop_eds.specs.Text.{trim_start, trim, same_name}
-use Rattle.cop_eds.specs.Sections.{value_in, entry_of}
+use Rattle.cop_eds.specs.Text.{trim_start, trim}
+use Rattle.cop_eds.specs.Sections.{value_in}
 use Rattle.cop_eds.specs.Steps.{◌>>=◌}
 use Rattle.cop_eds.specs.Objects.{is_at, objects_of}
 use Rattle.cop_eds.specs.Rows.{Row, rows_of, has_name, has_key}
@@ -27,7 +27,7 @@ use Rattle.cop_dict.specs.declared.data_type.DataType.{DataType}
 use Rattle.cop_dict.specs.declared.data_type.DataType.TheVariants as types
 use Rattle.cop_dict.specs.Types.{type_numbered}
 use Rattle.cop_dict.specs.Find as dictionary
-use Rattle.cop_dict.specs.Build.{value_entry, entry_of_type, entry_built, collected, built}
+use Rattle.cop_dict.specs.Build.{entry_of_type, entry_built, collected, built}
 use Rattle.cop_dcf.specs.declared.setting.Setting.{Setting}
 use Rattle.cop_dcf.specs.Dcf.{bytes_of, digits_of, hexadecimal, is_of, setting_in, value_set, values_from}
 use Rattle.cop_dcf.specs.Planned.{has_numbers, IsNumber}
