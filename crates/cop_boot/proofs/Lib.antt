@@ -16,3 +16,4 @@ pub mod InTurn
 pub mod PlanInTurn
 pub mod NetworkAdmits
 pub mod PlannedLemmas
+pub mod PdoLemmas
