@@ -1,6 +1,6 @@
 -- What a boot by turns makes of the devices.
 use Rattle.std.proofs.Common.{◌≡◌, ℕ, Bool, true, false, cond, List, [], ◌∷◌, map, refl, ap, sym, subst, ◌∙◌, arith, ◌==◌, Option, Some, None}
-use Rattle.std.specs.Prelude.{option_map, option_and_then}
+use Rattle.std.specs.Prelude.{option_map, option_and_then, is_some, IsSome}
 use Rattle.std.proofs.lemmas.Bool.Decides.{nat_tests}
 use Rattle.cop_dict.specs.Find.{Entry}
 use Rattle.cop_boot.specs.declared.«end».End.{End}
@@ -52,11 +52,11 @@ none_ready : (nodes : List Node) → false ≡ all_ready (map (waiting_from 0) n
 none_ready [] = refl
 none_ready (node ∷ nodes) = refl
 
-abbrev plan : (ℕ → List Entry) → ℕ → Node → Plan
+abbrev pub plan : (ℕ → List Entry) → ℕ → Node → Plan
 plan built n node = record { number = n; settings = node.settings; dict = built n }
 
 -- the plan of each node
-abbrev plans_of : (ℕ → List Entry) → List Node → ℕ → Option Plan
+abbrev pub plans_of : (ℕ → List Entry) → List Node → ℕ → Option Plan
 plans_of built nodes n = option_map (plan built n) (node_of nodes n)
 
 record HasPlan (built : ℕ → List Entry) (nodes : List Node) (n : ℕ) (p : Plan) : Type 0 where
@@ -79,7 +79,7 @@ no_plan built nodes n h = by_found (node_of nodes n) h
     by_found (Some node) h = cc
 
 module _ (m : Managing) (devices : List Attached) (built : ℕ → List Entry) (can : CanBoot m devices built) where
-  good : ArePlans (plans_of built m.nodes)
+  pub good : ArePlans (plans_of built m.nodes)
   good = record {
     sound = λ n p h. let x = has_plan built m.nodes n p h in subst (λ p. CanBeSet p.settings p.dict) (sym x.is) (can.each n x.node x.at);
     number = λ n p h. let x = has_plan built m.nodes n p h in ap (λ p. p.number) x.is;
@@ -90,22 +90,26 @@ module _ (m : Managing) (devices : List Attached) (built : ℕ → List Entry) (
   fresh n None e = tt
   fresh n (Some d) e = let s = can.served n d e in record { number = device_number devices n d e; server = s.0; has = s.1 }
 
-  first : (n : ℕ) (p : Plan) → plans_of built m.nodes n ≡ Some p → (stage : Stage) × Stands (begins m devices) n p stage
-  first n p h =
+  stands_first : (n : ℕ) (p : Plan) → plans_of built m.nodes n ≡ Some p → Stands (begins m devices) n p (Resetting 0 (is_some (device_of devices n)))
+  stands_first n p h =
       let x = has_plan built m.nodes n p h in
-      let number = number_of m.nodes n x.node x.at in (
-        Resetting 0,
-        record {
-          node = waiting_from 0 x.node;
-          line = takes (reset_all ∷ []) (line_with devices x.node);
-          found = found_map (waiting_from 0) (λ node. refl) m.nodes n ∙ ap (option_map (waiting_from 0)) x.at;
-          lined = lines_map (takes (reset_all ∷ [])) (λ line. refl) (map (line_with devices) m.nodes) n ∙ ap (option_map (takes (reset_all ∷ []))) (lines_of_nodes devices m.nodes n ∙ ap (option_map (line_with devices)) x.at);
-          at = subst (λ p. IsAt p (Resetting 0) (waiting_from 0 x.node) (takes (reset_all ∷ []) (line_with devices x.node))) (sym x.is)
-              (device_of devices n, rw number refl, rw number refl, fresh n (device_of devices n) refl);
-        },
-      )
+      let number = number_of m.nodes n x.node x.at in
+      record {
+        node = waiting_from 0 x.node;
+        line = takes (reset_all ∷ []) (line_with devices x.node);
+        found = found_map (waiting_from 0) (λ node. refl) m.nodes n ∙ ap (option_map (waiting_from 0)) x.at;
+        lined = lines_map (takes (reset_all ∷ [])) (λ line. refl) (map (line_with devices) m.nodes) n ∙ ap (option_map (takes (reset_all ∷ []))) (lines_of_nodes devices m.nodes n ∙ ap (option_map (line_with devices)) x.at);
+        at = subst (λ p. IsAt p (Resetting 0 (is_some (device_of devices n))) (waiting_from 0 x.node) (takes (reset_all ∷ []) (line_with devices x.node))) (sym x.is)
+            (device_of devices n, rw number refl, rw number refl, fresh n (device_of devices n) refl, refl);
+      }
 
-  begun : Holds (plans_of built m.nodes) (begins m devices)
+  -- a node with a device awaits the reset
+  pub first_stands : (n : ℕ) (node : Node) → node_of m.nodes n ≡ Some node → IsSome (device_of devices n) → Stands (begins m devices) n (plan built n node) (Resetting 0 true)
+  first_stands n node at there =
+      subst (λ here. Stands (begins m devices) n (plan built n node) (Resetting 0 here)) there
+      (stands_first n (plan built n node) (ap (option_map (plan built n)) at))
+
+  pub begun : Holds (plans_of built m.nodes) (begins m devices)
   begun = record {
     begun = refl;
     apart = apart_map (waiting_from 0) (λ node. refl) m.nodes can.apart;
@@ -113,7 +117,7 @@ module _ (m : Managing) (devices : List Attached) (built : ℕ → List Entry) (
     none = λ n h. lines_map (takes (reset_all ∷ [])) (λ line. refl) (map (line_with devices) m.nodes) n
         ∙ ap (option_map (takes (reset_all ∷ []))) (lines_of_nodes devices m.nodes n ∙ ap (option_map (line_with devices)) (no_plan built m.nodes n h));
     absent = λ n h. found_map (waiting_from 0) (λ node. refl) m.nodes n ∙ ap (option_map (waiting_from 0)) (no_plan built m.nodes n h);
-    each = first;
+    each = λ n p h. (Resetting 0 (is_some (device_of devices n)), stands_first n p h);
   }
 
   module _ (w : World) (h : Holds (plans_of built m.nodes) w) where

@@ -3,6 +3,8 @@ pub mod DriveLemmas
 pub mod StageLemmas
 pub mod WorldLemmas
 pub mod BootLemmas
+pub mod ReadyLemmas
+pub mod CommandLemmas
 pub mod MemberLemmas
 pub mod HearingLemmas
 pub mod LoopLemmas
@@ -14,3 +16,4 @@ pub mod InTurn
 pub mod PlanInTurn
 pub mod NetworkAdmits
 pub mod PlannedLemmas
+pub mod PdoLemmas

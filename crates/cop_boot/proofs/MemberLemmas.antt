@@ -18,7 +18,8 @@ use Rattle.cop_sdo.specs.declared.fault.ClientFault.{ClientFault}
 use Rattle.cop_sdo.specs.declared.address.Address.{Address}
 use Rattle.cop_dcf.specs.declared.setting.Setting.{Setting}
 use Rattle.cop_boot.specs.declared.«end».Phase.TheVariants.{Sending, Over}
-use Rattle.cop_boot.specs.Settings.{address_of, bytes_of, is_short_value}
+use Rattle.cop_dcf.specs.Dcf.{bytes_of}
+use Rattle.cop_boot.specs.Settings.{address_of, is_short_value}
 use Rattle.cop_boot.specs.Node.{Node, Moved, goes_on, sends, request_of, refusal, own_abort, ended_at, answered, answered_in, answer_to, judged}
 use Rattle.cop_boot.specs.Member.{IsAsking}
 

@@ -368,3 +368,11 @@ module _ (net : Net) (is : IsNetwork net) (ids : List ℕ) (range : All IsPdoId 
       let u = id_usable net.equipment.devices net.rows no_traffic moves.traffic moves.found (All-nil (IsUsed net.equipment.devices)) ids range node index id own in
       let high = u.1.1 in
       omega (arith, high)
+
+  -- a record that a plan uses has a COB-ID
+  pub used_there : (index id : ℕ) → id_at net.rows ids node index ≡ Some id → entry_at entries index 1 ≡ None → ⊥
+  used_there index id own none =
+      let u = id_usable net.equipment.devices net.rows no_traffic moves.traffic moves.found (All-nil (IsUsed net.equipment.devices)) ids range node index id own in
+      let has : option_and_then unsigned32_of (entry_at entries index 1) ≡ None = rw none refl in
+      let never : false ≡ true = rw has at (usable_here index u.0) in
+      true≢false (sym never)

@@ -20,7 +20,9 @@ use Rattle.cop_pdo.specs.CobIds as pdo
 use Rattle.cop_net.specs.Settings.{word, beats_by, has_or_takes, time_of, is_unsigned16}
 use Rattle.cop_dcf.specs.declared.setting.Setting.{Setting}
 use Rattle.cop_dcf.specs.Settings.{cob_id_set, off_set, on_set, set_of, time_set, heartbeat_set, settings_of}
-use Rattle.cop_boot.specs.Settings.{bytes_of, planned, AcceptsInTurn}
+use Rattle.cop_dcf.specs.Dcf.{bytes_of}
+use Rattle.cop_dcf.specs.Planned.{planned}
+use Rattle.cop_boot.specs.Settings.{AcceptsInTurn}
 use Rattle.cop_boot.specs.Accepts.{IsElsewhere, AreApart, TakesAlone, TakesEach, HaveValues}
 use Rattle.cop_boot.specs.PlanSettings.{Admits}
 use Rattle.cop_boot.proofs.InTurn.{kept_by_all, in_turn, turns_append, planned_append, have_values, accepted_alone, switch_alone}
@@ -233,12 +235,12 @@ module _ (dict : List Entry) (ids : ℕ → Option ℕ) (time : ℕ) (can : Admi
       by_test true cob (Some v) is None own has = tt
       by_test true cob (Some v) is (Some id) own has = on_goes new e v id inside (there cob) cob is own (has ∙ ap (option_map (valued (word (pdo.off v)))) (there cob))
 
-  ons_accepted : AcceptsInTurn (planned (filter_map (set_of off_set ids) dict) dict) (filter_map (set_of on_set ids) dict)
+  ons_accepted : AcceptsInTurn (planned dict (filter_map (set_of off_set ids) dict)) (filter_map (set_of on_set ids) dict)
   ons_accepted =
-      let have : HaveValues dict (planned (filter_map (set_of off_set ids) dict) dict) (filter_map (set_of off_set ids) dict) = have_values (filter_map (set_of off_set ids) dict) dict (apart_of (set_of off_set ids) (off_own ids) dict can.sorted) in
-      in_turn (filter_map (set_of on_set ids) dict) (planned (filter_map (set_of off_set ids) dict) dict) (apart_of (set_of on_set ids) (on_own ids) dict can.sorted)
-      (takes_of (set_of on_set ids) (on_own ids) (planned (filter_map (set_of off_set ids) dict) dict) dict
-      (λ k d lt. on_taken (planned (filter_map (set_of off_set ids) dict) dict) (get_or dict k d) (inside k d lt) (values_of (set_of off_set ids) (off_own ids) dict (planned (filter_map (set_of off_set ids) dict) dict) dict have k d lt)))
+      let have : HaveValues dict (planned dict (filter_map (set_of off_set ids) dict)) (filter_map (set_of off_set ids) dict) = have_values (filter_map (set_of off_set ids) dict) dict (apart_of (set_of off_set ids) (off_own ids) dict can.sorted) in
+      in_turn (filter_map (set_of on_set ids) dict) (planned dict (filter_map (set_of off_set ids) dict)) (apart_of (set_of on_set ids) (on_own ids) dict can.sorted)
+      (takes_of (set_of on_set ids) (on_own ids) (planned dict (filter_map (set_of off_set ids) dict)) dict
+      (λ k d lt. on_taken (planned dict (filter_map (set_of off_set ids) dict)) (get_or dict k d) (inside k d lt) (values_of (set_of off_set ids) (off_own ids) dict (planned dict (filter_map (set_of off_set ids) dict)) dict have k d lt)))
 
   -- and so is the heartbeat's time
   time_accepted : (new : List Entry) → entry_at new 0x1017 0 ≡ entry_at dict 0x1017 0 → AcceptsInTurn new (time_set time (option_and_then time_of (entry_at dict 0x1017 0)))
@@ -271,11 +273,11 @@ module _ (dict : List Entry) (ids : ℕ → Option ℕ) (time : ℕ) (can : Admi
 
   pub plan_accepted : AcceptsInTurn dict (settings_of dict ids time)
   plan_accepted =
-      let same : entry_at (planned (filter_map (set_of on_set ids) dict) (planned (filter_map (set_of off_set ids) dict) dict)) 0x1017 0 ≡ entry_at dict 0x1017 0 =
-      kept_by_all (filter_map (set_of on_set ids) dict) (planned (filter_map (set_of off_set ids) dict) dict) 0x1017 0 (no_beat (set_of on_set ids) (on_own ids) dict)
+      let same : entry_at (planned (planned dict (filter_map (set_of off_set ids) dict)) (filter_map (set_of on_set ids) dict)) 0x1017 0 ≡ entry_at dict 0x1017 0 =
+      kept_by_all (filter_map (set_of on_set ids) dict) (planned dict (filter_map (set_of off_set ids) dict)) 0x1017 0 (no_beat (set_of on_set ids) (on_own ids) dict)
       ∙ kept_by_all (filter_map (set_of off_set ids) dict) dict 0x1017 0 (no_beat (set_of off_set ids) (off_own ids) dict) in
       both (filter_map (set_of off_set ids) dict) (filter_map (set_of on_set ids) dict) (time_set time (option_and_then time_of (entry_at dict 0x1017 0))) offs_accepted ons_accepted
-      (time_accepted (planned (filter_map (set_of on_set ids) dict) (planned (filter_map (set_of off_set ids) dict) dict)) same)
+      (time_accepted (planned (planned dict (filter_map (set_of off_set ids) dict)) (filter_map (set_of on_set ids) dict)) same)
     where
-      both : (a b t : List Setting) → AcceptsInTurn dict a → AcceptsInTurn (planned a dict) b → AcceptsInTurn (planned b (planned a dict)) t → AcceptsInTurn dict ((a ++ b) ++ t)
+      both : (a b t : List Setting) → AcceptsInTurn dict a → AcceptsInTurn (planned dict a) b → AcceptsInTurn (planned (planned dict a) b) t → AcceptsInTurn dict ((a ++ b) ++ t)
       both a b t h i j = turns_append (a ++ b) t dict (turns_append a b dict h i) (subst (λ now. AcceptsInTurn now t) (sym (planned_append a b dict)) j)

@@ -17,7 +17,8 @@ use Rattle.cop_pdo.specs.CobIds as pdo
 use Rattle.cop_net.specs.Settings.{word, time_of}
 use Rattle.cop_dcf.specs.declared.setting.Setting.{Setting}
 use Rattle.cop_dcf.specs.Settings.{cob_id_set, off_set, on_set, set_of, time_set, heartbeat_set, settings_of}
-use Rattle.cop_boot.specs.Settings.{bytes_of, planned}
+use Rattle.cop_dcf.specs.Dcf.{bytes_of}
+use Rattle.cop_dcf.specs.Planned.{planned}
 use Rattle.cop_boot.specs.Accepts.{IsElsewhere}
 use Rattle.cop_boot.specs.PlanSettings.{Admits}
 use Rattle.cop_boot.specs.PlannedPdos.{IsAsPlanned}
@@ -122,11 +123,11 @@ module _ (dict : List Entry) (ids : ℕ → Option ℕ) (time : ℕ) (can : Admi
 
   -- after the PDOs are switched off
   off_value : (e : Entry) (v : ℕ) → Contains dict e → is_cob_id e ≡ true → unsigned32_of e ≡ Some v → (b : Bool) → (is_some (ids e.index) || exists_by v) ≡ b
-      → entry_at (planned offs dict) e.index 1 ≡ cond b (Some (valued (word (pdo.off v)) e)) (Some e)
+      → entry_at (planned dict offs) e.index 1 ≡ cond b (Some (valued (word (pdo.off v)) e)) (Some e)
   off_value e v inside cob is true t =
       let set : set_of off_set ids e ≡ Some (cob_id_set e.index (pdo.off v)) = rw (cob, is, t) refl in
-      let have = values_of (set_of off_set ids) (off_own ids) dict (planned offs dict) dict (have_values offs dict (apart_of (set_of off_set ids) (off_own ids) dict can.sorted)) inside.0 e inside.1 in
-      let own = subst (λ (x : Entry). IfSome (set_of off_set ids x) (λ s. entry_at (planned offs dict) s.index s.sub ≡ option_map (valued (bytes_of s)) (entry_at dict s.index s.sub))) inside.2 have in
+      let have = values_of (set_of off_set ids) (off_own ids) dict (planned dict offs) dict (have_values offs dict (apart_of (set_of off_set ids) (off_own ids) dict can.sorted)) inside.0 e inside.1 in
+      let own = subst (λ (x : Entry). IfSome (set_of off_set ids x) (λ s. entry_at (planned dict offs) s.index s.sub ≡ option_map (valued (bytes_of s)) (entry_at dict s.index s.sub))) inside.2 have in
       (rw set at own) ∙ ap (option_map (valued (word (pdo.off v)))) (here_at e inside cob)
   off_value e v inside cob is false t =
       let set : set_of off_set ids e ≡ None = rw (cob, is, t) refl in
@@ -134,42 +135,42 @@ module _ (dict : List Entry) (ids : ℕ → Option ℕ) (time : ℕ) (can : Admi
 
   -- and after those of the plan are switched on
   on_value : (e : Entry) (v : ℕ) → Contains dict e → is_cob_id e ≡ true → unsigned32_of e ≡ Some v → (o : Option ℕ) → ids e.index ≡ o
-      → entry_at (planned ons (planned offs dict)) e.index 1 ≡ switched o v (entry_at (planned offs dict) e.index 1)
+      → entry_at (planned (planned dict offs) ons) e.index 1 ≡ switched o v (entry_at (planned dict offs) e.index 1)
   on_value e v inside cob is (Some id) t =
       let set : set_of on_set ids e ≡ Some (cob_id_set e.index (pdo.on v id)) = rw (cob, is, t) refl in
-      let have = values_of (set_of on_set ids) (on_own ids) (planned offs dict) (planned ons (planned offs dict)) dict (have_values ons (planned offs dict) (apart_of (set_of on_set ids) (on_own ids) dict can.sorted)) inside.0 e inside.1 in
-      let own = subst (λ (x : Entry). IfSome (set_of on_set ids x) (λ s. entry_at (planned ons (planned offs dict)) s.index s.sub ≡ option_map (valued (bytes_of s)) (entry_at (planned offs dict) s.index s.sub))) inside.2 have in
+      let have = values_of (set_of on_set ids) (on_own ids) (planned dict offs) (planned (planned dict offs) ons) dict (have_values ons (planned dict offs) (apart_of (set_of on_set ids) (on_own ids) dict can.sorted)) inside.0 e inside.1 in
+      let own = subst (λ (x : Entry). IfSome (set_of on_set ids x) (λ s. entry_at (planned (planned dict offs) ons) s.index s.sub ≡ option_map (valued (bytes_of s)) (entry_at (planned dict offs) s.index s.sub))) inside.2 have in
       rw set at own
   on_value e v inside cob is None t =
       let set : set_of on_set ids e ≡ None = rw (cob, is, t) refl in
-      kept_by_all ons (planned offs dict) e.index 1 (elsewhere_of (set_of on_set ids) (on_own ids) e inside cob set dict all_inside)
+      kept_by_all ons (planned dict offs) e.index 1 (elsewhere_of (set_of on_set ids) (on_own ids) e inside cob set dict all_inside)
 
-  at_end : (e : Entry) → entry_at (planned (settings_of dict ids time) dict) e.index 1 ≡ entry_at (planned ons (planned offs dict)) e.index 1
+  at_end : (e : Entry) → entry_at (planned dict (settings_of dict ids time)) e.index 1 ≡ entry_at (planned (planned dict offs) ons) e.index 1
   at_end e =
-      ap (λ (d : List Entry). entry_at d e.index 1) (planned_append (offs ++ ons) beat dict ∙ ap (planned beat) (planned_append offs ons dict))
-      ∙ kept_by_all beat (planned ons (planned offs dict)) e.index 1 (beat_elsewhere time e.index (option_and_then time_of (entry_at dict 0x1017 0)))
+      ap (λ (d : List Entry). entry_at d e.index 1) (planned_append (offs ++ ons) beat dict ∙ ap (λ (d : List Entry). planned d beat) (planned_append offs ons dict))
+      ∙ kept_by_all beat (planned (planned dict offs) ons) e.index 1 (beat_elsewhere time e.index (option_and_then time_of (entry_at dict 0x1017 0)))
 
   pub as_planned : (e : Entry) (v : ℕ) → Contains dict e → is_cob_id e ≡ true → unsigned32_of e ≡ Some v
-      → IsAsPlanned (ids e.index) (option_and_then unsigned32_of (entry_at (planned (settings_of dict ids time) dict) e.index 1))
+      → IsAsPlanned (ids e.index) (option_and_then unsigned32_of (entry_at (planned dict (settings_of dict ids time)) e.index 1))
   as_planned e v inside cob is = rw (at_end e) (by_id (ids e.index) refl (exists_by v) refl)
     where
-      by_id : (o : Option ℕ) → ids e.index ≡ o → (b : Bool) → exists_by v ≡ b → IsAsPlanned o (option_and_then unsigned32_of (entry_at (planned ons (planned offs dict)) e.index 1))
+      by_id : (o : Option ℕ) → ids e.index ≡ o → (b : Bool) → exists_by v ≡ b → IsAsPlanned o (option_and_then unsigned32_of (entry_at (planned (planned dict offs) ons) e.index 1))
       by_id (Some id) own b ex =
           let t : (is_some (ids e.index) || exists_by v) ≡ true = rw own refl in
           let small : id < 2 ^ 11 = low e.index id own in
           let fits : pdo.on v id < 2 ^ 32 = let s = on_small v id small in omega (arith, s) in
           let off = off_value e v inside cob is true t in
-          let on : entry_at (planned ons (planned offs dict)) e.index 1 ≡ Some (valued (word (pdo.on v id)) (valued (word (pdo.off v)) e)) =
+          let on : entry_at (planned (planned dict offs) ons) e.index 1 ≡ Some (valued (word (pdo.on v id)) (valued (word (pdo.off v)) e)) =
           on_value e v inside cob is (Some id) own ∙ ap (option_map (valued (word (pdo.on v id)))) off in
           let now : unsigned32_of (valued (word (pdo.on v id)) (valued (word (pdo.off v)) e)) ≡ Some (pdo.on v id) =
           has_word (valued (word (pdo.off v)) e) (number (word (pdo.off v))) (pdo.on v id) (keeps_type e v (pdo.off v) is) fits in
           rw (on, now) (on_exists v id small, on_identifier v id small)
       by_id None own true ex =
           let t : (is_some (ids e.index) || exists_by v) ≡ true = rw (own, ex) refl in
-          let on : entry_at (planned ons (planned offs dict)) e.index 1 ≡ Some (valued (word (pdo.off v)) e) = on_value e v inside cob is None own ∙ off_value e v inside cob is true t in
+          let on : entry_at (planned (planned dict offs) ons) e.index 1 ≡ Some (valued (word (pdo.off v)) e) = on_value e v inside cob is None own ∙ off_value e v inside cob is true t in
           let now : unsigned32_of (valued (word (pdo.off v)) e) ≡ Some (pdo.off v) = has_word e v (pdo.off v) is (off_small v) in
           rw (on, now) (off_exists v)
       by_id None own false ex =
           let t : (is_some (ids e.index) || exists_by v) ≡ false = rw (own, ex) refl in
-          let on : entry_at (planned ons (planned offs dict)) e.index 1 ≡ Some e = on_value e v inside cob is None own ∙ off_value e v inside cob is false t in
+          let on : entry_at (planned (planned dict offs) ons) e.index 1 ≡ Some e = on_value e v inside cob is None own ∙ off_value e v inside cob is false t in
           rw (on, is) ex

@@ -1,6 +1,6 @@
 -- One node of a boot, whatever stands around it: where it and its channels are, and where each delivery takes them.
 use Rattle.std.proofs.Common.{◌≡◌, ℕ, zero, suc, ◌+◌, ◌*◌, ◌/◌, ◌%◌, Bool, true, false, cond, ◌&&◌, ◌||◌, List, [], ◌∷◌, ◌++◌, drop, refl, ap, sym, subst, ◌∙◌, arith, nat_lt, nat_le, ◌==◌, Option, Some, None, ◌⊎◌, inl, inr}
-use Rattle.std.specs.Prelude.{slice_get, option_to_list, option_map}
+use Rattle.std.specs.Prelude.{slice_get, option_to_list, option_map, is_some}
 use Rattle.std.proofs.lemmas.Bool.Decides.{nat_tests}
 use Rattle.std.proofs.lemmas.List.{append-nil}
 use Rattle.std.specs.Prelude.{if◌then◌else◌}
@@ -28,7 +28,9 @@ use Rattle.cop_boot.specs.declared.«end».End.{End}
 use Rattle.cop_boot.specs.declared.«end».End.TheVariants.{Ready, Silent}
 use Rattle.cop_boot.specs.declared.«end».Phase.{Phase}
 use Rattle.cop_boot.specs.declared.«end».Phase.TheVariants.{Waiting, Sending, Over}
-use Rattle.cop_boot.specs.Settings.{address_of, bytes_of, with_setting, planned, AcceptsInTurn, is_short_value}
+use Rattle.cop_dcf.specs.Dcf.{bytes_of}
+use Rattle.cop_dcf.specs.Planned.{with_setting, planned}
+use Rattle.cop_boot.specs.Settings.{address_of, AcceptsInTurn, is_short_value}
 use Rattle.cop_boot.specs.Node.{Node, Moved, stays, over, goes_on, request_of, awaited, gives_up}
 use Rattle.cop_boot.specs.Manager.{heard_by, is_boot_up, reset_all, start_all, is_ready, end_in}
 use Rattle.cop_boot.specs.Device.{Attached, Responded, MayRespond, MayServeIn, boot_up, stepped_by, reset_to, served_as, ignores, MayRespondTo}
@@ -74,10 +76,10 @@ abbrev pub Each : (Message → Type 0) → List Message → Type 0
 Each P [] = Unit {0}
 Each P (frame ∷ frames) = P frame × Each P frames
 
--- Where a node is: it awaits the reset, its boot-up is under way, a setting is out, its confirmation is under way, all is done, or
+-- Where a node is: it awaits the reset, with a device that is here or without one, its boot-up is under way, a setting is out, its confirmation is under way, all is done, or
 -- its manager gave it up.
 pub data Stage : Type 0 where
-  Resetting : (since : ℕ) → Stage
+  Resetting : (since : ℕ) (here : Bool) → Stage
   Booting : (since : ℕ) → Stage
   Asked : (done since : ℕ) (s : Setting) (more : List Setting) → Stage
   Confirmed : (done since : ℕ) (s : Setting) (more : List Setting) → Stage
@@ -112,7 +114,7 @@ pub record Plan : Type 0 where
   pub dict : List Entry
 
 abbrev pub goal_of : Plan → List Entry
-goal_of p = planned p.settings p.dict
+goal_of p = planned p.dict p.settings
 
 abbrev pub node_at : Plan → ℕ → Phase → Node
 node_at p boots phase = record { number = p.number; settings = p.settings; boots = boots; phase = phase }
@@ -123,10 +125,11 @@ line_at p to from device = record { number = p.number; to = to; from = from; dev
 -- the settings from one on are still to be written to a dictionary
 pub record IsLeft (p : Plan) (rest : List Setting) (dict : List Entry) : Type 0 where
   pub accepts : AcceptsInTurn dict rest
-  pub leads : planned rest dict ≡ goal_of p
+  pub leads : planned dict rest ≡ goal_of p
 
 abbrev pub IsAt : Plan → Stage → Node → Line → Type 0
-IsAt p (Resetting since) node line = (device : Option Attached) × (node ≡ node_at p 0 (Waiting since)) × (line ≡ line_at p (reset_all ∷ []) [] device) × IfThere (IsFresh p.number p.dict) device
+IsAt p (Resetting since here) node line = (device : Option Attached) × (node ≡ node_at p 0 (Waiting since)) × (line ≡ line_at p (reset_all ∷ []) [] device) × IfThere (IsFresh p.number p.dict) device
+    × (is_some device ≡ here)
 IsAt p (Booting since) node line = (device : Attached) × (node ≡ node_at p 0 (Waiting since)) × (line ≡ line_at p [] (boot_up p.number ∷ []) (Some device)) × IsQuiet p.number p.dict device
 IsAt p (Asked done since s more) node line = (device : Attached) × (node ≡ node_at p 1 (Sending done since)) × (line ≡ line_at p (request_of p.number s ∷ []) [] (Some device))
     × (drop done p.settings ≡ s ∷ more) × (dict : List Entry) × IsQuiet p.number dict device × IsLeft p (s ∷ more) dict
@@ -219,20 +222,20 @@ module _ (p : Plan) (sound : IsSound p) where
       bytes = short_bytes s short
 
       by_due : (served : Served) → r ≡ served_as d served
-          → served ≡ record { server = record { node = p.number; state = idle }; dict = with_setting s dict; answer = Some (reply p.number (download_answer (address_of s))) }
+          → served ≡ record { server = record { node = p.number; state = idle }; dict = with_setting dict s; answer = Some (reply p.number (download_answer (address_of s))) }
           → IsAt p (Confirmed done since s more) (node_at p 1 (Sending done since)) (line_at p [] (option_to_list r.answer) (Some r.device))
       by_due served e is = (
         r.device,
         refl,
         rw (e, is) refl,
         at,
-        with_setting s dict,
+        with_setting dict s,
         record { number = rw e quiet.number; server = rw (e, is) refl; has = rw (e, is) refl; serves = rw e quiet.serves },
         record { accepts = left.accepts.2; leads = left.leads },
       )
 
       served_due : (served : Served) → MayServe (record { node = p.number; state = idle }) dict (request_of p.number s) served
-          → served ≡ record { server = record { node = p.number; state = idle }; dict = with_setting s dict; answer = Some (reply p.number (download_answer (address_of s))) }
+          → served ≡ record { server = record { node = p.number; state = idle }; dict = with_setting dict s; answer = Some (reply p.number (download_answer (address_of s))) }
       served_due served may =
           may.sure (rw (request_again (address_of s) (bytes_of s) bytes) left.accepts.0) ∙ served_so p.number dict (address_of s) (bytes_of s) bytes ∙ rw left.accepts.1 refl
 
@@ -310,7 +313,7 @@ each_append P (x ∷ xs) ys h g = (h.0, each_append P xs ys h.1 g)
 
 -- the stage that a delivery to the node leads to
 abbrev pub after_to : Stage → Stage
-after_to (Resetting since) = Booting since
+after_to (Resetting since here) = if here then Booting since else Resetting since here
 after_to (Asked done since s more) = Confirmed done since s more
 after_to (Booting since) = Booting since
 after_to (Confirmed done since s more) = Confirmed done since s more
@@ -327,13 +330,17 @@ module _ (p : Plan) (sound : IsSound p) where
   pub delivered : (stage : Stage) (node : Node) (line : Line) (frame : Message) (rest : List Message) (d : Attached) (r : Responded) → IsAt p stage node line
       → line.to ≡ frame ∷ rest → line.device ≡ Some d → MayRespond d frame r
       → IsAt p (after_to stage) node (record line { to = rest; from = line.from ++ option_to_list r.answer; device = Some r.device })
-  delivered (Resetting since) node line frame rest d r (device, en, el, fresh) to here may =
+  delivered (Resetting since true) node line frame rest d r (device, en, el, fresh, has) to here may =
       let front = heads reset_all frame [] rest (sym (ap (λ l. l.to) el) ∙ to) in
       let of_d : device ≡ Some d = sym (ap (λ l. l.device) el) ∙ here in
       let may' = subst (λ f. MayRespond d f r) (sym front.0) may in
       let fresh' : IsFresh p.number p.dict d = subst (IfThere (IsFresh p.number p.dict)) of_d fresh in
       let after : record line { to = rest; from = line.from ++ option_to_list r.answer; device = Some r.device } ≡ line_at p [] (option_to_list r.answer) (Some r.device) = rw (el, sym front.1) refl in
       subst (λ l. IsAt p (Booting since) node l) (sym after) (subst (λ n. IsAt p (Booting since) n (line_at p [] (option_to_list r.answer) (Some r.device))) (sym en) (to_reset p sound since d r fresh' may'))
+  delivered (Resetting since false) node line frame rest d r (device, en, el, fresh, has) to here may =
+      let of_d : device ≡ Some d = sym (ap (λ l. l.device) el) ∙ here in
+      let never : true ≡ false = rw of_d at has in
+      absurd (cc)
   delivered (Booting since) node line frame rest d r (device, en, el, quiet) to here may = absurd (no_front frame rest (sym (ap (λ l. l.to) el) ∙ to))
   delivered (Asked done since s more) node line frame rest d r (device, en, el, at, dict, quiet, left) to here may =
       let front = heads (request_of p.number s) frame [] rest (sym (ap (λ l. l.to) el) ∙ to) in
@@ -369,7 +376,7 @@ goes_stage done now (s ∷ more) = Asked done now s more
 abbrev pub after_from : Plan → ℕ → Stage → Stage
 after_from p now (Booting since) = goes_stage 0 now p.settings
 after_from p now (Confirmed done since s more) = goes_stage (suc done) now more
-after_from p now (Resetting since) = Resetting since
+after_from p now (Resetting since here) = Resetting since here
 after_from p now (Asked done since s more) = Asked done since s more
 after_from p now Done = Done
 after_from p now Lost = Lost
@@ -423,7 +430,7 @@ lost_hears p boots frame now = by_tests (is_boot_up p.number frame) (is_answer p
 module _ (p : Plan) (sound : IsSound p) where
   pub came : (now : ℕ) (stage : Stage) (node : Node) (line : Line) (frame : Message) (rest : List Message) → IsAt p stage node line → line.from ≡ frame ∷ rest
       → IsAt p (after_from p now stage) (heard_by frame now node).node (sent_to line rest (heard_by frame now node).frame)
-  came now (Resetting since) node line frame rest (device, en, el, fresh) from = absurd (no_front frame rest (sym (ap (λ l. l.from) el) ∙ from))
+  came now (Resetting since here) node line frame rest (device, en, el, fresh, has) from = absurd (no_front frame rest (sym (ap (λ l. l.from) el) ∙ from))
   came now (Booting since) node line frame rest (device, en, el, quiet) from =
       let front = heads (boot_up p.number) frame [] rest (sym (ap (λ l. l.from) el) ∙ from) in
       let after : sent_to line rest (heard_by frame now node).frame ≡ line_at p (option_to_list (heard_by frame now node).frame) [] (Some device) = rw (el, sym front.1) refl in
@@ -447,7 +454,7 @@ module _ (p : Plan) (sound : IsSound p) where
       (device, to0 ++ option_to_list (heard_by frame now node).frame, rest, boots, ap (λ m. m.node) heard, rw el refl, all'.1, has)
 
   pub comes : (stage : Stage) (node : Node) (line : Line) → IsAt p stage node line → Each (ComesFrom p.number) line.from
-  comes (Resetting since) node line (device, en, el, fresh) = rw el tt
+  comes (Resetting since here) node line (device, en, el, fresh, has) = rw el tt
   comes (Booting since) node line (device, en, el, quiet) = rw el (inl refl, tt)
   comes (Asked done since s more) node line (device, en, el, at, dict, quiet, left) = rw el tt
   comes (Confirmed done since s more) node line (device, en, el, at, dict, quiet, left) = rw el (inr refl, tt)
@@ -456,7 +463,7 @@ module _ (p : Plan) (sound : IsSound p) where
 
   -- all is done where the node is ready, and then a start may come
   pub started_at : (stage : Stage) (node : Node) (line : Line) → IsAt p stage node line → is_ready node ≡ true → IsAt p Done node (record line { to = line.to ++ start_all ∷ [] })
-  started_at (Resetting since) node line (device, en, el, fresh) ready = absurd (let h : false ≡ true = rw en at ready in cc)
+  started_at (Resetting since here) node line (device, en, el, fresh, has) ready = absurd (let h : false ≡ true = rw en at ready in cc)
   started_at (Booting since) node line (device, en, el, quiet) ready = absurd (let h : false ≡ true = rw en at ready in cc)
   started_at (Asked done since s more) node line (device, en, el, at, dict, quiet, left) ready = absurd (let h : false ≡ true = rw en at ready in cc)
   started_at (Confirmed done since s more) node line (device, en, el, at, dict, quiet, left) ready = absurd (let h : false ≡ true = rw en at ready in cc)
@@ -466,7 +473,7 @@ module _ (p : Plan) (sound : IsSound p) where
 
 -- the stage that a moment leads to
 abbrev pub after_moment : ℕ → Stage → Stage
-after_moment now (Resetting since) = if nat_le (since + 20000000) now then Lost else Resetting since
+after_moment now (Resetting since here) = if nat_le (since + 20000000) now then Lost else Resetting since here
 after_moment now (Booting since) = if nat_le (since + 20000000) now then Lost else Booting since
 after_moment now (Asked done since s more) = if nat_le (since + 4000000) now then Lost else Asked done since s more
 after_moment now (Confirmed done since s more) = if nat_le (since + 4000000) now then Lost else Confirmed done since s more
@@ -498,9 +505,9 @@ module _ (p : Plan) where
 
   pub waited : (now : ℕ) (stage : Stage) (node : Node) (line : Line) → IsAt p stage node line
       → IsAt p (after_moment now stage) (awaited node now).node (sent_to line line.from (awaited node now).frame)
-  waited now (Resetting since) node line (device, en, el, fresh) =
-      subst (λ n. IsAt p (after_moment now (Resetting since)) (awaited n now).node (sent_to line line.from (awaited n now).frame)) (sym en)
-      (given_up (nat_le (since + 20000000) now) (Resetting since) 0 (Waiting since) line None device (reset_all ∷ []) [] (device, refl, el, fresh) el tt (fresh_of p.number p.dict device fresh))
+  waited now (Resetting since here) node line (device, en, el, fresh, has) =
+      subst (λ n. IsAt p (after_moment now (Resetting since here)) (awaited n now).node (sent_to line line.from (awaited n now).frame)) (sym en)
+      (given_up (nat_le (since + 20000000) now) (Resetting since here) 0 (Waiting since) line None device (reset_all ∷ []) [] (device, refl, el, fresh, has) el tt (fresh_of p.number p.dict device fresh))
   waited now (Booting since) node line (device, en, el, quiet) =
       subst (λ n. IsAt p (after_moment now (Booting since)) (awaited n now).node (sent_to line line.from (awaited n now).frame)) (sym en)
       (given_up (nat_le (since + 20000000) now) (Booting since) 0 (Waiting since) line None (Some device) [] (boot_up p.number ∷ []) (device, refl, el, quiet) el (inl refl, tt) (quiet_of p.number p.dict device quiet))
@@ -519,7 +526,7 @@ module _ (p : Plan) where
 
   -- what a node has when it is at a stage
   pub numbered : (stage : Stage) (node : Node) (line : Line) → IsAt p stage node line → (node.number ≡ p.number) × (line.number ≡ p.number)
-  numbered (Resetting since) node line (device, en, el, fresh) = (ap (λ n. n.number) en, ap (λ l. l.number) el)
+  numbered (Resetting since here) node line (device, en, el, fresh, has) = (ap (λ n. n.number) en, ap (λ l. l.number) el)
   numbered (Booting since) node line (device, en, el, quiet) = (ap (λ n. n.number) en, ap (λ l. l.number) el)
   numbered (Asked done since s more) node line (device, en, el, at, dict, quiet, left) = (ap (λ n. n.number) en, ap (λ l. l.number) el)
   numbered (Confirmed done since s more) node line (device, en, el, at, dict, quiet, left) = (ap (λ n. n.number) en, ap (λ l. l.number) el)
@@ -538,7 +545,7 @@ module _ (p : Plan) where
 
   -- the ends that a boot by turns may have
   pub other_end : (stage : Stage) (node : Node) (line : Line) (e : End) → IsAt p stage node line → end_in node.phase ≡ Some e → (e ≡ Ready) ⊎ (e ≡ Silent p.number)
-  other_end (Resetting since) node line e (device, en, el, fresh) h = absurd (let g : None ≡ Some e = rw en at h in cc)
+  other_end (Resetting since here) node line e (device, en, el, fresh, has) h = absurd (let g : None ≡ Some e = rw en at h in cc)
   other_end (Booting since) node line e (device, en, el, quiet) h = absurd (let g : None ≡ Some e = rw en at h in cc)
   other_end (Asked done since s more) node line e (device, en, el, at, dict, quiet, left) h = absurd (let g : None ≡ Some e = rw en at h in cc)
   other_end (Confirmed done since s more) node line e (device, en, el, at, dict, quiet, left) h = absurd (let g : None ≡ Some e = rw en at h in cc)

@@ -1,5 +1,5 @@
 -- A boot by turns keeps each node at its stage.
-use Rattle.std.proofs.Common.{◌≡◌, ℕ, suc, ◌+◌, ◌<◌, Bool, true, false, cond, not, ◌&&◌, ◌||◌, List, [], ◌∷◌, ◌++◌, map, max, refl, ap, sym, subst, ◌∙◌, arith, ◌==◌, append_assoc, Option, Some, None, inl, inr, nat_le}
+use Rattle.std.proofs.Common.{◌≡◌, ℕ, suc, ◌+◌, ◌<◌, Bool, true, false, cond, not, ◌&&◌, ◌||◌, List, [], ◌∷◌, ◌++◌, map, max, refl, ap, sym, subst, ◌∙◌, arith, ◌==◌, append_assoc, Option, Some, None, ◌⊎◌, inl, inr, nat_le}
 use Rattle.std.specs.Prelude.{filter, slice_get, option_to_list, option_map, if◌then◌else◌}
 use Rattle.std.specs.List.{list_all}
 use Rattle.std.proofs.lemmas.Bool.Decides.{nat_tests}
@@ -124,7 +124,7 @@ answered_own node now body (Waiting since) = tt
 answered_own node now body (Sending done since) = answer_own node done now body (slice_get node.settings done)
 answered_own node now body (Over e) = tt
 
-awaited_own : (node : Node) (now : ℕ) → IfThere (λ frame. frame.id ≡ 0x600 + node.number) (awaited node now).frame
+pub awaited_own : (node : Node) (now : ℕ) → IfThere (λ frame. frame.id ≡ 0x600 + node.number) (awaited node now).frame
 awaited_own node now = by_phase node.phase
   where
     by_test : (b : Bool) (o : Option Message) → IfThere (λ frame. frame.id ≡ 0x600 + node.number) o
@@ -141,7 +141,7 @@ awaited_own node now = by_phase node.phase
     by_phase (Sending done since) = by_test (nat_le (since + 4000000) now) (gives_up node.number (slice_get node.settings done)) (by_setting (slice_get node.settings done))
     by_phase (Over e) = tt
 
-heard_own : (frame : Message) (now : ℕ) (node : Node) → IfThere (λ frame. frame.id ≡ 0x600 + node.number) (heard_by frame now node).frame
+pub heard_own : (frame : Message) (now : ℕ) (node : Node) → IfThere (λ frame. frame.id ≡ 0x600 + node.number) (heard_by frame now node).frame
 heard_own frame now node = by_tests (is_boot_up node.number frame) (is_answer node.number frame)
   where
     by_tests : (a b : Bool) → IfThere (λ frame. frame.id ≡ 0x600 + node.number) (cond a (booted node now) (cond b (answered node now frame.body) (stays node))).frame
@@ -246,11 +246,10 @@ module _ (plans : ℕ → Option Plan) (good : ArePlans plans) where
     none_now : (frames : List Message) (n : ℕ) → plans n ≡ None → line_of (map (takes frames) lines) n ≡ None
     none_now frames n h = lines_map (takes frames) (λ line. refl) lines n ∙ ap (option_map (takes frames)) (none n h)
 
-    -- how each node stands before, and where the call takes it
-    pub record Goes (n : ℕ) (p : Plan) : Type 0 where
+    -- how a node stands before, where the call takes it to a stage
+    pub record Goes (n : ℕ) (p : Plan) (stage : Stage) : Type 0 where
       pub node : Node
       pub line : Line
-      pub stage : Stage
       pub found : node_of old n ≡ Some node
       pub lined : line_of lines n ≡ Some line
       pub at : IsAt p stage (f node).node (sent_to line line.from (f node).frame)
@@ -258,43 +257,43 @@ module _ (plans : ℕ → Option Plan) (good : ArePlans plans) where
     found_now : (n : ℕ) (node : Node) → node_of old n ≡ Some node → node_of m.nodes n ≡ Some (f node).node
     found_now n node h = ap (λ nodes. node_of nodes n) nodes ∙ found_map (λ node. (f node).node) same old n ∙ ap (option_map (λ node. (f node).node)) h
 
-    goes : (n : ℕ) (p : Plan) → plans n ≡ Some p → (g : Goes n p) → Stands (posted (record { manager = m; frames = sent_by f old }) lines) n p g.stage
-    goes n p here g = record {
+    pub goes : (n : ℕ) (p : Plan) → plans n ≡ Some p → (stage : Stage) → Goes n p stage → Stands (posted (record { manager = m; frames = sent_by f old }) lines) n p stage
+    goes n p here stage g = record {
       node = (f g.node).node;
       line = sent_to g.line g.line.from (f g.node).frame;
       found = found_now n g.node g.found;
-      lined = took f own old lines n g.node g.line apart g.found g.lined ((numbered p g.stage _ _ g.at).1 ∙ good.number n p here);
+      lined = took f own old lines n g.node g.line apart g.found g.lined ((numbered p stage _ _ g.at).1 ∙ good.number n p here);
       at = g.at;
     }
 
-    starts : (n : ℕ) (p : Plan) → plans n ≡ Some p → (g : Goes n p) → all_ready m.nodes ≡ true
+    starts : (n : ℕ) (p : Plan) → plans n ≡ Some p → (stage : Stage) → Goes n p stage → all_ready m.nodes ≡ true
         → Stands (posted (record { manager = record m { started = true }; frames = sent_by f old ++ start_all ∷ [] }) lines) n p Done
-    starts n p here g all = record {
+    starts n p here stage g all = record {
       node = (f g.node).node;
       line = record (sent_to g.line g.line.from (f g.node).frame) { to = (sent_to g.line g.line.from (f g.node).frame).to ++ start_all ∷ [] };
       found = found_now n g.node g.found;
-      lined = took_start f own old lines n g.node g.line apart g.found g.lined ((numbered p g.stage _ _ g.at).1 ∙ good.number n p here);
-      at = started_at p (good.sound n p here) g.stage (f g.node).node (sent_to g.line g.line.from (f g.node).frame) g.at (ready_found m.nodes n (f g.node).node all (found_now n g.node g.found));
+      lined = took_start f own old lines n g.node g.line apart g.found g.lined ((numbered p stage _ _ g.at).1 ∙ good.number n p here);
+      at = started_at p (good.sound n p here) stage (f g.node).node (sent_to g.line g.line.from (f g.node).frame) g.at (ready_found m.nodes n (f g.node).node all (found_now n g.node g.found));
     }
 
+    both : (a b : Bool) → (not a && b) ≡ true → b ≡ true
+    both true b h = cc
+    both false b h = h
+
     -- without a start, and with one
-    pub plain : m.started ≡ all_ready m.nodes → ((n : ℕ) (p : Plan) → plans n ≡ Some p → Goes n p) → Holds plans (posted (record { manager = m; frames = sent_by f old }) lines)
+    pub plain : m.started ≡ all_ready m.nodes → ((n : ℕ) (p : Plan) → plans n ≡ Some p → (stage : Stage) × Goes n p stage) → Holds plans (posted (record { manager = m; frames = sent_by f old }) lines)
     plain all each = record {
       begun = begun;
       apart = apart_now;
       starts = all;
       none = none_now (sent_by f old);
       absent = absent_now;
-      each = λ n p here. ((each n p here).stage, goes n p here (each n p here));
+      each = λ n p here. let g = each n p here in (g.0, goes n p here g.0 g.1);
     }
 
-    pub and_start : (m.started ≡ true → all_ready m.nodes ≡ true) → ((n : ℕ) (p : Plan) → plans n ≡ Some p → Goes n p) → Holds plans (posted (starting m (sent_by f old)) lines)
+    pub and_start : (m.started ≡ true → all_ready m.nodes ≡ true) → ((n : ℕ) (p : Plan) → plans n ≡ Some p → (stage : Stage) × Goes n p stage) → Holds plans (posted (starting m (sent_by f old)) lines)
     and_start all each = by_test (not m.started && all_ready m.nodes) refl
       where
-        both : (a b : Bool) → (not a && b) ≡ true → b ≡ true
-        both true b h = cc
-        both false b h = h
-
         neither : (a b : Bool) → (a ≡ true → b ≡ true) → (not a && b) ≡ false → a ≡ b
         neither true b f h = sym (f refl)
         neither false b f h = sym h
@@ -308,8 +307,20 @@ module _ (plans : ℕ → Option Plan) (good : ArePlans plans) where
           starts = sym (both m.started (all_ready m.nodes) h);
           none = none_now (sent_by f old ++ start_all ∷ []);
           absent = absent_now;
-          each = λ n p here. (Done, starts n p here (each n p here) (both m.started (all_ready m.nodes) h));
+          each = λ n p here. let g = each n p here in (Done, starts n p here g.0 g.1 (both m.started (all_ready m.nodes) h));
         }
+
+    -- a node is at its stage, or a start has come
+    pub and_start_one : (n : ℕ) (p : Plan) → plans n ≡ Some p → (stage : Stage) → Goes n p stage
+        → (later : Stage) × Stands (posted (starting m (sent_by f old)) lines) n p later × ((later ≡ stage) ⊎ (later ≡ Done))
+    and_start_one n p here stage g = by_test (not m.started && all_ready m.nodes) refl
+      where
+        by_test : (b : Bool) → (not m.started && all_ready m.nodes) ≡ b
+            → (later : Stage)
+            × Stands (posted (cond b (record { manager = record m { started = true }; frames = sent_by f old ++ start_all ∷ [] }) (record { manager = m; frames = sent_by f old })) lines) n p later
+            × ((later ≡ stage) ⊎ (later ≡ Done))
+        by_test false h = (stage, goes n p here stage g, inl refl)
+        by_test true h = (Done, starts n p here stage g (both m.started (all_ready m.nodes) h), inr refl)
 
 same_number : (n : ℕ) → (n == n) ≡ true
 same_number n = grind (arith, nat_tests)
@@ -335,10 +346,10 @@ line_stays new lines n line lined other =
 line_none : (new : Line) (lines : List Line) (n : ℕ) → line_of lines n ≡ None → line_of (with_line new lines) n ≡ None
 line_none new lines n h = with_line_so new lines n ∙ ap (option_map (λ line. if line.number == new.number then new else line)) h
 
-same_line : (lines : List Line) (n : ℕ) (a b : Line) → line_of lines n ≡ Some a → line_of lines n ≡ Some b → a ≡ b
+pub same_line : (lines : List Line) (n : ℕ) (a b : Line) → line_of lines n ≡ Some a → line_of lines n ≡ Some b → a ≡ b
 same_line lines n a b h g = let e : Some a ≡ Some b = sym h ∙ g in cc
 
-is_equal : (a b : ℕ) → (a == b) ≡ true → a ≡ b
+pub is_equal : (a b : ℕ) → (a == b) ≡ true → a ≡ b
 is_equal a b h = grind (arith, nat_tests)
 
 -- a moment makes no node ready, and leaves those that are
@@ -364,6 +375,25 @@ awaited_ready node now = by_phase node.phase refl
     by_phase (Over x) e = refl
 
 module _ (plans : ℕ → Option Plan) (good : ArePlans plans) (w : World) (h : Holds plans w) where
+  -- where a moment takes a node
+  pub moment_goes : (now n : ℕ) (p : Plan) → plans n ≡ Some p → (stage : Stage) → Stands w n p stage
+      → Goes plans good (λ node. awaited node (max w.manager.clock now)) (λ node. awaited_own node (max w.manager.clock now)) (λ node. awaited_number (max w.manager.clock now) node)
+      (moved (λ node. awaited node (max w.manager.clock now)) (at_least w.manager now)) w.manager.nodes w.lines refl h.begun h.apart h.none h.absent n p (after_moment (max w.manager.clock now) stage)
+  moment_goes now n p here stage s = record {
+    node = s.node;
+    line = s.line;
+    found = s.found;
+    lined = s.lined;
+    at = waited p (max w.manager.clock now) stage s.node s.line s.at;
+  }
+
+  pub moment_stands : (now n : ℕ) (p : Plan) → plans n ≡ Some p → (stage : Stage) → Stands w n p stage → Stands (posted (passed w.manager now) w.lines) n p (after_moment (max w.manager.clock now) stage)
+  moment_stands now n p here stage s =
+      let clock = max w.manager.clock now in
+      subst (λ x. Stands (posted x w.lines) n p (after_moment clock stage)) (sym (passed_begun w.manager now h.begun))
+      (goes plans good (λ node. awaited node clock) (λ node. awaited_own node clock) (λ node. awaited_number clock node) (moved (λ node. awaited node clock) (at_least w.manager now))
+      w.manager.nodes w.lines refl h.begun h.apart h.none h.absent n p here (after_moment clock stage) (moment_goes now n p here stage s))
+
   -- a moment
   moment_holds : (now : ℕ) → Holds plans (posted (passed w.manager now) w.lines)
   moment_holds now =
@@ -372,14 +402,7 @@ module _ (plans : ℕ → Option Plan) (good : ArePlans plans) (w : World) (h : 
       (plain plans good (λ node. awaited node clock) (λ node. awaited_own node clock) (λ node. awaited_number clock node) (moved (λ node. awaited node clock) (at_least w.manager now))
       w.manager.nodes w.lines refl h.begun h.apart h.none h.absent
       (h.starts ∙ sym (ready_same (λ node. (awaited node clock).node) (λ node. awaited_ready node clock) w.manager.nodes))
-      (λ n p here. let s = h.each n p here in record {
-        node = s.1.node;
-        line = s.1.line;
-        stage = after_moment clock s.0;
-        found = s.1.found;
-        lined = s.1.lined;
-        at = waited p clock s.0 s.1.node s.1.line s.1.at;
-      }))
+      (λ n p here. let s = h.each n p here in (after_moment clock s.0, moment_goes now n p here s.0 s.1)))
 
   -- a line is of a node that has a plan
   module _ (m : ℕ) (line : Line) (lined : line_of w.lines m ≡ Some line) where
@@ -411,38 +434,44 @@ module _ (plans : ℕ → Option Plan) (good : ArePlans plans) (w : World) (h : 
         let all : Each (ComesFrom p.number) (frame ∷ rest) = subst (Each (ComesFrom p.number)) (ap (λ l. l.from) same ∙ front) (comes p (good.sound m p e) s.0 s.1.node s.1.line s.1.at) in
         subst (λ k. ComesFrom k frame) (good.number m p e) all.0
 
-    -- how each node stands before the frame is heard, and where it goes
-    heard_goes : (n : ℕ) (p : Plan) → plans n ≡ Some p → (b : Bool) → (n == m) ≡ b
+    -- how a node stands before the frame is heard, and where it goes
+    heard_goes : (n : ℕ) (p : Plan) → plans n ≡ Some p → (stage : Stage) → Stands w n p stage → (b : Bool) → (n == m) ≡ b
         → Goes plans good (λ node. heard_by frame clock node) (λ node. heard_own frame clock node) (λ node. heard_number frame clock node)
         (moved (heard_by frame clock) (at_least w.manager w.manager.clock)) w.manager.nodes (with_line new w.lines) refl h.begun h.apart (λ n e. line_none new w.lines n (h.none n e)) h.absent n p
-    heard_goes n p e true t =
-        let s = h.each n p e in
+        (if b then after_from p clock stage else stage)
+    heard_goes n p e stage s true t =
         let here : n ≡ m = is_equal n m t in
         let at_n : line_of w.lines n ≡ Some line = subst (λ k. line_of w.lines k ≡ Some line) (sym here) lined in
-        let same : s.1.line ≡ line = same_line w.lines n s.1.line line s.1.lined at_n in
+        let same : s.line ≡ line = same_line w.lines n s.line line s.lined at_n in
         record {
-          node = s.1.node;
+          node = s.node;
           line = new;
-          stage = after_from p clock s.0;
-          found = s.1.found;
+          found = s.found;
           lined = line_put new w.lines n line at_n refl;
-          at = came p (good.sound n p e) clock s.0 s.1.node line frame rest (subst (λ l. IsAt p s.0 s.1.node l) same s.1.at) front;
+          at = came p (good.sound n p e) clock stage s.node line frame rest (subst (λ l. IsAt p stage s.node l) same s.at) front;
         }
-    heard_goes n p e false t =
-        let s = h.each n p e in
+    heard_goes n p e stage s false t =
         let q = planned_at m line lined (plans m) refl in
-        let numbers = numbered p s.0 s.1.node s.1.line s.1.at in
-        let still : heard_by frame clock s.1.node ≡ stays s.1.node =
-        not_mine n m frame clock s.1.node (good.least n p e) (good.least m q.0 q.1) t (numbers.0 ∙ good.number n p e) (from_it q.0 q.1) in
-        let other : (s.1.line.number == new.number) ≡ false = rw (numbers.1 ∙ good.number n p e, line_number m line lined q.0 q.1) t in
+        let numbers = numbered p stage s.node s.line s.at in
+        let still : heard_by frame clock s.node ≡ stays s.node =
+        not_mine n m frame clock s.node (good.least n p e) (good.least m q.0 q.1) t (numbers.0 ∙ good.number n p e) (from_it q.0 q.1) in
+        let other : (s.line.number == new.number) ≡ false = rw (numbers.1 ∙ good.number n p e, line_number m line lined q.0 q.1) t in
         record {
-          node = s.1.node;
-          line = s.1.line;
-          stage = s.0;
-          found = s.1.found;
-          lined = line_stays new w.lines n s.1.line s.1.lined other;
-          at = subst (λ x. IsAt p s.0 x.node (sent_to s.1.line s.1.line.from x.frame)) (sym still) (subst (IsAt p s.0 s.1.node) (nothing_sent s.1.line) s.1.at);
+          node = s.node;
+          line = s.line;
+          found = s.found;
+          lined = line_stays new w.lines n s.line s.lined other;
+          at = subst (λ x. IsAt p stage x.node (sent_to s.line s.line.from x.frame)) (sym still) (subst (IsAt p stage s.node) (nothing_sent s.line) s.at);
         }
+
+    pub frame_stands : (n : ℕ) (p : Plan) → plans n ≡ Some p → (stage : Stage) → Stands w n p stage
+        → (later : Stage) × Stands (posted (heard w.manager frame w.manager.clock) (with_line new w.lines)) n p later × ((later ≡ (if n == m then after_from p clock stage else stage)) ⊎ (later ≡ Done))
+    frame_stands n p e stage s =
+        subst (λ x. (later : Stage) × Stands (posted x (with_line new w.lines)) n p later × ((later ≡ (if n == m then after_from p clock stage else stage)) ⊎ (later ≡ Done)))
+        (sym (heard_begun w.manager frame w.manager.clock h.begun))
+        (and_start_one plans good (λ node. heard_by frame clock node) (λ node. heard_own frame clock node) (λ node. heard_number frame clock node)
+        (moved (heard_by frame clock) (at_least w.manager w.manager.clock)) w.manager.nodes (with_line new w.lines) refl h.begun h.apart (λ n e. line_none new w.lines n (h.none n e)) h.absent
+        n p e (if n == m then after_from p clock stage else stage) (heard_goes n p e stage s (n == m) refl))
 
     -- when all nodes are ready, no frame is under way from them
     not_started : w.manager.started ≡ true → ⊥
@@ -458,7 +487,7 @@ module _ (plans : ℕ → Option Plan) (good : ArePlans plans) (w : World) (h : 
         subst (λ x. Holds plans (posted x (with_line new w.lines))) (sym (heard_begun w.manager frame w.manager.clock h.begun))
         (and_start plans good (λ node. heard_by frame clock node) (λ node. heard_own frame clock node) (λ node. heard_number frame clock node)
         (moved (heard_by frame clock) (at_least w.manager w.manager.clock)) w.manager.nodes (with_line new w.lines) refl h.begun h.apart (λ n e. line_none new w.lines n (h.none n e)) h.absent
-        (λ e. absurd (not_started e)) (λ n p e. heard_goes n p e (n == m) refl))
+        (λ e. absurd (not_started e)) (λ n p e. let s = h.each n p e in (if n == m then after_from p clock s.0 else s.0, heard_goes n p e s.0 s.1 (n == m) refl)))
 
   from_holds : (m : ℕ) → Holds plans (heard_from w (line_of w.lines m))
   from_holds m = by_line (line_of w.lines m) refl
@@ -477,26 +506,23 @@ module _ (plans : ℕ → Option Plan) (good : ArePlans plans) (w : World) (h : 
     abbrev answered_line : Line
     answered_line = record line { to = rest; from = line.from ++ option_to_list r.answer; device = Some r.device }
 
-    to_each : (n : ℕ) (p : Plan) → plans n ≡ Some p → (b : Bool) → (n == m) ≡ b → (stage : Stage) × Stands (record w { lines = with_line answered_line w.lines }) n p stage
-    to_each n p e true t =
-        let s = h.each n p e in
+    pub to_stands : (n : ℕ) (p : Plan) → plans n ≡ Some p → (stage : Stage) → Stands w n p stage → (b : Bool) → (n == m) ≡ b
+        → Stands (record w { lines = with_line answered_line w.lines }) n p (if b then after_to stage else stage)
+    to_stands n p e stage s true t =
         let at_n : line_of w.lines n ≡ Some line = subst (λ k. line_of w.lines k ≡ Some line) (sym (is_equal n m t)) lined in
-        let same : s.1.line ≡ line = same_line w.lines n s.1.line line s.1.lined at_n in (
-          after_to s.0,
-          record {
-            node = s.1.node;
-            line = answered_line;
-            found = s.1.found;
-            lined = line_put answered_line w.lines n line at_n refl;
-            at = delivered p (good.sound n p e) s.0 s.1.node line frame rest d r (subst (λ l. IsAt p s.0 s.1.node l) same s.1.at) front has may;
-          },
-        )
-    to_each n p e false t =
-        let s = h.each n p e in
+        let same : s.line ≡ line = same_line w.lines n s.line line s.lined at_n in
+        record {
+          node = s.node;
+          line = answered_line;
+          found = s.found;
+          lined = line_put answered_line w.lines n line at_n refl;
+          at = delivered p (good.sound n p e) stage s.node line frame rest d r (subst (λ l. IsAt p stage s.node l) same s.at) front has may;
+        }
+    to_stands n p e stage s false t =
         let q = planned_at m line lined (plans m) refl in
-        let numbers = numbered p s.0 s.1.node s.1.line s.1.at in
-        let other : (s.1.line.number == answered_line.number) ≡ false = rw (numbers.1 ∙ good.number n p e, line_number m line lined q.0 q.1) t in
-        (s.0, record { node = s.1.node; line = s.1.line; found = s.1.found; lined = line_stays answered_line w.lines n s.1.line s.1.lined other; at = s.1.at })
+        let numbers = numbered p stage s.node s.line s.at in
+        let other : (s.line.number == answered_line.number) ≡ false = rw (numbers.1 ∙ good.number n p e, line_number m line lined q.0 q.1) t in
+        record { node = s.node; line = s.line; found = s.found; lined = line_stays answered_line w.lines n s.line s.lined other; at = s.at }
 
     to_holds : Holds plans (record w { lines = with_line answered_line w.lines })
     to_holds = record {
@@ -505,10 +531,10 @@ module _ (plans : ℕ → Option Plan) (good : ArePlans plans) (w : World) (h : 
       starts = h.starts;
       none = λ n e. line_none answered_line w.lines n (h.none n e);
       absent = h.absent;
-      each = λ n p e. to_each n p e (n == m) refl;
+      each = λ n p e. let s = h.each n p e in (if n == m then after_to s.0 else s.0, to_stands n p e s.0 s.1 (n == m) refl);
     }
 
-  turn_holds : (turn : Turn) (next : World) → Takes w turn next → Holds plans next
+  pub turn_holds : (turn : Turn) (next : World) → Takes w turn next → Holds plans next
   turn_holds (Moment now) next e = subst (Holds plans) (sym e) (moment_holds now)
   turn_holds (FromNode m) next e = subst (Holds plans) (sym e) (from_holds m)
   turn_holds (ToNode m) next t = by_line (line_of w.lines m) refl t

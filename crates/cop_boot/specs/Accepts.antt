@@ -5,7 +5,7 @@ use Rattle.cop_dict.specs.Find.{Entry, entry_at}
 use Rattle.cop_dict.specs.Pdo.{is_mapping}
 use Rattle.cop_dict.specs.Dict.{valued, refused_alone}
 use Rattle.cop_dcf.specs.declared.setting.Setting.{Setting}
-use Rattle.cop_boot.specs.Settings.{bytes_of}
+use Rattle.cop_dcf.specs.Dcf.{bytes_of}
 
 -- no setting of a list is at an address
 abbrev pub IsElsewhere : ℕ → ℕ → List Setting → Type 0

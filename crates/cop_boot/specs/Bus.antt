@@ -6,12 +6,12 @@ use Rattle.cop_boot.specs.declared.turn.Turn.{Turn}
 use Rattle.cop_dict.specs.Find.{Entry}
 use Rattle.cop_boot.specs.declared.«end».End.{End}
 use Rattle.cop_boot.specs.declared.«end».End.TheVariants.{Ready, Silent}
-use Rattle.cop_boot.specs.Settings.{planned}
+use Rattle.cop_dcf.specs.Planned.{planned}
 use Rattle.cop_boot.specs.Node.{Node}
-use Rattle.cop_boot.specs.Manager.{Managing, node_of, end_at, all_ready}
+use Rattle.cop_boot.specs.Manager.{Managing, node_of, end_at, all_ready, is_command, commands_of}
 use Rattle.cop_boot.specs.Device.{Attached}
 use Rattle.cop_boot.specs.Booted.{device_of}
-use Rattle.cop_boot.specs.Schedule.{Line, World, Boots, is_for, line_of}
+use Rattle.cop_boot.specs.Schedule.{Line, World, Boots, is_for, line_of, sent_in}
 
 -- the frames on the way to a node
 abbrev pub to_of : Bus → ℕ → List Message
@@ -38,13 +38,15 @@ pub record IsBus (bus : Bus) : Type 0 where
 abbrev pub KeepsOthers : Managing → List Attached → List Attached → Type 0
 KeepsOthers m old new = (n : ℕ) → node_of m.nodes n ≡ None → device_of new n ≡ device_of old n
 
--- a boot by turns made this of a manager and of devices
+-- A boot by turns made this of a manager and of devices. Of the frames that the manager sent, two at most are NMT commands: it
+-- reset the communication of all nodes once, and started them once where it says that they were started.
 pub record Runs (m : Managing) (devices : List Attached) (turns : List Turn) (later : Managing) (after : List Attached) : Type 0 where
   pub world : World
   pub boots : Boots m devices turns world
   pub manager : later ≡ world.manager
   pub attached : (n : ℕ) (line : Line) → line_of world.lines n ≡ Some line → line.device ≡ device_of after n
   pub others : KeepsOthers m devices after
+  pub commands : filter is_command (sent_in m devices turns world boots) ≡ commands_of later.started
 
 -- the device of a node has the planned dictionary
 pub record HasPlanned (m : Managing) (built : ℕ → List Entry) (after : List Attached) (n : ℕ) : Type 0 where
@@ -52,7 +54,7 @@ pub record HasPlanned (m : Managing) (built : ℕ → List Entry) (after : List 
   pub device : Attached
   pub manages : node_of m.nodes n ≡ Some node
   pub there : device_of after n ≡ Some device
-  pub dict : device.dict ≡ planned node.settings (built n)
+  pub dict : device.dict ≡ planned (built n) node.settings
 
 -- a node that is ready has the planned dictionary, no node is aborted or restarting, and the nodes are started exactly where all are
 -- ready

@@ -10,3 +10,4 @@ pub mod Bus
 pub mod Accepts
 pub mod PlanSettings
 pub mod PlannedPdos
+pub mod NetworkBoot

@@ -60,6 +60,18 @@ reset_all = nmt 130
 abbrev pub start_all : Message
 start_all = nmt 1
 
+-- an NMT command is a frame with the identifier 0
+abbrev pub is_command : Message → Bool
+is_command frame = frame.id == 0
+
+-- the start, where the nodes were started
+abbrev pub starts_of : Bool → List Message
+starts_of started = if started then start_all ∷ [] else []
+
+-- the commands that a manager sends: one reset, and one start where the nodes were started
+abbrev pub commands_of : Bool → List Message
+commands_of started = reset_all ∷ starts_of started
+
 -- a manager after a call, and the frames that it sends
 pub record Managed : Type 0 where
   pub manager : Managing

@@ -12,7 +12,8 @@ use Rattle.cop_boot.specs.declared.«end».End.{End}
 use Rattle.cop_boot.specs.declared.«end».End.TheVariants.{Ready, Aborted, Silent, Restarting}
 use Rattle.cop_boot.specs.declared.«end».Phase.{Phase}
 use Rattle.cop_boot.specs.declared.«end».Phase.TheVariants.{Waiting, Sending, Over}
-use Rattle.cop_boot.specs.Settings.{address_of, bytes_of}
+use Rattle.cop_dcf.specs.Dcf.{bytes_of}
+use Rattle.cop_boot.specs.Settings.{address_of}
 
 -- what a manager knows of a node: its settings, how many boot-ups began them, and how far they are
 pub record Node : Type 0 where

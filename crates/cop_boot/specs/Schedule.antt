@@ -71,6 +71,26 @@ abbrev pub TakesAll : World → List Turn → World → Type 0
 TakesAll w [] next = next ≡ w
 TakesAll w (turn ∷ turns) next = (between : World) × Takes w turn between × TakesAll between turns next
 
+-- the frames that the manager sends when it hears the front frame of a channel
+abbrev pub answered_on : World → List Message → List Message
+answered_on w [] = []
+answered_on w (frame ∷ rest) = (heard w.manager frame w.manager.clock).frames
+
+abbrev pub answered_from : World → Option Line → List Message
+answered_from w None = []
+answered_from w (Some line) = answered_on w line.from
+
+-- the frames that the manager sends at a turn
+abbrev pub sent_at : World → Turn → List Message
+sent_at w (ToNode number) = []
+sent_at w (FromNode number) = answered_from w (line_of w.lines number)
+sent_at w (Moment now) = (passed w.manager now).frames
+
+-- and those that it sends at one turn after the other
+abbrev pub sent_over : (turns : List Turn) (w next : World) → TakesAll w turns next → List Message
+sent_over [] w next takes = []
+sent_over (turn ∷ turns) w next (between, takes, more) = sent_at w turn ++ sent_over turns between next more
+
 -- a line of a node with empty channels, and the device that has its number
 abbrev pub line_with : List Attached → Node → Line
 line_with devices node = record { number = node.number; to = []; from = []; device = find (λ device. device.number == node.number) devices }
@@ -82,3 +102,7 @@ begins m devices = posted (begun_at m 0) (map (line_with devices) m.nodes)
 -- a boot by turns
 abbrev pub Boots : Managing → List Attached → List Turn → World → Type 0
 Boots m devices turns w = TakesAll (begins m devices) turns w
+
+-- all frames that the manager sends in a boot, in their order
+abbrev pub sent_in : (m : Managing) (devices : List Attached) (turns : List Turn) (w : World) → Boots m devices turns w → List Message
+sent_in m devices turns w boots = (begun_at m 0).frames ++ sent_over turns (begins m devices) w boots

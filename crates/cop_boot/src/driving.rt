@@ -1,8 +1,8 @@
 //! A manager over a list of inputs.
 
-ghost use Rattle.std.specs.Prelude.{◌≡◌, ◌+◌, ◌≤◌, ℕ, false, map, length, IfOk, OnErr, vec_len, vec_capacity, option_and_then};
+ghost use Rattle.std.specs.Prelude.{◌≡◌, ◌+◌, ◌≤◌, ℕ, false, map, filter, length, IfOk, OnErr, vec_len, vec_capacity, option_and_then};
 ghost use Rattle.cop_sdo.specs.Message.{message_of};
-ghost use Rattle.cop_boot.specs.Manager.{behind, driven, met, node_of, end_at, open_nodes, passed};
+ghost use Rattle.cop_boot.specs.Manager.{behind, driven, met, node_of, end_at, open_nodes, passed, is_command, commands_of};
 ghost use Rattle.cop_boot.specs.Ends.{end_of, events};
 
 use crate::input::Input;
@@ -53,6 +53,9 @@ pub fn drive(
     // How the boot of each node ends is what came from it says, and the moments.
     ensures ends { IfOk result (λ frames. (number : ℕ) → end_at manager.new.nodes number
         ≡ option_and_then (λ node. end_of node.number node.settings (events node.number 0 inputs.now)) (node_of manager.old.nodes number)) }
+
+    // The NMT commands among the frames are one reset of the communication of all nodes, and one start where they were started.
+    ensures commands { IfOk result (λ frames. filter is_command (map message_of frames.items) ≡ commands_of manager.new.started) }
 
     ensures err { OnErr result (manager.new ≡ manager.old) }
 {

@@ -10,19 +10,20 @@ ghost use Rattle.cop_net.specs.Heartbeats.{heartbeat_of};
 ghost use Rattle.cop_net.specs.Network.{Net, IsNetwork};
 ghost use Rattle.cop_net.specs.Settings.{word, takes};
 ghost use Rattle.cop_dcf.specs.declared.setting.Setting.{Setting};
-ghost use Rattle.cop_boot.specs.Settings.{AcceptsInTurn, planned};
+ghost use Rattle.cop_dcf.specs.Planned.{planned};
+ghost use Rattle.cop_boot.specs.Settings.{AcceptsInTurn};
 ghost use Rattle.cop_dcf.specs.Identifiers.{id_at};
 ghost use Rattle.cop_dcf.specs.Settings.{settings_of, node_settings, dictionary_of};
 ghost use Rattle.cop_boot.specs.PlanSettings.{Admits, IsPdoId};
-ghost use Rattle.cop_boot.specs.PlannedPdos.{IsAsPlanned};
+ghost use Rattle.cop_boot.specs.PlannedPdos.{IsAsPlanned, HasPlannedPdos};
 ghost use Rattle.cop_boot.specs.Accepts.{AreApart, IsElsewhere, TakesEach, HaveValues};
 
 /// Settings at different addresses are accepted in turn, where each is accepted alone. Afterwards each has its value, and
 /// each other object is as it was.
 pub fn apart_are_accepted()
     ensures accepted { (settings : List Setting) (dict : List Entry) → AreApart settings → TakesEach dict settings → AcceptsInTurn dict settings }
-    ensures values { (settings : List Setting) (dict : List Entry) → AreApart settings → HaveValues dict (planned settings dict) settings }
-    ensures others { (settings : List Setting) (dict : List Entry) (index sub : ℕ) → IsElsewhere index sub settings → entry_at (planned settings dict) index sub ≡ entry_at dict index sub }
+    ensures values { (settings : List Setting) (dict : List Entry) → AreApart settings → HaveValues dict (planned dict settings) settings }
+    ensures others { (settings : List Setting) (dict : List Entry) (index sub : ℕ) → IsElsewhere index sub settings → entry_at (planned dict settings) index sub ≡ entry_at dict index sub }
 {}
 
 /// A COB-ID that can be switched off and then on in one dictionary can be so in each in which its entry is the same.
@@ -47,8 +48,10 @@ pub fn networks_take_their_settings()
 {}
 
 /// In a device that has the settings of a plan of its network exactly the PDOs that the plan uses exist, a sender's with its
-/// identifier and a receiver's with that of its sender.
+/// identifier and a receiver's with that of its sender: of each COB-ID that the device has, and of each communication record.
 pub fn planned_pdos_exist()
-    ensures { (net : Net) (ids : List ℕ) (node : ℕ) (dict : List Entry) (e : Entry) → IsNetwork net → All IsPdoId ids → dictionary_of net node ≡ Some dict → Contains dict e → is_cob_id e ≡ true
-        → IsAsPlanned (id_at net.rows ids node e.index) (option_and_then unsigned32_of (entry_at (planned (node_settings net ids node) dict) e.index 1)) }
+    ensures entries { (net : Net) (ids : List ℕ) (node : ℕ) (dict : List Entry) (e : Entry) → IsNetwork net → All IsPdoId ids → dictionary_of net node ≡ Some dict → Contains dict e → is_cob_id e ≡ true
+        → IsAsPlanned (id_at net.rows ids node e.index) (option_and_then unsigned32_of (entry_at (planned dict (node_settings net ids node)) e.index 1)) }
+    ensures records { (net : Net) (ids : List ℕ) (node : ℕ) (dict : List Entry) → IsNetwork net → All IsPdoId ids → dictionary_of net node ≡ Some dict
+        → HasPlannedPdos (id_at net.rows ids node) (planned dict (node_settings net ids node)) }
 {}

@@ -3,7 +3,9 @@
 ghost use Rattle.std.specs.Prelude.{◌≡◌, ◌+◌, ◌≤◌, false, ℕ, List, map, vec_len, vec_capacity, OnOk, OnErr};
 ghost use Rattle.cop_dict.specs.Find.{Entry};
 ghost use Rattle.cop_boot.specs.Manager.{open_nodes};
-ghost use Rattle.cop_boot.specs.Booted.{CanBoot, Booted};
+ghost use Rattle.cop_boot.specs.Booted.{CanBoot, ReadyInTime};
+ghost use Rattle.cop_net.specs.Network.{Net};
+ghost use Rattle.cop_boot.specs.NetworkBoot.{IsPlanOf, HavePlannedPdos};
 ghost use Rattle.cop_boot.specs.Schedule.{Takes};
 ghost use Rattle.cop_boot.specs.Bus.{IsBus, KeepsOthers, Runs, Made, world_at};
 
@@ -55,6 +57,14 @@ pub fn run_schedule(
     // Where each node's settings are accepted in turn by the dictionary that was built for it: a node that is ready has the planned
     // dictionary, no node is aborted or restarting, and the nodes are started exactly where all are ready.
     ensures configures { OnOk result ((built : ℕ → List Entry) → CanBoot manager.old devices.old built → Made manager.old built manager.new devices.new) }
+
+    // A node with a device is ready where its turns, to it and then from it, have come in turn once more than it has settings,
+    // whatever stands between, as long as every moment is below 4,000,000.
+    ensures in_time { OnOk result ((built : ℕ → List Entry) → CanBoot manager.old devices.old built → ReadyInTime manager.old devices.old turns.now manager.new) }
+
+    // By a plan of an accepted network: in the device of each node that is ready exactly the PDOs of the plan exist, a sender's with
+    // its identifier and a receiver's with that of its sender.
+    ensures exist { OnOk result ((net : Net) (ids : List ℕ) (built : ℕ → List Entry) → CanBoot manager.old devices.old built → IsPlanOf net ids manager.old built → HavePlannedPdos net ids manager.new devices.new) }
 
     ensures err { OnErr result ((manager.new ≡ manager.old) × (devices.new ≡ devices.old)) }
 {

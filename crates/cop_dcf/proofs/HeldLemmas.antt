@@ -10,8 +10,8 @@ use Rattle.std.proofs.lemmas.List.Elements.{All-head, All-tail}
 use Rattle.std.proofs.lemmas.List.Folds.{find-append, list_all-append}
 use Rattle.cop_frame.specs.declared.rates.Rate.{Rate}
 use Rattle.cop_eds.specs.declared.description.Object.{Object}
-use Rattle.cop_eds.specs.Text.{trim_start, trim, same_name}
-use Rattle.cop_eds.specs.Sections.{value_in, entry_of}
+use Rattle.cop_eds.specs.Text.{trim_start, trim}
+use Rattle.cop_eds.specs.Sections.{value_in}
 use Rattle.cop_eds.specs.Steps.{◌>>=◌}
 use Rattle.cop_eds.specs.Objects.{is_at, objects_of}
 use Rattle.cop_eds.specs.Rows.{Row, rows_of, has_name, has_key}
@@ -27,7 +27,7 @@ use Rattle.cop_dict.specs.declared.data_type.DataType.{DataType}
 use Rattle.cop_dict.specs.declared.data_type.DataType.TheVariants as types
 use Rattle.cop_dict.specs.Types.{type_numbered}
 use Rattle.cop_dict.specs.Find as dictionary
-use Rattle.cop_dict.specs.Build.{value_entry, entry_of_type, entry_built, collected, built}
+use Rattle.cop_dict.specs.Build.{entry_of_type, entry_built, collected, built}
 use Rattle.cop_dcf.specs.declared.setting.Setting.{Setting}
 use Rattle.cop_dcf.specs.Dcf.{bytes_of, digits_of, hexadecimal, is_of, setting_in, value_set, values_from}
 use Rattle.cop_dcf.specs.Planned.{has_numbers, IsNumber}
@@ -35,7 +35,8 @@ use Rattle.cop_dcf.proofs.HomeLemmas.{IsHome, found_home, objects_home, spelled_
 use Rattle.cop_dcf.proofs.WrittenLemmas.{last_section, count_is}
 use Rattle.cop_dcf.proofs.ChangeLemmas.{other_none, places_set, places_other, values_past, has_still}
 use Rattle.cop_dcf.proofs.HexLemmas.{is_fine, all_fine}
-use Rattle.cop_dcf.proofs.BuildLemmas.{Holds, IsSetAs, AreSet, Parts, parts, low_are_bytes, ok_same}
+use Rattle.cop_dcf.proofs.BuildLemmas.{Holds, IsSetAs, AreSet, low_are_bytes}
+use Rattle.cop_dict.proofs.AgreeLemmas.{ok_same, parts_of}
 use Rattle.cop_dcf.proofs.PlannedLemmas.{word_of, last_word}
 
 -- ---- the last setting of an address
@@ -315,8 +316,7 @@ and_then_by (Some x) (Some y) e = let same : row_value x ≡ row_value y = cc in
 own_type : (text : List ℕ) (node : ℕ) (o : Object) (t : DataType) (e : dictionary.Entry) → entry_of_type text node o t ≡ Ok e → (e.index ≡ o.index) × (e.sub ≡ o.sub) × (e.description.data_type ≡ t)
 unfolding entry_of_type
 own_type text node o t e h =
-    let was : Parts t node o (value_entry text o.place.section) (entry_of text o.place.section (codes "LowLimit")) (entry_of text o.place.section (codes "HighLimit")) e =
-    parts t node o (value_entry text o.place.section) (entry_of text o.place.section (codes "LowLimit")) (entry_of text o.place.section (codes "HighLimit")) e h in
+    let was = parts_of text node o t e h in
     (sym (ap (λ (x : dictionary.Entry). x.index) was.whole), sym (ap (λ (x : dictionary.Entry). x.sub) was.whole), sym (ap (λ (x : dictionary.Entry). x.description.data_type) was.whole))
 
 -- the entry at an address has the type of the object there

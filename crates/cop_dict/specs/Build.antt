@@ -1,11 +1,12 @@
 -- The dictionary of a device, as its EDS text describes it for a node (CiA 306).
-use Rattle.std.specs.Prelude.{ℕ, List, [], ◌∷◌, replicate, unwrap_or, codes, if◌then◌else◌, ℤ, Option, Some, None, Result, Ok}
+use Rattle.std.specs.Prelude.{◌≡◌, ℕ, List, [], ◌∷◌, map, replicate, unwrap_or, codes, if◌then◌else◌, ℤ, Option, Some, None, Result, Ok}
 use Rattle.std.specs.Int.{bytes_low_first}
 use Rattle.std.specs.Option.{option_or}
 use Rattle.cop_eds.specs.declared.fault.Refusal.{Refusal}
 use Rattle.cop_eds.specs.declared.description.Object.{Object}
 use Rattle.cop_eds.specs.Steps.{◌>>=◌}
-use Rattle.cop_eds.specs.Sections.{entry_of}
+use Rattle.cop_eds.specs.Kept.{seen}
+use Rattle.cop_eds.specs.Sections.{entry_of, value_in}
 use Rattle.cop_eds.specs.Objects.{objects_of}
 use Rattle.cop_dict.specs.declared.data_type.DataType.{DataType}
 use Rattle.cop_dict.specs.Types.{width_of, greatest_of, is_text, type_numbered}
@@ -77,3 +78,12 @@ collected f (x ∷ xs) = do
 -- the entries by rising index and sub, or the first refusal in this order
 abbrev pub built : List ℕ → ℕ → Result (List Entry) Refusal
 built text node = collected (entry_built text node) (objects_of text)
+
+-- A text describes what another does: it has the same objects, at other lines perhaps, and in each section the same values
+-- and limits.
+pub record AgreesWith (old new : List ℕ) : Type 0 where
+  pub objects : map seen (objects_of new) ≡ map seen (objects_of old)
+  pub value : (section : ℕ) → value_in new section (codes "ParameterValue") ≡ value_in old section (codes "ParameterValue")
+  pub default : (section : ℕ) → value_in new section (codes "DefaultValue") ≡ value_in old section (codes "DefaultValue")
+  pub low : (section : ℕ) → value_in new section (codes "LowLimit") ≡ value_in old section (codes "LowLimit")
+  pub high : (section : ℕ) → value_in new section (codes "HighLimit") ≡ value_in old section (codes "HighLimit")

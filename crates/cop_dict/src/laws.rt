@@ -7,7 +7,7 @@ ghost use Rattle.cop_dict.specs.declared.data_type.DataType.{DataType};
 ghost use Rattle.cop_dict.specs.Types.{greatest_of};
 ghost use Rattle.cop_dict.specs.Number.{number, value_of};
 ghost use Rattle.cop_dict.specs.Patterns.{pattern_of, number_written};
-ghost use Rattle.cop_dict.specs.Build.{built};
+ghost use Rattle.cop_dict.specs.Build.{built, AgreesWith};
 ghost use Rattle.cop_dict.specs.Pdo.{is_mapping};
 ghost use Rattle.cop_dict.specs.Find.{Entry, entry_at, IsSorted};
 ghost use Rattle.cop_dict.specs.Dict.{admitted, unless_broken, refused_alone, with_value, valued, as_built, reset_communication, initial, initial_communication, written, Replaces};
@@ -86,4 +86,10 @@ pub fn accepted_by_the_entry()
 /// A reset of a dictionary that was built gives it again.
 pub fn resets_give_what_was_built()
     ensures { (text : List ℕ) (node : ℕ) (dict : List Entry) → built text node ≡ Ok dict → (initial dict ≡ dict) × (initial_communication dict ≡ dict) }
+{}
+
+/// A dictionary depends on the objects that a text describes, and on their values and limits, alone: a text that agrees in
+/// these with one that is built builds the same.
+pub fn agreeing_texts_build_the_same()
+    ensures { (old new : List ℕ) (node : ℕ) (dict : List Entry) → AgreesWith old new → built old node ≡ Ok dict → built new node ≡ Ok dict }
 {}

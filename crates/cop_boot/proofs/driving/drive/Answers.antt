@@ -1,7 +1,9 @@
-use Rattle.std.proofs.Common.{◌≡◌, ◌++◌, ◌∷◌, [], map, ap, ◌∙◌, arith}
+use Rattle.std.proofs.Common.{◌≡◌, ◌++◌, ◌∷◌, [], map, ap, sym, ◌∙◌, arith}
+use Rattle.std.specs.Prelude.{filter}
 use Rattle.cop_sdo.specs.Message.{message_of}
-use Rattle.cop_boot.specs.Manager.{driven, end_at}
+use Rattle.cop_boot.specs.Manager.{driven, end_at, is_command, commands_of}
 use Rattle.cop_boot.proofs.DriveLemmas.{begins_so, meets_one, met_whole, drives}
+use Rattle.cop_boot.proofs.CommandLemmas.{driven_commands}
 use Rattle.cop_boot.proofs.SentLemmas.{few_open, begun_count}
 use Rattle.cop_boot.proofs.driving.drive.Goals as goal
 
@@ -32,3 +34,8 @@ pub returns-clause-ends : goal.returns-clause-ends
 returns-clause-ends c number =
     let sent = met_whole (driven c.args.manager.now c.args.inputs.now) c.loop-input.manager (map message_of c.loop-input.frames.items) c.loop-input.input-index c.args.inputs.now (omega arith) c.loop-input.invariant.whole in
     ap (λ out. end_at out.manager.nodes number) sent ∙ drives c.args.manager.now c.args.inputs.now number
+
+pub returns-clause-commands : goal.returns-clause-commands
+returns-clause-commands c =
+    let sent = met_whole (driven c.args.manager.now c.args.inputs.now) c.loop-input.manager (map message_of c.loop-input.frames.items) c.loop-input.input-index c.args.inputs.now (omega arith) c.loop-input.invariant.whole in
+    ap (λ out. filter is_command out.frames) sent ∙ driven_commands c.args.manager.now c.args.inputs.now ∙ sym (ap (λ out. commands_of out.manager.started) sent)

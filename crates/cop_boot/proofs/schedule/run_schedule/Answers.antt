@@ -4,6 +4,9 @@ use Rattle.cop_boot.specs.Schedule.{TakesAll}
 use Rattle.cop_boot.specs.Bus.{Runs, line_at, world_at}
 use Rattle.cop_boot.proofs.SentLemmas.{few_open, begun_count}
 use Rattle.cop_boot.proofs.TurnLemmas.{begins_as, one_turn, no_turn, line_there, absent_named, made_so, begun_names, fresh_bus}
+use Rattle.cop_boot.proofs.CommandLemmas.{boot_commands}
+use Rattle.cop_boot.proofs.PdoLemmas.{pdos_so}
+use Rattle.cop_boot.proofs.ReadyLemmas.{ready_so}
 use Rattle.cop_boot.proofs.schedule.run_schedule.Goals as goal
 
 pub loop-turn-init : goal.loop-turn-init
@@ -47,6 +50,7 @@ returns-clause-runs c =
       manager = refl;
       attached = λ n line h. ap (λ l. l.device) (line_there (line_at c.loop-turn.bus c.loop-turn.devices) (λ n. refl) c.loop-turn.manager.nodes n line h);
       others = inv.others;
+      commands = boot_commands c.args.manager.now c.args.devices.now c.args.turns.now w (inv.goes_on w (no_turn c.args.turns.now c.loop-turn.turn-index w (omega arith)));
     }
 
 pub returns-clause-configures : goal.returns-clause-configures
@@ -59,5 +63,14 @@ returns-clause-configures c built can =
       manager = refl;
       attached = λ n line h. ap (λ l. l.device) (line_there (line_at c.loop-turn.bus c.loop-turn.devices) (λ n. refl) c.loop-turn.manager.nodes n line h);
       others = inv.others;
+      commands = boot_commands c.args.manager.now c.args.devices.now c.args.turns.now w (inv.goes_on w (no_turn c.args.turns.now c.loop-turn.turn-index w (omega arith)));
     } in
     made_so c.args.manager.now c.args.devices.now c.args.turns.now c.loop-turn.manager c.loop-turn.devices built runs can
+
+pub returns-clause-in_time : goal.returns-clause-in_time
+returns-clause-in_time c built can =
+    let w = world_at c.loop-turn.manager c.loop-turn.bus c.loop-turn.devices in
+    ready_so c.args.manager.now c.args.devices.now built c.args.turns.now w can (c.loop-turn.invariant.goes_on w (no_turn c.args.turns.now c.loop-turn.turn-index w (omega arith)))
+
+pub returns-clause-exist : goal.returns-clause-exist
+returns-clause-exist c net ids built can is = pdos_so c.args.manager.now built c.loop-turn.manager c.loop-turn.devices net ids (returns-clause-configures c built can) is
