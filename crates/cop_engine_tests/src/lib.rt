@@ -5,6 +5,8 @@
 #[cfg(test)]
 mod boots;
 #[cfg(test)]
+mod cut;
+#[cfg(test)]
 mod large;
 #[cfg(test)]
 mod outlets;

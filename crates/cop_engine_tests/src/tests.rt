@@ -10,7 +10,7 @@ const THREE_FRAMES: &[u8] =
     b"id,bytes,period,jitter,deadline\n0x181,7,2500,0,2500\n0x182,7,3500,0,3250\n0x183,7,3500,0,3250\n";
 
 // The number of a refusal and its place, or None for an answer.
-fn refused<T: Drop>(answer: Result<T, Fault>) -> Result<Option<(u8, u64)>, Fail> {
+pub(crate) fn refused<T: Drop>(answer: Result<T, Fault>) -> Result<Option<(u8, u64)>, Fail> {
     match answer {
         Ok(_) => Ok(None),
         Err(fault) => {
@@ -231,7 +231,7 @@ pub(crate) const BUSY_PDO: &[u8] = b"node,tpdo,period,jitter,deadline,consumers\
 
 const NOTHING_REFUSED: &[u8] = b"rate,pdo,what,value\n0,0,version,1\n";
 
-const VALVE_REFUSED: &[u8] =
+pub(crate) const VALVE_REFUSED: &[u8] =
     b"rate,pdo,what,value\n0,0,version,1\n250,1,late,0\n250,1,busy,1\n250,1,busy,5360\n250,1,queue,1040\n250,1,queue,3200\n";
 
 pub(crate) fn eds_files(alloc: Global, text: &[u8]) -> Result<Vec<(String, Vec<u8>)>, AllocError> {
@@ -405,7 +405,7 @@ fn refusal_files_are_refused(rt: HostRuntime) -> Result<(), Fail> {
 }
 
 /// A run of the valve's plan: the heartbeat, then EMCY, then the PDO, which ends at its deadline but for one tick.
-const VALVE_TRACE: &[u8] = b"kind,moment,id,event,bits,data
+pub(crate) const VALVE_TRACE: &[u8] = b"kind,moment,id,event,bits,data
 queue,0,0x705,0,65,05
 start,0,0x705,,,
 queue,1,0x85,1,135,0000000000000000
