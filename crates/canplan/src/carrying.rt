@@ -2,21 +2,25 @@
 
 use crate::commands::MOST_UNTIL;
 use crate::files::{Folder, file_fault, print, read_eds_files, read_file, read_input, read_tables};
-use crate::orders::{NetworkFiles, Order};
+use crate::orders::{NetworkFiles, Order, Request};
 use cop_engine::{
     Fault, RunFault, boot_bytes, check_bytes, check_status, deliver, judge_bytes, none_passes,
     outcome_of, plan_bytes, plan_status, run_plan, test_bytes, text_status,
 };
 use cop_frame::Rate;
 use cop_plan::{Outcome, Plan};
-use cop_words::rule_words;
+use cop_words::{late_words, rule_words};
 use std::fs::File;
+use std::io::Write;
 
-/// The test of the streams of a table.
-fn test(rt: &HostRuntime, rate: Rate, file: &str) -> Result<u8, Fault> {
+/// The test of the streams of a table. What does not pass is told in words where that is wanted.
+fn test(rt: &HostRuntime, rate: Rate, file: &str, explain: bool) -> Result<u8, Fault> {
     let bytes = read_input(rt, file)?;
     let text = test_bytes(rt.alloc(), &bytes, rate)?;
     print(rt, &text)?;
+    if explain {
+        let _ = rt.stderr().write_all(&late_words(rt.alloc(), &text)?);
+    }
     Ok(0)
 }
 
@@ -120,10 +124,10 @@ fn explain(rt: &HostRuntime, number: u8) -> Result<u8, Fault> {
     Ok(0)
 }
 
-/// Carries an order out, and gives its status.
-pub fn carry_out(rt: &HostRuntime, order: Order<'_>) -> Result<u8, Fault> {
-    match order {
-        Order::Test { rate, file } => test(rt, rate, file),
+/// Carries a request out, and gives its status.
+pub fn carry_out(rt: &HostRuntime, request: Request<'_>) -> Result<u8, Fault> {
+    match request.order {
+        Order::Test { rate, file } => test(rt, rate, file, request.explain),
         Order::Plan { network, out } => plan(rt, network, out),
         Order::Check { network, refusals } => check(rt, network, refusals),
         Order::Boot { seed, network } => boot(rt, seed, network),

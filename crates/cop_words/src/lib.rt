@@ -5,10 +5,12 @@ mod columns;
 mod explanations;
 mod networks;
 mod places;
+mod reports;
 mod words;
 
 pub use columns::{header, wanted};
 pub use explanations::{Explanation, explained};
 pub use networks::{Network, network_words};
 pub use places::{Place, line_at, record_at};
+pub use reports::late_words;
 pub use words::{Source, record_words, rule_words};

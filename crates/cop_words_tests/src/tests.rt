@@ -1,4 +1,6 @@
-use cop_words::{Network, Source, explained, line_at, network_words, record_at, record_words};
+use cop_words::{
+    Network, Source, explained, late_words, line_at, network_words, record_at, record_words,
+};
 use std::alloc::{AllocError, Global};
 use std::str;
 use std::test::Fail;
@@ -438,5 +440,15 @@ fn a_record_is_shown_without_control_characters(rt: HostRuntime) -> Result<(), F
     };
     let said = record_words(rt.alloc(), source, 2, 1)?;
     assert!(rt; said.starts_with(b"streams.csv, line 2: 0x181,?[2J\nrule 2: a record"));
+    Ok(())
+}
+
+#[test]
+fn late_streams_are_told(rt: HostRuntime) -> Result<(), Fail> {
+    let report = b"181h pass 8000\n183h late 1 14000\n184h long\n";
+    let wanted =
+        "183h: its instance 1 can end 14000 ticks of 250 ns after its event, which is past its deadline\n184h: it and the frames above it can keep the bus busy for more than 10 s; they ask for more than this rate carries\n";
+    let said = late_words(rt.alloc(), report)?;
+    assert_eq!(rt; said.as_slice(), wanted.as_bytes());
     Ok(())
 }
