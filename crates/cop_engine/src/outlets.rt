@@ -1,6 +1,6 @@
 //! Where the files of a plan are put.
 
-ghost use Rattle.std.specs.Prelude.{◌≡◌, ◌+◌, ◌×◌, ◌<◌, false, true, length, take, OnOk, IfErr};
+ghost use Rattle.std.specs.Prelude.{◌≡◌, false, true, OnOk, IfErr};
 ghost use Rattle.cop_engine.specs.Outlets.{files_in, WerePut, WereCut};
 
 use crate::dcfs::DcfFile;
