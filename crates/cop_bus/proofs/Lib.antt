@@ -29,3 +29,4 @@ pub mod RangeLemmas
 pub mod PeriodExists
 pub mod Grows
 pub mod Appended
+pub mod HexLemmas

@@ -11,3 +11,4 @@ pub mod Reading
 pub mod Bus
 pub mod Rings
 pub mod Piecewise
+pub mod Growing

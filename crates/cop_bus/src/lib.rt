@@ -21,8 +21,8 @@ pub use faults::BusFault;
 pub use judging::judge;
 pub use lateness::first_late;
 pub use laws::{
-    busy_period, clean_is_legal, none_late_is_on_time, passing_is_on_time, passing_waits_bounded,
-    started_is_on_time,
+    busy_period, clean_is_legal, grown_is_lawful, none_late_is_on_time, passing_is_on_time,
+    passing_waits_bounded, started_is_on_time,
 };
 pub use piecewise::TraceWriter;
 pub use reading::read_trace;
