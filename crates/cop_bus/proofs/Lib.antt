@@ -30,3 +30,5 @@ pub mod PeriodExists
 pub mod Grows
 pub mod Appended
 pub mod HexLemmas
+pub mod RankLemmas
+pub mod QueueLemmas

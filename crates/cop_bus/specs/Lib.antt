@@ -12,3 +12,5 @@ pub mod Bus
 pub mod Rings
 pub mod Piecewise
 pub mod Growing
+pub mod Ranks
+pub mod Queues
