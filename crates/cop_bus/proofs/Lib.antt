@@ -29,3 +29,6 @@ pub mod RangeLemmas
 pub mod PeriodExists
 pub mod Grows
 pub mod Appended
+pub mod HexLemmas
+pub mod RankLemmas
+pub mod QueueLemmas

@@ -11,3 +11,6 @@ pub mod Reading
 pub mod Bus
 pub mod Rings
 pub mod Piecewise
+pub mod Growing
+pub mod Ranks
+pub mod Queues

@@ -1,5 +1,5 @@
 -- A trace that is written step by step.
-use Rattle.std.specs.Prelude.{◌≡◌, ℕ, Bool, List, [], ◌∷◌, Option, codes}
+use Rattle.std.specs.Prelude.{ℕ, Bool, List, [], ◌∷◌, Option, codes}
 use Rattle.std.specs.Io.KnownBytes.{Appends}
 use Rattle.std.specs.declared.io.traits.Write.{Ghosts}
 use Rattle.csv.specs.Writing.{text_written}

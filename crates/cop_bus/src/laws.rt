@@ -1,6 +1,6 @@
 //! What holds of each legal run of the bus.
 
-ghost use Rattle.std.specs.Prelude.{◌≡◌, ℕ, ◌+◌, ◌*◌, ◌≤◌, ◌<◌, All, Any, Contains, List, Some, None, ◌∷◌, ◌++◌, ◌↔◌};
+ghost use Rattle.std.specs.Prelude.{◌≡◌, ℕ, ◌+◌, ◌*◌, ◌≤◌, ◌<◌, All, Any, Contains, List, Some, None, [], ◌∷◌, ◌++◌, ◌↔◌};
 ghost use Rattle.std.specs.Int.{div_ceil};
 ghost use Rattle.std.specs.Option.{ForSome};
 ghost use Rattle.cop_frame.specs.declared.rates.Rate.{Rate};
@@ -13,6 +13,7 @@ ghost use Rattle.cop_rta.specs.Streams.{AreDistinct};
 ghost use Rattle.cop_bus.specs.declared.steps.Step.{Step};
 ghost use Rattle.cop_bus.specs.Judge.{first_broken};
 ghost use Rattle.cop_bus.specs.Trace.{IsLegalTrace, instances};
+ghost use Rattle.cop_bus.specs.Growing.{KeepTheRules, AreOfOthers};
 ghost use Rattle.cop_bus.specs.Late.{first_late};
 
 /// The response-time test is sound: in each legal run in which the stream and those above it obey, each
@@ -84,4 +85,14 @@ pub fn none_late_is_on_time()
         → AreDistinct streams
         → (first_late (ticks_of rate) streams until steps ≡ None
         ↔ All (λ k. All (λ y. y.id ≡ k.id → IsOnTime (ticks_of rate) until k.deadline y) (instances steps)) streams) }
+{}
+
+/// A trace stays lawful while it grows.
+pub fn grown_is_lawful()
+    // steps that keep the rules keep them where more steps come behind them and the end is later
+    ensures behind { (rate : Rate) (streams : List Stream) (until later : ℕ) (steps more : List Step) → until ≤ later
+        → KeepTheRules (ticks_of rate) streams until steps [] → KeepTheRules (ticks_of rate) streams later steps more }
+    // and where a step of another stream comes before the one that was ahead, as before the queue step of a joiner that was sent
+    ensures between { (rate : Rate) (streams : List Stream) (until later : ℕ) (steps : List Step) (x ahead : Step) → until ≤ later
+        → AreOfOthers x ahead → KeepTheRules (ticks_of rate) streams until steps (ahead ∷ []) → KeepTheRules (ticks_of rate) streams later steps (x ∷ ahead ∷ []) }
 {}

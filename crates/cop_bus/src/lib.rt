@@ -9,6 +9,8 @@ mod lateness;
 mod laws;
 mod pending;
 mod piecewise;
+mod queues;
+mod ranking;
 mod reading;
 mod rings;
 mod rules;
@@ -21,12 +23,14 @@ pub use faults::BusFault;
 pub use judging::judge;
 pub use lateness::first_late;
 pub use laws::{
-    busy_period, clean_is_legal, none_late_is_on_time, passing_is_on_time, passing_waits_bounded,
-    started_is_on_time,
+    busy_period, clean_is_legal, grown_is_lawful, none_late_is_on_time, passing_is_on_time,
+    passing_waits_bounded, started_is_on_time,
 };
 pub use piecewise::TraceWriter;
+pub use queues::{First, Queues};
+pub use ranking::{Rank, Ranking};
 pub use reading::read_trace;
-pub use rings::{Full, Ring, any_waits, most_of, queue, rings_of};
+pub use rings::{Full, Ring, most_of, rings_of};
 pub use runs::{Run, Trace};
 pub use steps::{Content, Step};
 pub use writing::write_trace;

@@ -6,14 +6,12 @@ ghost use Rattle.cop_bus.specs.Writer.{IsBetween};
 use crate::steps::Step;
 use crate::writing::{write_end, write_header, write_step};
 use csv::{Writer, WriterBuilder};
-use std::alloc::Global;
 use std::io::Write;
 
-/// A writer of a trace's table: the record of each step as it comes, and at last the end's. Once it has failed, it
-/// writes no more.
+/// A writer of a trace's table: the record of each step as it comes, and at last the end's. It takes no memory, and so
+/// fails where the writer underneath does alone. Once it has failed, it writes no more.
 #[derive(Drop)]
 pub struct TraceWriter<W: Write + Drop> {
-    alloc: Global,
     writer: Writer<W>,
     failed: bool,
     ghost between: { failed ≡ false → IsBetween writer },
@@ -23,16 +21,12 @@ impl<W: Write + Drop> TraceWriter<W> {
     ghost use Rattle.cop_bus.specs.Piecewise.{has_failed, Begins, Writes, Finishes};
 
     /// A writer that has written the names of the fields, or has failed.
-    pub fn new(alloc: Global, writer: W) -> TraceWriter<W>
+    pub fn new(writer: W) -> TraceWriter<W>
         ensures { has_failed result ≡ false → Begins W.contents writer result }
     {
         let mut writer = WriterBuilder::new().from_writer(writer);
         let failed = write_header(&mut writer).is_err();
-        TraceWriter {
-            alloc,
-            writer,
-            failed,
-        }
+        TraceWriter { writer, failed }
     }
 
     /// Whether it has failed.
@@ -49,13 +43,13 @@ impl<W: Write + Drop> TraceWriter<W> {
         ensures works { result ≡ true → has_failed self.new ≡ false }
         ensures fails { result ≡ false → has_failed self.new ≡ true }
     {
-        let is_written = write_step(self.alloc, &mut self.writer, step).is_ok();
+        let is_written = write_step(&mut self.writer, step).is_ok();
         self.failed = !is_written;
         is_written
     }
 
     /// Writes the last record, which tells the end, and gives the writer back. `None` where it has failed or fails here:
-    /// there was no room, or the writer's write or flush failed.
+    /// the writer's write or flush failed.
     pub fn finish(self, until: u64) -> Option<W>
         ensures { IfSome result (λ w. Finishes W.contents self until w) }
     {

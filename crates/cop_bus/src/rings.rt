@@ -104,25 +104,3 @@ pub fn rings_of(alloc: Global, streams: &[Stream]) -> Result<Vec<Ring>, AllocErr
     }
     Ok(rings)
 }
-
-/// Whether some instance waits.
-pub fn any_waits(rings: &[Ring]) -> bool
-    ensures { result ≡ any_in rings.now }
-{
-    for ring in rings {
-        if 0 < ring.len() {
-            return true;
-        }
-    }
-    false
-}
-
-/// Lets an instance wait in the ring of its stream.
-pub fn queue(rings: &mut Vec<Ring>, place: usize, instance: Instance) -> Result<(), Full>
-    requires { place < length rings.old.items }
-    ensures room { (r : RingValue) → slice_get rings.old.items place ≡ Some r → (IsOk result ↔ (length r.waiting < r.most)) }
-    ensures ok { (r : RingValue) → slice_get rings.old.items place ≡ Some r → OnOk result (rings.new.items ≡ slice_set rings.old.items place (record r { waiting = r.waiting ++ instance ∷ [] })) }
-    ensures err { OnErr result (rings.new.items ≡ rings.old.items) }
-{
-    rings[place].queue(instance)
-}

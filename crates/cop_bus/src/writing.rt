@@ -1,6 +1,7 @@
 //! Writing a trace as a table.
 
-ghost use Rattle.std.specs.Prelude.{◌≡◌, ◌∷◌, [], OnOk, IfOk, codes, map};
+ghost use Rattle.std.specs.Prelude.{◌≡◌, ◌+◌, ◌≤◌, ◌<◌, ◌∷◌, [], OnOk, IfOk, codes, length, map, slice_index, take};
+ghost use Rattle.hex.specs.Hex.{upper_digits, encode_upper};
 ghost use Rattle.cop_bus.specs.Format.{bytes_of, header, short, queue_fields, fields_of, text_of};
 ghost use Rattle.cop_bus.specs.Writer.{IsBetween, Adds};
 
@@ -11,15 +12,11 @@ use itoa::Buffer;
 use std::alloc::{AllocError, Global};
 use std::io::Write;
 
-/// A record is not written: the writer failed, or there was no room for its text.
+const DIGITS: [u8; 16] = *b"0123456789ABCDEF";
+
+/// A record is not written: the writer failed. The text of a record takes no memory.
 #[derive(Clone, Copy, Debug)]
 pub(crate) struct NotWritten {}
-
-impl From<AllocError> for NotWritten {
-    fn from(_error: AllocError) -> NotWritten {
-        NotWritten {}
-    }
-}
 
 impl From<NotWritten> for AllocError {
     fn from(_error: NotWritten) -> AllocError {
@@ -93,8 +90,28 @@ fn bytes_of(frame: &Content) -> &[u8]
     }
 }
 
+// A digit of the base 16.
+fn digit_of(value: u8) -> u8
+    requires { value < 16 }
+    ensures { result ≡ slice_index upper_digits value }
+{
+    DIGITS[usize::from(value)]
+}
+
+// Eight bytes or fewer as pairs of hexadecimal digits, of which the first count.
+fn digits_of(bytes: &[u8]) -> [u8; 16]
+    requires { length bytes.now ≤ 8 }
+    ensures { take (length bytes.now + length bytes.now) result ≡ encode_upper bytes.now }
+{
+    let mut digits = [b'0'; 16];
+    for i in 0..bytes.len() {
+        digits[i + i] = digit_of(bytes[i] / 16);
+        digits[i + i + 1] = digit_of(bytes[i] % 16);
+    }
+    digits
+}
+
 fn write_queue<W: Write + Drop>(
-    alloc: Global,
     writer: &mut Writer<W>,
     at: u64,
     id: u16,
@@ -108,21 +125,21 @@ fn write_queue<W: Write + Drop>(
     let mut id_text = Buffer::new();
     let mut event_text = Buffer::new();
     let mut bits_text = Buffer::new();
-    let digits = hex::encode_upper(alloc, bytes_of(frame))?;
+    let bytes = bytes_of(frame);
+    let digits = digits_of(bytes);
     let fields = [
         b"queue",
         at_text.format(at).as_bytes(),
         id_text.format(id).as_bytes(),
         event_text.format(event).as_bytes(),
         bits_text.format(frame.bits).as_bytes(),
-        digits.as_bytes(),
+        &digits[..bytes.len() + bytes.len()],
     ];
     write_fields(writer, &fields)
 }
 
 /// The record of a step.
 pub(crate) fn write_step<W: Write + Drop>(
-    alloc: Global,
     writer: &mut Writer<W>,
     step: &Step,
 ) -> Result<(), NotWritten>
@@ -135,23 +152,19 @@ pub(crate) fn write_step<W: Write + Drop>(
             id,
             event,
             frame,
-        } => write_queue(alloc, writer, *at, *id, *event, frame),
+        } => write_queue(writer, *at, *id, *event, frame),
         Step::Start { at, id } => write_short(writer, b"start", *at, *id),
         Step::End { at, id } => write_short(writer, b"end", *at, *id),
     }
 }
 
 #[tactic(auto, using(crate::proofs::WriterLemmas::adds_mapped, crate::proofs::WriterLemmas::all_mapped, crate::proofs::WriterLemmas::adds_none))]
-fn write_steps<W: Write + Drop>(
-    alloc: Global,
-    writer: &mut Writer<W>,
-    steps: &[Step],
-) -> Result<(), NotWritten>
+fn write_steps<W: Write + Drop>(writer: &mut Writer<W>, steps: &[Step]) -> Result<(), NotWritten>
     requires { IsBetween writer.old }
     ensures { OnOk result (Adds W.contents writer.old writer.new (map fields_of steps.now)) }
 {
     for step in steps {
-        write_step(alloc, writer, step)?;
+        write_step(writer, step)?;
     }
     Ok(())
 }
@@ -163,7 +176,7 @@ pub fn write_trace(alloc: Global, trace: &Trace) -> Result<Vec<u8>, AllocError>
 {
     let mut writer = WriterBuilder::new().from_writer(Vec::new(alloc));
     write_header(&mut writer)?;
-    write_steps(alloc, &mut writer, &trace.steps)?;
+    write_steps(&mut writer, &trace.steps)?;
     write_end(&mut writer, trace.until)?;
     if let Ok(text) = writer.into_inner() {
         return Ok(text);

@@ -122,7 +122,7 @@ pub fn run_plan<W: Write + Drop>(
 {
     let behaviours = behaviours_of(alloc, seed, plan.streams().streams())?;
     let mut sink = Recorder {
-        trace: TraceSink::new(alloc, writer),
+        trace: TraceSink::new(writer),
         transfers: 0,
     };
     if sink.trace.failed() {

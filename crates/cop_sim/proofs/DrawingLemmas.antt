@@ -1,11 +1,10 @@
 -- A seeded behaviour whose moments have passed 64 bits offers nothing any more.
-use Rattle.std.proofs.Common.{◌≡◌, ℕ, List, [], ◌∷◌, map, ◌+◌, ◌-◌, ◌≤◌, ◌<◌, ◌^◌, ◌⊎◌, inl, inr, refl, sym, ◌∙◌, ap, subst, arith, suc, zero, Bool, true, false, cond, max, is_some, not, nat_lt, Option, Some, None, if◌then◌else◌}
+use Rattle.std.proofs.Common.{◌≡◌, ℕ, List, [], ◌∷◌, map, ◌+◌, ◌-◌, ◌≤◌, ◌<◌, ◌^◌, inl, inr, refl, sym, ◌∙◌, ap, arith, suc, zero, Bool, true, false, cond, max, is_some, not, Option, Some, None, if◌then◌else◌}
 use Rattle.std.proofs.lemmas.Bool.{cases_lt}
 use Rattle.cop_bus.proofs.Work.{lt-true, lt-false}
 use Rattle.rand_pcg.specs.Lcg.{Lcg}
 use Rattle.cop_rta.specs.declared.streams.Stream.{Stream}
 use Rattle.cop_sim.specs.declared.behaviours.Offer.{Offer}
-use Rattle.cop_sim.specs.declared.drawing.Seeded.{Seeded}
 use Rattle.cop_sim.specs.Play.{Actor, actors_of, queued_at}
 use Rattle.cop_sim.specs.Drawing.{rest, drawn, drawn_at, fitting, seeded_actor, offer_of, joins_of, fresh}
 

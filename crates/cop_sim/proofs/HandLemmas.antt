@@ -1,4 +1,4 @@
--- What the ranks of rings tell.
+-- Who is sent where no offer is due within a bit time.
 use Rattle.std.proofs.Common.{◌≡◌, ℕ, zero, suc, ◌+◌, ◌<◌, ◌≤◌, inl, inr, List, [], ◌∷◌, length, slice_get, replicate, refl, sym, ◌∙◌, ap, arith, Bool, true, false, cond, nat_lt, ◌&&◌, ◌||◌}
 use Rattle.std.specs.Prelude.{Option, None, Some, ◌==◌}
 use Rattle.std.specs.Option.{is_some}
@@ -6,10 +6,9 @@ use Rattle.std.proofs.lemmas.Bool.{cases_Bool, lt-ltb, le-ltb, ltb-true, ltb-fal
 use Rattle.std.proofs.lemmas.List.{length-replicate}
 use Rattle.cop_bus.specs.Rings.{RingValue, any_in}
 use Rattle.cop_bus.specs.declared.bus.Instance.{Instance}
-use Rattle.cop_sim.specs.declared.ranking.Rank.{Rank}
-use Rattle.cop_sim.specs.Ranks.{IsFirstOf}
-use Rattle.cop_sim.specs.Hands.{ring_rank, AreQueued, AreTheirs, IsLowestOf}
-use Rattle.cop_sim.proofs.RankLemmas.{none-held}
+use Rattle.cop_sim.specs.Hands.{AreTheirs}
+use Rattle.cop_bus.specs.Queues.{IsLowestOf}
+use Rattle.cop_bus.specs.declared.queues.First.{First}
 use Rattle.cop_sim.proofs.Chosen.{id-got}
 use Rattle.cop_sim.proofs.Places.{there-is}
 use Rattle.std.proofs.lemmas.Option.{slice_get_within}
@@ -18,55 +17,7 @@ use Rattle.cop_sim.specs.declared.behaviours.Offer.{Offer}
 use Rattle.cop_sim.specs.declared.due.Due.{Due}
 use Rattle.cop_sim.specs.declared.choosing.Sent.{Sent}
 use Rattle.cop_sim.specs.Play.{queued_at}
-use Rattle.cop_sim.specs.Seats.{next_at, is_due_before, joins_with, may_be_sent, IsDueSoFar, IsChosenSoFar}
-
--- a place with a rank has a ring in which an instance waits
-waits-there : (i : ℕ) (x : Option RingValue) (r : Rank) → ring_rank i x ≡ Some r → (v : RingValue) × (x ≡ Some v) × (0 < length v.waiting)
-waits-there i None r e = absurd (cc)
-waits-there i (Some v) r e = elim (cases_Bool (nat_lt 0 (length v.waiting))) [
-  | inl t ↦ (v, refl, ltb-true 0 (length v.waiting) t)
-  | inr f ↦ (let z : None ≡ Some r = sym (ap (λ b. cond b (Some (record { at = 0; id = v.id; place = i })) None) f) ∙ e in absurd (cc))
-]
-
--- a ring without a rank is empty
-none-there : (i : ℕ) (v : RingValue) → ring_rank i (Some v) ≡ None → nat_lt 0 (length v.waiting) ≡ false
-none-there i v e = elim (cases_Bool (nat_lt 0 (length v.waiting))) [
-  | inr f ↦ f
-  | inl t ↦ (let z : Some (record { at = 0; id = v.id; place = i }) ≡ None = sym (ap (λ b. cond b (Some (record { at = 0; id = v.id; place = i })) None) t) ∙ e in absurd (cc))
-]
-
-any-there : (rings : List RingValue) (i : ℕ) (v : RingValue) → slice_get rings i ≡ Some v → 0 < length v.waiting → any_in rings ≡ true
-any-there [] i v e l = absurd (cc)
-any-there (r ∷ rings) zero v e l = (let q : r ≡ v = some r v e in ap (λ b. b || any_in rings) (ap (λ (w : RingValue). nat_lt 0 (length w.waiting)) q ∙ lt-ltb 0 (length v.waiting) l))
-  where
-    some : (r v : RingValue) → Some r ≡ Some v → r ≡ v
-    some r v e = cc
-any-there (r ∷ rings) (suc i) v e l = last (nat_lt 0 (length r.waiting)) (any_in rings) (any-there rings i v e l)
-  where
-    last : (b c : Bool) → c ≡ true → (b || c) ≡ true
-    last true c h = refl
-    last false c h = h
-
-none-any : (rings : List RingValue) → ((i : ℕ) (v : RingValue) → slice_get rings i ≡ Some v → nat_lt 0 (length v.waiting) ≡ false) → any_in rings ≡ false
-none-any [] h = refl
-none-any (r ∷ rings) h = ap (λ b. b || any_in rings) (h 0 r refl) ∙ none-any rings (λ i v e. h (suc i) v e)
-
-pub any-ranked : (rings : List RingValue) (ranks : List (Option Rank)) (first : Option Rank) → AreQueued rings ranks → IsFirstOf ranks first → is_some first ≡ any_in rings
-any-ranked rings ranks (Some r) q f =
-    let w = waits-there r.place (slice_get rings r.place) r (sym (q.each r.place) ∙ f.here) in
-    sym (any-there rings r.place w.0 w.1 w.2)
-any-ranked rings ranks None q f = sym (none-any rings (λ i v e. none-there i v (ap (ring_rank i) (sym e) ∙ sym (q.each i) ∙ f i)))
-
--- rings in which nothing waits need no rank
-pub none-queued : (rings : List RingValue) → ((i : ℕ) (v : RingValue) → slice_get rings i ≡ Some v → v.waiting ≡ []) → AreQueued rings (replicate (length rings) None)
-none-queued rings h = record {
-  ranks_are = length-replicate (length rings) None;
-  each = λ i. none-held (length rings) i ∙ sym (go i (slice_get rings i) refl);
-}
-  where
-    go : (i : ℕ) (x : Option RingValue) → slice_get rings i ≡ x → ring_rank i x ≡ None
-    go i None e = refl
-    go i (Some v) e = ap (λ (ys : List Instance). cond (nat_lt 0 (length ys)) (Some (record { at = 0; id = v.id; place = i })) None) (h i v e)
+use Rattle.cop_sim.specs.Seats.{next_at, is_due_before, joins_with, may_be_sent, IsDueSoFar, IsChosenSoFar, sent_first}
 
 -- ---- who is sent where no offer is due within a bit time
 
@@ -93,15 +44,15 @@ later streams next (Some d) m first f j l p e =
     let low = ltb-false (queued_at d.offer) m f in
     elim (first.first j p l e) [ inl a ↦ omega (arith, low, a) | inr a ↦ (let b = a.0 in omega (arith, low, b)) ]
 
-pub lowest-chosen : {B : Type 0} (agrees : B → ℕ → ℕ → Bool) (streams : List Stream) (next : List (Option Offer)) (rings : List RingValue) (bs : List B) (tau now : ℕ) (due : Option Due) (o : Option Sent) →
+pub lowest-chosen : {B : Type 0} (agrees : B → ℕ → ℕ → Bool) (streams : List Stream) (next : List (Option Offer)) (rings : List RingValue) (bs : List B) (tau now : ℕ) (due : Option Due) (o : Option First) →
     length next ≡ length streams → length rings ≡ length streams → is_due_before due (now + tau) ≡ false → IsLowestOf rings o → IsDueSoFar streams next (length next) due → AreTheirs streams rings →
-    IsChosenSoFar agrees streams next rings bs tau now (length streams) o
+    IsChosenSoFar agrees streams next rings bs tau now (length streams) (sent_first o)
 lowest-chosen {B} agrees streams next rings bs tau now due o long many before low first theirs = go o low
   where
     may : (j : ℕ) (k : Stream) (r : RingValue) (b : B) → j < length streams → may_be_sent (agrees b) tau now (length r.waiting) (next_at next j) ≡ nat_lt 0 (length r.waiting)
     may j k r b l = may-wait (agrees b) tau now (length r.waiting) (next_at next j) (later streams next due (now + tau) first before j (omega (arith, l, long)))
 
-    go : (o : Option Sent) → IsLowestOf rings o → IsChosenSoFar agrees streams next rings bs tau now (length streams) o
+    go : (o : Option First) → IsLowestOf rings o → IsChosenSoFar agrees streams next rings bs tau now (length streams) (sent_first o)
     go None low = λ j k r b l p. may j k r b l ∙ ap (nat_lt 0) (low j r p.ring)
     go (Some s) low =
         let l : s.place < length streams = (let w = slice_get_within rings s.place low.ring low.here in omega (arith, w, many)) in

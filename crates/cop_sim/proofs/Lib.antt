@@ -10,7 +10,6 @@ pub mod Held
 pub mod Competing
 pub mod Actors
 pub mod Chosen
-pub mod RankLemmas
 pub mod HandLemmas
 pub mod Taken
 pub mod TurnLemmas

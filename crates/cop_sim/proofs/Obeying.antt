@@ -1,5 +1,5 @@
 -- A seeded behaviour obeys.
-use Rattle.std.proofs.Common.{◌≡◌, ℕ, ◌+◌, ◌-◌, ◌*◌, ◌/◌, ◌%◌, ◌≤◌, ◌<◌, ◌^◌, ◌⊎◌, inl, inr, refl, sym, ◌∙◌, ap, subst, arith, suc, zero, Bool, true, false, max, nat_le, ◌==◌, ◌&&◌, Option, Some, None}
+use Rattle.std.proofs.Common.{◌≡◌, ℕ, ◌+◌, ◌-◌, ◌%◌, ◌≤◌, ◌^◌, inl, inr, refl, sym, ◌∙◌, subst, arith, suc, zero, true, false, max, nat_le, ◌==◌, ◌&&◌, Option, Some, None}
 use Rattle.std.proofs.lemmas.Bool.{cases_lt}
 use Rattle.rand_pcg.specs.Lcg.{Lcg}
 use Rattle.cop_rta.specs.declared.streams.Stream.{Stream}
@@ -9,8 +9,8 @@ use Rattle.cop_bus.specs.Judge.{is_period_later, is_queued_in_time, is_of_length
 use Rattle.cop_bus.proofs.Demand.{and-true}
 use Rattle.cop_bus.proofs.Work.{le-true, eq-true}
 use Rattle.cop_sim.specs.declared.behaviours.Offer.{Offer}
-use Rattle.cop_sim.specs.Play.{queued_at, queue_step, event_of, is_not_before, obeys, answer_before, Disobeys}
-use Rattle.cop_sim.specs.Drawing.{word, rest, event_after, raised, bits_by, drawn, drawn_at, fitting, words_of, seeded_actor}
+use Rattle.cop_sim.specs.Play.{queued_at, queue_step, event_of, is_not_before, obeys, Disobeys}
+use Rattle.cop_sim.specs.Drawing.{word, rest, event_after, drawn, drawn_at, fitting, words_of, seeded_actor}
 use Rattle.cop_sim.proofs.DrawingLemmas.{fits, passes, rises-on}
 
 remainder : (a b : ℕ) → a % (b + 1) ≤ b

@@ -1,9 +1,9 @@
 -- A trace that is written step by step.
-use Rattle.std.proofs.Common.{◌≡◌, ℕ, List, [], ◌∷◌, ◌++◌, Option, map, refl, sym, ap, ◌∙◌, append_assoc}
+use Rattle.std.proofs.Common.{ℕ, List, [], ◌∷◌, ◌++◌, Option, map, sym, ap, ◌∙◌}
 use Rattle.std.specs.Io.KnownBytes.{Appends}
 use Rattle.std.proofs.lemmas.Grind.{flat_map-append}
 use Rattle.cop_bus.specs.declared.steps.Step.{Step}
-use Rattle.cop_bus.specs.Format.{Fields, header, fields_of, line, lines, text_of}
+use Rattle.cop_bus.specs.Format.{Fields, header, fields_of, line, lines}
 use Rattle.cop_bus.proofs.WriterLemmas.{appends_none, appends_more, appends_as}
 use Rattle.cop_sim.specs.Sinks.{Took}
 

@@ -1,6 +1,6 @@
 -- What a seeded behaviour offers: words of a generator, drawn in turn for the event, the delay and the length of each
 -- instance.
-use Rattle.std.specs.Prelude.{ℕ, ◌+◌, ◌-◌, ◌*◌, ◌/◌, ◌%◌, ◌^◌, ◌==◌, ◌&&◌, max, nat_le, nat_lt, bit_xor, List, [], ◌∷◌, Option, None, Some, Bool, true, false, zero, suc, if◌then◌else◌}
+use Rattle.std.specs.Prelude.{ℕ, ◌+◌, ◌-◌, ◌/◌, ◌%◌, ◌^◌, ◌==◌, ◌&&◌, max, nat_le, nat_lt, bit_xor, List, [], ◌∷◌, Option, None, Some, Bool, false, zero, suc, if◌then◌else◌}
 use Rattle.rand_pcg.specs.Lcg.{Lcg, started, increment_of}
 use Rattle.rand_pcg.specs.Pcg.{multiplier_64, pcg32}
 use Rattle.cop_rta.specs.declared.streams.Stream.{Stream}

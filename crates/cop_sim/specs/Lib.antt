@@ -2,7 +2,6 @@ pub mod Guarantee
 pub mod Play
 pub mod Sinks
 pub mod Seats
-pub mod Ranks
 pub mod Hands
 pub mod Events
 pub mod Going

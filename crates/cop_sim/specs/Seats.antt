@@ -7,6 +7,7 @@ use Rattle.cop_sim.specs.declared.due.Due.{Due}
 use Rattle.cop_sim.specs.declared.choosing.Sent.{Sent}
 use Rattle.cop_sim.specs.Play.{queued_at, by_end}
 use Rattle.cop_bus.specs.Rings.{RingValue}
+use Rattle.cop_bus.specs.declared.queues.First.{First}
 
 -- the next offer of a stream comes before that of another: at one moment the lower identifier first
 abbrev pub ComesFirst : ℕ → Offer → ℕ → Offer → Type 0
@@ -29,6 +30,11 @@ pub record IsDueTo (streams : List Stream) (next : List (Option Offer)) (n : ℕ
 abbrev pub IsDueSoFar : List Stream → List (Option Offer) → ℕ → Option Due → Type 0
 IsDueSoFar streams next n None = (j : ℕ) → j < n → next_at next j ≡ None
 IsDueSoFar streams next n (Some d) = IsDueTo streams next n d
+
+-- the first stream of which an instance waits is sent
+abbrev pub sent_first : Option First → Option Sent
+sent_first None = None
+sent_first (Some f) = Some (record { place = f.place; id = f.id })
 
 -- the first offer at hand, if there is one, is queued before a moment
 abbrev pub is_due_before : Option Due → ℕ → Bool

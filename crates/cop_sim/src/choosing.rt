@@ -2,15 +2,14 @@
 
 ghost use Rattle.std.specs.Prelude.{◌≡◌, ◌^◌, ◌<◌, ◌==◌, length, IfSome, Some};
 ghost use Rattle.cop_sim.specs.Play.{queued_at};
-ghost use Rattle.cop_sim.specs.Seats.{joins_with, may_be_sent, IsDueSoFar, IsChosenSoFar, is_due_before, is_lower, lower_of};
+ghost use Rattle.cop_sim.specs.Seats.{joins_with, may_be_sent, IsDueSoFar, IsChosenSoFar, is_due_before, is_lower, lower_of, sent_first};
 ghost use Rattle.cop_sim.specs.Hands.{AreTheirs};
 
 use crate::behaviours::{Behaviour, Offer};
 use crate::due::Due;
 use crate::offers::Offers;
 use crate::seats::queued_at;
-use crate::waiting::Waiting;
-use cop_bus::Ring;
+use cop_bus::{First, Queues, Ring};
 use cop_rta::Stream;
 
 /// The stream that is sent, by its place.
@@ -102,6 +101,18 @@ fn choose_of_all<B: Behaviour>(
     chosen
 }
 
+fn sent_first(first: Option<First>) -> Option<Sent>
+    ensures { result ≡ sent_first first }
+{
+    match first {
+        Some(first) => Some(Sent {
+            place: first.place,
+            id: first.id,
+        }),
+        None => None,
+    }
+}
+
 fn is_due_before(due: Option<Due>, moment: u128) -> bool
     ensures { result ≡ is_due_before due moment }
 {
@@ -116,7 +127,7 @@ fn is_due_before(due: Option<Due>, moment: u128) -> bool
 pub(crate) fn choose<B: Behaviour>(
     streams: &[Stream],
     offers: &Offers,
-    waiting: &Waiting,
+    waiting: &Queues,
     behaviours: &Vec<B>,
     ticks: u32,
     now: u64,
@@ -140,6 +151,6 @@ pub(crate) fn choose<B: Behaviour>(
             now,
         )
     } else {
-        waiting.lowest()
+        sent_first(waiting.lowest())
     }
 }

@@ -10,7 +10,6 @@ mod guarantee;
 mod laws;
 mod offers;
 mod playing;
-mod ranking;
 mod scripts;
 mod seats;
 mod simulating;
@@ -18,7 +17,6 @@ mod sinks;
 mod stages;
 mod traces;
 mod turns;
-mod waiting;
 
 pub use behaviours::{Behaviour, Offer};
 pub use drawing::{Seeded, seeded_obeys};

@@ -7,8 +7,8 @@ ghost use Rattle.cop_sim.specs.Seats.{next_at, IsDueSoFar};
 
 use crate::behaviours::Offer;
 use crate::due::Due;
-use crate::ranking::{Rank, Ranking};
 use crate::seats::queued_at;
+use cop_bus::{Rank, Ranking};
 use cop_rta::Stream;
 use std::alloc::{AllocError, Global};
 use std::marker::Model;

@@ -1,14 +1,14 @@
 //! What the simulator has at hand between two steps.
 
 use crate::offers::Offers;
-use crate::waiting::Waiting;
+use cop_bus::Queues;
 
 /// Of each stream, by place, the next offer, the instances that wait, and how many were queued; the transfer that runs by
 /// the moment of its end, the place of a joiner that was sent and is not queued yet, and the moment.
 #[derive(Drop)]
 pub(crate) struct Stage {
     pub offers: Offers,
-    pub waiting: Waiting,
+    pub waiting: Queues,
     pub queued: Vec<u64>,
     pub running: Option<(u64, u16)>,
     pub joined: Option<usize>,

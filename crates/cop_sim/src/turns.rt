@@ -18,8 +18,7 @@ use crate::playing::{Event, hand, next_event};
 use crate::seats::ask;
 use crate::sinks::Sink;
 use crate::stages::Stage;
-use crate::waiting::Waiting;
-use cop_bus::{Full, Instance, Step};
+use cop_bus::{Full, Instance, Queues, Step};
 use cop_plan::Plan;
 use cop_rta::Stream;
 
@@ -45,7 +44,7 @@ pub(crate) fn end_transfer<S: Sink>(
 
 // Lets an instance wait in the ring of its place, unless it is the joiner's that was sent.
 fn put(
-    waiting: &mut Waiting,
+    waiting: &mut Queues,
     joined: &mut Option<usize>,
     place: usize,
     instance: Instance,

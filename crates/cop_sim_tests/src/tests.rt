@@ -5,7 +5,7 @@ use cop_frame::{Rate, RateSet};
 use cop_plan::{Count, Outcome, Plan, assign, can_assign};
 use cop_rta::{Stream, read_streams};
 use cop_sim::{
-    Behaviour, Offer, Scripted, Seeded, SimFault, Sink, TraceSink, simulate, simulate_over,
+    Behaviour, Offer, Scripted, Seeded, SimFault, Sink, Steps, TraceSink, simulate, simulate_over,
 };
 use std::alloc::Global;
 use std::collections::VecDeque;
@@ -574,7 +574,7 @@ fn a_sink_fails_at_each_step(rt: HostRuntime) -> Result<(), Fail> {
 #[test]
 fn a_trace_is_written_as_it_goes(rt: HostRuntime) -> Result<(), Fail> {
     let plan = valve(rt.alloc())?;
-    let mut sink = TraceSink::new(rt.alloc(), Vec::new(rt.alloc()));
+    let mut sink = TraceSink::new(Vec::new(rt.alloc()));
     assert!(rt; !sink.failed());
     let behaviours = valve_behaviours(rt.alloc())?;
     simulate_over(rt.alloc(), &plan, behaviours, 4000, &mut sink)?;
@@ -617,5 +617,142 @@ fn offers_of_a_seed(rt: HostRuntime) -> Result<(), Fail> {
             })
         );
     }
+    Ok(())
+}
+
+/// A PDO, and a frame of lower priority that is queued every 400 ticks and takes 540.
+const HURRIED: &[u8] = b"id,bytes,period,jitter,deadline\n0x181,8,10000,0,1000\n0x705,8,100,0,\n";
+
+/// The behaviours of the hurried frame with 300 instances, beside a PDO with none.
+fn hurried_behaviours(alloc: Global) -> Result<Vec<Scripted>, Fail> {
+    let mut offers = VecDeque::new(alloc);
+    for number in 0..300u64 {
+        offers.push_back(Offer {
+            event: 400 * number,
+            delay: 0,
+            frame: LONG,
+        })?;
+    }
+    let mut behaviours = Vec::new(alloc);
+    behaviours.push(scripted(alloc, (&[], &[]))?)?;
+    behaviours.push(Scripted {
+        offers,
+        yes: Vec::new(alloc),
+    })?;
+    Ok(behaviours)
+}
+
+// When instance 247, counted from 0, is queued at 98,800 ticks, 183 have started: 65 wait.
+#[test]
+fn more_than_64_instances_wait(rt: HostRuntime) -> Result<(), Fail> {
+    let plan = plan_of(rt.alloc(), HURRIED, 1, &[Rate::Kbit1000])?;
+    let cases: &[(u64, Result<(), SimFault>)] = &[
+        (98799, Ok(())),
+        (98800, Err(SimFault::Backlog { id: 0x705 })),
+    ];
+    for case in cases {
+        let (until, wanted) = *case;
+        let behaviours = hurried_behaviours(rt.alloc())?;
+        let mut steps = Steps::new(rt.alloc());
+        assert_eq!(rt;
+            simulate_over(rt.alloc(), &plan, behaviours, until, &mut steps),
+            wanted
+        );
+    }
+    Ok(())
+}
+
+/// Three PDOs whose second and third have deadlines of their periods at 125 kbit/s.
+const THREE: &[u8] =
+    b"id,bytes,period,jitter,deadline\n0x181,7,2500,0,2500\n0x182,7,3500,0,3500\n0x183,7,3500,0,3500\n";
+
+/// A frame of 7 bytes with the most stuff bits.
+const SEVEN: Content = Content {
+    bits: 125,
+    body: [0; 8],
+    len: 7,
+};
+
+const THREE_SCRIPTS: &[Script] = &[
+    (
+        &[
+            Offer {
+                event: 0,
+                delay: 0,
+                frame: SEVEN,
+            },
+            Offer {
+                event: 10000,
+                delay: 0,
+                frame: SEVEN,
+            },
+            Offer {
+                event: 20000,
+                delay: 0,
+                frame: SEVEN,
+            },
+        ],
+        &[],
+    ),
+    (
+        &[
+            Offer {
+                event: 0,
+                delay: 0,
+                frame: SEVEN,
+            },
+            Offer {
+                event: 14000,
+                delay: 0,
+                frame: SEVEN,
+            },
+        ],
+        &[],
+    ),
+    (
+        &[
+            Offer {
+                event: 0,
+                delay: 0,
+                frame: SEVEN,
+            },
+            Offer {
+                event: 14000,
+                delay: 0,
+                frame: SEVEN,
+            },
+        ],
+        &[],
+    ),
+];
+
+// The second instance of the third PDO, of 14,000, ends at 28,000: its longest response.
+#[test]
+fn the_longest_response_is_reached(rt: HostRuntime) -> Result<(), Fail> {
+    let plan = plan_of(rt.alloc(), THREE, 3, &[Rate::Kbit125])?;
+    let steps = steps_of(rt.alloc(), &plan, THREE_SCRIPTS, 28000)?;
+    let mut starts = Vec::new(rt.alloc());
+    for step in &steps {
+        if let Step::Start { at, id } = step {
+            starts.push((*at, *id))?;
+        }
+    }
+    let wanted: &[(u64, u16)] = &[
+        (0, 0x181),
+        (4000, 0x182),
+        (8000, 0x183),
+        (12000, 0x181),
+        (16000, 0x182),
+        (20000, 0x181),
+        (24000, 0x183),
+    ];
+    assert_eq!(rt; starts.as_slice(), wanted);
+    assert_eq!(rt;
+        steps.last(),
+        Some(&Step::End {
+            at: 28000,
+            id: 0x183
+        })
+    );
     Ok(())
 }

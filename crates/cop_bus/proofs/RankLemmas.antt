@@ -4,8 +4,8 @@ use Rattle.std.specs.Prelude.{Option, None, Some, ◌==◌}
 use Rattle.std.specs.Option.{ForSome}
 use Rattle.std.proofs.lemmas.Bool.{cases_lt, cases_eq, cases_Bool, ltb-true, lt-ltb, eq-eqb, eqb-true, and_parts, and_from, or_cases}
 use Rattle.std.proofs.lemmas.List.{get_or-drop, get_or-set_same, get_or-set_other, length-drop, get_or_past}
-use Rattle.cop_sim.specs.declared.ranking.Rank.{Rank}
-use Rattle.cop_sim.specs.Ranks.{is_before, earlier, rank_at, IsWonAt, IsTournament, IsNotAfter, IsFirstOf}
+use Rattle.cop_bus.specs.declared.ranking.Rank.{Rank}
+use Rattle.cop_bus.specs.Ranks.{is_before, earlier, rank_at, IsWonAt, IsTournament, IsNotAfter, IsFirstOf}
 
 -- ---- two ranks
 

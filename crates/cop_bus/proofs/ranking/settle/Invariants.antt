@@ -1,6 +1,6 @@
 use Rattle.std.proofs.Common.{◌≡◌, ◌+◌, ◌<◌, length, drop}
-use Rattle.cop_sim.proofs.RankLemmas.{IsWonBut}
-use Rattle.cop_sim.proofs.ranking.settle.Given as goal
+use Rattle.cop_bus.proofs.RankLemmas.{IsWonBut}
+use Rattle.cop_bus.proofs.ranking.settle.Given as goal
 
 abbrev pub invariant-loop-node : goal.invariant-loop-node
 invariant-loop-node l = record {

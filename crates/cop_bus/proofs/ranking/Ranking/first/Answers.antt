@@ -2,9 +2,9 @@ use Rattle.std.proofs.Common.{◌≤◌, arith, sym, subst, inl, inr}
 use Rattle.std.specs.Prelude.{None}
 use Rattle.std.proofs.lemmas.List.{get_or_read}
 use Rattle.std.proofs.lemmas.Bool.{cases_lt}
-use Rattle.cop_sim.specs.Ranks.{IsFirstOf}
-use Rattle.cop_sim.proofs.RankLemmas.{root-first}
-use Rattle.cop_sim.proofs.ranking.Ranking.first.Goals as goal
+use Rattle.cop_bus.specs.Ranks.{IsFirstOf}
+use Rattle.cop_bus.proofs.RankLemmas.{root-first}
+use Rattle.cop_bus.proofs.ranking.Ranking.first.Goals as goal
 
 pub returns-else-self-eq0 : goal.returns-else-self-eq0
 returns-else-self-eq0 c =

@@ -1,8 +1,8 @@
 use Rattle.std.proofs.Common.{◌≡◌, ◌∙◌, ap, sym, subst, length, replicate, arith}
 use Rattle.std.specs.Prelude.{None}
-use Rattle.cop_sim.specs.Hands.{AreQueued}
-use Rattle.cop_sim.proofs.HandLemmas.{none-queued}
-use Rattle.cop_sim.proofs.waiting.Waiting.new.Goals as goal
+use Rattle.cop_bus.specs.Queues.{AreQueued}
+use Rattle.cop_bus.proofs.QueueLemmas.{none-queued}
+use Rattle.cop_bus.proofs.queues.Queues.new.Goals as goal
 
 pub invariant_of-result : goal.invariant_of-result
 invariant_of-result c =

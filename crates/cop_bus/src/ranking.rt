@@ -2,14 +2,14 @@
 
 ghost use Rattle.std.specs.Prelude.{◌≡◌, ◌≢◌, ℕ, ◌+◌, ◌/◌, ◌≤◌, ◌<◌, Some, None, IfOk, length, drop, replicate, slice_set};
 ghost use Rattle.std.specs.Option.{ForSome};
-ghost use Rattle.cop_sim.specs.Ranks.{is_before, earlier, rank_at, IsWonAt, IsFirstOf};
+ghost use Rattle.cop_bus.specs.Ranks.{is_before, earlier, rank_at, IsWonAt, IsFirstOf};
 
 use std::alloc::{AllocError, Global};
 use std::marker::Model;
 
 /// When a place has its turn: at a moment, and at one moment the lower identifier first.
 #[derive(Clone, Copy)]
-pub(crate) struct Rank {
+pub struct Rank {
     pub at: u128,
     pub id: u16,
     pub place: usize,
@@ -18,15 +18,15 @@ pub(crate) struct Rank {
 /// The ranks of places, of which some have none, as a tournament: node k holds the earlier one of the nodes 2k and
 /// 2k + 1, from 1 on, and behind those stand the ranks of the places.
 #[derive(Drop)]
-pub(crate) struct Ranking {
+pub struct Ranking {
     places: usize,
     nodes: Vec<Option<Rank>>,
 }
 
 impl Model for Ranking {
     ghost use Rattle.std.specs.Prelude.{List, Option, drop};
-    ghost use Rattle.cop_sim.specs.declared.ranking.Rank.{Rank};
-    ghost use Rattle.cop_sim.specs.Ranks.{IsTournament};
+    ghost use Rattle.cop_bus.specs.declared.ranking.Rank.{Rank};
+    ghost use Rattle.cop_bus.specs.Ranks.{IsTournament};
 
     ghost Value = { List (Option Rank) };
 
@@ -75,7 +75,7 @@ fn settle(nodes: &mut Vec<Option<Rank>>, places: usize, changed: usize)
 
 impl Ranking {
     /// So many places without a rank.
-    pub(crate) fn new(alloc: Global, places: usize) -> Result<Ranking, AllocError>
+    pub fn new(alloc: Global, places: usize) -> Result<Ranking, AllocError>
         ensures { IfOk result (λ r. r ≡ replicate places None) }
     {
         let Some(nodes) = places.checked_mul(2) else {
@@ -88,7 +88,7 @@ impl Ranking {
     }
 
     /// The first rank.
-    pub(crate) fn first(&self) -> Option<Rank>
+    pub fn first(&self) -> Option<Rank>
         ensures { IsFirstOf self.now result }
     {
         if self.places == 0 {
@@ -99,7 +99,7 @@ impl Ranking {
     }
 
     /// Gives a place another rank, or takes its rank away.
-    pub(crate) fn set(&mut self, place: usize, rank: Option<Rank>)
+    pub fn set(&mut self, place: usize, rank: Option<Rank>)
         requires within { place < length self.old }
         requires own { ForSome rank (λ r. r.place ≡ place) }
         ensures { self.new ≡ slice_set self.old place rank }

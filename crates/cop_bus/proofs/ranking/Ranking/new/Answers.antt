@@ -1,7 +1,7 @@
 use Rattle.std.proofs.Common.{◌≡◌, ◌∙◌, ◌+◌, replicate, drop, rules, ap, arith}
 use Rattle.std.specs.Prelude.{None}
-use Rattle.cop_sim.proofs.RankLemmas.{drop-half}
-use Rattle.cop_sim.proofs.ranking.Ranking.new.Goals as goal
+use Rattle.cop_bus.proofs.RankLemmas.{drop-half}
+use Rattle.cop_bus.proofs.ranking.Ranking.new.Goals as goal
 
 pub returns : goal.returns
 returns c =

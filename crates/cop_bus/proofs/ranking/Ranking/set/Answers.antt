@@ -1,6 +1,6 @@
 use Rattle.std.proofs.Common.{◌∙◌, ap, slice_set}
 use Rattle.std.proofs.lemmas.List.{drop-set-add}
-use Rattle.cop_sim.proofs.ranking.Ranking.set.Goals as goal
+use Rattle.cop_bus.proofs.ranking.Ranking.set.Goals as goal
 
 pub returns : goal.returns
 returns c =

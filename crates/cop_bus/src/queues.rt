@@ -2,31 +2,38 @@
 
 ghost use Rattle.std.specs.Prelude.{◌≡◌, ℕ, ◌<◌, ◌∷◌, ◌++◌, [], ◌↔◌, IfOk, OnOk, OnErr, IsOk, Some, drop, length, slice_get, slice_set};
 ghost use Rattle.cop_bus.specs.Rings.{any_in, RingValue};
-ghost use Rattle.cop_sim.specs.Hands.{ring_rank, IsLowestOf};
+ghost use Rattle.cop_bus.specs.Queues.{ring_rank, IsLowestOf};
 
-use crate::choosing::Sent;
+use crate::bus::Instance;
 use crate::ranking::{Rank, Ranking};
-use cop_bus::{Full, Instance, Ring};
+use crate::rings::{Full, Ring};
 use std::alloc::{AllocError, Global};
 use std::marker::Model;
 
+/// A stream of which an instance waits: its place, and its identifier.
+#[derive(Clone, Copy, PartialEq, Eq, Debug)]
+pub struct First {
+    pub place: usize,
+    pub id: u16,
+}
+
 /// The ring of each stream, by place, and the ranks of those in which an instance waits.
 #[derive(Drop)]
-pub(crate) struct Waiting {
+pub struct Queues {
     rings: Vec<Ring>,
     ranking: Ranking,
 }
 
-impl Model for Waiting {
+impl Model for Queues {
     ghost use Rattle.std.specs.Prelude.{List};
     ghost use Rattle.cop_bus.specs.Rings.{RingValue};
-    ghost use Rattle.cop_sim.specs.Hands.{AreQueued};
+    ghost use Rattle.cop_bus.specs.Queues.{AreQueued};
 
     ghost Value = { List RingValue };
 
-    ghost view = { λ w. w.rings.items };
+    ghost view = { λ q. q.rings.items };
 
-    ghost invariant = { λ w. AreQueued w.rings.items w.ranking };
+    ghost invariant = { λ q. AreQueued q.rings.items q.ranking };
 }
 
 // The rank of the ring at a place: all that wait do so now.
@@ -44,43 +51,43 @@ fn rank_of(ring: &Ring, place: usize) -> Option<Rank>
     }
 }
 
-impl Waiting {
+impl Queues {
     /// Rings in which nothing waits.
-    pub(crate) fn new(alloc: Global, rings: Vec<Ring>) -> Result<Waiting, AllocError>
+    pub fn new(alloc: Global, rings: Vec<Ring>) -> Result<Queues, AllocError>
         requires { (i : ℕ) (r : RingValue) → slice_get rings.items i ≡ Some r → r.waiting ≡ [] }
-        ensures { IfOk result (λ w. w ≡ rings.items) }
+        ensures { IfOk result (λ q. q ≡ rings.items) }
     {
         let ranking = Ranking::new(alloc, rings.len())?;
-        Ok(Waiting { rings, ranking })
+        Ok(Queues { rings, ranking })
     }
 
     /// The rings, by place.
-    pub(crate) fn rings(&self) -> &[Ring]
+    pub fn rings(&self) -> &[Ring]
         ensures { result.now ≡ self.now }
     {
         &self.rings
     }
 
     /// Whether some instance waits.
-    pub(crate) fn any_waits(&self) -> bool
+    pub fn any_waits(&self) -> bool
         ensures { result ≡ any_in self.now }
     {
         self.ranking.first().is_some()
     }
 
     /// The stream with the lowest identifier of which an instance waits.
-    pub(crate) fn lowest(&self) -> Option<Sent>
+    pub fn lowest(&self) -> Option<First>
         ensures { IsLowestOf self.now result }
     {
         let rank = self.ranking.first()?;
-        Some(Sent {
+        Some(First {
             place: rank.place,
             id: rank.id,
         })
     }
 
     /// Lets an instance wait in the ring of its place.
-    pub(crate) fn queue(&mut self, place: usize, instance: Instance) -> Result<(), Full>
+    pub fn queue(&mut self, place: usize, instance: Instance) -> Result<(), Full>
         requires { place < length self.old }
         ensures room { (r : RingValue) → slice_get self.old place ≡ Some r → (IsOk result ↔ (length r.waiting < r.most)) }
         ensures ok { (r : RingValue) → slice_get self.old place ≡ Some r → OnOk result (self.new ≡ slice_set self.old place (record r { waiting = r.waiting ++ instance ∷ [] })) }
@@ -92,7 +99,7 @@ impl Waiting {
     }
 
     /// Takes the first instance out of the ring of a place.
-    pub(crate) fn take(&mut self, place: usize) -> Option<Instance>
+    pub fn take(&mut self, place: usize) -> Option<Instance>
         requires { place < length self.old }
         ensures value { (r : RingValue) → slice_get self.old place ≡ Some r → result ≡ slice_get r.waiting 0 }
         ensures rest { (r : RingValue) → slice_get self.old place ≡ Some r → self.new ≡ slice_set self.old place (record r { waiting = drop 1 r.waiting }) }

@@ -1,6 +1,6 @@
 -- The first of many places by rank.
 use Rattle.std.specs.Prelude.{◌≡◌, ℕ, ◌+◌, ◌≤◌, ◌<◌, ◌⊎◌, List, Option, None, Some, length, drop, slice_index_or, nat_lt, ◌==◌, ◌&&◌, ◌||◌, Bool, if◌then◌else◌}
-use Rattle.cop_sim.specs.declared.ranking.Rank.{Rank}
+use Rattle.cop_bus.specs.declared.ranking.Rank.{Rank}
 
 -- an earlier moment comes first, at one moment a lower identifier
 abbrev pub is_before : Rank → Rank → Bool
