@@ -1,11 +1,12 @@
 -- In a device that has the settings of a plan exactly the PDOs of the plan exist.
-use Rattle.std.proofs.Common.{◌≡◌, ℕ, suc, Bool, true, false, cond, ◌&&◌, ◌==◌, List, [], ◌∷◌, All, Contains, refl, sym, ap, subst, ◌∙◌, arith, Option, Some, None}
+use Rattle.std.proofs.Common.{◌≡◌, ℕ, Bool, true, false, ◌&&◌, ◌==◌, List, [], ◌∷◌, All, Contains, refl, sym, ap, subst, ◌∙◌, arith, Option, Some, None}
 use Rattle.std.specs.Prelude.{option_map}
 use Rattle.std.specs.Option.{option_and_then}
 use Rattle.std.proofs.lemmas.Bool.Decides.{nat_tests}
-use Rattle.cop_dict.specs.Find.{Entry, entry_at, is_at, unsigned32_of}
+use Rattle.cop_dict.specs.Find.{Entry, entry_at, unsigned32_of}
 use Rattle.cop_dict.specs.Pdo.{is_cob_id}
 use Rattle.cop_dict.specs.Dict.{valued}
+use Rattle.cop_dict.proofs.DictLemmas.{found_inside}
 use Rattle.cop_dict.proofs.Replaced.{value_replaced}
 use Rattle.cop_dict.proofs.LawLemmas.{others}
 use Rattle.cop_net.specs.Heartbeats.{heartbeat_of}
@@ -23,24 +24,6 @@ use Rattle.cop_boot.specs.PlannedPdos.{IsAsPlanned, IsRecordAsPlanned, HasPlanne
 use Rattle.cop_boot.specs.NetworkBoot.{IsPlanOf, HavePlannedPdos}
 use Rattle.cop_boot.proofs.NetworkAdmits.{network_admits, network_plain, ids_low, used_there}
 use Rattle.cop_boot.proofs.PlannedLemmas.{as_planned}
-
--- what is found at an address is in the dictionary, and has the address
-pub found_inside : (dict : List Entry) (index sub : ℕ) (e : Entry) → entry_at dict index sub ≡ Some e → Contains dict e × (e.index ≡ index) × (e.sub ≡ sub)
-found_inside [] index sub e h = absurd (cc)
-found_inside (x ∷ xs) index sub e h = by_test (is_at index sub x) refl h (found_inside xs index sub e)
-  where
-    at : (x : Entry) → is_at index sub x ≡ true → (x.index ≡ index) × (x.sub ≡ sub)
-    at x t = (grind (arith, nat_tests), grind (arith, nat_tests))
-
-    by_test : (b : Bool) → is_at index sub x ≡ b → cond b (Some x) (entry_at xs index sub) ≡ Some e
-        → (entry_at xs index sub ≡ Some e → Contains xs e × (e.index ≡ index) × (e.sub ≡ sub)) → Contains (x ∷ xs) e × (e.index ≡ index) × (e.sub ≡ sub)
-    by_test true t h later =
-        let same : x ≡ e = cc in
-        subst (λ (y : Entry). Contains (x ∷ xs) y × (y.index ≡ index) × (y.sub ≡ sub)) same (let a = at x t in ((0, omega arith, refl), a.0, a.1))
-    by_test false t h later =
-        let r = later h in
-        let low = r.0.1 in
-        ((suc r.0.0, omega (arith, low), r.0.2), r.1, r.2)
 
 -- a setting puts nothing where nothing was
 still_absent : (s : Setting) (dict : List Entry) (index sub : ℕ) → entry_at dict index sub ≡ None → entry_at (with_setting dict s) index sub ≡ None
