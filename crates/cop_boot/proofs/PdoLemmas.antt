@@ -1,5 +1,5 @@
--- In a device that has the settings of a plan exactly the PDOs of the plan exist.
-use Rattle.std.proofs.Common.{◌≡◌, ℕ, Bool, true, false, ◌&&◌, ◌==◌, List, [], ◌∷◌, All, Contains, refl, sym, ap, subst, ◌∙◌, arith, Option, Some, None}
+-- In a device that has the settings of a plan exactly the PDOs of the plan exist, and it has what its DCF says.
+use Rattle.std.proofs.Common.{◌≡◌, ℕ, Bool, true, false, ◌&&◌, ◌==◌, List, [], ◌∷◌, All, Contains, refl, sym, ap, subst, ◌∙◌, arith, Option, Some, None, map, Ok}
 use Rattle.std.specs.Prelude.{option_map}
 use Rattle.std.specs.Option.{option_and_then}
 use Rattle.std.proofs.lemmas.Bool.Decides.{nat_tests}
@@ -9,19 +9,23 @@ use Rattle.cop_dict.specs.Dict.{valued}
 use Rattle.cop_dict.proofs.DictLemmas.{found_inside}
 use Rattle.cop_dict.proofs.Replaced.{value_replaced}
 use Rattle.cop_dict.proofs.LawLemmas.{others}
+use Rattle.cop_frame.specs.declared.rates.Rate.{Rate}
+use Rattle.cop_rows.specs.declared.node_table.DeviceRow.{DeviceRow}
+use Rattle.cop_net.specs.Devices.{File}
 use Rattle.cop_net.specs.Heartbeats.{heartbeat_of}
 use Rattle.cop_net.specs.Network.{Net, IsNetwork}
 use Rattle.cop_dcf.specs.declared.setting.Setting.{Setting}
 use Rattle.cop_dcf.specs.Dcf.{bytes_of}
 use Rattle.cop_dcf.specs.Identifiers.{id_at}
-use Rattle.cop_dcf.specs.Planned.{with_setting, planned}
+use Rattle.cop_dcf.specs.Planned.{with_setting, planned, settled, IsNodeReadAgain}
 use Rattle.cop_dcf.specs.Settings.{dictionary_of, node_settings, settings_by}
-use Rattle.cop_boot.specs.Manager.{Managing}
+use Rattle.cop_boot.specs.declared.«end».End.TheVariants.{Ready}
+use Rattle.cop_boot.specs.Manager.{Managing, end_at}
 use Rattle.cop_boot.specs.Device.{Attached}
 use Rattle.cop_boot.specs.Bus.{Made}
 use Rattle.cop_boot.specs.PlanSettings.{IsPdoId}
 use Rattle.cop_boot.specs.PlannedPdos.{IsAsPlanned, IsRecordAsPlanned, HasPlannedPdos}
-use Rattle.cop_boot.specs.NetworkBoot.{IsPlanOf, HavePlannedPdos}
+use Rattle.cop_boot.specs.NetworkBoot.{IsPlanOf, HavePlannedPdos, HasWhatItsDcfSays}
 use Rattle.cop_boot.proofs.NetworkAdmits.{network_admits, network_plain, ids_low, used_there}
 use Rattle.cop_boot.proofs.PlannedLemmas.{as_planned}
 
@@ -86,4 +90,21 @@ pdos_so m built later after net ids made is n ready =
       device = x.device;
       there = x.there;
       pdos = subst (HasPlannedPdos (id_at net.rows ids n)) (sym whole) (records_as_planned net ids n (built n) is.network is.range (is.devices n x.node x.manages));
+    }
+
+-- and what the DCF of each says
+pub dcf_said : (m : Managing) (built : ℕ → List Entry) (later : Managing) (after : List Attached) (net : Net) (files : List File) (ids : List ℕ) (rate : Rate) (n : ℕ) (row : DeviceRow)
+    → Made m built later after → IsPlanOf net ids m built → IsNodeReadAgain net files ids rate n row → end_at later.nodes n ≡ Some Ready → HasWhatItsDcfSays net files ids rate n row after
+dcf_said m built later after net files ids rate n row made is again ready =
+    let x = made.configured n ready in
+    let same : ◌≡◌ {A = Option (List Entry)} (Some again.dict) (Some (built n)) = sym again.dictionary ∙ is.devices n x.node x.manages in
+    let one : again.dict ≡ built n = cc in
+    let whole : planned again.dict (node_settings net ids n) ≡ x.device.dict =
+    ap (λ d. planned d (node_settings net ids n)) one ∙ sym (x.dict ∙ ap (planned (built n)) (is.settings n x.node x.manages)) in
+    record {
+      text = again.text;
+      from = again.there;
+      device = x.device;
+      there = x.there;
+      says = λ short. (again.again short).dictionary ∙ ap (λ d. Ok (map settled d)) whole;
     }
