@@ -1,7 +1,7 @@
 -- What a boot by turns makes of the devices.
-use Rattle.std.proofs.Common.{◌≡◌, ℕ, Bool, true, false, cond, List, [], ◌∷◌, map, refl, ap, sym, subst, ◌∙◌, arith, ◌==◌, Option, Some, None}
+use Rattle.std.proofs.Common.{◌≡◌, ℕ, Bool, true, false, cond, List, [], ◌∷◌, map, refl, ap, sym, subst, ◌∙◌, ◌==◌, Option, Some, None}
+use Rattle.std.proofs.lemmas.Bool.{eqb-true}
 use Rattle.std.specs.Prelude.{option_map, option_and_then, is_some, IsSome}
-use Rattle.std.proofs.lemmas.Bool.Decides.{nat_tests}
 use Rattle.cop_dict.specs.Find.{Entry}
 use Rattle.cop_boot.specs.declared.«end».End.{End}
 use Rattle.cop_boot.specs.declared.«end».End.TheVariants.{Ready, Silent, Restarting, Aborted}
@@ -21,22 +21,16 @@ number_of : (nodes : List Node) (n : ℕ) (node : Node) → node_of nodes n ≡ 
 number_of [] n node h = cc
 number_of (x ∷ nodes) n node h = by_test (x.number == n) refl h (λ h. number_of nodes n node h)
   where
-    equal : (a b : ℕ) → (a == b) ≡ true → a ≡ b
-    equal a b h = grind (arith, nat_tests)
-
     by_test : (b : Bool) → (x.number == n) ≡ b → cond b (Some x) (node_of nodes n) ≡ Some node → (node_of nodes n ≡ Some node → node.number ≡ n) → node.number ≡ n
-    by_test true e h more = let is : x ≡ node = cc in subst (λ x. x.number ≡ n) is (equal x.number n e)
+    by_test true e h more = let is : x ≡ node = cc in subst (λ x. x.number ≡ n) is (eqb-true x.number n e)
     by_test false e h more = more h
 
 device_number : (devices : List Attached) (n : ℕ) (d : Attached) → device_of devices n ≡ Some d → d.number ≡ n
 device_number [] n d h = cc
 device_number (x ∷ devices) n d h = by_test (x.number == n) refl h (λ h. device_number devices n d h)
   where
-    equal : (a b : ℕ) → (a == b) ≡ true → a ≡ b
-    equal a b h = grind (arith, nat_tests)
-
     by_test : (b : Bool) → (x.number == n) ≡ b → cond b (Some x) (device_of devices n) ≡ Some d → (device_of devices n ≡ Some d → d.number ≡ n) → d.number ≡ n
-    by_test true e h more = let is : x ≡ d = cc in subst (λ x. x.number ≡ n) is (equal x.number n e)
+    by_test true e h more = let is : x ≡ d = cc in subst (λ x. x.number ≡ n) is (eqb-true x.number n e)
     by_test false e h more = more h
 
 lines_of_nodes : (devices : List Attached) (nodes : List Node) (n : ℕ) → line_of (map (line_with devices) nodes) n ≡ option_map (line_with devices) (node_of nodes n)

@@ -1,5 +1,6 @@
 -- Channels as a log of frames, and how many of them are behind.
 use Rattle.std.proofs.Common.{◌≡◌, ◌==◌, ℕ, zero, suc, ◌+◌, ◌<◌, ◌≤◌, Bool, true, false, cond, List, [], ◌∷◌, ◌++◌, map, length, drop, set, get_or, drop-cons, drop_of_length-le, add-one, refl, ap, sym, subst, ◌∙◌, arith, nat_lt, Option, Some, None, ◌⊎◌, inl, inr}
+use Rattle.std.proofs.lemmas.Bool.{eqb-true}
 use Rattle.std.specs.Prelude.{filter, option_to_list}
 use Rattle.std.specs.List.{position, position_or_len}
 use Rattle.std.proofs.lemmas.Bool.Decides.{nat_tests}
@@ -178,10 +179,7 @@ module _ (bus : Bus) (devices : List Attached) (n k place front : ℕ) (same : k
   line_kept other more apart none h =
       line_same other _ _ _ _ _ _ (ap (λ i. map message_of (filter (goes_to other) (drop i bus.sent.items))) (set_other bus.delivered k n other (front + 1) same apart))
       (comes_more other (get_or bus.heard other 0) bus.answers.items more h ∙ ap (λ l. comes other (drop (get_or bus.heard other 0) bus.answers.items) ++ l) none ∙ append-nil (comes other (drop (get_or bus.heard other 0) bus.answers.items)))
-      (device_other n other devices place new device first.inside (equal _ n (first.passes device)) number apart)
-    where
-      equal : (a b : ℕ) → (a == b) ≡ true → a ≡ b
-      equal a b h = grind (arith, nat_tests)
+      (device_other n other devices place new device first.inside (eqb-true _ n (first.passes device)) number apart)
 
 -- an answer comes from its node alone
 pub comes_here : (n : ℕ) (frame : Frame) → comes n (record { node = n; frame = frame } ∷ []) ≡ message_of frame ∷ []

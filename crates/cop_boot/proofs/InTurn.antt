@@ -1,5 +1,6 @@
 -- Settings that are apart are accepted in turn where each is accepted alone.
-use Rattle.std.proofs.Common.{◌≡◌, ℕ, Bool, true, false, ◌&&◌, List, [], ◌∷◌, ◌++◌, refl, ap, sym, ◌∙◌, arith, ◌==◌, Option, Some, None}
+use Rattle.std.proofs.Common.{◌≡◌, ℕ, true, false, ◌&&◌, List, [], ◌∷◌, ◌++◌, refl, ap, sym, ◌∙◌, arith, ◌==◌, Option, Some, None}
+use Rattle.std.proofs.lemmas.Bool.{and_parts}
 use Rattle.std.specs.Prelude.{option_map}
 use Rattle.std.proofs.lemmas.Bool.Decides.{nat_tests}
 use Rattle.cop_dict.specs.declared.abort.Abort.{Abort}
@@ -85,12 +86,8 @@ pub switch_alone : (dict : List Entry) (index v id : ℕ) (e : Entry) → entry_
     → (refused_alone e (net.word (pdo.off v)) ≡ None) × (refused_alone (valued (net.word (pdo.off v)) e) (net.word (pdo.on v id)) ≡ None)
 switch_alone dict index v id e at cob h = by_off (refused_alone e (net.word (pdo.off v))) refl
   where
-    both : (a b : Bool) → (a && b) ≡ true → a ≡ true
-    both true b h = refl
-    both false b h = cc
-
     free : is_mapping e.index ≡ false
-    free = cob_free e.index (both (is_communication e.index) (e.sub == 1) cob)
+    free = cob_free e.index (and_parts (is_communication e.index) (e.sub == 1) cob).0
 
     first : written dict index 1 (net.word (pdo.off v)) ≡ unless_broken (refused_alone e (net.word (pdo.off v))) (with_value index 1 (net.word (pdo.off v)) dict)
     first = written_alone dict index 1 (net.word (pdo.off v)) e at free

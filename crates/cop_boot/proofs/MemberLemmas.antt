@@ -1,5 +1,6 @@
 -- What the client of a member does with a setting and with its answer.
 use Rattle.std.proofs.Common.{◌≡◌, ℕ, zero, suc, ◌<◌, ◌≤◌, Bool, true, false, ◌&&◌, ◌||◌, List, [], ◌∷◌, length, take, refl, ap, sym, subst, ◌∙◌, arith, nat_lt, nat_le, ◌==◌, Option, Some, None, Ok, Err, get_or}
+use Rattle.std.proofs.lemmas.Bool.{eqb-true}
 use Rattle.std.specs.Prelude.{slice_get, if◌then◌else◌}
 use Rattle.std.specs.Int.{bytes_low_first}
 use Rattle.std.proofs.lemmas.Bool.Decides.{nat_tests}
@@ -27,29 +28,26 @@ use Rattle.cop_boot.specs.Member.{IsAsking}
 pub four_bytes : (v : ℕ) → u32_bytes v ≡ bytes_low_first 0 4 v
 four_bytes v = refl
 
-equal_so : (a b : ℕ) → (a == b) ≡ true → a ≡ b
-equal_so a b h = grind (arith, nat_tests)
-
 pub taken_bytes : (s : Setting) → is_short_value s ≡ true → take s.bytes (u32_bytes s.value) ≡ bytes_of s
 taken_bytes s h = by_four (s.bytes == 4) refl h
   where
     by_two : (b : Bool) → (s.bytes == 2) ≡ b → (b && nat_lt s.value 65536) ≡ true → take s.bytes (u32_bytes s.value) ≡ bytes_of s
-    by_two true e h = rw (equal_so s.bytes 2 e) (ap (take 2) (four_bytes s.value))
+    by_two true e h = rw (eqb-true s.bytes 2 e) (ap (take 2) (four_bytes s.value))
     by_two false e h = cc
 
     by_four : (b : Bool) → (s.bytes == 4) ≡ b → (b || ((s.bytes == 2) && nat_lt s.value 65536)) ≡ true → take s.bytes (u32_bytes s.value) ≡ bytes_of s
-    by_four true e h = rw (equal_so s.bytes 4 e) (four_bytes s.value)
+    by_four true e h = rw (eqb-true s.bytes 4 e) (four_bytes s.value)
     by_four false e h = by_two (s.bytes == 2) refl h
 
 pub short_so : (s : Setting) → is_short_value s ≡ true → is_short (bytes_of s) ≡ true
 short_so s h = by_four (s.bytes == 4) refl h
   where
     by_two : (b : Bool) → (s.bytes == 2) ≡ b → (b && nat_lt s.value 65536) ≡ true → is_short (bytes_of s) ≡ true
-    by_two true e h = rw (equal_so s.bytes 2 e) refl
+    by_two true e h = rw (eqb-true s.bytes 2 e) refl
     by_two false e h = cc
 
     by_four : (b : Bool) → (s.bytes == 4) ≡ b → (b || ((s.bytes == 2) && nat_lt s.value 65536)) ≡ true → is_short (bytes_of s) ≡ true
-    by_four true e h = rw (equal_so s.bytes 4 e) refl
+    by_four true e h = rw (eqb-true s.bytes 4 e) refl
     by_four false e h = by_two (s.bytes == 2) refl h
 
 pub starts_so : (client : Calling) (at : Address) (bytes : List ℕ) → is_idle client.asking.task ≡ true → is_short bytes ≡ true

@@ -3,7 +3,7 @@ use Rattle.std.proofs.Common.{◌≡◌, ◌≢◌, ℕ, zero, suc, ◌+◌, ◌
 use Rattle.std.specs.Option.{option_and_then}
 use Rattle.std.specs.Result.{is_ok}
 use Rattle.std.specs.List.{list_any}
-use Rattle.std.proofs.lemmas.Bool.{cases_eq}
+use Rattle.std.proofs.lemmas.Bool.{cases_eq, and_parts, or_parts}
 use Rattle.std.proofs.lemmas.Bool.Decides.{nat_tests}
 use Rattle.std.proofs.lemmas.List.Elements.{All-nil, All-cons, All-append, All-head, All-tail}
 use Rattle.cop_dict.specs.declared.abort.Abort.{Abort}
@@ -33,22 +33,12 @@ use Rattle.cop_net.specs.Pdos.{Traffic, laid_out, unless, transmitted_by, receiv
 use Rattle.cop_net.specs.Settings.{word, goes_off, takes, passes_from, takes_each, is_usable, stays_on, beats}
 use Rattle.cop_net.specs.Steps.{folded}
 use Rattle.cop_net.specs.Uses.{is_record, is_used}
-use Rattle.cop_net.proofs.PdoLemmas.{bind_ok}
+use Rattle.cop_rows.proofs.RangeLemmas.{bind_ok}
 use Rattle.cop_dcf.specs.Identifiers.{id_at, uses}
 use Rattle.cop_dcf.specs.Settings.{dictionary_of}
 use Rattle.cop_dcf.proofs.DeviceLemmas.{IsDevice, equipped, others, device, dictionary, beating}
 use Rattle.cop_boot.specs.PlanSettings.{Admits, IsPdoId}
 use Rattle.cop_boot.proofs.PlanInTurn.{sub_of}
-
--- ---- tests
-
-both_first : (a b : Bool) → (a && b) ≡ true → a ≡ true
-both_first true b h = refl
-both_first false b h = absurd (true≢false (sym h))
-
-both_second : (a b : Bool) → (a && b) ≡ true → b ≡ true
-both_second true b h = h
-both_second false b h = absurd (true≢false (sym h))
 
 not_both : (a b : Bool) → (a && not b) ≡ false → b ≡ false → a ≡ false
 not_both true true h e = absurd (true≢false e)
@@ -168,7 +158,7 @@ id_usable devices (row ∷ rows) found more h all (i ∷ ids) range node index i
 passes_at : (test : ℕ → Bool) (first count k : ℕ) → passes_from test first count ≡ true → first ≤ k → k < first + count → test k ≡ true
 unfolding passes_from
 passes_at test first zero k h low high = absurd (omega arith)
-passes_at test first (suc count) k h low high = by_place (cases_eq first k) (both_first (test first) _ h) (passes_at test (first + 1) count k (both_second (test first) _ h))
+passes_at test first (suc count) k h low high = by_place (cases_eq first k) (and_parts (test first) _ h).0 (passes_at test (first + 1) count k (and_parts (test first) _ h).1)
   where
     by_place : (first ≡ k) ⊎ (first ≢ k) → test first ≡ true → (first + 1 ≤ k → k < first + 1 + count → test k ≡ true) → test k ≡ true
     by_place (inl e) here later = subst (λ (n : ℕ). test n ≡ true) e here
@@ -193,16 +183,8 @@ takes_goes_off entries index cob_id id h = first_ok (written entries index 1 (wo
 none_of : (used : List Used) (node : ℕ) (whole entries : List Entry) (e : Entry) → list_any (λ entry. stays_on whole entry && not (is_used used node entry.index)) entries ≡ false → Contains entries e
     → (stays_on whole e && not (is_used used node e.index)) ≡ false
 none_of used node whole [] e h (k, low, here) = absurd (omega arith)
-none_of used node whole (x ∷ xs) e h (zero, low, here) = let same : x ≡ e = here in subst (λ (y : Entry). (stays_on whole y && not (is_used used node y.index)) ≡ false) same (or_first _ _ h)
-  where
-    or_first : (a b : Bool) → (a || b) ≡ false → a ≡ false
-    or_first true b h = h
-    or_first false b h = refl
-none_of used node whole (x ∷ xs) e h (suc k, low, here) = none_of used node whole xs e (or_second _ _ h) (k, omega arith, here)
-  where
-    or_second : (a b : Bool) → (a || b) ≡ false → b ≡ false
-    or_second true b h = absurd (true≢false h)
-    or_second false b h = h
+none_of used node whole (x ∷ xs) e h (zero, low, here) = let same : x ≡ e = here in subst (λ (y : Entry). (stays_on whole y && not (is_used used node y.index)) ≡ false) same (or_parts _ _ h).0
+none_of used node whole (x ∷ xs) e h (suc k, low, here) = none_of used node whole xs e (or_parts _ _ h).1 (k, omega arith, here)
 
 off_unless_on : (entries : List Entry) (e : Entry) (cob_id : ℕ) → is_cob_id e ≡ true → unsigned32_of e ≡ Some cob_id → exists_by cob_id ≡ true → stays_on entries e ≡ false → goes_off entries e.index cob_id ≡ true
 off_unless_on entries e cob_id cob is ex h =

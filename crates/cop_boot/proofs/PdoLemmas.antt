@@ -1,46 +1,33 @@
--- In a device that has the settings of a plan exactly the PDOs of the plan exist.
-use Rattle.std.proofs.Common.{◌≡◌, ℕ, suc, Bool, true, false, cond, ◌&&◌, ◌==◌, List, [], ◌∷◌, All, Contains, refl, sym, ap, subst, ◌∙◌, arith, Option, Some, None}
+-- In a device that has the settings of a plan exactly the PDOs of the plan exist, and it has what its DCF says.
+use Rattle.std.proofs.Common.{◌≡◌, ℕ, Bool, true, false, ◌&&◌, ◌==◌, List, [], ◌∷◌, All, Contains, refl, sym, ap, subst, ◌∙◌, arith, Option, Some, None, map, Ok}
 use Rattle.std.specs.Prelude.{option_map}
 use Rattle.std.specs.Option.{option_and_then}
 use Rattle.std.proofs.lemmas.Bool.Decides.{nat_tests}
-use Rattle.cop_dict.specs.Find.{Entry, entry_at, is_at, unsigned32_of}
+use Rattle.cop_dict.specs.Find.{Entry, entry_at, unsigned32_of}
 use Rattle.cop_dict.specs.Pdo.{is_cob_id}
 use Rattle.cop_dict.specs.Dict.{valued}
+use Rattle.cop_dict.proofs.DictLemmas.{found_inside}
 use Rattle.cop_dict.proofs.Replaced.{value_replaced}
 use Rattle.cop_dict.proofs.LawLemmas.{others}
+use Rattle.cop_frame.specs.declared.rates.Rate.{Rate}
+use Rattle.cop_rows.specs.declared.node_table.DeviceRow.{DeviceRow}
+use Rattle.cop_net.specs.Devices.{File}
 use Rattle.cop_net.specs.Heartbeats.{heartbeat_of}
 use Rattle.cop_net.specs.Network.{Net, IsNetwork}
 use Rattle.cop_dcf.specs.declared.setting.Setting.{Setting}
 use Rattle.cop_dcf.specs.Dcf.{bytes_of}
 use Rattle.cop_dcf.specs.Identifiers.{id_at}
-use Rattle.cop_dcf.specs.Planned.{with_setting, planned}
+use Rattle.cop_dcf.specs.Planned.{with_setting, planned, settled, IsNodeReadAgain}
 use Rattle.cop_dcf.specs.Settings.{dictionary_of, node_settings, settings_by}
-use Rattle.cop_boot.specs.Manager.{Managing}
+use Rattle.cop_boot.specs.declared.«end».End.TheVariants.{Ready}
+use Rattle.cop_boot.specs.Manager.{Managing, end_at}
 use Rattle.cop_boot.specs.Device.{Attached}
 use Rattle.cop_boot.specs.Bus.{Made}
 use Rattle.cop_boot.specs.PlanSettings.{IsPdoId}
 use Rattle.cop_boot.specs.PlannedPdos.{IsAsPlanned, IsRecordAsPlanned, HasPlannedPdos}
-use Rattle.cop_boot.specs.NetworkBoot.{IsPlanOf, HavePlannedPdos}
+use Rattle.cop_boot.specs.NetworkBoot.{IsPlanOf, HavePlannedPdos, HasWhatItsDcfSays}
 use Rattle.cop_boot.proofs.NetworkAdmits.{network_admits, network_plain, ids_low, used_there}
 use Rattle.cop_boot.proofs.PlannedLemmas.{as_planned}
-
--- what is found at an address is in the dictionary, and has the address
-pub found_inside : (dict : List Entry) (index sub : ℕ) (e : Entry) → entry_at dict index sub ≡ Some e → Contains dict e × (e.index ≡ index) × (e.sub ≡ sub)
-found_inside [] index sub e h = absurd (cc)
-found_inside (x ∷ xs) index sub e h = by_test (is_at index sub x) refl h (found_inside xs index sub e)
-  where
-    at : (x : Entry) → is_at index sub x ≡ true → (x.index ≡ index) × (x.sub ≡ sub)
-    at x t = (grind (arith, nat_tests), grind (arith, nat_tests))
-
-    by_test : (b : Bool) → is_at index sub x ≡ b → cond b (Some x) (entry_at xs index sub) ≡ Some e
-        → (entry_at xs index sub ≡ Some e → Contains xs e × (e.index ≡ index) × (e.sub ≡ sub)) → Contains (x ∷ xs) e × (e.index ≡ index) × (e.sub ≡ sub)
-    by_test true t h later =
-        let same : x ≡ e = cc in
-        subst (λ (y : Entry). Contains (x ∷ xs) y × (y.index ≡ index) × (y.sub ≡ sub)) same (let a = at x t in ((0, omega arith, refl), a.0, a.1))
-    by_test false t h later =
-        let r = later h in
-        let low = r.0.1 in
-        ((suc r.0.0, omega (arith, low), r.0.2), r.1, r.2)
 
 -- a setting puts nothing where nothing was
 still_absent : (s : Setting) (dict : List Entry) (index sub : ℕ) → entry_at dict index sub ≡ None → entry_at (with_setting dict s) index sub ≡ None
@@ -103,4 +90,21 @@ pdos_so m built later after net ids made is n ready =
       device = x.device;
       there = x.there;
       pdos = subst (HasPlannedPdos (id_at net.rows ids n)) (sym whole) (records_as_planned net ids n (built n) is.network is.range (is.devices n x.node x.manages));
+    }
+
+-- and what the DCF of each says
+pub dcf_said : (m : Managing) (built : ℕ → List Entry) (later : Managing) (after : List Attached) (net : Net) (files : List File) (ids : List ℕ) (rate : Rate) (n : ℕ) (row : DeviceRow)
+    → Made m built later after → IsPlanOf net ids m built → IsNodeReadAgain net files ids rate n row → end_at later.nodes n ≡ Some Ready → HasWhatItsDcfSays net files ids rate n row after
+dcf_said m built later after net files ids rate n row made is again ready =
+    let x = made.configured n ready in
+    let same : ◌≡◌ {A = Option (List Entry)} (Some again.dict) (Some (built n)) = sym again.dictionary ∙ is.devices n x.node x.manages in
+    let one : again.dict ≡ built n = cc in
+    let whole : planned again.dict (node_settings net ids n) ≡ x.device.dict =
+    ap (λ d. planned d (node_settings net ids n)) one ∙ sym (x.dict ∙ ap (planned (built n)) (is.settings n x.node x.manages)) in
+    record {
+      text = again.text;
+      from = again.there;
+      device = x.device;
+      there = x.there;
+      says = λ short. (again.again short).dictionary ∙ ap (λ d. Ok (map settled d)) whole;
     }

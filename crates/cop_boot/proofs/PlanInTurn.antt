@@ -1,5 +1,8 @@
 -- What a plan sets in a dictionary that admits it is accepted in turn.
 use Rattle.std.proofs.Common.{◌≡◌, ℕ, zero, suc, ◌<◌, Bool, true, false, cond, ◌&&◌, ◌||◌, ◌==◌, nat_lt, List, [], ◌∷◌, ◌++◌, length, get_or, All, refl, ap, sym, subst, ◌∙◌, arith, Option, Some, None, Contains, IfSome, IsSome, is_some}
+use Rattle.std.proofs.lemmas.List.Elements.{All-head, All-tail}
+use Rattle.std.proofs.lemmas.List.{get_or_default}
+use Rattle.std.proofs.lemmas.Bool.{and_parts}
 use Rattle.std.specs.Prelude.{ℤ, pos, option_map}
 use Rattle.std.specs.List.{filter_map, cons_option}
 use Rattle.std.specs.Option.{option_and_then}
@@ -7,15 +10,14 @@ use Rattle.std.specs.Ordering.{int_eq}
 use Rattle.std.specs.Result.{is_ok}
 use Rattle.std.specs.Int.{bytes_low_first}
 use Rattle.std.proofs.lemmas.Bool.Decides.{nat_tests}
-use Rattle.std.proofs.lemmas.Option.{get_or_from_slice_get, slice_get-get_or}
 use Rattle.cop_dict.specs.declared.data_type.DataType.{DataType}
 use Rattle.cop_dict.specs.declared.data_type.DataType.TheVariants as types
 use Rattle.cop_dict.specs.Types.{width_of, is_unsigned32}
 use Rattle.cop_dict.specs.Number.{number}
-use Rattle.cop_dict.specs.Find.{Entry, entry_at, is_at, is_before, unsigned32_of, IsSorted}
+use Rattle.cop_dict.specs.Find.{Entry, entry_at, is_before, unsigned32_of, IsSorted}
 use Rattle.cop_dict.specs.Pdo.{is_cob_id, is_communication, is_mapping, exists_by}
 use Rattle.cop_dict.specs.Dict.{written, valued, refused_alone}
-use Rattle.cop_dict.proofs.DictLemmas.{own_place}
+use Rattle.cop_dict.proofs.DictLemmas.{own_place, found_inside}
 use Rattle.cop_pdo.specs.CobIds as pdo
 use Rattle.cop_net.specs.Settings.{word, beats_by, has_or_takes, time_of, is_unsigned16}
 use Rattle.cop_dcf.specs.declared.setting.Setting.{Setting}
@@ -55,15 +57,8 @@ on_own ids e = by_test (is_cob_id e) refl (unsigned32_of e) (ids e.index)
     by_test true h (Some v) None = tt
     by_test true h (Some v) (Some id) = (h, (refl, refl))
 
-get_or_same : {X : Type 0} (xs : List X) (i : ℕ) (d e : X) → i < length xs → get_or xs i e ≡ get_or xs i d
-get_or_same xs i d e lt = get_or_from_slice_get xs i (get_or xs i d) e (slice_get-get_or xs i d lt)
-
-second : (a b : Bool) → (a && b) ≡ true → b ≡ true
-second true b h = h
-second false b h = cc
-
 pub sub_of : (e : Entry) → is_cob_id e ≡ true → e.sub ≡ 1
-sub_of e h = let t = second (is_communication e.index) (e.sub == 1) h in grind (arith, nat_tests)
+sub_of e h = let t = (and_parts (is_communication e.index) (e.sub == 1) h).1 in grind (arith, nat_tests)
 
 free_of : (e : Entry) → is_cob_id e ≡ true → is_mapping e.index ≡ false
 free_of e h = grind (arith, nat_tests)
@@ -78,20 +73,14 @@ sorted_rest x xs h = λ i j d lt inside. h (suc i) (suc j) d (omega arith) (omeg
 sorted_head : (x : Entry) (xs : List Entry) → IsSorted (x ∷ xs) → All (IsBehind x) xs
 sorted_head x xs h = λ k d lt. h 0 (suc k) d (omega arith) (omega arith)
 
-all_head : {X : Type 0} (P : X → Type 0) (x : X) (xs : List X) → All P (x ∷ xs) → P x
-all_head P x xs h = h 0 x (omega arith)
-
-all_tail : {X : Type 0} (P : X → Type 0) (x : X) (xs : List X) → All P (x ∷ xs) → All P xs
-all_tail P x xs h = λ k d lt. h (suc k) d (omega arith)
-
 module _ (f : Entry → Option Setting) (own : Own f) where
   elsewhere : (x : Entry) (xs : List Entry) → is_cob_id x ≡ true → All (IsBehind x) xs → IsElsewhere x.index 1 (filter_map f xs)
   elsewhere x [] cob h = tt
-  elsewhere x (y ∷ ys) cob h = by_first (f y) (own y) (elsewhere x ys cob (all_tail (IsBehind x) y ys h))
+  elsewhere x (y ∷ ys) cob h = by_first (f y) (own y) (elsewhere x ys cob (All-tail (IsBehind x) y ys h))
     where
       other : (s : Setting) → AtCobId y s → (s.index == x.index) && (s.sub == 1) ≡ false
       other s at =
-          let behind : is_before y.index y.sub x ≡ true = all_head (IsBehind x) y ys h in
+          let behind : is_before y.index y.sub x ≡ true = All-head (IsBehind x) y ys h in
           let sx : x.sub ≡ 1 = sub_of x cob in
           let sy : y.sub ≡ 1 = sub_of y at.0 in
           let i : s.index ≡ y.index = at.1.0 in
@@ -114,7 +103,7 @@ module _ (f : Entry → Option Setting) (own : Own f) where
 
   pub takes_of : (dict xs : List Entry) → All (λ e. IfSome (f e) (TakesAlone dict)) xs → TakesEach dict (filter_map f xs)
   takes_of dict [] h = tt
-  takes_of dict (x ∷ xs) h = by_first (f x) (all_head (λ e. IfSome (f e) (TakesAlone dict)) x xs h) (takes_of dict xs (all_tail (λ e. IfSome (f e) (TakesAlone dict)) x xs h))
+  takes_of dict (x ∷ xs) h = by_first (f x) (All-head (λ e. IfSome (f e) (TakesAlone dict)) x xs h) (takes_of dict xs (All-tail (λ e. IfSome (f e) (TakesAlone dict)) x xs h))
     where
       by_first : (o : Option Setting) → IfSome o (TakesAlone dict) → TakesEach dict (filter_map f xs) → TakesEach dict (cons_option o (filter_map f xs))
       by_first None at rest = rest
@@ -148,22 +137,6 @@ module _ (f : Entry → Option Setting) (own : Own f) where
       by_first None at rest = rest
       by_first (Some s) at rest = (other s at.1.1, rest)
 
-first : (a b : Bool) → (a && b) ≡ true → a ≡ true
-first true b h = refl
-first false b h = cc
-
--- what is found at an address has it
-place_of : (dict : List Entry) (e : Entry) → entry_at dict 0x1017 0 ≡ Some e → e.index ≡ 0x1017
-place_of [] e h = cc
-place_of (x ∷ xs) e h = by_test (is_at 0x1017 0 x) refl h (place_of xs e)
-  where
-    at : (x : Entry) → is_at 0x1017 0 x ≡ true → x.index ≡ 0x1017
-    at x t = grind (arith, nat_tests)
-
-    by_test : (b : Bool) → is_at 0x1017 0 x ≡ b → cond b (Some x) (entry_at xs 0x1017 0) ≡ Some e → (entry_at xs 0x1017 0 ≡ Some e → e.index ≡ 0x1017) → e.index ≡ 0x1017
-    by_test true t h later = let same : x ≡ e = cc in subst (λ (y : Entry). y.index ≡ 0x1017) same (at x t)
-    by_test false t h later = later h
-
 narrow : (t : DataType) → is_unsigned16 t ≡ true → IsSome (width_of t)
 narrow types.Unsigned16 h = refl
 narrow _ h = cc
@@ -181,7 +154,7 @@ module _ (dict : List Entry) (ids : ℕ → Option ℕ) (time : ℕ) (can : Admi
   inside k d lt = (k, lt, same)
     where
       same : get_or dict k (get_or dict k d) ≡ get_or dict k d
-      same = get_or_same dict k d (get_or dict k d) lt
+      same = get_or_default dict k (get_or dict k d) d lt
 
   -- what is switched off is taken
   off_goes : (e : Entry) (v : ℕ) → entry_at dict e.index 1 ≡ Some e → is_cob_id e ≡ true → unsigned32_of e ≡ Some v → refused_alone e (word (pdo.off v)) ≡ None → TakesAlone dict (cob_id_set e.index (pdo.off v))
@@ -253,15 +226,15 @@ module _ (dict : List Entry) (ids : ℕ → Option ℕ) (time : ℕ) (can : Admi
       one e at type ok = record {
         entry = e;
         at = same ∙ at;
-        free = by_free e.index (place_of dict e at);
+        free = by_free e.index (found_inside dict 0x1017 0 e at).1;
         width = narrow e.description.data_type type;
-        accepts = accepted_alone dict 0x1017 0 (bytes_low_first 0 2 time) e at (by_free e.index (place_of dict e at)) ok;
+        accepts = accepted_alone dict 0x1017 0 (bytes_low_first 0 2 time) e at (by_free e.index (found_inside dict 0x1017 0 e at).1) ok;
       }
 
       by_now : (e : Entry) → entry_at dict 0x1017 0 ≡ Some e → (now : ℤ) → (b : Bool) → (b || (is_unsigned16 e.description.data_type && is_ok (written dict 0x1017 0 (bytes_low_first 0 2 time)))) ≡ true
           → AcceptsInTurn new (cond b [] (heartbeat_set time ∷ []))
       by_now e at now true h = tt
-      by_now e at now false h = in_turn (heartbeat_set time ∷ []) new (tt, tt) (one e at (first (is_unsigned16 e.description.data_type) _ h) (second (is_unsigned16 e.description.data_type) _ h), tt)
+      by_now e at now false h = in_turn (heartbeat_set time ∷ []) new (tt, tt) (one e at (and_parts (is_unsigned16 e.description.data_type) _ h).0 (and_parts (is_unsigned16 e.description.data_type) _ h).1, tt)
 
       by_time : (e : Entry) → entry_at dict 0x1017 0 ≡ Some e → (o : Option ℤ) → has_or_takes dict time e o ≡ true → AcceptsInTurn new (time_set time o)
       by_time e at None h = tt

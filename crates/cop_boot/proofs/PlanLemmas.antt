@@ -1,5 +1,6 @@
 -- A manager is made of a plan by nodes, whose numbers rise.
 use Rattle.std.proofs.Common.{◌≡◌, ◌≤◌, ◌==◌, ◌↔◌, ◌&&◌, nat_le, ℕ, Bool, true, false, All, get_or, List, [], ◌∷◌, ◌++◌, map, refl, ap, sym, subst, ◌∙◌, arith, append_assoc, None}
+use Rattle.std.proofs.lemmas.Bool.{eqb-true, and_parts}
 use Rattle.std.specs.Global.{Vec}
 use Rattle.std.proofs.Common.{Less, Equal}
 use Rattle.std.specs.Ordering.{nat_cmp}
@@ -30,14 +31,11 @@ one_more all rest one old new member before whole first push is =
 differ : (a b : ℕ) → nat_cmp a b ≡ Less → (b == a) ≡ false
 differ a b h = by_test (b == a) refl
   where
-    equal : (a b : ℕ) → (b == a) ≡ true → b ≡ a
-    equal a b h = grind (arith, nat_tests)
-
     by_test : (t : Bool) → (b == a) ≡ t → t ≡ false
     by_test false e = refl
     by_test true e =
         let same : Equal ≡ nat_cmp a a = nat_cmp_is a a Equal refl in
-        let less : nat_cmp a a ≡ Less = ap (nat_cmp a) (sym (equal a b e)) ∙ h in
+        let less : nat_cmp a a ≡ Less = ap (nat_cmp a) (sym (eqb-true b a e)) ∙ h in
         cc
 
 -- the nodes of a plan have different numbers
@@ -57,19 +55,11 @@ made_apart plan members rest h whole none =
 
 -- what a managed node says, taken apart
 pub managed_parts : (number : ℕ) (settings : List Setting) → is_managed number settings ≡ true → ((1 ≤ number) × (number ≤ 127)) × All (λ s. is_short_value s ≡ true) settings
-managed_parts number settings h = ((grind (arith, nat_tests), grind (arith, nat_tests)), all_short settings (second (nat_le 1 number && nat_le number 127) (list_all is_short_value settings) h))
+managed_parts number settings h = ((grind (arith, nat_tests), grind (arith, nat_tests)), all_short settings (and_parts (nat_le 1 number && nat_le number 127) (list_all is_short_value settings) h).1)
   where
-    second : (a b : Bool) → (a && b) ≡ true → b ≡ true
-    second true b h = h
-    second false b h = cc
-
-    first : (a b : Bool) → (a && b) ≡ true → a ≡ true
-    first true b h = refl
-    first false b h = cc
-
     all_short : (settings : List Setting) → list_all is_short_value settings ≡ true → All (λ s. is_short_value s ≡ true) settings
     all_short [] h = All-nil (λ s. is_short_value s ≡ true)
-    all_short (s ∷ rest) h = All-cons (λ s. is_short_value s ≡ true) s rest (first (is_short_value s) (list_all is_short_value rest) h) (all_short rest (second (is_short_value s) (list_all is_short_value rest) h))
+    all_short (s ∷ rest) h = All-cons (λ s. is_short_value s ≡ true) s rest (and_parts (is_short_value s) (list_all is_short_value rest) h).0 (all_short rest (and_parts (is_short_value s) (list_all is_short_value rest) h).1)
 
 pub plan_nodes : (plan : Plans) → CanManage plan → All (λ e. (1 ≤ e.0) × (e.0 ≤ 127)) plan
 plan_nodes plan h = λ k d lt. (managed_parts (get_or plan k d).0 (get_or plan k d).1.items (h k d lt)).0

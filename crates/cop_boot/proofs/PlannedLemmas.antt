@@ -1,5 +1,6 @@
 -- In a device that has the settings of a plan exactly the planned PDOs exist, with their identifiers.
-use Rattle.std.proofs.Common.{◌≡◌, ℕ, ◌%◌, ◌^◌, ◌<◌, zero, suc, Bool, true, false, cond, ◌&&◌, ◌||◌, ◌==◌, List, [], ◌∷◌, ◌++◌, length, get_or, All, Contains, refl, ap, sym, subst, ◌∙◌, arith, Option, Some, None, IfSome, is_some}
+use Rattle.std.proofs.Common.{◌≡◌, ℕ, ◌%◌, ◌^◌, ◌<◌, suc, Bool, true, false, cond, ◌&&◌, ◌||◌, ◌==◌, List, [], ◌∷◌, ◌++◌, get_or, All, Contains, refl, ap, sym, subst, ◌∙◌, arith, Option, Some, None, IfSome, is_some}
+use Rattle.std.proofs.lemmas.List.{get_or_default}
 use Rattle.std.specs.Prelude.{ℤ, pos, option_map}
 use Rattle.std.specs.List.{filter_map, cons_option}
 use Rattle.std.specs.Option.{option_and_then}
@@ -77,11 +78,6 @@ abbrev switched : Option ℕ → ℕ → Option Entry → Option Entry
 switched None v o = o
 switched (Some id) v o = option_map (valued (word (pdo.on v id))) o
 
-any_default : (xs : List Entry) (k : ℕ) (c d : Entry) → k < length xs → get_or xs k c ≡ get_or xs k d
-any_default [] k c d lt = absurd (omega arith)
-any_default (x ∷ xs) zero c d lt = refl
-any_default (x ∷ xs) (suc k) c d lt = any_default xs k c d (omega arith)
-
 module _ (dict : List Entry) (ids : ℕ → Option ℕ) (time : ℕ) (can : Admits dict ids time) (low : (index id : ℕ) → ids index ≡ Some id → id < 2 ^ 11) where
   here_at : (e : Entry) → Contains dict e → is_cob_id e ≡ true → entry_at dict e.index 1 ≡ Some e
   here_at e inside cob = ap (entry_at dict e.index) (sym (sub_of e cob)) ∙ own_place dict e can.sorted inside
@@ -119,7 +115,7 @@ module _ (dict : List Entry) (ids : ℕ → Option ℕ) (time : ℕ) (can : Admi
   beat = time_set time (option_and_then time_of (entry_at dict 0x1017 0))
 
   all_inside : All (Contains dict) dict
-  all_inside = λ k d lt. (k, lt, any_default dict k (get_or dict k d) d lt)
+  all_inside = λ k d lt. (k, lt, get_or_default dict k (get_or dict k d) d lt)
 
   -- after the PDOs are switched off
   off_value : (e : Entry) (v : ℕ) → Contains dict e → is_cob_id e ≡ true → unsigned32_of e ≡ Some v → (b : Bool) → (is_some (ids e.index) || exists_by v) ≡ b

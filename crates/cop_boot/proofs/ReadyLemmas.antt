@@ -1,5 +1,6 @@
 -- A node with a device is ready once its turns to it and from it have come in turn often enough, where no limit of time is reached.
 use Rattle.std.proofs.Common.{◌≡◌, ℕ, zero, suc, ◌+◌, ◌*◌, ◌<◌, ◌≤◌, Bool, true, false, List, [], ◌∷◌, length, max, refl, ap, sym, subst, ◌∙◌, arith, nat_le, ◌==◌, Option, Some, None, ◌⊎◌, inl, inr}
+use Rattle.std.proofs.lemmas.Bool.{eqb-true}
 use Rattle.std.specs.Prelude.{option_map, option_and_then, if◌then◌else◌}
 use Rattle.std.proofs.lemmas.Bool.Decides.{nat_tests}
 use Rattle.cop_dict.specs.Find.{Entry}
@@ -13,8 +14,8 @@ use Rattle.cop_boot.specs.Device.{Attached}
 use Rattle.cop_boot.specs.Booted.{CanBoot, MomentsBelow, round_trips, StandAmong, ReadyInTime}
 use Rattle.cop_boot.specs.Schedule.{Line, World, line_of, Delivers, DeliversTo, heard_on, heard_from, Takes, TakesAll, begins, Boots}
 use Rattle.cop_boot.proofs.DriveLemmas.{heard_begun, passed_begun, starting_so}
-use Rattle.cop_boot.proofs.StageLemmas.{Plan, Stage, Resetting, Booting, Asked, Confirmed, Done, Lost, IsAt, goes_stage, after_to, after_from, after_moment, no_front}
-use Rattle.cop_boot.proofs.WorldLemmas.{ArePlans, Holds, Stands, is_equal, same_line, moment_stands, frame_stands, to_stands, turn_holds}
+use Rattle.cop_boot.proofs.StageLemmas.{Plan, Stage, Resetting, Booting, Asked, Confirmed, Done, Lost, IsAt, goes_stage, after_to, after_from, after_moment, no_front, same_number}
+use Rattle.cop_boot.proofs.WorldLemmas.{ArePlans, Holds, Stands, same_line, moment_stands, frame_stands, to_stands, turn_holds}
 use Rattle.cop_boot.proofs.BootLemmas.{plan, plans_of, good, begun, first_stands}
 
 -- So many turns, to a node and from it in turn, make it ready. Its device is there, and it was not given up.
@@ -134,11 +135,11 @@ module _ (plans : ℕ → Option Plan) (good : ArePlans plans) (w : World) (h : 
   unmoved next to is same = (stage, subst (λ x. Stands x n p stage) (sym is) s, inl (sym same))
 
   own_line : (m : ℕ) (line : Line) → line_of w.lines m ≡ Some line → (n == m) ≡ true → s.line ≡ line
-  own_line m line lined t = same_line w.lines n s.line line s.lined (subst (λ k. line_of w.lines k ≡ Some line) (sym (is_equal n m t)) lined)
+  own_line m line lined t = same_line w.lines n s.line line s.lined (subst (λ k. line_of w.lines k ≡ Some line) (sym (eqb-true n m t)) lined)
 
   no_line : (m : ℕ) → line_of w.lines m ≡ None → (n == m) ≡ true → ⊥
   no_line m none t =
-      let clash : Some s.line ≡ None = sym s.lined ∙ ap (line_of w.lines) (is_equal n m t) ∙ none in
+      let clash : Some s.line ≡ None = sym s.lined ∙ ap (line_of w.lines) (eqb-true n m t) ∙ none in
       cc
 
   -- a stage that stays where the turn is the node's
@@ -269,9 +270,6 @@ turned_keeps p n clock (FromNode m) stage left low below has = by_test (n == m)
     by_test : (b : Bool) → HasLeft p (if b then after_from p (max clock clock) stage else stage) left
     by_test true = from_keeps p (max clock clock) stage left has
     by_test false = has
-
-same_number : (n : ℕ) → (n == n) ≡ true
-same_number n = grind (arith, nat_tests)
 
 split_below : (bound : ℕ) (turn : Turn) (turns : List Turn) → MomentsBelow bound (turn ∷ turns) → IsBelow bound turn × MomentsBelow bound turns
 split_below bound (Moment now) turns h = h

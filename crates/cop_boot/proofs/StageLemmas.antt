@@ -1,5 +1,6 @@
 -- One node of a boot, whatever stands around it: where it and its channels are, and where each delivery takes them.
 use Rattle.std.proofs.Common.{◌≡◌, ℕ, zero, suc, ◌+◌, ◌*◌, ◌/◌, ◌%◌, Bool, true, false, cond, ◌&&◌, ◌||◌, List, [], ◌∷◌, ◌++◌, drop, refl, ap, sym, subst, ◌∙◌, arith, nat_lt, nat_le, ◌==◌, Option, Some, None, ◌⊎◌, inl, inr}
+use Rattle.std.proofs.lemmas.Bool.{eqb-true}
 use Rattle.std.specs.Prelude.{slice_get, option_to_list, option_map, is_some}
 use Rattle.std.proofs.lemmas.Bool.Decides.{nat_tests}
 use Rattle.std.proofs.lemmas.List.{append-nil}
@@ -37,7 +38,7 @@ use Rattle.cop_boot.specs.Device.{Attached, Responded, MayRespond, MayServeIn, b
 use Rattle.cop_boot.specs.Schedule.{Line}
 use Rattle.cop_boot.specs.Booted.{EachSetting, CanBeSet}
 
-same_number : (n : ℕ) → (n == n) ≡ true
+pub same_number : (n : ℕ) → (n == n) ≡ true
 same_number n = grind (arith, nat_tests)
 
 -- numbers of different kinds of frames
@@ -154,18 +155,15 @@ heads x y xs ys h = (cc, cc)
 pub no_front : {A : Type 0} (x : A) (xs : List A) → [] ≡ x ∷ xs → ⊥
 no_front x xs h = cc
 
-equal_so : (a b : ℕ) → (a == b) ≡ true → a ≡ b
-equal_so a b h = grind (arith, nat_tests)
-
 short_bytes : (s : Setting) → is_short_value s ≡ true → is_short (bytes_of s) ≡ true
 short_bytes s h = by_four (s.bytes == 4) refl h
   where
     by_two : (b : Bool) → (s.bytes == 2) ≡ b → (b && nat_lt s.value 65536) ≡ true → is_short (bytes_of s) ≡ true
-    by_two true e h = rw (equal_so s.bytes 2 e) refl
+    by_two true e h = rw (eqb-true s.bytes 2 e) refl
     by_two false e h = cc
 
     by_four : (b : Bool) → (s.bytes == 4) ≡ b → (b || ((s.bytes == 2) && nat_lt s.value 65536)) ≡ true → is_short (bytes_of s) ≡ true
-    by_four true e h = rw (equal_so s.bytes 4 e) refl
+    by_four true e h = rw (eqb-true s.bytes 4 e) refl
     by_four false e h = by_two (s.bytes == 2) refl h
 
 -- a server does not hear a frame for another

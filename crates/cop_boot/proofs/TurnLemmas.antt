@@ -1,7 +1,7 @@
 -- One turn of a boot whose channels are kept as a log.
 use Rattle.std.proofs.Common.{◌≡◌, ◌==◌, ℕ, zero, suc, ◌+◌, ◌<◌, ◌≤◌, Bool, true, false, cond, List, [], ◌∷◌, ◌++◌, map, max, length, drop, get_or, refl, ap, sym, subst, ◌∙◌, arith, drop-cons, drop_of_length-le, add-one, replicate, Option, Some, None}
+use Rattle.std.proofs.lemmas.Bool.{eqb-true}
 use Rattle.std.specs.Prelude.{filter, find, option_map, option_to_list, is_some, IsSome, if◌then◌else◌}
-use Rattle.std.proofs.lemmas.Bool.Decides.{nat_tests}
 use Rattle.std.proofs.lemmas.List.{drop-append-le, length-map}
 use Rattle.std.proofs.Math.ListN.{length-replicate}
 use Rattle.std.proofs.lemmas.List.Elements.{filter-append}
@@ -29,9 +29,6 @@ names nodes = map (λ node. node.number) nodes
 abbrev pub lines_by : (ℕ → Line) → List Node → List Line
 lines_by at nodes = map (λ node. at node.number) nodes
 
-equal : (a b : ℕ) → (a == b) ≡ true → a ≡ b
-equal a b h = grind (arith, nat_tests)
-
 pub line_found : (at : ℕ → Line) → ((n : ℕ) → (at n).number ≡ n) → (nodes : List Node) (n : ℕ) → line_of (lines_by at nodes) n ≡ option_map (λ node. at n) (node_of nodes n)
 line_found at same [] n = refl
 line_found at same (x ∷ nodes) n =
@@ -39,7 +36,7 @@ line_found at same (x ∷ nodes) n =
   where
     by_test : (b : Bool) → (x.number == n) ≡ b → line_of (lines_by at nodes) n ≡ option_map (λ node. at n) (node_of nodes n)
         → cond b (Some (at x.number)) (line_of (lines_by at nodes) n) ≡ option_map (λ node. at n) (cond b (Some x) (node_of nodes n))
-    by_test true e h = ap (λ k. Some (at k)) (equal x.number n e)
+    by_test true e h = ap (λ k. Some (at k)) (eqb-true x.number n e)
     by_test false e h = h
 
 -- a change of each line
@@ -74,14 +71,14 @@ module _ (m : Managing) (old new : ℕ → Line) (sold : (n : ℕ) → (old n).n
   put line number is others = lines_so new old (λ l. if l.number == line.number then line else l) (λ k. by_test k (k == n) refl) m.nodes
     where
       by_test : (k : ℕ) (b : Bool) → (k == n) ≡ b → new k ≡ (if (old k).number == line.number then line else old k)
-      by_test k true e = ap new (equal k n e) ∙ is ∙ sym (ap (λ b. cond b line (old k)) (ap (λ i. i == line.number) (sold k) ∙ ap (λ j. k == j) number ∙ e))
+      by_test k true e = ap new (eqb-true k n e) ∙ is ∙ sym (ap (λ b. cond b line (old k)) (ap (λ i. i == line.number) (sold k) ∙ ap (λ j. k == j) number ∙ e))
       by_test k false e = others k e ∙ sym (ap (λ b. cond b line (old k)) (ap (λ i. i == line.number) (sold k) ∙ ap (λ j. k == j) number ∙ e))
 
   same_lines : new n ≡ old n → ((k : ℕ) → (k == n) ≡ false → new k ≡ old k) → lines_by new m.nodes ≡ lines_by old m.nodes
   same_lines is others = all m.nodes
     where
       by_test : (k : ℕ) (b : Bool) → (k == n) ≡ b → new k ≡ old k
-      by_test k true e = ap new (equal k n e) ∙ is ∙ ap old (sym (equal k n e))
+      by_test k true e = ap new (eqb-true k n e) ∙ is ∙ ap old (sym (eqb-true k n e))
       by_test k false e = others k e
 
       all : (nodes : List Node) → lines_by new nodes ≡ lines_by old nodes

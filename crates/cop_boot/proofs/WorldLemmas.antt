@@ -1,5 +1,6 @@
 -- A boot by turns keeps each node at its stage.
 use Rattle.std.proofs.Common.{◌≡◌, ℕ, suc, ◌+◌, ◌<◌, Bool, true, false, cond, not, ◌&&◌, ◌||◌, List, [], ◌∷◌, ◌++◌, map, max, refl, ap, sym, subst, ◌∙◌, arith, ◌==◌, append_assoc, Option, Some, None, ◌⊎◌, inl, inr, nat_le}
+use Rattle.std.proofs.lemmas.Bool.{eqb-true}
 use Rattle.std.specs.Prelude.{filter, slice_get, option_to_list, option_map, if◌then◌else◌}
 use Rattle.std.specs.List.{list_all}
 use Rattle.std.proofs.lemmas.Bool.Decides.{nat_tests}
@@ -22,7 +23,7 @@ use Rattle.cop_boot.specs.Booted.{Apart}
 use Rattle.cop_boot.specs.Ends.{BootUp, Answer, Reached}
 use Rattle.cop_boot.specs.Schedule.{Line, World, line_of, is_for, takes, posted, with_line, Delivers, DeliversTo, heard_on, heard_from, Takes, TakesAll}
 use Rattle.cop_boot.proofs.DriveLemmas.{found_map, heard_begun, passed_begun, met_keeps}
-use Rattle.cop_boot.proofs.StageLemmas.{Plan, IsSound, Stage, Done, IsAt, IfThere, ComesFrom, Each, sent_to, delivered, came, comes, started_at, waited, numbered, after_to, after_from, after_moment, nothing_sent, no_front, ready_line}
+use Rattle.cop_boot.proofs.StageLemmas.{Plan, IsSound, Stage, Done, IsAt, IfThere, ComesFrom, Each, sent_to, delivered, came, comes, started_at, waited, numbered, after_to, after_from, after_moment, nothing_sent, no_front, ready_line, same_number}
 
 -- what a line of a number is after a change of each line
 pub lines_map : (f : Line → Line) → ((line : Line) → (f line).number ≡ line.number) → (lines : List Line) (n : ℕ) → line_of (map f lines) n ≡ option_map f (line_of lines n)
@@ -322,9 +323,6 @@ module _ (plans : ℕ → Option Plan) (good : ArePlans plans) where
         by_test false h = (stage, goes n p here stage g, inl refl)
         by_test true h = (Done, starts n p here stage g (both m.started (all_ready m.nodes) h), inr refl)
 
-same_number : (n : ℕ) → (n == n) ≡ true
-same_number n = grind (arith, nat_tests)
-
 with_line_so : (new : Line) (lines : List Line) (n : ℕ) → line_of (with_line new lines) n ≡ option_map (λ line. if line.number == new.number then new else line) (line_of lines n)
 with_line_so new lines n = lines_map (λ line. if line.number == new.number then new else line) (λ line. by_test line (line.number == new.number) refl) lines n
   where
@@ -348,9 +346,6 @@ line_none new lines n h = with_line_so new lines n ∙ ap (option_map (λ line. 
 
 pub same_line : (lines : List Line) (n : ℕ) (a b : Line) → line_of lines n ≡ Some a → line_of lines n ≡ Some b → a ≡ b
 same_line lines n a b h g = let e : Some a ≡ Some b = sym h ∙ g in cc
-
-pub is_equal : (a b : ℕ) → (a == b) ≡ true → a ≡ b
-is_equal a b h = grind (arith, nat_tests)
 
 -- a moment makes no node ready, and leaves those that are
 ready_same : (f : Node → Node) → ((node : Node) → is_ready (f node) ≡ is_ready node) → (nodes : List Node) → all_ready (map f nodes) ≡ all_ready nodes
@@ -440,7 +435,7 @@ module _ (plans : ℕ → Option Plan) (good : ArePlans plans) (w : World) (h : 
         (moved (heard_by frame clock) (at_least w.manager w.manager.clock)) w.manager.nodes (with_line new w.lines) refl h.begun h.apart (λ n e. line_none new w.lines n (h.none n e)) h.absent n p
         (if b then after_from p clock stage else stage)
     heard_goes n p e stage s true t =
-        let here : n ≡ m = is_equal n m t in
+        let here : n ≡ m = eqb-true n m t in
         let at_n : line_of w.lines n ≡ Some line = subst (λ k. line_of w.lines k ≡ Some line) (sym here) lined in
         let same : s.line ≡ line = same_line w.lines n s.line line s.lined at_n in
         record {
@@ -509,7 +504,7 @@ module _ (plans : ℕ → Option Plan) (good : ArePlans plans) (w : World) (h : 
     pub to_stands : (n : ℕ) (p : Plan) → plans n ≡ Some p → (stage : Stage) → Stands w n p stage → (b : Bool) → (n == m) ≡ b
         → Stands (record w { lines = with_line answered_line w.lines }) n p (if b then after_to stage else stage)
     to_stands n p e stage s true t =
-        let at_n : line_of w.lines n ≡ Some line = subst (λ k. line_of w.lines k ≡ Some line) (sym (is_equal n m t)) lined in
+        let at_n : line_of w.lines n ≡ Some line = subst (λ k. line_of w.lines k ≡ Some line) (sym (eqb-true n m t)) lined in
         let same : s.line ≡ line = same_line w.lines n s.line line s.lined at_n in
         record {
           node = s.node;

@@ -10,7 +10,15 @@ ghost use Rattle.cop_net.specs.Heartbeats.{heartbeat_of};
 ghost use Rattle.cop_net.specs.Network.{Net, IsNetwork};
 ghost use Rattle.cop_net.specs.Settings.{word, takes};
 ghost use Rattle.cop_dcf.specs.declared.setting.Setting.{Setting};
-ghost use Rattle.cop_dcf.specs.Planned.{planned};
+ghost use Rattle.cop_frame.specs.declared.rates.Rate.{Rate};
+ghost use Rattle.cop_rows.specs.declared.node_table.DeviceRow.{DeviceRow};
+ghost use Rattle.cop_net.specs.Devices.{File};
+ghost use Rattle.cop_dcf.specs.Planned.{planned, IsNodeReadAgain};
+ghost use Rattle.cop_boot.specs.declared.«end».End.TheVariants.{Ready};
+ghost use Rattle.cop_boot.specs.Manager.{Managing, end_at};
+ghost use Rattle.cop_boot.specs.Device.{Attached};
+ghost use Rattle.cop_boot.specs.Bus.{Made};
+ghost use Rattle.cop_boot.specs.NetworkBoot.{IsPlanOf, HasWhatItsDcfSays};
 ghost use Rattle.cop_boot.specs.Settings.{AcceptsInTurn};
 ghost use Rattle.cop_dcf.specs.Identifiers.{id_at};
 ghost use Rattle.cop_dcf.specs.Settings.{settings_of, node_settings, dictionary_of};
@@ -54,4 +62,12 @@ pub fn planned_pdos_exist()
         → IsAsPlanned (id_at net.rows ids node e.index) (option_and_then unsigned32_of (entry_at (planned dict (node_settings net ids node)) e.index 1)) }
     ensures records { (net : Net) (ids : List ℕ) (node : ℕ) (dict : List Entry) → IsNetwork net → All IsPdoId ids → dictionary_of net node ≡ Some dict
         → HasPlannedPdos (id_at net.rows ids node) (planned dict (node_settings net ids node)) }
+{}
+
+/// What a boot makes of the devices of a network is what the network's DCF files say: where a node is ready, the dictionary that
+/// its DCF describes has the objects and the values of its device, as initial values too.
+pub fn ready_devices_have_what_their_dcf_says()
+    ensures { (m later : Managing) (after : List Attached) (built : ℕ → List Entry) (net : Net) (files : List File) (ids : List ℕ) (rate : Rate) (node : ℕ) (row : DeviceRow)
+        → Made m built later after → IsPlanOf net ids m built → IsNodeReadAgain net files ids rate node row → end_at later.nodes node ≡ Some Ready
+        → HasWhatItsDcfSays net files ids rate node row after }
 {}

@@ -19,7 +19,7 @@ pub use end::End;
 pub use input::Input;
 pub use laws::{
     apart_are_accepted, networks_take_their_settings, plan_is_accepted, planned_pdos_exist,
-    switched_off_then_on,
+    ready_devices_have_what_their_dcf_says, switched_off_then_on,
 };
 pub use manager::{Manager, can_manage};
 pub use schedule::run_schedule;

@@ -31,7 +31,7 @@ use Rattle.cop_net.specs.Steps.{folded}
 use Rattle.cop_net.specs.Network.{Net, Accepted, accepted, has_stray, settable, all_settable, streams_of, network_of}
 use Rattle.cop_net.proofs.FixedLemmas.{found_all}
 use Rattle.cop_net.proofs.NetworkLemmas.{timed}
-use Rattle.cop_net.proofs.PdoLemmas.{bind_ok}
+use Rattle.cop_rows.proofs.RangeLemmas.{bind_ok}
 use Rattle.cop_net.proofs.TextLemmas.{read_as_itself}
 use Rattle.cop_dcf.specs.Identifiers.{id_at}
 use Rattle.cop_dcf.specs.Settings.{settings_by, dictionary_of, node_settings}

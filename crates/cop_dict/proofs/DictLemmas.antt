@@ -1,5 +1,5 @@
 -- Reads and writes of a dictionary, and the change of one of its entries.
-use Rattle.std.proofs.Common.{◌≡◌, ◌≢◌, ◌<◌, ◌≤◌, ℕ, zero, suc, Bool, true, false, cond, List, [], ◌∷◌, length, map, take, drop, ◌++◌, get_or, set, Option, Some, None, Result, Ok, Err, OnOk, OnErr, IfErr, IsSome, IsOk, Contains, refl, ap, sym, ◌∙◌, arith}
+use Rattle.std.proofs.Common.{◌≡◌, ◌≢◌, ◌<◌, ◌≤◌, ℕ, zero, suc, Bool, true, false, cond, List, [], ◌∷◌, length, map, take, drop, ◌++◌, get_or, set, Option, Some, None, Result, Ok, Err, OnOk, OnErr, IfErr, IsSome, IsOk, Contains, refl, ap, sym, subst, ◌∙◌, arith}
 use Rattle.std.proofs.lemmas.Bool.Decides.{nat_tests}
 use Rattle.std.proofs.lemmas.List.{take_all, length-map, append-nil}
 use Rattle.std.proofs.Math.ListN.{drop_of_length-le}
@@ -184,3 +184,21 @@ own_place dict entry sorted (k, inside, here) =
   where
     own : (e : Entry) → is_at e.index e.sub e ≡ true
     own e = grind (arith, nat_tests)
+
+-- what is found at an address is in the dictionary, and has the address
+pub found_inside : (dict : List Entry) (index sub : ℕ) (e : Entry) → entry_at dict index sub ≡ Some e → Contains dict e × (e.index ≡ index) × (e.sub ≡ sub)
+found_inside [] index sub e h = absurd (cc)
+found_inside (x ∷ xs) index sub e h = by_test (is_at index sub x) refl h (found_inside xs index sub e)
+  where
+    at : (x : Entry) → is_at index sub x ≡ true → (x.index ≡ index) × (x.sub ≡ sub)
+    at x t = (grind (arith, nat_tests), grind (arith, nat_tests))
+
+    by_test : (b : Bool) → is_at index sub x ≡ b → cond b (Some x) (entry_at xs index sub) ≡ Some e
+        → (entry_at xs index sub ≡ Some e → Contains xs e × (e.index ≡ index) × (e.sub ≡ sub)) → Contains (x ∷ xs) e × (e.index ≡ index) × (e.sub ≡ sub)
+    by_test true t h later =
+        let same : x ≡ e = cc in
+        subst (λ (y : Entry). Contains (x ∷ xs) y × (y.index ≡ index) × (y.sub ≡ sub)) same (let a = at x t in ((0, omega arith, refl), a.0, a.1))
+    by_test false t h later =
+        let r = later h in
+        let low = r.0.1 in
+        ((suc r.0.0, omega (arith, low), r.0.2), r.1, r.2)

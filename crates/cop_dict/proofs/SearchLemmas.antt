@@ -1,5 +1,6 @@
 -- Look-ups in entries that rise by index and sub.
 use Rattle.std.proofs.Common.{◌≡◌, ◌≤◌, ◌<◌, ◌≢◌, ℕ, zero, suc, Bool, true, false, ◌==◌, nat_lt, List, [], ◌∷◌, length, get_or, slice_index_or, find, Some, None, refl, arith}
+use Rattle.std.proofs.lemmas.List.{get_or_default}
 use Rattle.std.specs.List.{list_any}
 use Rattle.std.specs.List.Sorted.{IsPartitionedBy, IsPartitionPoint}
 use Rattle.std.proofs.lemmas.List.Folds.{list_any_at, list_any_none}
@@ -94,12 +95,6 @@ index_by dict index i sorted point here = list_any_none (λ entry. entry.index =
         more_apart (get_or dict i d) (get_or dict k d) (sorted i k d past lt) (point.1 i d (omega arith) (omega arith)) (here d (omega arith))
     by_order k d lt false ge false le = let same : i ≡ k = grind (arith, nat_tests) in rw (← same) (here d (rw (← same) at lt))
 
--- inside a list the default is of no account
-pub get_or_same : {X : Type 0} (xs : List X) (i : ℕ) (d e : X) → i < length xs → get_or xs i d ≡ get_or xs i e
-get_or_same [] i d e lt = absurd (omega arith)
-get_or_same (x ∷ xs) zero d e lt = refl
-get_or_same (x ∷ xs) (suc i) d e lt = get_or_same xs i d e (omega arith)
-
 -- an index is there exactly where the first entry that doesn't stand before its sub 0 has it
 pub any_index : (dict : List Entry) (index i : ℕ) (d : Entry) → IsSorted dict
     → IsPartitionPoint (λ entry. is_before index 0 entry ≡ true) (λ entry. is_before index 0 entry ≡ false) dict i
@@ -108,7 +103,7 @@ any_index dict index i d sorted point inside = by_test ((get_or dict i d).index 
   where
     by_test : (b : Bool) → ((get_or dict i d).index == index) ≡ b → list_any (λ entry. entry.index == index) dict ≡ b
     by_test true here = list_any_at (λ entry. entry.index == index) dict i d inside here
-    by_test false apart = index_by dict index i sorted point (λ e lt. rw (get_or_same dict i e d lt) apart)
+    by_test false apart = index_by dict index i sorted point (λ e lt. rw (get_or_default dict i e d lt) apart)
 
 pub no_index : (dict : List Entry) (index i : ℕ) → IsSorted dict
     → IsPartitionPoint (λ entry. is_before index 0 entry ≡ true) (λ entry. is_before index 0 entry ≡ false) dict i

@@ -14,7 +14,7 @@ use Rattle.std.proofs.lemmas.List.Elements.{All-nil, All-cons, All-append, All-h
 use Rattle.std.proofs.lemmas.Bool.Decides.{nat_tests}
 use Rattle.cop_net.specs.Network.{Net, IsNetwork}
 use Rattle.cop_dcf.specs.declared.setting.Setting.{Setting}
-use Rattle.std.proofs.lemmas.Option.{get_or_from_slice_get, slice_get-get_or}
+use Rattle.std.proofs.lemmas.List.{get_or_default}
 use Rattle.cop_dcf.specs.Settings.{dictionary_of, node_settings, IsFit}
 use Rattle.cop_dcf.proofs.SettingsLemmas.{all_fit_in}
 use Rattle.cop_boot.specs.declared.«end».Phase.TheVariants.{Waiting}
@@ -36,12 +36,10 @@ use Rattle.cop_boot.specs.declared.turn.Turn.{Turn}
 use Rattle.cop_boot.specs.Manager.{Managing}
 use Rattle.cop_boot.specs.Device.{Attached}
 use Rattle.cop_boot.specs.Bus.{Runs, Made}
-use Rattle.cop_boot.specs.Booted.{CanBoot}
+use Rattle.cop_boot.specs.Booted.{CanBoot, ReadyInTime}
+use Rattle.cop_boot.specs.NetworkBoot.{IsPlanOf, HavePlannedPdos}
 use Rattle.cop_engine.specs.Turns.{turns_drawn}
 use Rattle.cop_engine.specs.Boots.{nodes_to, device_nodes, managed, manager_of, dictionary_at, device_at, boot_text, IsBooted, IsBootedBy, IsBootOf}
-
-pub get_or_same : {X : Type 0} (xs : List X) (i : ℕ) (d e : X) → i < length xs → get_or xs i e ≡ get_or xs i d
-get_or_same xs i d e lt = get_or_from_slice_get xs i (get_or xs i d) e (slice_get-get_or xs i d lt)
 
 heads : {X : Type 0} (x y : X) (xs ys : List X) → x ∷ xs ≡ y ∷ ys → (x ≡ y) × (xs ≡ ys)
 heads x y xs ys h = (cc, cc)
@@ -124,7 +122,7 @@ stands_behind dict copy i object sorted lt here is = subst (All (λ entry. is_be
     before k d lt2 =
         let size = length-take-le i dict (omega arith) in
         let inside : k < i = omega arith in
-        let same : get_or dict i d ≡ object = get_or_same dict i object d lt ∙ sym here in
+        let same : get_or dict i d ≡ object = get_or_default dict i d object lt ∙ sym here in
         let pair : is_before (get_or dict i d).index (get_or dict i d).sub (get_or dict k d) ≡ true = sorted k i d inside lt in
         rw (get_or-take i dict k d inside) (subst (λ (e : Entry). is_before e.index e.sub (get_or dict k d) ≡ true) same pair)
 
@@ -180,7 +178,7 @@ module _ (net : Net) (ids : List ℕ) where
           let size = length-take-le i nodes (omega arith) in
           let inside : k < i = omega arith in
           let pair : get_or nodes k d < get_or nodes i d = rise k i d inside lt in
-          let same : get_or nodes i d ≡ node = get_or_same nodes i node d lt ∙ sym here in
+          let same : get_or nodes i d ≡ node = get_or_default nodes i d node lt ∙ sym here in
           let at : get_or (take i nodes) k d ≡ get_or nodes k d = get_or-take i nodes k d inside in
           omega arith
 
@@ -218,20 +216,37 @@ pub booted_so : {E : Type 0} (seed : ℕ) (net : Net) (ids nodes shown : List �
     → nodes ≡ device_nodes net → manager ≡ manager_of net ids nodes → devices ≡ map (device_at net) nodes → turns ≡ turns_drawn seed nodes → shown ≡ nodes
     → Runs manager devices turns later after
     → CanBoot (manager_of net ids (device_nodes net)) (map (device_at net) (device_nodes net)) (dictionary_at net) → ((built : ℕ → List Entry) → CanBoot manager devices built → Made manager built later after)
+    → ((built : ℕ → List Entry) → CanBoot manager devices built → ReadyInTime manager devices turns later)
+    → ((net : Net) (ids : List ℕ) (built : ℕ → List Entry) → CanBoot manager devices built → IsPlanOf net ids manager built → HavePlannedPdos net ids later after)
+    → IsPlanOf net ids (manager_of net ids (device_nodes net)) (dictionary_at net)
     → IfOk r (λ text. text.items ≡ boot_text later shown) → IfOk r (λ text. IsBooted seed net ids text.items)
-booted_so seed net ids nodes shown manager later devices after turns (Err e) are made there drawn same runs can configures said = tt
-booted_so seed net ids nodes shown manager later devices after turns (Ok text) are made there drawn same runs can configures said = record {
+booted_so seed net ids nodes shown manager later devices after turns (Err e) are made there drawn same runs can configures in_time exist plan_of said = tt
+booted_so seed net ids nodes shown manager later devices after turns (Ok text) are made there drawn same runs can configures in_time exist plan_of said = record {
   later = later;
   after = after;
-  runs = subst (λ ts. Runs (manager_of net ids (device_nodes net)) (map (device_at net) (device_nodes net)) ts later after) (drawn ∙ ap (turns_drawn seed) are)
-      (subst (λ ds. Runs (manager_of net ids (device_nodes net)) ds turns later after) (there ∙ ap (λ ns. map (device_at net) ns) are)
-      (subst (λ m. Runs m devices turns later after) (made ∙ ap (manager_of net ids) are) runs));
-  made = subst (λ m. Made m (dictionary_at net) later after) (made ∙ ap (manager_of net ids) are)
-      (configures (dictionary_at net)
-      (subst (λ m. CanBoot m devices (dictionary_at net)) (sym (made ∙ ap (manager_of net ids) are))
-      (subst (λ ds. CanBoot (manager_of net ids (device_nodes net)) ds (dictionary_at net)) (sym (there ∙ ap (λ ns. map (device_at net) ns) are)) can)));
+  runs = subst (λ ts. Runs (manager_of net ids (device_nodes net)) (map (device_at net) (device_nodes net)) ts later after) whole_turns
+      (subst (λ ds. Runs (manager_of net ids (device_nodes net)) ds turns later after) whole_devices (subst (λ m. Runs m devices turns later after) whole_manager runs));
+  made = subst (λ m. Made m (dictionary_at net) later after) whole_manager (configures (dictionary_at net) can_now);
+  in_time = subst (λ ts. ReadyInTime (manager_of net ids (device_nodes net)) (map (device_at net) (device_nodes net)) ts later) whole_turns
+      (subst (λ ds. ReadyInTime (manager_of net ids (device_nodes net)) ds turns later) whole_devices
+      (subst (λ m. ReadyInTime m devices turns later) whole_manager (in_time (dictionary_at net) can_now)));
+  pdos = exist net ids (dictionary_at net) can_now (subst (λ m. IsPlanOf net ids m (dictionary_at net)) (sym whole_manager) plan_of);
   says = said ∙ ap (boot_text later) (same ∙ are);
 }
+  where
+    whole_manager : manager ≡ manager_of net ids (device_nodes net)
+    whole_manager = made ∙ ap (manager_of net ids) are
+
+    whole_devices : devices ≡ map (device_at net) (device_nodes net)
+    whole_devices = there ∙ ap (λ ns. map (device_at net) ns) are
+
+    whole_turns : turns ≡ turns_drawn seed (device_nodes net)
+    whole_turns = drawn ∙ ap (turns_drawn seed) are
+
+    can_now : CanBoot manager devices (dictionary_at net)
+    can_now =
+        subst (λ m. CanBoot m devices (dictionary_at net)) (sym whole_manager)
+        (subst (λ ds. CanBoot (manager_of net ids (device_nodes net)) ds (dictionary_at net)) (sym whole_devices) can)
 
 pub boot_of : (seed : ℕ) (nodes pdos : List ℕ) (files : List File) (text : List ℕ) (n : NodeLists) (rows : List PdoRow) (network : Net) (outcome : Outcome)
     → in_table Nodes (nodes_of nodes) ≡ Ok n → in_table Pdos (pdos_of pdos) ≡ Ok rows → network_of n rows files ≡ Ok (accepted network) → (network.nodes ≡ n) × (network.rows ≡ rows)

@@ -2,6 +2,7 @@
 use Rattle.std.proofs.Common.{◌≡◌, ℕ, zero, suc, ◌<◌, ◌^◌, Bool, true, false, cond, ◌==◌, List, [], ◌∷◌, ◌++◌, map, get_or, is_some, unwrap_or, Option, Some, None, All, refl, sym, ap, subst, ◌∙◌, arith}
 use Rattle.std.specs.List.{AllPairs}
 use Rattle.std.proofs.lemmas.Bool.{eqb-true, ne_eqb}
+use Rattle.std.proofs.lemmas.List.{get_or_default}
 use Rattle.std.proofs.lemmas.List.Elements.{All-nil, All-cons, All-append, All-head, All-tail}
 use Rattle.cop_frame.specs.declared.rates.Rate.{Rate}
 use Rattle.cop_rta.specs.declared.streams.Stream.{Stream}
@@ -21,16 +22,17 @@ use Rattle.cop_boot.specs.Node.{Node}
 use Rattle.cop_boot.specs.Manager.{node_of}
 use Rattle.cop_boot.specs.Device.{Attached}
 use Rattle.cop_boot.specs.Booted.{device_of, Apart, EachSetting, CanBeSet, CanBoot}
+use Rattle.cop_boot.specs.NetworkBoot.{IsPlanOf}
 use Rattle.cop_boot.proofs.NetworkAdmits.{network_admits, network_resets}
 use Rattle.cop_boot.proofs.PlanInTurn.{plan_accepted}
 use Rattle.cop_engine.specs.Boots.{nodes_to, device_nodes, managed, manager_of, dictionary_at, device_at}
-use Rattle.cop_engine.proofs.BootLemmas.{get_or_same, IsUpTo, nodes_low, nodes_rise, short_of}
+use Rattle.cop_engine.proofs.BootLemmas.{IsUpTo, nodes_low, nodes_rise, short_of}
 
 -- the identifiers of a plan are those that a PDO may get
 pub pdo_ids : (rates : List Rate) (streams : List Stream) (pdos : ℕ) (plan : PlanValue) → IsPlan rates streams pdos plan → All IsPdoId plan.ids
 pdo_ids rates streams pdos plan h = λ k d lt.
     let inside : k < pdos = omega (arith, h.count) in
-    let same : get_or plan.ids k d ≡ get_or plan.ids k 0 = get_or_same plan.ids k 0 d lt in
+    let same : get_or plan.ids k d ≡ get_or plan.ids k 0 = get_or_default plan.ids k d 0 lt in
     let low = h.passing.0.least k inside in
     let high = h.passing.0.greatest k inside in
     rw same (low, high)
@@ -92,6 +94,17 @@ module _ (net : Net) (is : IsNetwork net) (ids : List ℕ) (range : All IsPdoId 
   small : All (λ id. id < 2 ^ 11) ids
   small = λ k d lt. let high = (range k d lt).1 in omega (arith, high)
 
+  -- a device begins with the dictionary that its EDS file describes
+  begins_as_built : (node : ℕ) (dict : List Entry) → dictionary_of net node ≡ Some dict → dictionary_at net node ≡ dict
+  begins_as_built node dict its = ap (λ (o : Option (List Entry)). initial (unwrap_or o [])) its ∙ (network_resets net is ids range node dict its).0
+
+  own_dictionary : (node : ℕ) → HasDevice net node → dictionary_of net node ≡ Some (dictionary_at net node)
+  own_dictionary node has = by_dictionary (dictionary_of net node) refl has
+    where
+      by_dictionary : (o : Option (List Entry)) → dictionary_of net node ≡ o → is_some o ≡ true → dictionary_of net node ≡ Some (dictionary_at net node)
+      by_dictionary None its h = absurd (cc)
+      by_dictionary (Some dict) its h = its ∙ ap Some (sym (begins_as_built node dict its))
+
   can_be_set : (node : ℕ) → HasDevice net node → CanBeSet (node_settings net ids node) (dictionary_at net node)
   can_be_set node has = by_dictionary (dictionary_of net node) refl has
     where
@@ -99,7 +112,7 @@ module _ (net : Net) (is : IsNetwork net) (ids : List ℕ) (range : All IsPdoId 
       by_dictionary None its h = absurd (cc)
       by_dictionary (Some dict) its h =
           let resets = network_resets net is ids range node dict its in
-          let begins : dictionary_at net node ≡ dict = ap (λ (o : Option (List Entry)). initial (unwrap_or o [])) its ∙ resets.0 in
+          let begins : dictionary_at net node ≡ dict = begins_as_built node dict its in
           let time : ℕ = heartbeat_of net.nodes.frames node in
           let accepted : AcceptsInTurn dict (node_settings net ids node) =
           subst (λ (o : Option (List Entry)). AcceptsInTurn dict (settings_by (id_at net.rows ids node) time o)) (sym its) (plan_accepted dict (id_at net.rows ids node) time (network_admits net is ids range node dict its)) in
@@ -119,4 +132,13 @@ module _ (net : Net) (is : IsNetwork net) (ids : List ℕ) (range : All IsPdoId 
     served = λ number device e.
         let f = found_device (device_nodes net) number device e in
         (ap (λ (d : Attached). d.server.node) f, ap (λ (d : Attached). d.dict) f);
+  }
+
+  -- its nodes have the settings of the plan, and its devices the dictionaries of their EDS files
+  pub plan_of : IsPlanOf net ids (manager_of net ids (device_nodes net)) (dictionary_at net)
+  plan_of = record {
+    network = is;
+    range = range;
+    settings = λ number node e. ap (λ (n : Node). n.settings) (found_node (HasDevice net) (device_nodes net) number node (have_devices net 127) e).0;
+    devices = λ number node e. own_dictionary number (found_node (HasDevice net) (device_nodes net) number node (have_devices net 127) e).1;
   }

@@ -12,7 +12,7 @@ use Rattle.cop_rows.specs.Nodes.{NodeLists}
 use Rattle.cop_net.specs.Devices.{File, Equipment, text_of, text_at, text_read, refused_at, described, device_added, no_device, devices_of}
 use Rattle.cop_net.specs.Steps.{folded}
 use Rattle.cop_net.specs.Network.{Net, Accepted, streams_of, network_of}
-use Rattle.cop_net.proofs.PdoLemmas.{bind_ok}
+use Rattle.cop_rows.proofs.RangeLemmas.{bind_ok}
 use Rattle.cop_net.proofs.TextLemmas.{read_as_itself}
 use Rattle.cop_plan.specs.Values.{PlanValue}
 use Rattle.cop_engine.specs.Dcfs.{eds_text, dcf_file, device_row, dcf_at, dcfs_below, HasText, HaveTexts}

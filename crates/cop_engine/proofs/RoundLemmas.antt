@@ -15,7 +15,7 @@ use Rattle.cop_net.specs.declared.faults.Table.TheVariants.{Nodes, Pdos}
 use Rattle.cop_net.specs.Devices.{File}
 use Rattle.cop_net.specs.Tables.{in_table}
 use Rattle.cop_net.specs.Network.{Net, IsNetwork, accepted, network_of}
-use Rattle.cop_net.proofs.PdoLemmas.{bind_ok}
+use Rattle.cop_rows.proofs.RangeLemmas.{bind_ok}
 use Rattle.cop_plan.specs.Values.{PlanValue}
 use Rattle.cop_plan.specs.Plans.{IsPlan, IsOutcome}
 use Rattle.cop_plan.specs.declared.assigning.Outcome.{Outcome}

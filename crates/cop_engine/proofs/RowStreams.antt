@@ -17,7 +17,8 @@ use Rattle.cop_net.specs.Fixed.{frame_stream, key_of, sent, streams_from, fixed_
 use Rattle.cop_net.specs.Pdos.{Traffic, pdo_stream, pdo_added, no_traffic, pdos_of}
 use Rattle.cop_net.specs.Steps.{folded}
 use Rattle.cop_net.specs.Network.{Accepted, all_settable, with_rate, streams_of, network_of}
-use Rattle.cop_net.proofs.PdoLemmas.{bind_ok, shape, one_more, pdos_found}
+use Rattle.cop_net.proofs.PdoLemmas.{shape, one_more, pdos_found}
+use Rattle.cop_rows.proofs.RangeLemmas.{bind_ok}
 use Rattle.cop_engine.specs.Networks.{Found, network_in}
 
 -- what stands in a list stands there with more behind it

@@ -23,7 +23,7 @@ use Rattle.cop_net.specs.Devices.{File}
 use Rattle.cop_net.specs.Tables.{in_table}
 use Rattle.cop_net.specs.Network.{network_of}
 use Rattle.cop_rows.specs.NodeReading.{nodes_of}
-use Rattle.cop_net.proofs.PdoLemmas.{bind_ok}
+use Rattle.cop_rows.proofs.RangeLemmas.{bind_ok}
 use Rattle.cop_plan.specs.Plans.{IsOutcome, IsGreatestRefusal}
 use Rattle.cop_plan.specs.declared.assigning.Outcome.{Outcome}
 use Rattle.cop_plan.specs.declared.assigning.Outcome.TheVariants.{Planned, Refused}

@@ -22,7 +22,9 @@ use Rattle.cop_boot.specs.declared.«end».Phase.TheVariants.{Waiting}
 use Rattle.cop_boot.specs.Node.{Node}
 use Rattle.cop_boot.specs.Manager.{Managing, end_at}
 use Rattle.cop_boot.specs.Device.{Attached}
+use Rattle.cop_boot.specs.Booted.{ReadyInTime}
 use Rattle.cop_boot.specs.Bus.{Runs, Made}
+use Rattle.cop_boot.specs.NetworkBoot.{HavePlannedPdos}
 use Rattle.cop_engine.specs.Judgements.{none_passes}
 use Rattle.cop_engine.specs.Turns.{turns_drawn}
 
@@ -77,12 +79,15 @@ boot_text m nodes = flat_map (λ node. node_line node (end_at m.nodes node)) nod
 
 -- A boot of a network by a plan with these identifiers, by the turns that a seed draws, made this of the manager and of the devices:
 -- a node that is ready has the planned dictionary, no node is aborted or restarting, and the nodes are started exactly where
--- all are ready. The text says so.
+-- all are ready. A node is ready where its turns came in turn once more than it has settings, and no moment was too late. In the
+-- device of each that is ready exactly the PDOs of the plan exist. The text says so.
 pub record IsBooted (seed : ℕ) (net : Net) (ids text : List ℕ) : Type 0 where
   pub later : Managing
   pub after : List Attached
   pub runs : Runs (manager_of net ids (device_nodes net)) (map (device_at net) (device_nodes net)) (turns_drawn seed (device_nodes net)) later after
   pub made : Made (manager_of net ids (device_nodes net)) (dictionary_at net) later after
+  pub in_time : ReadyInTime (manager_of net ids (device_nodes net)) (map (device_at net) (device_nodes net)) (turns_drawn seed (device_nodes net)) later
+  pub pdos : HavePlannedPdos net ids later after
   pub says : text ≡ boot_text later (device_nodes net)
 
 -- where no rate passes nothing is booted

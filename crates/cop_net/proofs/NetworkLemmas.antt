@@ -22,7 +22,8 @@ use Rattle.cop_net.specs.Fixed.{IsOwner, IsTimed, fixed_streams}
 use Rattle.cop_net.specs.Devices.{File, Equipment, devices_of}
 use Rattle.cop_net.specs.Pdos.{ArePdos, pdos_of}
 use Rattle.cop_net.specs.Network.{all_settable, with_rate, streams_of, BeginsWith, Accepted, network_of, accepted}
-use Rattle.cop_net.proofs.PdoLemmas.{bind_ok, pdos_found}
+use Rattle.cop_rows.proofs.RangeLemmas.{bind_ok}
+use Rattle.cop_net.proofs.PdoLemmas.{pdos_found}
 use Rattle.cop_net.proofs.ApartLemmas.{IsOutside, fixed_outside, one_set_all}
 
 -- a node with a device row

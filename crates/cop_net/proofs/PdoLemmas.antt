@@ -1,13 +1,13 @@
 -- The streams of the PDOs, one after the other.
-use Rattle.std.proofs.Common.{◌≡◌, ℕ, ◌+◌, ◌<◌, ◌≤◌, ⊎_elim, List, [], ◌∷◌, ◌++◌, length, get_or, Option, None, Result, Ok, Err, refl, sym, ap, subst, ◌∙◌, arith, length-append, zero-add}
+use Rattle.std.proofs.Common.{◌≡◌, ℕ, ◌+◌, ◌<◌, ◌≤◌, ⊎_elim, List, [], ◌∷◌, ◌++◌, length, get_or, Option, None, Result, Ok, refl, sym, ap, subst, ◌∙◌, arith, length-append, zero-add}
 use Rattle.std.proofs.lemmas.Bool.{cases_lt}
 use Rattle.std.proofs.Math.ListN.{get_or-append}
 use Rattle.std.proofs.Math.Seq.{get_or-append_seam}
 use Rattle.cop_dict.specs.Mapping.{total_bits}
 use Rattle.cop_pdo.specs.Bits.{bytes_for}
 use Rattle.cop_rows.specs.declared.pdo_table.PdoRow.{PdoRow}
+use Rattle.cop_rows.proofs.RangeLemmas.{bind_ok}
 use Rattle.cop_rta.specs.Entries.{Entry}
-use Rattle.cop_table.specs.Reading.{◌>>=◌}
 use Rattle.cop_net.specs.declared.faults.Refusal.{Refusal}
 use Rattle.cop_net.specs.declared.devices.Device.{Device}
 use Rattle.cop_net.specs.declared.uses.Used.{Used}
@@ -20,10 +20,6 @@ starts devices rows found none unused = rw (none, unused) refl
 
 pub none_yet : (used : List Used) → ◌≡◌ {A = Result (List Used) Refusal} (Ok []) (Ok used) → used ≡ []
 none_yet used e = cc
-
-pub bind_ok : {A B : Type 0} (r : Result A Refusal) (f : A → Result B Refusal) (x : B) → (r >>= f) ≡ Ok x → (a : A) × (r ≡ Ok a) × (f a ≡ Ok x)
-bind_ok (Ok a) f x h = (a, refl, h)
-bind_ok (Err e) f x h = cc
 
 -- one PDO more is one stream more
 pub shape : (devices : List (Option Device)) (found more : Traffic) (row : PdoRow) → pdo_added devices found row ≡ Ok more

@@ -12,7 +12,7 @@ use Rattle.cop_eds.specs.Reading.{reading, at_most}
 use Rattle.cop_eds.specs.Lines.{checked_lines}
 use Rattle.cop_eds.specs.Rates.{checked_rates}
 use Rattle.cop_eds.specs.Lists.{listed}
-use Rattle.cop_eds.specs.Steps.{◌>>=◌}
+use Rattle.cop_eds.proofs.ReadingLemmas.{bind_ok}
 use Rattle.cop_rows.specs.declared.node_table.DeviceRow.{DeviceRow}
 use Rattle.cop_net.specs.Devices.{File, text_of, Equipment, device_added, described, refused_at, no_device, devices_of}
 use Rattle.cop_net.specs.Steps.{folded}
@@ -68,19 +68,15 @@ texts_more texts new files f text knows absent same updates name =
     by_test true = ap Some same
     by_test false = refl
 
-bind_ok : {A B : Type 0} (r : Result A eds.Refusal) (f : A → Result B eds.Refusal) (x : B) → (r >>= f) ≡ Ok x → (a : A) × (f a ≡ Ok x)
-bind_ok (Ok a) f x h = (a, h)
-bind_ok (Err e) f x h = cc
-
 -- a text that is accepted is read as itself
 pub read_as_itself : (text x : List ℕ) → reading text ≡ Ok x → x ≡ text
 unfolding reading
 read_as_itself text x h =
     let a = bind_ok (at_most (4 * 1024 * 1024) text) _ x h in
-    let b = bind_ok (checked_lines text) _ x a.1 in
-    let c = bind_ok (checked_rates text) _ x b.1 in
-    let d = bind_ok (listed text) _ x c.1 in
-    let e : ◌≡◌ {A = Result (List ℕ) eds.Refusal} (Ok text) (Ok x) = d.1 in
+    let b = bind_ok (checked_lines text) _ x a.2 in
+    let c = bind_ok (checked_rates text) _ x b.2 in
+    let d = bind_ok (listed text) _ x c.2 in
+    let e : ◌≡◌ {A = Result (List ℕ) eds.Refusal} (Ok text) (Ok x) = d.2 in
     cc
 
 -- a text that was read before describes the device of a row

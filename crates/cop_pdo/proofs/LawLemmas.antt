@@ -1,7 +1,7 @@
 -- Objects of a mapping stay, and unpacking restores what was packed.
 use Rattle.std.proofs.Common.{◌≡◌, ◌<◌, ◌+◌, ◌*◌, ◌/◌, ◌%◌, ℕ, Bool, true, false, not, ◌&&◌, ◌||◌, ◌==◌, List, [], ◌∷◌, ◌++◌, take, drop, length, All, get_or, Option, Some, None, IfSome, option_map, Ok, refl, ap, sym, arith, ◌∙◌, subst, true≢false, if◌then◌else◌, cond}
 use Rattle.std.proofs.Math.Nat.{mod-eq_of_lt}
-use Rattle.std.proofs.lemmas.Bool.{eqb-true}
+use Rattle.std.proofs.lemmas.Bool.{eqb-true, and_parts, or_parts}
 use Rattle.std.proofs.Math.Seq.{take-append_seam, drop-append_seam}
 use Rattle.std.proofs.lemmas.List.Elements.{All-head, All-tail}
 use Rattle.cop_dict.specs.declared.mapping.Direction.{Direction}
@@ -82,14 +82,6 @@ one_entry : (dict now : List Entry) (direction : Direction) (m : Mapped) (rest :
 one_entry dict now direction m rest =
     rw (first_bits m.bits (mapped_number dict direction m) (bits_of_entries dict direction rest), other_bits m.bits (mapped_number dict direction m) (bits_of_entries dict direction rest)) refl
 
-or_first : (a b : Bool) → (a || b) ≡ false → a ≡ false
-or_first true b h = h
-or_first false b h = refl
-
-or_second : (a b : Bool) → (a || b) ≡ false → b ≡ false
-or_second true b h = absurd (true≢false h)
-or_second false b h = h
-
 received_leaves : (now : List Entry) (direction : Direction) (m : Mapped) (bits : List Bool) (index sub : ℕ) (dummy : Bool)
     → (not dummy && ((m.index == index) && (m.sub == sub))) ≡ false
     → entry_at (if dummy then now else with_value m.index m.sub (bytes_of_bits (bytes_for m.bits) bits) now) index sub ≡ entry_at now index sub
@@ -102,16 +94,8 @@ pub leaves_others : (dict : List Entry) (direction : Direction) (entries : List 
 leaves_others dict direction [] now index sub h = refl
 leaves_others dict direction (m ∷ rest) now index sub h =
     rw (one_entry dict now direction m rest)
-    (leaves_others dict direction rest (received now direction m (bits_of_number m.bits (mapped_number dict direction m))) index sub (or_second _ _ h)
-    ∙ received_leaves now direction m (bits_of_number m.bits (mapped_number dict direction m)) index sub (is_dummy direction m) (or_first _ _ h))
-
-both_first : (a b : Bool) → (a && b) ≡ true → a ≡ true
-both_first true b h = refl
-both_first false b h = absurd (true≢false (sym h))
-
-both_second : (a b : Bool) → (a && b) ≡ true → b ≡ true
-both_second true b h = h
-both_second false b h = absurd (true≢false (sym h))
+    (leaves_others dict direction rest (received now direction m (bits_of_number m.bits (mapped_number dict direction m))) index sub (or_parts _ _ h).1
+    ∙ received_leaves now direction m (bits_of_number m.bits (mapped_number dict direction m)) index sub (is_dummy direction m) (or_parts _ _ h).0)
 
 negated : (a : Bool) → not a ≡ true → a ≡ false
 negated true h = absurd (true≢false (sym h))
@@ -134,9 +118,9 @@ received_gives : (dict now : List Entry) (direction : Direction) (m : Mapped) (i
     → (not (is_dummy direction m) && ((m.index == index) && (m.sub == sub))) ≡ true
     → value_at (received now direction m (bits_of_number m.bits (mapped_number dict direction m))) index sub ≡ value_at dict index sub
 received_gives dict now direction m index sub there here proper h =
-    let object : is_dummy direction m ≡ false = negated (is_dummy direction m) (both_first _ _ h) in
-    let i : m.index ≡ index = eqb-true m.index index (both_first _ _ (both_second _ _ h)) in
-    let s : m.sub ≡ sub = eqb-true m.sub sub (both_second _ _ (both_second _ _ h)) in
+    let object : is_dummy direction m ≡ false = negated (is_dummy direction m) (and_parts _ _ h).0 in
+    let i : m.index ≡ index = eqb-true m.index index (and_parts _ _ (and_parts _ _ h).1).0 in
+    let s : m.sub ≡ sub = eqb-true m.sub sub (and_parts _ _ (and_parts _ _ h).1).1 in
     let v = holds (entry_at dict m.index m.sub) m.bits (rw object at there) (proper object) in
     rw (← i, ← s, object, v.3, value_is m.bits v.0 v.2, value_replaced now m.index m.sub v.0)
     (given (entry_at now m.index m.sub) m.bits v.0 (rw object at here) ∙ sym v.1)

@@ -1,7 +1,7 @@
 -- The layout of a mapping record, and what holds of it.
-use Rattle.std.proofs.Common.{◌≡◌, ◌<◌, ◌≤◌, ◌+◌, ℕ, zero, suc, Bool, true, false, List, [], ◌∷◌, length, All, nat_lt, Option, Some, None, Result, Ok, Err, refl, ap, sym, subst, arith, ◌∙◌, option_and_then, if◌then◌else◌, ◌&&◌, true≢false}
+use Rattle.std.proofs.Common.{◌≡◌, ◌<◌, ◌≤◌, ◌+◌, ℕ, zero, suc, Bool, true, false, List, [], ◌∷◌, length, All, nat_lt, Option, Some, None, Result, Ok, Err, refl, ap, sym, subst, arith, ◌∙◌, option_and_then, if◌then◌else◌, true≢false}
 use Rattle.std.specs.Option.{option_map_or}
-use Rattle.std.proofs.lemmas.Bool.{ltb-true, ltb-false, lt-ltb}
+use Rattle.std.proofs.lemmas.Bool.{ltb-true, ltb-false, lt-ltb, and_parts}
 use Rattle.std.proofs.lemmas.List.Elements.{All-cons, All-nil}
 use Rattle.cop_dict.specs.declared.mapping.Mapped.{Mapped}
 use Rattle.cop_dict.specs.declared.mapping.Direction.{Direction}
@@ -63,17 +63,9 @@ some_bits t (suc n) h = omega arith
 abbrev pub IsUsable : List Entry → Direction → Mapped → Type 0
 IsUsable dict direction m = (is_there dict direction m ≡ true) × (1 ≤ m.bits)
 
-both_first : (a b : Bool) → (a && b) ≡ true → a ≡ true
-both_first true b h = refl
-both_first false b h = absurd (true≢false (sym h))
-
-both_second : (a b : Bool) → (a && b) ≡ true → b ≡ true
-both_second true b h = h
-both_second false b h = absurd (true≢false (sym h))
-
 -- a dummy entry has bits
 dummy_bits : (direction : Direction) (m : Mapped) → is_dummy direction m ≡ true → 1 ≤ m.bits
-dummy_bits directions.Receive m h = some_bits (type_numbered m.index) m.bits (both_second _ _ h)
+dummy_bits directions.Receive m h = some_bits (type_numbered m.index) m.bits (and_parts _ _ h).1
 dummy_bits directions.Transmit m h = absurd (true≢false (sym h))
 
 abbrev has_bits_in : Option Entry → Mapped → Bool
@@ -84,7 +76,7 @@ object_usable : (dict : List Entry) (direction : Direction) (m found : Mapped) (
 object_usable dict direction m found None e h = let no : ◌≡◌ {A = Result Mapped MappingFault} (Err faults.NoObject) (Ok found) = h in cc
 object_usable dict direction m found (Some entry) e h = by (can_map direction m entry) refl where
   by : (b : Bool) → can_map direction m entry ≡ b → (found ≡ m) × (has_bits m.bits (bits_of entry.description.data_type) ≡ true)
-  by true t = (let same : ◌≡◌ {A = Result Mapped MappingFault} (Ok m) (Ok found) = sym (rw t refl) ∙ h in cc, both_second _ _ (both_first _ _ t))
+  by true t = (let same : ◌≡◌ {A = Result Mapped MappingFault} (Ok m) (Ok found) = sym (rw t refl) ∙ h in cc, (and_parts _ _ (and_parts _ _ t).0).1)
   by false t = let no : ◌≡◌ {A = Result Mapped MappingFault} (Err faults.NotMappable) (Ok found) = sym (rw t refl) ∙ h in cc
 
 bits_there : (o : Option Entry) (m : Mapped) → has_bits_in o m ≡ true → 1 ≤ m.bits

@@ -2,7 +2,7 @@
 use Rattle.std.proofs.Common.{◌≡◌, ◌+◌, ℕ, zero, suc, Bool, true, false, not, ◌&&◌, ◌||◌, ◌==◌, List, [], ◌∷◌, ◌++◌, take, drop, slice_get, All, Option, Some, None, option_map, refl, ap, sym, arith, ◌∙◌, subst, true≢false, if◌then◌else◌}
 use Rattle.std.specs.Option.{option_map_or}
 use Rattle.std.proofs.Math.Seq.{take-append_seam, drop-append_seam}
-use Rattle.std.proofs.lemmas.Bool.{eqb-true}
+use Rattle.std.proofs.lemmas.Bool.{eqb-true, and_parts, or_parts}
 use Rattle.std.proofs.lemmas.List.Elements.{All-head, All-tail}
 use Rattle.std.proofs.lemmas.List.Sums.{sum_by-cons}
 use Rattle.cop_dict.specs.declared.mapping.Direction.{Direction}
@@ -36,22 +36,6 @@ unpacking_leaves dict direction (m ∷ rest) bits layout all =
 
 -- ---- parts of conjunctions
 
-both_first : (a b : Bool) → (a && b) ≡ true → a ≡ true
-both_first true b h = refl
-both_first false b h = absurd (true≢false (sym h))
-
-both_second : (a b : Bool) → (a && b) ≡ true → b ≡ true
-both_second true b h = h
-both_second false b h = absurd (true≢false (sym h))
-
-or_second : (a b : Bool) → (a || b) ≡ false → b ≡ false
-or_second true b h = absurd (true≢false h)
-or_second false b h = h
-
-or_first : (a b : Bool) → (a || b) ≡ false → a ≡ false
-or_first true b h = h
-or_first false b h = refl
-
 unless_first : (a b : Bool) → a ≡ false → (a || b) ≡ true → b ≡ true
 unless_first true b e h = absurd (true≢false e)
 unless_first false b e h = h
@@ -79,7 +63,7 @@ span_found [] at first bits h = absurd (true≢false (sym h))
 span_found (m ∷ rest) at first bits h = by ((at == first) && (m.bits == bits)) refl (λ later. span_found rest (at + m.bits) first bits later)
   where
     by : (b : Bool) → ((at == first) && (m.bits == bits)) ≡ b → (has_span rest (at + m.bits) first bits ≡ true → Found rest (at + m.bits) first bits) → Found (m ∷ rest) at first bits
-    by true e below = (zero, m, refl, (let same : at ≡ first = eqb-true at first (both_first _ _ e) in omega (arith, same)), eqb-true m.bits bits (both_second _ _ e))
+    by true e below = (zero, m, refl, (let same : at ≡ first = eqb-true at first (and_parts _ _ e).0 in omega (arith, same)), eqb-true m.bits bits (and_parts _ _ e).1)
     by false e below =
         let f = below (unless_first ((at == first) && (m.bits == bits)) (has_span rest (at + m.bits) first bits) e h) in
         let total = sum_by-cons (λ (m : Mapped). m.bits) m (take f.0 rest) in
@@ -91,12 +75,12 @@ span_at sent [] direction at k m h there object = absurd (cc)
 span_at sent (x ∷ xs) direction at zero m h there object =
     let same : x ≡ m = cc in
     let here : at + total_bits (take zero (x ∷ xs)) ≡ at = omega arith in
-    let first = both_first (is_dummy direction x || has_span sent 0 at x.bits) (spans_match sent direction xs (at + x.bits)) h in
+    let first = (and_parts (is_dummy direction x || has_span sent 0 at x.bits) (spans_match sent direction xs (at + x.bits)) h).0 in
     rw here (unless_first (is_dummy direction m) (has_span sent 0 at m.bits) object (rw same at first))
 span_at sent (x ∷ xs) direction at (suc k) m h there object =
     let total = sum_by-cons (λ (m : Mapped). m.bits) x (take k xs) in
     let here : at + total_bits (take (suc k) (x ∷ xs)) ≡ at + x.bits + total_bits (take k xs) = omega (arith, total) in
-    let rest = both_second (is_dummy direction x || has_span sent 0 at x.bits) (spans_match sent direction xs (at + x.bits)) h in
+    let rest = (and_parts (is_dummy direction x || has_span sent 0 at x.bits) (spans_match sent direction xs (at + x.bits)) h).1 in
     rw here (span_at sent xs direction (at + x.bits) k m rest there object)
 
 -- ---- the bits of a sent entry
@@ -130,8 +114,8 @@ unmapped_stay : (now : List Entry) (direction : Direction) (entries : List Mappe
     → entry_at (unpacked now direction entries bits) index sub ≡ entry_at now index sub
 unmapped_stay now direction [] bits index sub h = refl
 unmapped_stay now direction (m ∷ rest) bits index sub h =
-    unmapped_stay (received now direction m (take m.bits bits)) direction rest (drop m.bits bits) index sub (or_second _ _ h)
-    ∙ received_others now m (take m.bits bits) index sub (is_dummy direction m) (or_first _ _ h)
+    unmapped_stay (received now direction m (take m.bits bits)) direction rest (drop m.bits bits) index sub (or_parts _ _ h).1
+    ∙ received_others now m (take m.bits bits) index sub (is_dummy direction m) (or_parts _ _ h).0
 
 given : (o : Option Entry) (bits : ℕ) (value : List ℕ) → option_map_or (λ entry. has_bits bits (bits_of entry.description.data_type)) o false ≡ true
     → option_map (λ entry. entry.value) (option_map (valued value) o) ≡ Some value
@@ -172,7 +156,7 @@ sent_is_had sender receiver sent layout k m same all there object last =
     let first : ℕ = total_bits (take k layout.entries) in
     let next : k + 1 ≡ suc k = omega arith in
     let plain : 0 + first ≡ first = omega arith in
-    let spans = both_second (total_bits sent.entries == total_bits layout.entries) (spans_match sent.entries layout.direction layout.entries 0) same in
+    let spans = (and_parts (total_bits sent.entries == total_bits layout.entries) (spans_match sent.entries layout.direction layout.entries 0) same).1 in
     let f = span_found sent.entries 0 first m.bits (rw plain at (span_at sent.entries layout.entries layout.direction 0 k m spans there object)) in
     let begins : total_bits (take f.0 sent.entries) ≡ first = omega (arith, f.3) in
     let its : take m.bits (drop first (payload_bits sender sent)) ≡ bits_of_number m.bits (mapped_number sender sent.direction f.1) =

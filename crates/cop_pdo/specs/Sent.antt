@@ -1,5 +1,5 @@
 -- What a received object gets of what another node sends.
-use Rattle.std.specs.Prelude.{◌≡◌, ℕ, take, slice_get, Option, Some}
+use Rattle.std.specs.Prelude.{◌≡◌, ℕ, take, slice_get, Some}
 use Rattle.cop_dict.specs.declared.mapping.Mapped.{Mapped}
 use Rattle.cop_dict.specs.Mapping.{total_bits}
 use Rattle.cop_pdo.specs.Payload.{Layout}

@@ -13,9 +13,9 @@ use Rattle.cop_rows.specs.Pdos.{IsConsumer}
 use Rattle.cop_rows.specs.PdoReading.{consumer_from, consumer_of, consumers_of}
 
 -- what two steps gave, the first gave something to
-bound : {A B F : Type 0} (r : Result A F) (f : A → Result B F) (y : B) → (r >>= f) ≡ Ok y → (x : A) × (r ≡ Ok x) × (f x ≡ Ok y)
-bound (Ok x) f y h = (x, refl, h)
-bound (Err e) f y h = cc
+pub bind_ok : {A B F : Type 0} (r : Result A F) (f : A → Result B F) (y : B) → (r >>= f) ≡ Ok y → (x : A) × (r ≡ Ok x) × (f x ≡ Ok y)
+bind_ok (Ok x) f y h = (x, refl, h)
+bind_ok (Err e) f y h = cc
 
 in_range : (column : Column) (least most n m : ℕ) (t : Bool) → is_within least most n ≡ t → (if t then Ok n else Err (rules.Value column)) ≡ Ok m → (least ≤ m) × (m ≤ most)
 in_range column least most n m true t h =
@@ -30,8 +30,8 @@ consumer_from_ok : (texts : List (List ℕ)) (c : Consumer) → consumer_from te
 consumer_from_ok [] c h = cc
 consumer_from_ok (first ∷ []) c h = cc
 consumer_from_ok (first ∷ second ∷ []) c h =
-    let p = bound (number_within columns.Consumers 1 127 first) _ c h in
-    let q = bound (number_within columns.Consumers 1 512 second) _ c p.2 in
+    let p = bind_ok (number_within columns.Consumers 1 127 first) _ c h in
+    let q = bind_ok (number_within columns.Consumers 1 512 second) _ c p.2 in
     let e : record { node = p.0; rpdo = q.0 } ≡ c = cc in
     let n = ranged columns.Consumers 1 127 (number_of 10 first) p.0 p.1 in
     let r = ranged columns.Consumers 1 512 (number_of 10 second) q.0 q.1 in
@@ -43,8 +43,8 @@ each_all : {A B F : Type 0} (P : B → Type 0) (f : A → Result B F) (good : (a
 unfolding each
 each_all P f good [] ys h = let e : [] ≡ ys = cc in rw (← e) (All-nil P)
 each_all P f good (x ∷ xs) ys h =
-    let p = bound (f x) _ ys h in
-    let q = bound (each f xs) _ ys p.2 in
+    let p = bind_ok (f x) _ ys h in
+    let q = bind_ok (each f xs) _ ys p.2 in
     let e : p.0 ∷ q.0 ≡ ys = cc in
     rw (← e) (All-cons P p.0 q.0 (good x p.0 p.1) (each_all P f good xs q.0 q.1))
 

@@ -1,6 +1,7 @@
 use Rattle.std.proofs.Common.{arith, sym, ap, ◌∙◌}
+use Rattle.std.proofs.lemmas.List.{get_or_default}
 use Rattle.cop_dict.specs.Find.{is_at}
-use Rattle.cop_dict.proofs.SearchLemmas.{none_at, get_or_same}
+use Rattle.cop_dict.proofs.SearchLemmas.{none_at}
 use Rattle.cop_dict.proofs.search.place_of.Goals as goal
 
 pub returns-in_err-object-clause-absent : goal.returns-in_err-object-clause-absent
@@ -15,5 +16,5 @@ returns-else-is_at-clause-absent c =
     let place = c.count_before-place.result in
     let object = c.in_ok-object.object.now in
     none_at dict c.args.index c.args.sub place c.requires c.count_before-place.ensures.parted
-    (λ d lt. ap (is_at c.args.index c.args.sub) (get_or_same dict place d object lt ∙ sym c.in_ok-object.ensures.lookup.1)
+    (λ d lt. ap (is_at c.args.index c.args.sub) (get_or_default dict place d object lt ∙ sym c.in_ok-object.ensures.lookup.1)
     ∙ sym c.is_at.ensures ∙ c.if-is_at.false)

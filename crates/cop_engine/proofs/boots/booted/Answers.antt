@@ -3,7 +3,7 @@ use Rattle.std.specs.List.{AllPairs}
 use Rattle.cop_engine.specs.Turns.{turns_drawn}
 use Rattle.cop_engine.specs.Boots.{manager_of, device_at}
 use Rattle.cop_engine.proofs.BootLemmas.{IsUpTo, nodes_low, nodes_rise, nodes_few, booted_so}
-use Rattle.cop_engine.proofs.BootedLemmas.{pdo_ids, can_boot}
+use Rattle.cop_engine.proofs.BootedLemmas.{pdo_ids, can_boot, plan_of}
 use Rattle.cop_engine.proofs.boots.booted.Goals as goal
 
 pub manager_of-requires-clause-nodes : goal.manager_of-requires-clause-nodes
@@ -22,7 +22,9 @@ pub returns : goal.returns
 returns c =
     let net = c.args.network.now in
     let ids = c.args.plan.now.ids in
+    let range = pdo_ids net.equipment.rates net.set (length net.rows) c.args.plan.now c.requires.planned in
     booted_so c.args.seed net ids c.in_ok-nodes.nodes.items c.deref-5.result.now c.in_ok-manager.manager _ c.deref_mut.result.now _ c.deref-4.result.now c.boot_text.result
     c.in_ok-nodes.ensures (c.in_ok-manager.ensures ∙ ap (manager_of net ids) c.deref.ensures.value) (c.deref_mut.ensures.value ∙ c.in_ok-devices.ensures ∙ ap (λ ns. map (device_at net) ns) c.deref-2.ensures.value)
     (c.deref-4.ensures.value ∙ c.in_ok-turns.ensures ∙ ap (turns_drawn c.args.seed) c.deref-3.ensures.value) c.deref-5.ensures.value c.in_ok-run_schedule.ensures.runs
-    (can_boot net c.requires.network ids (pdo_ids net.equipment.rates net.set (length net.rows) c.args.plan.now c.requires.planned)) c.in_ok-run_schedule.ensures.configures c.boot_text.ensures
+    (can_boot net c.requires.network ids range) c.in_ok-run_schedule.ensures.configures c.in_ok-run_schedule.ensures.in_time c.in_ok-run_schedule.ensures.exist
+    (plan_of net c.requires.network ids range) c.boot_text.ensures
