@@ -1,12 +1,14 @@
 -- Places filled one after the other: what holds on the way.
-use Rattle.std.proofs.Common.{◌≡◌, ◌≢◌, ℕ, zero, suc, ◌+◌, ◌-◌, ◌*◌, mul-le-mul, ◌<◌, ◌≤◌, ◌⊎◌, inl, inr, Bool, true, false, ◌==◌, ◌||◌, ◌&&◌, nat_lt, if◌then◌else◌, List, [], ◌∷◌, ◌++◌, length, set, refl, sym, ap, ◌∙◌, subst, arith, true≢false, length-append}
+use Rattle.std.proofs.Common.{◌≡◌, ◌≢◌, ℕ, zero, suc, ◌+◌, ◌-◌, ◌*◌, mul-le-mul, ◌<◌, ◌≤◌, ◌⊎◌, inl, inr, Bool, true, false, ◌==◌, ◌||◌, ◌&&◌, nat_lt, not, map, if◌then◌else◌, List, [], ◌∷◌, ◌++◌, length, set, refl, sym, ap, ◌∙◌, subst, arith, true≢false, length-append}
 use Rattle.std.proofs.lemmas.Bool.{cases_eq, cases_lt, cases_Bool, eq-eqb, ne_eqb, lt-ltb, ltb-true, le-ltb}
-use Rattle.std.proofs.lemmas.List.{append_assoc, append-nil, get_or-set_same, get_or-set_other}
-use Rattle.std.proofs.lemmas.Option.{unwrap_or-slice_get}
+use Rattle.std.proofs.lemmas.List.{append_assoc, append-nil, length-set, length-map, get_or-set_same, get_or-set_other}
+use Rattle.std.proofs.lemmas.Option.{unwrap_or-slice_get, slice_get_past}
 use Rattle.cop_frame.specs.declared.rates.Rate.{Rate}
 use Rattle.cop_rta.specs.declared.streams.Stream.{Stream}
 use Rattle.cop_rta.specs.Test.{Passes, flagged_place, is_flagged}
 use Rattle.cop_rta.specs.Sums.{sum_where}
+use Rattle.cop_rta.specs.Levels.{Flags, place_in}
+use Rattle.cop_rta.specs.Placing.{HasOneAbove}
 use Rattle.cop_rta.proofs.MoreAbove.{passes_under_fewer}
 use Rattle.cop_cert.specs.Assignments.{least_id}
 use Rattle.cop_cert.specs.Sets.{trial, is_in_trial, IsRefusalSet, IsGreatestRefusalSet}
@@ -364,3 +366,108 @@ pub trials_fit : (trials old left pdos : ℕ) → pdos ≤ 1100 → old ≤ 8589
 trials_fit trials old left pdos few low h =
     let most : pdos * (pdos + 1) ≤ 1100 * 1101 = mul-le-mul {n₁ = pdos} {m₁ = pdos + 1} {n₂ = 1100} {m₂ = 1101} few (omega (arith, few)) in
     omega (arith, h, most, few, low)
+
+-- ---- places filled one after the other: where some place is left, its flags are of the PDOs that have none yet
+
+pub record Fills (first now : Flags) (pdos placed : ℕ) (fill : List ℕ) : Type 0 where
+  pub left : List Bool
+  pub size : length left ≡ length first.streams
+  pub flags : AreTrial first.streams pdos left
+  pub goes : Goes first.rate first.streams pdos fill (left_of pdos left)
+  pub placed_are : length fill ≡ placed
+  pub same : placed < pdos → now ≡ record first { flags = left }
+
+pub fills_first : (first : Flags) (pdos : ℕ) (fill : List ℕ) → length first.flags ≡ length first.streams
+    → ((k : ℕ) → is_flagged first.flags k ≡ is_in_trial least_id first.streams pdos (λ p. nat_lt p pdos) k) → fill ≡ [] → Fills first first pdos 0 fill
+fills_first first pdos fill size trial none = record {
+  left = first.flags;
+  size = size;
+  flags = trial_first first.streams pdos first.flags trial;
+  goes = rw none (goes_from_flags first.rate first.streams pdos first.flags trial);
+  placed_are = rw none refl;
+  same = λ _. refl;
+}
+
+module _ (first now : Flags) (pdos placed : ℕ) (fill : List ℕ) (few : pdos ≤ length first.streams) (f : Fills first now pdos placed fill) (some : placed < pdos) where
+  pub fills_streams : now.streams ≡ first.streams
+  fills_streams = ap (λ (v : Flags). v.streams) (f.same some)
+
+  pub fills_rate : now.rate ≡ first.rate
+  fills_rate = ap (λ (v : Flags). v.rate) (f.same some)
+
+  fills_flags : now.flags ≡ f.left
+  fills_flags = ap (λ (v : Flags). v.flags) (f.same some)
+
+  -- as many are flagged as have no place yet
+  pub fills_left : count pdos (is_flagged now.flags) ≡ pdos - placed
+  fills_left = rw fills_flags (flagged_left first.rate first.streams pdos placed fill f.left f.goes f.placed_are)
+
+  -- one of them takes the place
+  pub fills_next : (pdo : ℕ) (after : Flags) (longer : List ℕ) → pdo < pdos → is_flagged now.flags pdo ≡ true → Passes (place_in now pdo)
+      → ((r : ℕ) → r < pdos → pdo < r → is_flagged now.flags r ≡ true → Passes (place_in now r) → ⊥)
+      → longer ≡ fill ++ pdo ∷ [] → (placed + 1 < pdos → after ≡ record now { flags = set now.flags pdo false }) → Fills first after pdos (placed + 1) longer
+  fills_next pdo after longer below flag passes last is lowered = record {
+    left = set f.left pdo false;
+    size = length-set f.left pdo false ∙ f.size;
+    flags = trial_next first.streams pdos pdo f.left below inside f.flags;
+    goes = rw is (goes_next first.rate first.streams pdos pdo fill f.left few below inside f.flags f.goes (rw fills_flags at flag)
+        (subst (λ (v : Flags). Passes (place_in v pdo)) (f.same some) passes)
+        (λ r low up on good. last r low up (rw fills_flags on) (subst (λ (v : Flags). Passes (place_in v r)) (sym (f.same some)) good)));
+    placed_are = rw is (simp length-append (omega (arith, f.placed_are)));
+    same = λ more. lowered more ∙ ap (λ (v : Flags). record v { flags = set v.flags pdo false }) (f.same some);
+  }
+    where
+      inside : pdo < length f.left
+      inside = omega (arith, below, few, f.size)
+
+  -- and another is left above
+  pub fills_another : (pdo : ℕ) → pdo < pdos → is_flagged now.flags pdo ≡ true → placed + 1 < pdos → HasOneAbove (set now.flags pdo false)
+  fills_another pdo below flag more =
+      let inside : pdo < length now.flags = omega (arith, below, few, f.size, ap length fills_flags) in
+      let fewer : suc (count pdos (is_flagged (set now.flags pdo false))) ≡ count pdos (is_flagged now.flags) =
+      count_less pdos pdo (is_flagged now.flags) (is_flagged (set now.flags pdo false)) below flag (flag_gone now.flags pdo inside) (λ k apart. flag_kept now.flags pdo k apart) in
+      let found = count_some pdos (is_flagged (set now.flags pdo false)) (omega (arith, fewer, fills_left, more)) in
+      (found.0, omega (arith, found.1, few, f.size, ap length fills_flags, length-set now.flags pdo false), found.2)
+
+  -- none of them passes
+  pub fills_stuck : (members : List ℕ) → ((k : ℕ) → is_listed members k ≡ (nat_lt k pdos && is_flagged now.flags k))
+      → ((r : ℕ) → r < pdos → is_flagged now.flags r ≡ true → Passes (place_in now r) → ⊥)
+      → IsGreatestRefusalSet least_id first.rate first.streams pdos (is_listed members)
+  fills_stuck members exact none =
+      goes_no_further first.rate first.streams pdos fill members (left_of pdos f.left) f.goes (omega (arith, f.placed_are, some)) (rw fills_flags at exact)
+      (λ r below left passes.
+      none r below (rw fills_flags (left_is_flagged pdos r f.left left))
+      (subst (λ (v : Flags). Passes (place_in v r)) (sym (f.same some)) (trial_was first.rate first.streams pdos r f.left f.flags passes)))
+
+-- each PDO has its place
+pub fills_whole : (first now : Flags) (pdos placed : ℕ) (fill : List ℕ) → Fills first now pdos placed fill → placed ≡ pdos → IsWhole pdos fill × IsFilling first.rate first.streams pdos fill
+fills_whole first now pdos placed fill f all =
+    goes_to_end first.rate first.streams pdos fill (left_of pdos f.left) f.goes (f.placed_are ∙ all)
+
+-- ---- the flags of what is below each PDO
+
+turned_at : (flags : List Bool) (k : ℕ) → k < length flags → is_flagged (map not flags) k ≡ not (is_flagged flags k)
+turned_at [] k h = absurd (omega arith)
+turned_at (b ∷ flags) zero h = refl
+turned_at (b ∷ flags) (suc k) h = turned_at flags k (omega arith)
+
+pub flags_of_trial : (streams : List Stream) (pdos : ℕ) (flags : List Bool) → pdos ≤ length streams → length flags ≡ length streams
+    → ((k : ℕ) → k < length streams → is_flagged flags k ≡ not (is_in_trial least_id streams pdos (λ p. nat_lt p pdos) k))
+    → (k : ℕ) → is_flagged (map not flags) k ≡ is_in_trial least_id streams pdos (λ p. nat_lt p pdos) k
+flags_of_trial streams pdos flags few size each k = go (cases_lt k (length streams))
+  where
+    twice : (b : Bool) → not (not b) ≡ b
+    twice true = refl
+    twice false = refl
+
+    go : (k < length streams) ⊎ (length streams ≤ k) → is_flagged (map not flags) k ≡ is_in_trial least_id streams pdos (λ p. nat_lt p pdos) k
+    go (inl low) = turned_at flags k (omega (arith, low, size)) ∙ rw (each k low) (twice _)
+    go (inr past) =
+        rw (slice_get_past (map not flags) k (omega (arith, past, size, length-map flags not)))
+        (sym (trial_of_fixed streams pdos least_id (λ p. nat_lt p pdos) k (omega (arith, few, past)) ∙ rw (slice_get_past streams k past) refl))
+
+-- the first PDO is above
+pub first_is_above : (streams : List Stream) (pdos : ℕ) (flags : List Bool) → 1 ≤ pdos → pdos ≤ length streams → length flags ≡ length streams
+    → ((k : ℕ) → is_flagged flags k ≡ is_in_trial least_id streams pdos (λ p. nat_lt p pdos) k) → HasOneAbove flags
+first_is_above streams pdos flags some few size each =
+    (0, omega (arith, some, few, size), each 0 ∙ trial_of_pdo streams pdos least_id (λ p. nat_lt p pdos) 0 (omega (arith, some)) ∙ lt-ltb 0 pdos (omega (arith, some)))

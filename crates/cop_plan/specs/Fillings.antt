@@ -1,5 +1,5 @@
 -- Places filled from the lowest. A list has the PDO of the lowest place first.
-use Rattle.std.specs.Prelude.{◌≡◌, ℕ, ◌<◌, true, false, ◌==◌, if◌then◌else◌, List, [], ◌∷◌, length, All, AllPairs}
+use Rattle.std.specs.Prelude.{◌≡◌, ℕ, ◌+◌, ◌-◌, ◌<◌, true, false, ◌==◌, if◌then◌else◌, List, [], ◌∷◌, length, All, AllPairs}
 use Rattle.cop_frame.specs.declared.rates.Rate.{Rate}
 use Rattle.cop_rta.specs.declared.streams.Stream.{Stream}
 use Rattle.cop_rta.specs.Test.{Passes}
@@ -49,3 +49,8 @@ IsFound rate streams pdos (fillings.Stuck members) = IsStuck rate streams pdos m
 abbrev pub least_of : ℕ → Filling → ℕ
 least_of pdos (fillings.Whole fill) = pdos
 least_of pdos (fillings.Stuck members) = length members.items
+
+-- how many busy times it takes: one for each place that is looked at
+abbrev pub solved_of : ℕ → Filling → ℕ
+solved_of pdos (fillings.Whole fill) = pdos
+solved_of pdos (fillings.Stuck members) = pdos + 1 - length members.items

@@ -69,7 +69,7 @@ pub fn can_assign(set: &StreamSet, pdos: usize) -> bool
 /// assignment passes the response-time test; and a refusal for each slower one. `Err` is want of memory.
 ///
 /// At each rate it makes n(n+1)/2 trials at most for n PDOs; at least one for each PDO of a plan, and one for each member
-/// of a refusal. It counts them.
+/// of a refusal. It seeks n busy times at most for them; at least one where there is a PDO. It counts both.
 pub fn assign(
     alloc: Global,
     set: &StreamSet,
@@ -79,11 +79,16 @@ pub fn assign(
 ) -> Result<Outcome, AllocError>
     requires can { CanAssign set.now pdos }
     requires room { count.old.trials ≤ 2 ^ 32 }
+    requires busy_room { count.old.busy ≤ 2 ^ 32 }
     ensures outcome { IfOk result (IsOutcome rates.now set.now pdos) }
     ensures rises { count.old.trials ≤ count.new.trials }
     ensures trials { IfOk result (λ outcome. 2 * count.new.trials ≤ 2 * count.old.trials + rates_tried outcome * (pdos * (pdos + 1))) }
     ensures least { IfOk result (λ outcome. count.old.trials + least_trials pdos outcome ≤ count.new.trials) }
     ensures bounded { 2 * count.new.trials ≤ 2 * count.old.trials + 8 * (pdos * (pdos + 1)) }
+    ensures busy_rises { count.old.busy ≤ count.new.busy }
+    ensures busy { IfOk result (λ outcome. count.new.busy ≤ count.old.busy + rates_tried outcome * pdos) }
+    ensures busy_least { IfOk result (λ outcome. 1 ≤ pdos → count.old.busy + rates_tried outcome ≤ count.new.busy) }
+    ensures busy_bounded { count.new.busy ≤ count.old.busy + 8 * pdos }
 {
     let mut refusals = Items::new(alloc);
     for rate in Rate::ALL {

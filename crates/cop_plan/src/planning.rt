@@ -14,7 +14,7 @@ use std::alloc::{AllocError, Global};
 pub fn plan(alloc: Global, network: &Network<'_>) -> Result<Outcome, AllocError>
     ensures { IfOk result (IsOutcome network.now.equipment.rates network.now.set (length network.now.rows)) }
 {
-    let mut count = Count { trials: 0 };
+    let mut count = Count { trials: 0, busy: 0 };
     let rates = network.rates();
     assign(alloc, network.set(), network.pdos(), &rates, &mut count)
 }

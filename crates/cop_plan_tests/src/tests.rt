@@ -39,7 +39,7 @@ fn answer(alloc: Global, table: &[u8], candidates: &[Rate]) -> Result<(Outcome, 
     if !can_assign(&set, pdos) {
         return Err(Fail::from("not to be assigned"));
     }
-    let mut count = Count { trials: 0 };
+    let mut count = Count { trials: 0, busy: 0 };
     let outcome = assign(alloc, &set, pdos, &rates, &mut count)?;
     Ok((outcome, count.trials))
 }
@@ -269,7 +269,7 @@ fn the_largest_table_keeps_its_order(rt: HostRuntime) -> Result<(), Fail> {
     let set = largest(rt.alloc())?;
     let mut rates = RateSet::new();
     rates.insert(Rate::Kbit1000);
-    let mut count = Count { trials: 0 };
+    let mut count = Count { trials: 0, busy: 0 };
     assert!(rt; can_assign(&set, 512));
     let plan = plan_of(assign(rt.alloc(), &set, 512, &rates, &mut count)?)?;
     assert!(rt;

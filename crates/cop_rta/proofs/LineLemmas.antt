@@ -27,7 +27,7 @@ inverse_close period inverse is =
     omega (arith, most, e)
 
 -- numbers that are small enough
-exact : (time jitter period ahead inverse : ℕ) → time ≤ 2 ^ 35 → 0 < period → period ≤ 240000000 → jitter ≤ 240000000 → ahead ≡ jitter + (period - 1) → inverse ≡ (2 ^ 64 - 1) / period + 1
+pub exact : (time jitter period ahead inverse : ℕ) → time ≤ 2 ^ 35 → 0 < period → period ≤ 240000000 → jitter ≤ 240000000 → ahead ≡ jitter + (period - 1) → inverse ≡ (2 ^ 64 - 1) / period + 1
     → (time + ahead) * inverse / 2 ^ 64 ≡ div_ceil (time + jitter) period
 exact time jitter period ahead inverse early pos short few is_ahead is_inverse =
     let n : time + ahead ≡ time + jitter + period - 1 = omega (arith, is_ahead, pos) in

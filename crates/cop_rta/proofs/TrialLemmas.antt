@@ -91,3 +91,7 @@ module _ (p : Place) (s : Stream) (here : slice_get p.streams p.index ≡ Some s
 
   pub no_deadline : (t : ℕ) → s.deadline ≡ None → IsBusyTime p t → t ≤ horizon → Passes p
   no_deadline t never busy within = slack t (λ d due. absurd (cc)) busy within
+
+-- one deadline
+pub enough_for : (o : Option ℕ) (found d n : ℕ) → o ≡ Some found → o ≡ Some d → n ≤ found → n ≤ d
+enough_for o found d n is due le = let same : found ≡ d = cc in omega (arith, same, le)

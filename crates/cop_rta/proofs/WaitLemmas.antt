@@ -3,11 +3,11 @@ use Rattle.std.proofs.Common.{ℕ, ◌+◌, ◌-◌, ◌*◌, ◌<◌, ◌≤◌
 use Rattle.std.proofs.lemmas.Bool.{cases_lt}
 use Rattle.cop_rta.specs.declared.streams.Stream.{Stream}
 use Rattle.cop_rta.specs.Solutions.{IsLeastSolution}
-use Rattle.cop_rta.specs.Test.{Place, cost_at, cost_of, queueing_at, IsBusyTime, IsQueuedWithin, IsResponse}
-use Rattle.cop_rta.specs.Waits.{IsBelowWait}
-use Rattle.cop_rta.specs.TestLemmas.{queueing_at-mono}
+use Rattle.cop_rta.specs.Test.{Place, cost_at, cost_of, busy_at, queueing_at, IsBusyTime, IsQueuedWithin, IsResponse}
+use Rattle.cop_rta.specs.Waits.{IsBelowWait, IsBelowBusy}
+use Rattle.cop_rta.specs.TestLemmas.{busy_at-mono, queueing_at-mono}
 use Rattle.cop_rta.proofs.LeastLemmas.{least_exists, same_least, uncapped}
-use Rattle.cop_rta.proofs.QueueLemmas.{wait_exists_at}
+use Rattle.cop_rta.proofs.QueueLemmas.{wait_exists_at, busy_at_pos}
 
 pub none_below : (p : Place) → IsBelowWait p 0 0
 none_below p = λ y closed. zero-le
@@ -51,14 +51,11 @@ wait_from p q from w b low s =
       least = λ y start e. here.least y (b y (le_of_eq (sym e))) e;
     }
 
--- where none is found within the horizon, the instance is of no busy time
-pub no_wait_from : (p : Place) (t q from limit : ℕ) → p.index < length p.streams → IsBelowWait p q from → IsBusyTime p t → t ≤ limit → limit < 2 ^ 64 - 1 → IsQueuedWithin p t q
-    → ((x : ℕ) → from ≤ x → x ≤ limit → x ≡ min (queueing_at p q x) (2 ^ 64 - 1) → ⊥) → ⊥
-no_wait_from p t q from limit inside b busy within small queued none =
+-- an instance of a busy time has a wait within it
+pub has_wait : (p : Place) (t q limit : ℕ) → p.index < length p.streams → IsBusyTime p t → t ≤ limit → IsQueuedWithin p t q → ((w : ℕ) → IsLeastSolution (queueing_at p q) 0 w → limit < w) → ⊥
+has_wait p t q limit inside busy within queued none =
     let w = wait_exists_at p t q inside busy queued in
-    let solves : w.0 ≡ queueing_at p q w.0 = w.1.solves in
-    let low : w.0 ≤ t = omega (arith, w.2) in
-    none w.0 (b w.0 (le_of_eq (sym solves))) (omega arith) (omega arith)
+    omega (arith, none w.0 w.1, w.2, within)
 
 -- the response of an instance that waits so long
 pub responds : (p : Place) (s : Stream) (q w cost r : ℕ) → slice_get p.streams p.index ≡ Some s → cost ≡ cost_of p.rate s → IsLeastSolution (queueing_at p q) 0 w → r ≡ s.jitter + w + cost - q * s.period → IsResponse p q r
@@ -73,3 +70,13 @@ pub next_from : (p : Place) (s : Stream) (q w cost : ℕ) → slice_get p.stream
 next_from p s q w cost is c least =
     let e : cost_at p ≡ cost = rw is (sym c) in
     subst (λ (n : ℕ). IsBelowWait p (q + 1) (w + n)) e (next_below p q w (wait_below p q w least))
+
+-- the busy equation does not fall there either
+pub busy_rises : (p : Place) (from : ℕ) → p.index < length p.streams → 1 ≤ from → IsBelowBusy p from → from ≤ busy_at p from
+busy_rises p from inside start below = ⊎_elim
+    (λ (lt : busy_at p from < from).
+    let some : 1 ≤ busy_at p from = omega (arith, busy_at_pos p inside, busy_at-mono p 1 from start) in
+    let again : busy_at p (busy_at p from) ≤ busy_at p from = busy_at-mono p (busy_at p from) from (omega (arith, lt)) in
+    absurd (omega (arith, lt, below (busy_at p from) some again)))
+    (λ (le : from ≤ busy_at p from). le)
+    (cases_lt (busy_at p from) from)

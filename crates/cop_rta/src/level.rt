@@ -28,7 +28,7 @@ const MOST_BITS: u64 = 135;
 const MOST_COST: u64 = 54_000;
 
 /// The longest wait with which instance q of a stream of some cost meets a deadline, if any does.
-fn latest(stream: &Stream, cost: u64, deadline: u64, q: u64) -> Option<u64>
+pub(crate) fn latest(stream: &Stream, cost: u64, deadline: u64, q: u64) -> Option<u64>
     requires cost { cost ≤ 54000 }
     requires deadline { deadline ≤ 240000000 }
     requires queued { q * stream.now.period ≤ 280000000 }

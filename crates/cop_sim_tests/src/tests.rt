@@ -30,7 +30,7 @@ fn plan_of(alloc: Global, table: &[u8], pdos: usize, rates: &[Rate]) -> Result<P
     if !can_assign(&set, pdos) {
         return Err(Fail::from("not to be assigned"));
     }
-    let mut count = Count { trials: 0 };
+    let mut count = Count { trials: 0, busy: 0 };
     match assign(alloc, &set, pdos, &candidates, &mut count)? {
         Outcome::Planned(plan) => Ok(plan),
         Outcome::Refused(_) => Err(Fail::from("no rate passes")),

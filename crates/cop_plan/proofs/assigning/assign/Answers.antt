@@ -1,6 +1,6 @@
 use Rattle.std.proofs.Common.{◌+◌, ◌*◌, arith, length-append, length}
 use Rattle.cop_plan.proofs.FillingLemmas.{no_bit}
-use Rattle.cop_plan.proofs.AssignLemmas.{stuck_fails, greatest_is_made, passed_over, one_more, all_refused, refused_is_ruled_out, trials_more, least_more, plan_is}
+use Rattle.cop_plan.proofs.AssignLemmas.{stuck_fails, greatest_is_made, passed_over, one_more, all_refused, refused_is_ruled_out, trials_more, busy_more, least_more, plan_is}
 use Rattle.cop_plan.proofs.RateLemmas.{rate_at}
 use Rattle.cop_plan.proofs.assigning.assign.Goals as goal
 use Rattle.cop_plan.proofs.assigning.assign.Goals.{then-contains+in_ok-fill+in-Stuck+in_ok-make-in-Stuck+in_ok-push-in-Stuck, else-contains}
@@ -35,6 +35,9 @@ loop-rate-preserved c = elim c.if-contains.branch [
         least = least_more c.loop-rate.refusals w.in_ok-make-in-Stuck.field-0 w.deref.result.now c.args.count.now.trials c.loop-rate.count.trials w.fill.new.count.trials
             w.in_ok-make-in-Stuck.ensures.made.members_are.pdos_are c.loop-rate.invariant.least
             (rw (w.in-Stuck.is, ← w.deref.ensures.value) at w.in_ok-fill.ensures.least);
+        busy_rises = omega (arith, c.loop-rate.invariant.busy_rises, w.in_ok-fill.ensures.busy_rises);
+        busy = simp length-append (busy_more c.loop-rate.count.busy w.fill.new.count.busy c.args.count.now.busy (length c.loop-rate.refusals) c.args.pdos w.in_ok-fill.ensures.busy_most c.loop-rate.invariant.busy);
+        busy_least = λ some. simp length-append (omega (arith, c.loop-rate.invariant.busy_least some, w.in_ok-fill.ensures.busy_some some));
         trials = simp length-append (trials_more c.loop-rate.count.trials w.fill.new.count.trials c.args.count.now.trials (length c.loop-rate.refusals) (c.args.pdos * (c.args.pdos + 1))
             w.in_ok-fill.ensures.trials c.loop-rate.invariant.trials);
       })
@@ -44,6 +47,9 @@ loop-rate-preserved c = elim c.if-contains.branch [
     tried = omega (arith, c.loop-rate.invariant.tried);
     rises = c.loop-rate.invariant.rises;
     least = c.loop-rate.invariant.least;
+    busy_rises = c.loop-rate.invariant.busy_rises;
+    busy = c.loop-rate.invariant.busy;
+    busy_least = c.loop-rate.invariant.busy_least;
     trials = c.loop-rate.invariant.trials;
   })
 ]

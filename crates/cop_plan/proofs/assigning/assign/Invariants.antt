@@ -9,5 +9,8 @@ invariant-loop-rate l = record {
   tried : length l.refusals ≤ l.rate-index;
   rises : l.fn.count.trials ≤ l.count.trials;
   least : l.fn.count.trials + members_in l.refusals ≤ l.count.trials;
+  busy_rises : l.fn.count.busy ≤ l.count.busy;
+  busy : l.count.busy ≤ l.fn.count.busy + length l.refusals * l.pdos;
+  busy_least : 1 ≤ l.pdos → l.fn.count.busy + length l.refusals ≤ l.count.busy;
   trials : 2 * l.count.trials ≤ 2 * l.fn.count.trials + length l.refusals * (l.pdos * (l.pdos + 1));
 }

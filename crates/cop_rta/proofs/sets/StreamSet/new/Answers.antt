@@ -3,4 +3,4 @@ use Rattle.cop_rta.proofs.StreamsKept.{none_kept}
 use Rattle.cop_rta.proofs.sets.StreamSet.new.Goals as goal
 
 pub invariant_of-result : goal.invariant_of-result
-invariant_of-result c = none_kept _ _ c.new.ensures.items refl
+invariant_of-result c = none_kept _ _ _ c.new.ensures.items refl c.new-2.ensures.items

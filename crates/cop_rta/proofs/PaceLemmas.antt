@@ -1,0 +1,62 @@
+-- The pace of a stream.
+use Rattle.std.proofs.Common.{◌≡◌, ℕ, ◌+◌, ◌-◌, ◌*◌, ◌/◌, ◌^◌, ◌<◌, ◌≤◌, ◌⊎◌, inl, inr, length, List, [], ◌∷◌, ◌++◌, get_or, slice_get, Some, None, arith, refl, sym, ap, ◌∙◌, length-append}
+use Rattle.std.proofs.lemmas.Bool.{cases_eq}
+use Rattle.std.proofs.lemmas.List.{get_or_append_left}
+use Rattle.std.proofs.Math.Seq.{get_or-append_seam}
+use Rattle.std.proofs.lemmas.Option.{slice_get_cases, slice_get_read, slice_get-get_or, slice_get_within, get_or_from_slice_get}
+use Rattle.cop_frame.specs.declared.rates.Rate.{Rate}
+use Rattle.cop_frame.specs.Rate.{ticks_of}
+use Rattle.cop_rta.specs.declared.streams.Stream.{Stream}
+use Rattle.cop_rta.specs.declared.paces.Pace.{Pace}
+use Rattle.cop_rta.specs.Test.{of_stream, cost_of, load_of}
+use Rattle.cop_rta.specs.Paces.{last_time, counted_in, IsPaceOf, ArePacesOf}
+use Rattle.cop_rta.proofs.LineLemmas.{exact}
+
+pub pace_made : (s : Stream) (pace : Pace) → pace.bits ≡ 55 + 10 * s.bytes → pace.ahead ≡ s.jitter + (s.period - 1) → pace.inverse ≡ (2 ^ 64 - 1) / s.period + 1 → IsPaceOf s pace
+pace_made s pace bits ahead inverse = record {
+  bits = bits;
+  instances = λ time early. exact time s.jitter s.period pace.ahead pace.inverse early (omega (arith, s.period_least)) s.period_most s.jitter_in_range ahead inverse;
+}
+
+module _ (rate : Rate) (streams : List Stream) (paces : List Pace) (are : ArePacesOf streams paces) (k : ℕ) (pace : Pace) (inside : k < length paces) (here : pace ≡ get_or paces k pace) where
+  pace_here : (s : Stream) → slice_get streams k ≡ Some s → IsPaceOf s pace
+  pace_here s there = are.each k s pace there (slice_get_read paces (length paces) k pace refl inside here)
+
+  pub load_by_pace : (t : ℕ) → t ≤ last_time → counted_in t pace * (pace.bits * ticks_of rate) ≡ of_stream (load_of rate t) streams k
+  load_by_pace t early = go (slice_get_cases streams k).1
+    where
+      go : ((s : Stream) × (k < length streams) × (slice_get streams k ≡ Some s) × (get_or streams k s ≡ s)) ⊎ ((length streams ≤ k) × (slice_get streams k ≡ None))
+          → counted_in t pace * (pace.bits * ticks_of rate) ≡ of_stream (load_of rate t) streams k
+      go (inl s) = rw (s.2, (pace_here s.0 s.2).instances t early, (pace_here s.0 s.2).bits) refl
+      go (inr past) = absurd (omega (arith, past.0, inside, are.count))
+
+  pub cost_by_pace : pace.bits * ticks_of rate ≡ of_stream (cost_of rate) streams k
+  cost_by_pace = go (slice_get_cases streams k).1
+    where
+      go : ((s : Stream) × (k < length streams) × (slice_get streams k ≡ Some s) × (get_or streams k s ≡ s)) ⊎ ((length streams ≤ k) × (slice_get streams k ≡ None))
+          → pace.bits * ticks_of rate ≡ of_stream (cost_of rate) streams k
+      go (inl s) = rw (s.2, (pace_here s.0 s.2).bits) refl
+      go (inr past) = absurd (omega (arith, past.0, inside, are.count))
+
+-- the paces of no stream
+pub no_paces : (streams : List Stream) (paces : List Pace) → streams ≡ [] → paces ≡ [] → ArePacesOf streams paces
+no_paces streams paces none too = rw (none, too) (record { count = refl; each = λ k s pace there here. absurd (omega (arith, slice_get_within [] k s there)) })
+
+-- the pace of a stream more
+pub paces_more : (streams : List Stream) (paces : List Pace) (s : Stream) (pace : Pace) → ArePacesOf streams paces → IsPaceOf s pace → ArePacesOf (streams ++ s ∷ []) (paces ++ pace ∷ [])
+paces_more streams paces s pace are is = record {
+  count = simp length-append (omega (arith, are.count));
+  each = λ k t other there here. go k t other there here (cases_eq k (length streams));
+}
+  where
+    go : (k : ℕ) (t : Stream) (other : Pace) → slice_get (streams ++ s ∷ []) k ≡ Some t → slice_get (paces ++ pace ∷ []) k ≡ Some other → (k ≡ length streams) ⊎ (k ≡ length streams → ⊥) → IsPaceOf t other
+    go k t other there here (inl e) =
+        let stream : s ≡ t = sym (get_or-append_seam streams s [] s) ∙ ap (λ (j : ℕ). get_or (streams ++ s ∷ []) j s) (sym e) ∙ get_or_from_slice_get (streams ++ s ∷ []) k t s there in
+        let mine : pace ≡ other = sym (get_or-append_seam paces pace [] pace) ∙ ap (λ (j : ℕ). get_or (paces ++ pace ∷ []) j pace) (are.count ∙ sym e) ∙ get_or_from_slice_get (paces ++ pace ∷ []) k other pace here in
+        rw (← stream, ← mine) is
+    go k t other there here (inr apart) =
+        let in_longer : k < length streams + 1 = omega (arith, slice_get_within (streams ++ s ∷ []) k t there, length-append streams (s ∷ [])) in
+        let low : k < length streams = omega (arith, in_longer, apart) in
+        let stream : slice_get streams k ≡ Some t = slice_get-get_or streams k t low ∙ ap (λ (x : Stream). Some x) (sym (get_or_append_left streams (s ∷ []) t k low) ∙ get_or_from_slice_get (streams ++ s ∷ []) k t t there) in
+        let mine : slice_get paces k ≡ Some other = slice_get-get_or paces k other (omega (arith, low, are.count)) ∙ ap (λ (x : Pace). Some x) (sym (get_or_append_left paces (pace ∷ []) other k (omega (arith, low, are.count))) ∙ get_or_from_slice_get (paces ++ pace ∷ []) k other other here) in
+        are.each k t other stream mine
