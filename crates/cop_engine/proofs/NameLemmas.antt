@@ -12,6 +12,7 @@ use Rattle.cop_rows.specs.declared.refusals.Refusal.{Refusal}
 use Rattle.cop_rows.specs.declared.node_table.DeviceRow.{DeviceRow}
 use Rattle.cop_rows.specs.declared.node_table.FrameRow.{FrameRow}
 use Rattle.cop_rows.specs.Names.{is_name}
+use Rattle.cop_rows.proofs.RangeLemmas.{bind_ok}
 use Rattle.cop_rows.specs.Fields.{number_within, name_of}
 use Rattle.cop_rows.specs.Nodes.{NodeLists}
 use Rattle.cop_rows.specs.Refusals.{placed, refuse}
@@ -20,10 +21,6 @@ use Rattle.cop_rows.specs.NodeReading.{kind_of, is_device, frame_in, device_in, 
 -- the device and its EDS file have names
 abbrev pub HasNames : DeviceRow → Type 0
 HasNames row = IsTrue (is_name row.name) × IsTrue (is_name row.eds)
-
-bind_ok : {A B F : Type 0} (r : Result A F) (f : A → Result B F) (x : B) → (r >>= f) ≡ Ok x → (a : A) × (r ≡ Ok a) × (f a ≡ Ok x)
-bind_ok (Ok a) f x h = (a, refl, h)
-bind_ok (Err e) f x h = cc
 
 name_is : (column : Column) (text name : List ℕ) → name_of column text ≡ Ok name → IsTrue (is_name name)
 name_is column text name h = by_test (is_name text) refl h
