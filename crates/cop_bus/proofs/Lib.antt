@@ -32,3 +32,4 @@ pub mod Appended
 pub mod HexLemmas
 pub mod RankLemmas
 pub mod QueueLemmas
+pub mod PlacedLemmas

@@ -7,7 +7,7 @@ use Rattle.std.proofs.lemmas.List.{length-replicate}
 use Rattle.cop_bus.specs.Rings.{RingValue, any_in}
 use Rattle.cop_bus.specs.declared.bus.Instance.{Instance}
 use Rattle.cop_bus.specs.declared.ranking.Rank.{Rank}
-use Rattle.cop_bus.specs.Ranks.{rank_at, IsFirstOf, IsFirst}
+use Rattle.cop_bus.specs.Ranks.{IsFirstOf}
 use Rattle.cop_bus.specs.Queues.{ring_rank, AreQueued}
 use Rattle.cop_bus.proofs.RankLemmas.{none-held}
 

@@ -1,12 +1,20 @@
-//! The bus itself: instances wait, and the one with the lowest identifier is sent.
+//! The bus itself: instances wait in rings, and the one with the lowest identifier is sent.
 
-ghost use Rattle.std.specs.Prelude.{◌≡◌, ◌≢◌, ◌+◌, ◌^◌, ◌<◌, ◌≤◌, ◌∷◌, ◌++◌, [], ◌↔◌, All, AllPairs, OnOk, OnErr, IfSome, IfNone, None, Some, ℕ, ◌*◌};
+ghost use Rattle.std.specs.Prelude.{◌≡◌, ◌≢◌, ◌+◌, ◌^◌, ◌<◌, ◌≤◌, ◌∷◌, ◌++◌, [], ◌↔◌, All, AllPairs, Any, OnOk, OnErr, IfOk, IfSome, IfNone, IsOk, None, Some, true, false, ℕ, ◌*◌, length, slice_get, slice_set};
 ghost use Rattle.cop_frame.specs.Rate.{ticks_of};
-ghost use Rattle.cop_bus.specs.Bus.{IsLowestAt, Starts, IsApart, is_lower};
+ghost use Rattle.cop_rta.specs.Streams.{AreDistinct};
+ghost use Rattle.cop_bus.specs.Bus.{ArePlaced, IsLowestAt, Starts, is_lower, without_first};
+ghost use Rattle.cop_bus.specs.declared.bus.Instance.{Instance as Seen};
+ghost use Rattle.cop_bus.specs.Queues.{IsLowest};
+ghost use Rattle.cop_bus.specs.Rings.{RingValue, rings_of};
 
+use crate::queues::{First, Queues};
+use crate::rings::{Full, Ring, rings_of};
 use crate::steps::Content;
 use cop_frame::Rate;
+use cop_rta::{Stream, StreamSet};
 use std::alloc::{AllocError, Global};
+use std::collections::BTreeMap;
 use std::marker::Model;
 
 /// An instance of a stream: the moments at which it is queued and of its event, in ticks, and its frame.
@@ -25,39 +33,81 @@ pub struct Started {
     pub joined: bool,
 }
 
-/// A bus: the instances that wait, as they were queued, and the transfer that runs.
+/// A bus: the ring of each stream with the instances that wait, which an ordered map finds by the identifier, and the
+/// transfer that runs. All memory is taken when it is made.
 #[derive(Drop)]
 pub struct Bus {
     rate: Rate,
-    waiting: Vec<Instance>,
+    places: BTreeMap<u16, usize>,
+    queues: Queues,
     running: Option<(u64, u16)>,
 }
 
 impl Model for Bus {
-    ghost use Rattle.cop_bus.specs.Bus.{Bus as Seen};
+    ghost use Rattle.cop_bus.specs.Bus.{Bus as Seen, ArePlaced};
 
     ghost Value = { Seen };
 
-    ghost view = { λ b. record { rate = b.rate; waiting = b.waiting.items; running = b.running } };
+    ghost view = { λ b. record { rate = b.rate; rings = b.queues; running = b.running } };
+
+    ghost invariant = { λ b. ArePlaced b.places b.queues };
+}
+
+fn has_ring(rings: &[Ring], id: u16) -> bool
+    ensures there { result ≡ true → Any (λ r. r.id ≡ id) rings.now }
+    ensures none { result ≡ false → All (λ r. r.id ≢ id) rings.now }
+{
+    for ring in rings {
+        if ring.id() == id {
+            return true;
+        }
+    }
+    false
+}
+
+// Where the stream of each identifier stands.
+fn places_of(alloc: Global, streams: &[Stream]) -> Result<BTreeMap<u16, usize>, AllocError>
+    requires { AreDistinct streams.now }
+    ensures { IfOk result (λ places. ArePlaced places (rings_of streams.now)) }
+{
+    let mut places = BTreeMap::new(alloc);
+    for i in 0..streams.len() {
+        match places.insert(streams[i].id, i) {
+            Ok(_) => {}
+            Err(_) => return Err(AllocError),
+        }
+    }
+    Ok(places)
 }
 
 impl Bus {
-    /// A bus on which nothing waits or runs.
-    pub fn new(alloc: Global, rate: Rate) -> Bus
-        ensures { result ≡ record { rate = rate; waiting = []; running = None } }
+    /// A bus on which nothing waits or runs, with room for as many instances of each stream of the set as
+    /// [`most_of`](crate::most_of) says.
+    pub fn with_rings(alloc: Global, streams: &StreamSet, rate: Rate) -> Result<Bus, AllocError>
+        ensures { IfOk result (λ bus. bus ≡ record { rate = rate; rings = rings_of streams.now; running = None }) }
     {
-        Bus {
+        let streams = streams.streams();
+        Ok(Bus {
             rate,
-            waiting: Vec::new(alloc),
+            places: places_of(alloc, streams)?,
+            queues: Queues::new(alloc, rings_of(alloc, streams)?)?,
             running: None,
-        }
+        })
     }
 
-    /// The instances that wait, as they were queued.
-    pub fn waiting(&self) -> &[Instance]
-        ensures { result.now ≡ self.now.waiting }
+    /// The rings, in the order of the set.
+    pub fn rings(&self) -> &[Ring]
+        ensures { result.now ≡ self.now.rings }
     {
-        &self.waiting
+        self.queues.rings()
+    }
+
+    /// Whether a stream of the identifier is in the set.
+    pub fn has_stream(&self, id: u16) -> bool
+        ensures there { result ≡ true → Any (λ r. r.id ≡ id) self.now.rings }
+        ensures none { result ≡ false → All (λ r. r.id ≢ id) self.now.rings }
+    {
+        has_ring(self.queues.rings(), id)
     }
 
     /// The moment at which the transfer that runs ends, and its identifier.
@@ -67,13 +117,22 @@ impl Bus {
         self.running
     }
 
-    /// Lets an instance wait behind the others. `Err` is want of memory: nothing has changed.
-    pub fn queue(&mut self, instance: Instance) -> Result<(), AllocError>
-        ensures ok { OnOk result (self.new ≡ record self.old { waiting = self.old.waiting ++ instance ∷ [] }) }
+    /// Lets an instance wait behind the others of its stream, which is in the set. It takes no memory. `Err` where the
+    /// stream's ring is full: nothing has changed.
+    pub fn queue(&mut self, instance: Instance) -> Result<(), Full>
+        requires { Any (λ r. r.id ≡ instance.id) self.old.rings }
+        ensures room { (place : ℕ) (r : RingValue) → slice_get self.old.rings place ≡ Some r → r.id ≡ instance.id → (IsOk result ↔ (length r.waiting < r.most)) }
+        ensures ok { (place : ℕ) (r : RingValue) → slice_get self.old.rings place ≡ Some r → r.id ≡ instance.id
+            → OnOk result (self.new ≡ record self.old { rings = slice_set self.old.rings place (record r { waiting = r.waiting ++ instance ∷ [] }) }) }
         ensures err { OnErr result (self.new ≡ self.old) }
     {
-        self.waiting.push(instance)?;
-        Ok(())
+        match self.places.get(&instance.id) {
+            Some(place) => {
+                let place = *place;
+                self.queues.queue(place, instance)
+            }
+            None => Err(Full {}),
+        }
     }
 
     /// Starts the transfer of the lowest identifier among the instances that wait and the joiners, at the moment `now`
@@ -82,39 +141,37 @@ impl Bus {
     pub fn start(&mut self, now: u64, joiners: &[Instance]) -> Option<Started>
         requires idle { self.old.running ≡ None }
         requires early { now < 2 ^ 63 }
-        requires queued { All (λ y. y.at ≤ now) self.old.waiting }
+        requires queued { All (λ r. All (λ y. y.at ≤ now) r.waiting) self.old.rings }
         requires soon { All (λ j. (now < j.at) × (j.at < now + ticks_of self.old.rate)) joiners.now }
-        requires none_waits { IsApart joiners.now self.old.waiting }
+        requires none_waits { All (λ j. All (λ r. r.id ≡ j.id → r.waiting ≡ []) self.old.rings) joiners.now }
         requires distinct { AllPairs (λ j k. j.id ≢ k.id) joiners.now }
         ensures { Starts self.old now joiners.now self.new result }
     {
-        match lowest(&self.waiting) {
+        match self.queues.lowest() {
             Some(first) => Some(self.start_first(now, first, joiners)),
             None => None,
         }
     }
 
-    // Starts the lowest of the joiners, or else the first instance that waits.
-    fn start_first(&mut self, now: u64, first: Found, joiners: &[Instance]) -> Started
+    // Starts the lowest of the joiners, or else the first instance of a ring.
+    fn start_first(&mut self, now: u64, first: First, joiners: &[Instance]) -> Started
         requires early { now < 2 ^ 63 }
-        requires first { IsLowestAt self.old.waiting first.place first.instance }
+        requires first { IsLowest self.old.rings first }
         ensures { Starts self.old now joiners.now self.new (Some result) }
     {
-        match lowest_below(joiners, first.instance.id) {
+        let id = first.id;
+        match lowest_below(joiners, id) {
             Some(joiner) => {
-                self.running = Some(transfer(self.rate, now, &joiner));
+                self.running = Some(transfer(self.rate, now, joiner.id, joiner.frame.bits));
                 Started {
                     id: joiner.id,
                     joined: true,
                 }
             }
             None => {
-                self.waiting.remove(first.place);
-                self.running = Some(transfer(self.rate, now, &first.instance));
-                Started {
-                    id: first.instance.id,
-                    joined: false,
-                }
+                let bits = take_bits(&mut self.queues, first.place);
+                self.running = Some(transfer(self.rate, now, id, bits));
+                Started { id, joined: false }
             }
         }
     }
@@ -128,13 +185,24 @@ impl Bus {
     }
 }
 
-// The transfer of an instance that starts at a moment: the moment of its end, and its identifier.
-fn transfer(rate: Rate, now: u64, instance: &Instance) -> (u64, u16)
-    requires { now < 2 ^ 63 }
-    ensures { result ≡ record { 0 = now + instance.now.frame.bits * ticks_of rate; 1 = instance.now.id } }
+// Takes the first instance out of the ring of a place: how many bits its frame has.
+fn take_bits(queues: &mut Queues, place: usize) -> u32
+    requires { place < length queues.old }
+    ensures bits { (r : RingValue) (y : Seen) → slice_get queues.old place ≡ Some r → slice_get r.waiting 0 ≡ Some y → result ≡ y.frame.bits }
+    ensures rest { (r : RingValue) → slice_get queues.old place ≡ Some r → queues.new ≡ slice_set queues.old place (without_first r) }
 {
-    let ticks = u64::from(instance.frame.bits) * u64::from(rate.ticks_per_bit());
-    (now + ticks, instance.id)
+    match queues.take(place) {
+        Some(sent) => sent.frame.bits,
+        None => 0,
+    }
+}
+
+// A transfer of so many bits that starts at a moment: the moment of its end, and its identifier.
+fn transfer(rate: Rate, now: u64, id: u16, bits: u32) -> (u64, u16)
+    requires { now < 2 ^ 63 }
+    ensures { result ≡ record { 0 = now + bits * ticks_of rate; 1 = id } }
+{
+    (now + u64::from(bits) * u64::from(rate.ticks_per_bit()), id)
 }
 
 // An instance of a list, at its place there.

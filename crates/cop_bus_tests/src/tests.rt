@@ -1,8 +1,7 @@
 ghost use Rattle.std.specs.Prelude.{◌≤◌, ◌≡◌};
 
 use cop_bus::{
-    Bus, BusFault, Content, Instance, Started, Step, Trace, first_late, judge, read_trace,
-    write_trace,
+    Bus, BusFault, Content, Full, Instance, Step, Trace, first_late, judge, read_trace, write_trace,
 };
 use cop_frame::Rate;
 use cop_rta::{Stream, StreamSet};
@@ -298,30 +297,32 @@ fn instance(at: u64, id: u16, bits: u32) -> Instance
     }
 }
 
-// The run of the late joiner, step by step.
+// Lets an instance wait on a bus that has its stream.
+fn wait(bus: &mut Bus, instance: Instance) -> Result<Result<(), Full>, Fail> {
+    if !bus.has_stream(instance.id) {
+        return Err(Fail::from("an unknown stream"));
+    }
+    Ok(bus.queue(instance))
+}
+
+// A deadline of 8,000 ticks begins two periods of 4,000; without one there are 64 places.
 #[test]
-fn joiner_is_sent_first(rt: HostRuntime) -> Result<(), Fail> {
-    let mut bus = Bus::new(rt.alloc(), Rate::Kbit1000);
-    bus.queue(instance(100, 0x182, 135))?;
-    let joined = bus.start(100, &[instance(102, 0x181, 111)]);
-    assert_eq!(rt;
-        joined,
-        Some(Started {
-            id: 0x181,
-            joined: true
-        })
-    );
-    assert_eq!(rt; bus.end(), Some((544, 0x181)));
-    let started = bus.start(544, &[]);
-    assert_eq!(rt;
-        started,
-        Some(Started {
-            id: 0x182,
-            joined: false
-        })
-    );
-    assert_eq!(rt; bus.end(), Some((1084, 0x182)));
-    assert_eq!(rt; bus.start(1084, &[]), None);
+fn rings_hold_what_may_wait(rt: HostRuntime) -> Result<(), Fail> {
+    let streams = two_streams(rt.alloc(), 8000)?;
+    let mut bus = Bus::with_rings(rt.alloc(), &streams, Rate::Kbit1000)?;
+    assert!(rt; !bus.has_stream(0x183));
+    for _place in 0..2 {
+        assert_eq!(rt; wait(&mut bus, instance(100, 0x182, 135))?, Ok(()));
+    }
+    assert_eq!(rt; wait(&mut bus, instance(100, 0x182, 135))?, Err(Full {}));
+    for _place in 0..64 {
+        assert_eq!(rt; wait(&mut bus, instance(100, 0x181, 135))?, Ok(()));
+    }
+    assert_eq!(rt; wait(&mut bus, instance(100, 0x181, 135))?, Err(Full {}));
+    let lengths = bus.rings().get(1).map(|ring| ring.len());
+    assert_eq!(rt; lengths, Some(2));
+    assert_eq!(rt; bus.running(), None);
+    assert_eq!(rt; bus.end(), None);
     Ok(())
 }
 

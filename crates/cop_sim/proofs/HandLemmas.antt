@@ -1,11 +1,8 @@
 -- Who is sent where no offer is due within a bit time.
-use Rattle.std.proofs.Common.{◌≡◌, ℕ, zero, suc, ◌+◌, ◌<◌, ◌≤◌, inl, inr, List, [], ◌∷◌, length, slice_get, replicate, refl, sym, ◌∙◌, ap, arith, Bool, true, false, cond, nat_lt, ◌&&◌, ◌||◌}
+use Rattle.std.proofs.Common.{◌≡◌, ℕ, ◌+◌, ◌<◌, ◌≤◌, inl, inr, List, length, refl, sym, ◌∙◌, ap, arith, Bool, true, false, nat_lt, ◌&&◌, ◌||◌}
 use Rattle.std.specs.Prelude.{Option, None, Some, ◌==◌}
-use Rattle.std.specs.Option.{is_some}
-use Rattle.std.proofs.lemmas.Bool.{cases_Bool, lt-ltb, le-ltb, ltb-true, ltb-false}
-use Rattle.std.proofs.lemmas.List.{length-replicate}
-use Rattle.cop_bus.specs.Rings.{RingValue, any_in}
-use Rattle.cop_bus.specs.declared.bus.Instance.{Instance}
+use Rattle.std.proofs.lemmas.Bool.{lt-ltb, le-ltb, ltb-true, ltb-false}
+use Rattle.cop_bus.specs.Rings.{RingValue}
 use Rattle.cop_sim.specs.Hands.{AreTheirs}
 use Rattle.cop_bus.specs.Queues.{IsLowestOf}
 use Rattle.cop_bus.specs.declared.queues.First.{First}
@@ -15,7 +12,6 @@ use Rattle.std.proofs.lemmas.Option.{slice_get_within}
 use Rattle.cop_rta.specs.declared.streams.Stream.{Stream}
 use Rattle.cop_sim.specs.declared.behaviours.Offer.{Offer}
 use Rattle.cop_sim.specs.declared.due.Due.{Due}
-use Rattle.cop_sim.specs.declared.choosing.Sent.{Sent}
 use Rattle.cop_sim.specs.Play.{queued_at}
 use Rattle.cop_sim.specs.Seats.{next_at, is_due_before, joins_with, may_be_sent, IsDueSoFar, IsChosenSoFar, sent_first}
 

@@ -1,5 +1,5 @@
 -- What is at hand of each stream, and the ranks by which the first is found.
-use Rattle.std.specs.Prelude.{◌≡◌, ℕ, ◌<◌, ◌≤◌, List, Option, None, Some, length, get_or, slice_get, nat_lt, if◌then◌else◌}
+use Rattle.std.specs.Prelude.{◌≡◌, ℕ, List, Option, None, Some, length, get_or, slice_get}
 use Rattle.cop_rta.specs.declared.streams.Stream.{Stream}
 use Rattle.cop_bus.specs.Rings.{RingValue}
 use Rattle.cop_sim.specs.declared.behaviours.Offer.{Offer}

@@ -1,0 +1,8 @@
+use Rattle.std.proofs.Common.{List, ap, sym, ◌∙◌}
+use Rattle.std.specs.Prelude.{slice_get}
+use Rattle.cop_bus.specs.Rings.{RingValue}
+use Rattle.cop_bus.proofs.PlacedLemmas.{ring-of}
+use Rattle.cop_bus.proofs.bus.Bus.with_rings.Goals as goal
+
+pub new-requires : goal.new-requires
+new-requires c i r e = (ring-of c.streams-streams.result.now i r (ap (λ (rs : List RingValue). slice_get rs i) (sym c.in_ok-rings_of.ensures) ∙ e)).3
