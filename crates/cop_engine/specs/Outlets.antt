@@ -3,9 +3,13 @@ use Rattle.std.specs.Prelude.{◌≡◌, ℕ, ◌<◌, List, [], ◌∷◌, Bool
 use Rattle.cop_net.specs.Devices.{File}
 use Rattle.cop_engine.specs.declared.plans.Files.{Files}
 
--- the files of a plan in their order: the plan, the refusals, and the DCF files by rising node
+-- the refusals, and the DCF files by rising node
+abbrev pub with_refusals : List ℕ → List File → List File
+with_refusals refusals dcf = record { name = codes "refusals.csv"; text = refusals } ∷ dcf
+
+-- the files of a plan in their order: the plan first
 abbrev pub files_in : Files → List File
-files_in files = record { name = codes "plan.txt"; text = files.plan.items } ∷ record { name = codes "refusals.csv"; text = files.refusals.items } ∷ files.dcf
+files_in files = record { name = codes "plan.txt"; text = files.plan.items } ∷ with_refusals files.refusals.items files.dcf
 
 -- puts of these files, in order, lead from one state of an outlet to another
 abbrev pub WerePut : {O : Type 0} → (O → File → O → Type 0) → O → List File → O → Type 0

@@ -1,7 +1,7 @@
 //! Where the files of a plan are put.
 
 ghost use Rattle.std.specs.Prelude.{◌≡◌, false, true, OnOk, IfErr};
-ghost use Rattle.cop_engine.specs.Outlets.{files_in, WerePut, WereCut};
+ghost use Rattle.cop_engine.specs.Outlets.{files_in, with_refusals, WerePut, WereCut};
 
 use crate::dcfs::DcfFile;
 use crate::plans::Files;
@@ -50,6 +50,23 @@ fn put_dcfs<O: Outlet>(files: &[DcfFile], outlet: &mut O) -> Result<(), usize>
     }
 }
 
+/// Puts `refusals.csv` and then the DCF files. Where one fails: how many were put before it.
+fn put_refusals<O: Outlet>(refusals: &[u8], dcf: &[DcfFile], outlet: &mut O) -> Result<(), usize>
+    requires { O.has_failed outlet.old ≡ false }
+    ensures all { OnOk result (WerePut O.puts outlet.old (with_refusals refusals.now dcf.now) outlet.new) }
+    ensures works { OnOk result (O.has_failed outlet.new ≡ false) }
+    ensures cut { IfErr result (λ k. WereCut O.puts O.has_failed outlet.old (with_refusals refusals.now dcf.now) k) }
+    ensures fails { IfErr result (λ k. O.has_failed outlet.new ≡ true) }
+{
+    if !outlet.put("refusals.csv", refusals) {
+        return Err(0);
+    }
+    match put_dcfs(dcf, outlet) {
+        Ok(()) => Ok(()),
+        Err(put) => Err(put + 1),
+    }
+}
+
 /// Puts the files of a plan: `plan.txt`, `refusals.csv`, and then the DCF files by rising node. It stops at the first that
 /// fails, and tells how many were put before it.
 pub fn deliver<O: Outlet>(files: &Files, outlet: &mut O) -> Result<(), usize>
@@ -59,14 +76,12 @@ pub fn deliver<O: Outlet>(files: &Files, outlet: &mut O) -> Result<(), usize>
     ensures cut { IfErr result (λ k. WereCut O.puts O.has_failed outlet.old (files_in files.now) k) }
     ensures fails { IfErr result (λ k. O.has_failed outlet.new ≡ true) }
 {
+    let dcf = files.dcf.as_slice();
     if !outlet.put("plan.txt", &files.plan) {
         return Err(0);
     }
-    if !outlet.put("refusals.csv", &files.refusals) {
-        return Err(1);
-    }
-    match put_dcfs(files.dcf.as_slice(), outlet) {
+    match put_refusals(&files.refusals, dcf, outlet) {
         Ok(()) => Ok(()),
-        Err(put) => Err(put + 2),
+        Err(put) => Err(put + 1),
     }
 }
