@@ -1,7 +1,7 @@
 -- Files that are put one after another.
-use Rattle.std.proofs.Common.{◌≡◌, ℕ, ◌+◌, ◌<◌, suc, Bool, List, ◌∷◌, length, arith}
+use Rattle.std.proofs.Common.{◌≡◌, ℕ, ◌+◌, suc, Bool, List, ◌∷◌, arith}
 use Rattle.cop_net.specs.Devices.{File}
-use Rattle.cop_engine.specs.Outlets.{WerePut, WereCut}
+use Rattle.cop_engine.specs.Outlets.{WereCut}
 
 -- one file was put, and then the rest was cut
 pub cut_after_one : {O : Type 0} (puts : O → File → O → Type 0) (failed : O → Bool) (o p : O) (file : File) (files : List File) (k n : ℕ)

@@ -1,4 +1,4 @@
-use Rattle.std.proofs.Common.{rules, ◌≡◌, true, ℕ, ◌+◌, List, ◌∷◌, refl, codes}
+use Rattle.std.proofs.Common.{rules, ◌+◌, refl, codes}
 use Rattle.cop_engine.proofs.OutletLemmas.{cut_after_one}
 use Rattle.cop_engine.proofs.outlets.put_refusals.Goals as goal
 
