@@ -1,7 +1,5 @@
 //! The files that the program reads and writes.
 
-ghost use Rattle.std.specs.Prelude.{◌≡◌, Unit, is_some};
-
 use crate::orders::NetworkFiles;
 use cop_engine::{Fault, Outlet, read_all};
 use cop_net::{NodeTable, read_nodes};
@@ -140,7 +138,7 @@ impl Folder<'_> {
 }
 
 impl Outlet for Folder<'_> {
-    ghost use Rattle.std.specs.Prelude.{Unit, is_some};
+    ghost use Rattle.std.specs.Prelude.{is_some};
 
     ghost puts = { λ _ _ _. Unit {0} };
 
