@@ -36,7 +36,7 @@ impl Outlet for Shelf {
     }
 }
 
-fn shelf(alloc: Global, room: usize) -> Shelf
+fn with_room(alloc: Global, room: usize) -> Shelf
     ensures { result.failed ≡ false }
 {
     Shelf {
@@ -61,7 +61,7 @@ fn an_outlet_fails_at_each_file(rt: HostRuntime) -> Result<(), Fail> {
     let files = plan_bytes(rt.alloc(), TWO_VALVES, NO_PDO, &eds)?;
     for case in DELIVERED {
         let (room, wanted, names) = *case;
-        let mut shelf = shelf(rt.alloc(), room);
+        let mut shelf = with_room(rt.alloc(), room);
         assert_eq!(rt; deliver(&files, &mut shelf), wanted);
         assert_eq!(rt; shelf.failed(), wanted.is_err());
         assert_eq!(rt; shelf.names.as_slice(), names);
