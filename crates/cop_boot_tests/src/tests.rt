@@ -13,7 +13,7 @@ use std::test::Fail;
 const UNIT: &[u8] =
     b"[OptionalObjects]\nSupportedObjects=2\n1=0x1017\n2=0x1800\n[1017]\nDataType=0x0006\nAccessType=rw\nDefaultValue=0\n[1800]\nObjectType=0x9\nSubNumber=3\n[1800sub0]\nDataType=0x0005\nAccessType=ro\nDefaultValue=2\n[1800sub1]\nDataType=0x0007\nAccessType=rw\nDefaultValue=$NODEID+0x40000180\n[1800sub2]\nDataType=0x0005\nAccessType=rw\nDefaultValue=255\n";
 
-fn devices(alloc: Global, nodes: &[u8]) -> Result<Vec<Device>, Fail> {
+pub fn devices(alloc: Global, nodes: &[u8]) -> Result<Vec<Device>, Fail> {
     let mut devices = Vec::new(alloc);
     for node in nodes.iter().copied() {
         if !(1..=127).contains(&node) {
@@ -35,7 +35,7 @@ fn cob_id(value: u32) -> Setting {
 }
 
 /// A manager of nodes from 5 on, whose TPDO is switched off, and then gets the identifier 181h, 182h and so on.
-fn manager(alloc: Global, nodes: &[u8]) -> Result<Manager, Fail>
+pub fn manager(alloc: Global, nodes: &[u8]) -> Result<Manager, Fail>
     ensures { IfOk result (λ manager. manager.begun ≡ false) }
 {
     let mut plan = BTreeMap::new(alloc);
@@ -59,9 +59,9 @@ fn cob_id_in(alloc: Global, devices: &[Device], place: usize) -> Result<Vec<u8>,
 }
 
 /// A frame by its identifier and its data.
-type Sent = (u16, &'static [u8]);
+pub type Sent = (u16, &'static [u8]);
 
-fn frame(sent: Sent) -> Result<Frame, Fail> {
+pub fn frame(sent: Sent) -> Result<Frame, Fail> {
     let (id, data) = sent;
     if id < 2048 && data.len() <= 8 {
         Ok(Frame::new(id, data))
@@ -70,7 +70,7 @@ fn frame(sent: Sent) -> Result<Frame, Fail> {
     }
 }
 
-fn is_frame(found: Option<Frame>, wanted: Option<Sent>) -> bool {
+pub fn is_frame(found: Option<Frame>, wanted: Option<Sent>) -> bool {
     match (found, wanted) {
         (Some(frame), Some((id, data))) => frame.id == id && frame.data() == data,
         (None, None) => true,
@@ -78,32 +78,32 @@ fn is_frame(found: Option<Frame>, wanted: Option<Sent>) -> bool {
     }
 }
 
-const BOOT_UP: Sent = (0x705, &[0]);
+pub const BOOT_UP: Sent = (0x705, &[0]);
 
-const CONFIRMED: Sent = (0x585, &[0x60, 0x00, 0x18, 0x01, 0, 0, 0, 0]);
+pub const CONFIRMED: Sent = (0x585, &[0x60, 0x00, 0x18, 0x01, 0, 0, 0, 0]);
 
-const REFUSED: Sent = (0x585, &[0x80, 0x00, 0x18, 0x01, 0x22, 0, 0, 0x08]);
+pub const REFUSED: Sent = (0x585, &[0x80, 0x00, 0x18, 0x01, 0x22, 0, 0, 0x08]);
 
-const OFF: Sent = (0x605, &[0x23, 0x00, 0x18, 0x01, 0x85, 0x01, 0x00, 0xC0]);
+pub const OFF: Sent = (0x605, &[0x23, 0x00, 0x18, 0x01, 0x85, 0x01, 0x00, 0xC0]);
 
-const ON: Sent = (0x605, &[0x23, 0x00, 0x18, 0x01, 0x81, 0x01, 0x00, 0x40]);
+pub const ON: Sent = (0x605, &[0x23, 0x00, 0x18, 0x01, 0x81, 0x01, 0x00, 0x40]);
 
 const GIVEN_UP: Sent = (0x605, &[0x80, 0x00, 0x18, 0x01, 0, 0, 0x04, 0x05]);
 
 const RESET: Sent = (0x000, &[130, 0]);
 
-const START: Sent = (0x000, &[1, 0]);
+pub const START: Sent = (0x000, &[1, 0]);
 
-const ABORTED: End = End::Aborted {
+pub const ABORTED: End = End::Aborted {
     node: 5,
     index: 0x1800,
     sub: 1,
     code: 0x0800_0022,
 };
 
-const SILENT: End = End::Silent { node: 5 };
+pub const SILENT: End = End::Silent { node: 5 };
 
-const RESTARTING: End = End::Restarting { node: 5 };
+pub const RESTARTING: End = End::Restarting { node: 5 };
 
 /// A frame that the manager hears, or a moment that is reached.
 #[derive(Clone, Copy)]
