@@ -36,7 +36,7 @@ request_again at (a ∷ b ∷ c ∷ d ∷ e ∷ more) h = absurd (too_many (leng
     too_many : (n : ℕ) → (nat_lt 0 (suc (suc (suc (suc (suc n))))) && nat_le (suc (suc (suc (suc (suc n))))) 4) ≡ true → ⊥
     too_many n h = grind (arith, nat_tests)
 
-same_number : (n : ℕ) → (n == n) ≡ true
+pub same_number : (n : ℕ) → (n == n) ≡ true
 same_number n = grind (arith, nat_tests)
 
 pub served_so : (node : ℕ) (dict : List Entry) (at : Address) (bytes : List ℕ) → is_short bytes ≡ true
