@@ -12,3 +12,4 @@ pub mod PatternLemmas
 pub mod RuleLemmas
 pub mod AloneLemmas
 pub mod BuiltLemmas
+pub mod FittingLemmas

@@ -58,6 +58,18 @@ accepts dict new index sub bytes h = by_entry (entry_at dict index sub) refl h
     by_entry None at h = cc
     by_entry (Some e) at h = by_rules e at (first_broken (value_rules e.description bytes)) h
 
+-- an accepted write breaks no rule of the entry
+pub unbroken : (dict new : List Entry) (index sub : ℕ) (bytes : List ℕ) (e : Entry) → entry_at dict index sub ≡ Some e → written dict index sub bytes ≡ Ok new
+    → first_broken (value_rules e.description bytes) ≡ None
+unfolding written
+unbroken dict new index sub bytes e at h = by_rules (first_broken (value_rules e.description bytes)) refl (rw at at h)
+  where
+    by_rules : (a : Option Abort) → first_broken (value_rules e.description bytes) ≡ a
+        → ((unless_broken a e) >>= λ checked. unless_broken (refused_by_pdos dict checked bytes) (with_value index sub bytes dict)) ≡ Ok new
+        → first_broken (value_rules e.description bytes) ≡ None
+    by_rules None is h = is
+    by_rules (Some x) is h = cc
+
 pub written_replaces : (dict new : List Entry) (index sub : ℕ) (bytes : List ℕ) → written dict index sub bytes ≡ Ok new → Replaces dict new index sub bytes
 written_replaces dict new index sub bytes h =
     let a = accepts dict new index sub bytes h in

@@ -8,3 +8,4 @@ pub mod Dict
 pub mod Codes
 pub mod Patterns
 pub mod Build
+pub mod Fitting

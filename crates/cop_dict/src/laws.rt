@@ -11,6 +11,7 @@ ghost use Rattle.cop_dict.specs.Build.{built, AgreesWith};
 ghost use Rattle.cop_dict.specs.Pdo.{is_mapping};
 ghost use Rattle.cop_dict.specs.Find.{Entry, entry_at, IsSorted};
 ghost use Rattle.cop_dict.specs.Dict.{admitted, unless_broken, refused_alone, with_value, valued, as_built, reset_communication, initial, initial_communication, written, Replaces};
+ghost use Rattle.cop_dict.specs.Fitting.{FitsType, HasFittingValues};
 ghost use Rattle.cop_dict.specs.declared.abort.Abort.{Abort};
 
 /// A write leaves what stands at each other index and sub.
@@ -92,4 +93,15 @@ pub fn resets_give_what_was_built()
 /// these with one that is built builds the same.
 pub fn agreeing_texts_build_the_same()
     ensures { (old new : List ℕ) (node : ℕ) (dict : List Entry) → AgreesWith old new → built old node ≡ Ok dict → built new node ≡ Ok dict }
+{}
+
+/// What is built has values that fit their types: as many bytes as the type has, and no more bits. Accepted writes of bytes,
+/// changes to such values, and resets keep it so.
+pub fn values_fit_their_types()
+    ensures built { (text : List ℕ) (node : ℕ) (dict : List Entry) → built text node ≡ Ok dict → HasFittingValues dict }
+    ensures writes { (dict new : List Entry) (index sub : ℕ) (bytes : List ℕ) → written dict index sub bytes ≡ Ok new → All (λ byte. byte < 256) bytes
+        → HasFittingValues dict → HasFittingValues new }
+    ensures changes { (dict : List Entry) (index sub : ℕ) (bytes : List ℕ) → IfSome (entry_at dict index sub) (λ entry. FitsType entry.description.data_type bytes)
+        → HasFittingValues dict → HasFittingValues (with_value index sub bytes dict) }
+    ensures resets { (dict : List Entry) → HasFittingValues dict → HasFittingValues (initial dict) × HasFittingValues (initial_communication dict) }
 {}
