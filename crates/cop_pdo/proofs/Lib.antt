@@ -5,3 +5,4 @@ pub mod MovingLemmas
 pub mod UnpackLemmas
 pub mod LawLemmas
 pub mod SentLemmas
+pub mod FittingLemmas

@@ -30,7 +30,7 @@ take_low zero k n h = refl
 take_low (suc w) zero n h = absurd (omega (arith, h))
 take_low (suc w) (suc k) n h = ap (λ (bytes : List ℕ). n % 256 ∷ bytes) (take_low w k (n / 256) (omega (arith, h)))
 
-length_low : (k n : ℕ) → length (low_bytes k n) ≡ k
+pub length_low : (k n : ℕ) → length (low_bytes k n) ≡ k
 length_low zero n = refl
 length_low (suc k) n = ap (λ (m : ℕ). suc m) (length_low k (n / 256))
 
@@ -44,7 +44,7 @@ taken_length w value h =
     ap length (ap (take w) (std_bytes_are_low 8 0 value) ∙ take_low w 8 (value / 256 ^ 0) h) ∙ length_low w (value / 256 ^ 0)
 
 -- so many bytes hold the bits of a type's values
-type_width : (t : DataType) (bits : ℕ) → has_bits bits (bits_of t) ≡ true → (width_of t ≡ Some (bytes_for bits)) × (bits ≤ 64)
+pub type_width : (t : DataType) (bits : ℕ) → has_bits bits (bits_of t) ≡ true → (width_of t ≡ Some (bytes_for bits)) × (bits ≤ 64)
 type_width types.Boolean bits h = let e : 1 ≡ bits = eqb-true 1 bits h in rw (← e) (refl, omega arith)
 type_width types.Integer8 bits h = let e : 8 ≡ bits = eqb-true 8 bits h in rw (← e) (refl, omega arith)
 type_width types.Integer16 bits h = let e : 16 ≡ bits = eqb-true 16 bits h in rw (← e) (refl, omega arith)

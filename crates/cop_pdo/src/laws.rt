@@ -6,6 +6,7 @@ ghost use Rattle.cop_dict.specs.declared.mapping.Mapped.{Mapped};
 ghost use Rattle.cop_dict.specs.Find.{Entry, entry_at};
 ghost use Rattle.cop_dict.specs.Mapping.{is_dummy, total_bits};
 ghost use Rattle.cop_dict.specs.Dict.{written, with_value, initial, initial_communication};
+ghost use Rattle.cop_dict.specs.Fitting.{HasFittingValues};
 ghost use Rattle.cop_dict.specs.Pdo.{exists_by};
 ghost use Rattle.cop_pdo.specs.CobIds.{off, on};
 ghost use Rattle.cop_pdo.specs.Payload.{Layout, HasObjects, is_same_layout};
@@ -28,6 +29,15 @@ pub fn unpacking_restores()
         → value_at (unpacked now layout.direction layout.entries (payload_bits dict layout)) index sub ≡ value_at dict index sub }
     ensures others { (dict now : List Entry) (layout : Layout) (index sub : ℕ) → is_mapped layout.direction layout.entries index sub ≡ false
         → entry_at (unpacked now layout.direction layout.entries (payload_bits dict layout)) index sub ≡ entry_at now index sub }
+{}
+
+/// Where values fit their types, each object of a mapping has a value of its bits, and no more bits, so that unpacking
+/// restores it; and they fit still after whatever is unpacked. A built dictionary has such values, and keeps them
+/// (`cop_dict::laws::values_fit_their_types`).
+pub fn unpacked_values_fit()
+    ensures mapped { (dict : List Entry) (layout : Layout) → HasObjects dict layout → HasFittingValues dict → HasProperValues dict layout }
+    ensures unpacking { (dict : List Entry) (layout : Layout) (bits : List Bool) → HasObjects dict layout → HasFittingValues dict
+        → HasFittingValues (unpacked dict layout.direction layout.entries bits) }
 {}
 
 /// What one node sends, the other has: where a sent and a received PDO have the same layout, each object that the received
