@@ -54,7 +54,7 @@ begins (Ok ys) = refl
 begins (Err e) = refl
 
 -- an entry stands where its object does
-kept_address : (text : List ℕ) (node : ℕ) (o : Object) (t : DataType) (e : Entry) → entry_of_type text node o t ≡ Ok e → (e.index ≡ o.index) × (e.sub ≡ o.sub)
+pub kept_address : (text : List ℕ) (node : ℕ) (o : Object) (t : DataType) (e : Entry) → entry_of_type text node o t ≡ Ok e → (e.index ≡ o.index) × (e.sub ≡ o.sub)
 unfolding entry_of_type
 kept_address text node o t e h =
     by_initial (initial_of t node (value_entry text o.place.section)) (limit_of t node (entry_of text o.place.section (codes "LowLimit")))

@@ -13,3 +13,4 @@ pub mod RuleLemmas
 pub mod AloneLemmas
 pub mod BuiltLemmas
 pub mod FittingLemmas
+pub mod PointwiseLemmas

@@ -7,7 +7,9 @@ ghost use Rattle.cop_dict.specs.declared.data_type.DataType.{DataType};
 ghost use Rattle.cop_dict.specs.Types.{greatest_of};
 ghost use Rattle.cop_dict.specs.Number.{number, value_of};
 ghost use Rattle.cop_dict.specs.Patterns.{pattern_of, number_written};
-ghost use Rattle.cop_dict.specs.Build.{built, AgreesWith};
+ghost use Rattle.cop_eds.specs.declared.description.Object.{Object};
+ghost use Rattle.cop_eds.specs.Objects.{objects_of};
+ghost use Rattle.cop_dict.specs.Build.{built, entry_built, AgreesWith};
 ghost use Rattle.cop_dict.specs.Pdo.{is_mapping};
 ghost use Rattle.cop_dict.specs.Find.{Entry, entry_at, IsSorted};
 ghost use Rattle.cop_dict.specs.Dict.{admitted, unless_broken, refused_alone, with_value, valued, as_built, reset_communication, initial, initial_communication, written, Replaces};
@@ -87,6 +89,15 @@ pub fn accepted_by_the_entry()
 /// A reset of a dictionary that was built gives it again.
 pub fn resets_give_what_was_built()
     ensures { (text : List ℕ) (node : ℕ) (dict : List Entry) → built text node ≡ Ok dict → (initial dict ≡ dict) × (initial_communication dict ≡ dict) }
+{}
+
+/// What stands at the address of an object that a text describes is the entry of that object, and nothing else stands
+/// anywhere.
+pub fn built_is_pointwise()
+    ensures each { (text : List ℕ) (node : ℕ) (dict : List Entry) (object : Object) → built text node ≡ Ok dict → Contains (objects_of text) object
+        → (entry : Entry) × (entry_built text node object ≡ Ok entry) × (entry_at dict object.index object.sub ≡ Some entry) }
+    ensures only { (text : List ℕ) (node index sub : ℕ) (dict : List Entry) (entry : Entry) → built text node ≡ Ok dict → entry_at dict index sub ≡ Some entry
+        → (object : Object) × Contains (objects_of text) object × (object.index ≡ index) × (object.sub ≡ sub) × (entry_built text node object ≡ Ok entry) }
 {}
 
 /// A dictionary depends on the objects that a text describes, and on their values and limits, alone: a text that agrees in
