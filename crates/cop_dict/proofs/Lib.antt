@@ -14,3 +14,4 @@ pub mod AloneLemmas
 pub mod BuiltLemmas
 pub mod FittingLemmas
 pub mod PointwiseLemmas
+pub mod ExistingLemmas

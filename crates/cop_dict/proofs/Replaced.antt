@@ -70,6 +70,21 @@ unbroken dict new index sub bytes e at h = by_rules (first_broken (value_rules e
     by_rules None is h = is
     by_rules (Some x) is h = cc
 
+-- nor a rule on PDOs
+pub allowed : (dict new : List Entry) (index sub : ℕ) (bytes : List ℕ) (e : Entry) → entry_at dict index sub ≡ Some e → written dict index sub bytes ≡ Ok new
+    → refused_by_pdos dict e bytes ≡ None
+unfolding written
+allowed dict new index sub bytes e at h = by_rules (first_broken (value_rules e.description bytes)) (rw at at h)
+  where
+    by_pdos : (b : Option Abort) → refused_by_pdos dict e bytes ≡ b → unless_broken b (with_value index sub bytes dict) ≡ Ok new → refused_by_pdos dict e bytes ≡ None
+    by_pdos None is h = is
+    by_pdos (Some x) is h = cc
+
+    by_rules : (a : Option Abort) → ((unless_broken a e) >>= λ checked. unless_broken (refused_by_pdos dict checked bytes) (with_value index sub bytes dict)) ≡ Ok new
+        → refused_by_pdos dict e bytes ≡ None
+    by_rules None h = by_pdos (refused_by_pdos dict e bytes) refl h
+    by_rules (Some x) h = cc
+
 pub written_replaces : (dict new : List Entry) (index sub : ℕ) (bytes : List ℕ) → written dict index sub bytes ≡ Ok new → Replaces dict new index sub bytes
 written_replaces dict new index sub bytes h =
     let a = accepts dict new index sub bytes h in

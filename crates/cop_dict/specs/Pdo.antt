@@ -1,5 +1,5 @@
 -- The rules for writing PDO communication and mapping records (CiA 301, "PDO communication parameter record").
-use Rattle.std.specs.Prelude.{ℕ, ◌-◌, ◌%◌, ◌^◌, Bool, true, false, not, ◌&&◌, ◌||◌, List, [], ◌∷◌, ◌==◌, nat_lt, nat_le, if◌then◌else◌, Option, Some, None, Result, Ok, Err}
+use Rattle.std.specs.Prelude.{ℕ, ◌-◌, ◌%◌, ◌^◌, Bool, true, false, not, ◌&&◌, ◌||◌, List, [], ◌∷◌, ◌==◌, nat_lt, nat_le, if◌then◌else◌, Option, Some, None, option_and_then, Result, Ok, Err}
 use Rattle.std.specs.Option.{option_map_or, option_or}
 use Rattle.cop_dict.specs.declared.abort.Abort.{Abort}
 use Rattle.cop_dict.specs.declared.abort.Abort.TheVariants as aborts
@@ -27,6 +27,10 @@ exists_by cob_id = nat_lt cob_id (2 ^ 31)
 -- a COB-ID that isn't an UNSIGNED32 counts as existing
 abbrev pub keeps_pdo : Entry → Bool
 keeps_pdo entry = option_map_or exists_by (unsigned32_of entry) true
+
+-- the COB-ID of a communication record, where it is an UNSIGNED32
+abbrev pub cob_id_at : List Entry → ℕ → Option ℕ
+cob_id_at dict index = option_and_then unsigned32_of (entry_at dict index 1)
 
 -- the PDO of a communication record exists
 abbrev pub pdo_exists : List Entry → ℕ → Bool

@@ -1,6 +1,6 @@
 //! Laws of the definitions that contracts cite.
 
-ghost use Rattle.std.specs.Prelude.{◌≡◌, ◌==◌, ◌<◌, ◌^◌, ◌&&◌, ℕ, ℤ, List, All, length, false, Option, option_map, Some, IfSome, Ok, Err, Contains};
+ghost use Rattle.std.specs.Prelude.{◌≡◌, ◌==◌, ◌<◌, ◌+◌, ◌%◌, ◌^◌, ◌&&◌, ℕ, ℤ, List, All, length, true, false, Option, option_map, Some, IfSome, Ok, Err, Contains};
 ghost use Rattle.std.specs.Int.{bytes_low_first};
 ghost use Rattle.cop_eds.specs.declared.amount.Amount.{Amount};
 ghost use Rattle.cop_dict.specs.declared.data_type.DataType.{DataType};
@@ -10,7 +10,7 @@ ghost use Rattle.cop_dict.specs.Patterns.{pattern_of, number_written};
 ghost use Rattle.cop_eds.specs.declared.description.Object.{Object};
 ghost use Rattle.cop_eds.specs.Objects.{objects_of};
 ghost use Rattle.cop_dict.specs.Build.{built, entry_built, AgreesWith};
-ghost use Rattle.cop_dict.specs.Pdo.{is_mapping};
+ghost use Rattle.cop_dict.specs.Pdo.{is_mapping, is_communication, pdo_exists, exists_by, cob_id_at};
 ghost use Rattle.cop_dict.specs.Find.{Entry, entry_at, IsSorted};
 ghost use Rattle.cop_dict.specs.Dict.{admitted, unless_broken, refused_alone, with_value, valued, as_built, reset_communication, initial, initial_communication, written, Replaces};
 ghost use Rattle.cop_dict.specs.Fitting.{FitsType, HasFittingValues};
@@ -98,6 +98,15 @@ pub fn built_is_pointwise()
         → (entry : Entry) × (entry_built text node object ≡ Ok entry) × (entry_at dict object.index object.sub ≡ Some entry) }
     ensures only { (text : List ℕ) (node index sub : ℕ) (dict : List Entry) (entry : Entry) → built text node ≡ Ok dict → entry_at dict index sub ≡ Some entry
         → (object : Object) × Contains (objects_of text) object × (object.index ≡ index) × (object.sub ≡ sub) × (entry_built text node object ≡ Ok entry) }
+{}
+
+/// Why CiA 301 has rules for writes to the records of a PDO: while a PDO exists no accepted write changes an entry of its
+/// mapping, and a write that leaves it existing or switches it off leaves bits 0 to 29 of its COB-ID, so its identifier.
+pub fn existing_pdos_stay()
+    ensures mapping { (dict new : List Entry) (index sub pdo part : ℕ) (bytes : List ℕ) → written dict index sub bytes ≡ Ok new → is_communication pdo ≡ true
+        → pdo_exists dict pdo ≡ true → entry_at new (pdo + 0x200) part ≡ entry_at dict (pdo + 0x200) part }
+    ensures identifier { (dict new : List Entry) (index sub pdo before after : ℕ) (bytes : List ℕ) → written dict index sub bytes ≡ Ok new → is_communication pdo ≡ true
+        → cob_id_at dict pdo ≡ Some before → exists_by before ≡ true → cob_id_at new pdo ≡ Some after → after % 2 ^ 30 ≡ before % 2 ^ 30 }
 {}
 
 /// A dictionary depends on the objects that a text describes, and on their values and limits, alone: a text that agrees in
