@@ -4,15 +4,16 @@
     python3 tools/hostile_files.py [large | cut]
 
 `large`: tables and EDS files that are as large as is read, of one line, of empty lines, of brackets, of quotes; each at half
-its size and at its whole size. Told are the status, the first line of standard error, the seconds and the memory of a run,
-and that memory as a multiple of the file. Wrong is an answer that is neither a plan nor a refusal, and a time that grows by
-far more than the file.
+its size and at its whole size. Told are the status, standard error, the seconds of processor time of both runs, and the
+memory of the second. Wrong is an answer that is neither a plan nor a refusal, and a time that grows by far more than the
+file.
 
 `cut`: each table, EDS file and refusal file of the examples, and a trace, cut off at each byte, by `check` or `judge`. Wrong
 is an answer that is neither an answer nor a refusal.
 
 Without a word both are done.
 """
+import json
 import os
 import re
 import subprocess
@@ -42,14 +43,27 @@ def write(file, content):
         it.write(content)
 
 
-def run(words):
+# Runs a command in a small process of its own, since a child's peak of memory begins at what its parent holds.
+MEASURE = """
+import json, os, subprocess, sys
+process = subprocess.Popen(sys.argv[1:], stdout=subprocess.DEVNULL, stderr=subprocess.PIPE)
+told = process.stderr.read().decode(errors="replace")
+_, status, used = os.wait4(process.pid, 0)
+json.dump([os.waitstatus_to_exitcode(status), told, used.ru_utime + used.ru_stime, used.ru_maxrss], sys.stdout)
+"""
+
+
+def measured(words):
     """Status, standard error, seconds of processor time and KiB of memory of a run."""
-    process = subprocess.Popen([PROGRAM, *words], stdout=subprocess.DEVNULL, stderr=subprocess.PIPE)
-    told = process.stderr.read()
-    _, status, used = os.wait4(process.pid, 0)
-    process.stderr.close()
-    process.returncode = os.waitstatus_to_exitcode(status)
-    return process.returncode, told, used.ru_utime + used.ru_stime, used.ru_maxrss
+    done = subprocess.run([sys.executable, "-c", MEASURE, PROGRAM, *words], capture_output=True)
+    status, told, seconds, kib = json.loads(done.stdout)
+    return status, told.encode(), seconds, kib
+
+
+def run(words):
+    """Status and standard error of a run."""
+    done = subprocess.run([PROGRAM, *words], stdout=subprocess.DEVNULL, stderr=subprocess.PIPE)
+    return done.returncode, done.stderr
 
 
 def is_answer(status, told):
@@ -105,17 +119,17 @@ def words_of(folder, replaced, content):
 
 def large(folder):
     wrong = 0
-    print("| file | MiB | status | said | seconds | memory, times the file |\n|---|---:|---:|---|---:|---:|")
+    print("| file | MiB | status | said | seconds | MiB of memory |\n|---|---:|---:|---|---:|---:|")
     halves = {name: (replaced, content) for name, replaced, content in large_files(2 * MIB)}
     for name, replaced, content in large_files(4 * MIB - KIB):
-        _, _, half, _ = run(words_of(folder, *halves[name]))
-        status, told, seconds, kib = run(words_of(folder, replaced, content))
+        _, _, half, _ = measured(words_of(folder, *halves[name]))
+        status, told, seconds, kib = measured(words_of(folder, replaced, content))
         is_wrong = not is_answer(status, told) or seconds > 0.2 and seconds > 4 * half
         wrong += is_wrong
         said = told.decode(errors="replace").strip()
         print(
             f"| {name} | {len(content) / MIB:.0f} | {status} | {said} | {half:.2f}, {seconds:.2f} "
-            f"| {kib * KIB / len(content):.1f} |{' WRONG' if is_wrong else ''}",
+            f"| {kib / KIB:.0f} |{' WRONG' if is_wrong else ''}",
             flush=True,
         )
     return wrong
@@ -140,7 +154,7 @@ def wrong_cuts(room, folder, name, words):
     found = []
     for length in range(len(content)):
         write(f"{room}/{name}", content[:length])
-        status, told, _, _ = run(words)
+        status, told = run(words)
         if not is_answer(status, told):
             found.append((length, status, told))
     return len(content), found

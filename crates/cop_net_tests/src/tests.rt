@@ -1,7 +1,9 @@
 use cop_dict::{MappingFault, build};
 use cop_eds::parse;
 use cop_frame::Rate;
-use cop_net::{NodeTable, PdoTable, PlanFault, Rule, Table, network, read_nodes, read_pdos};
+use cop_net::{
+    Network, NodeTable, PdoTable, PlanFault, Rule, Table, network, read_nodes, read_pdos,
+};
 use cop_pdo::{Direction, payload};
 use std::alloc::Global;
 use std::fmt::Write;
@@ -156,36 +158,59 @@ fn refused_of(
 
 const VALVE: &str = "device,5,Valve,unit.eds,0,0\nemcy,5,,,100000,0\nheartbeat,5,,,100000,0\n";
 
-#[test]
-fn the_valve(rt: HostRuntime) -> Result<(), Fail> {
-    let alloc = rt.alloc();
-    let nodes = nodes_of(alloc, VALVE)?;
-    let pdos = pdos_of(alloc, "5,1,10000,0,670,\n")?;
+/// The tables of the valve's network, and its EDS file.
+fn valve(alloc: Global) -> Result<(NodeTable, PdoTable, [(String, Vec<u8>); 1]), Fail> {
     let files = [file(alloc, "unit.eds", text_of(alloc, USUAL)?)?];
-    let valve = network(alloc, &nodes, &pdos, &files)?;
+    Ok((
+        nodes_of(alloc, VALVE)?,
+        pdos_of(alloc, "5,1,10000,0,670,\n")?,
+        files,
+    ))
+}
+
+/// The streams of the valve: identifier, bytes, period and deadline. None has a jitter.
+const VALVE_STREAMS: &[(u16, u8, u64, Option<u64>)] = &[
+    (0x181, 8, 40_000, Some(2_680)),
+    (0x085, 8, 400_000, None),
+    (0x705, 1, 400_000, None),
+];
+
+#[test]
+fn the_streams_of_the_valve(rt: HostRuntime) -> Result<(), Fail> {
+    let (nodes, pdos, files) = valve(rt.alloc())?;
+    let valve = network(rt.alloc(), &nodes, &pdos, &files)?;
+    let streams = valve.set().streams();
+    assert_eq!(rt; streams.len(), VALVE_STREAMS.len());
+    for (stream, wanted) in streams.iter().zip(VALVE_STREAMS) {
+        let (id, bytes, period, deadline) = *wanted;
+        assert_eq!(rt;
+            (stream.id, stream.bytes, stream.period),
+            (id, bytes, period)
+        );
+        assert_eq!(rt; (stream.jitter, stream.deadline), (0, deadline));
+    }
+    Ok(())
+}
+
+#[test]
+fn the_tables_of_the_valve(rt: HostRuntime) -> Result<(), Fail> {
+    let (nodes, pdos, files) = valve(rt.alloc())?;
+    let valve = network(rt.alloc(), &nodes, &pdos, &files)?;
     assert_eq!(rt;
         (valve.devices().len(), valve.rows().len(), valve.pdos()),
         (1, 1, 1)
     );
-    let streams = valve.set().streams();
-    assert_eq!(rt; streams.len(), 3);
-    for (stream, id, bytes, period, deadline) in [
-        (0, 0x181, 8, 40_000, Some(2_680)),
-        (1, 0x085, 8, 400_000, None),
-        (2, 0x705, 1, 400_000, None),
-    ] {
-        match streams.get(stream) {
-            Some(s) => {
-                assert_eq!(rt; (s.id, s.bytes, s.period, s.jitter), (id, bytes, period, 0));
-                assert_eq!(rt; s.deadline, deadline);
-            }
-            None => assert!(rt; false),
-        }
-    }
-    assert_eq!(rt; valve.rates().slowest(), Some(Rate::Kbit250));
-    assert!(rt; !valve.rates().contains(Rate::Kbit800));
     assert_eq!(rt; (valve.heartbeat(5), valve.heartbeat(6)), (100, 0));
     assert!(rt; valve.dictionary(5).is_some() && valve.dictionary(6).is_none());
+    Ok(())
+}
+
+#[test]
+fn the_rates_of_the_valve(rt: HostRuntime) -> Result<(), Fail> {
+    let (nodes, pdos, files) = valve(rt.alloc())?;
+    let rates = network(rt.alloc(), &nodes, &pdos, &files)?.rates();
+    assert_eq!(rt; rates.slowest(), Some(Rate::Kbit250));
+    assert!(rt; !rates.contains(Rate::Kbit800));
     Ok(())
 }
 
@@ -374,37 +399,31 @@ fn files_of_one_name(rt: HostRuntime) -> Result<(), Fail> {
     Ok(())
 }
 
+/// The rule that a network of one device breaks, whose PDO is no device's.
+fn rule_of(alloc: Global, files: &[(String, Vec<u8>)]) -> Result<Option<Rule>, Fail> {
+    let nodes = nodes_of(alloc, "device,5,First,unit.eds,0,0\n")?;
+    let pdos = pdos_of(alloc, "5,2,10000,0,670,\n")?;
+    match network(alloc, &nodes, &pdos, files) {
+        Ok(_) => Ok(None),
+        Err(PlanFault::Refused(refusal)) => Ok(Some(refusal.rule)),
+        Err(fault) => Err(Fail::from(fault)),
+    }
+}
+
 #[test]
 fn what_refusals_carry(rt: HostRuntime) -> Result<(), Fail> {
     let alloc = rt.alloc();
-    let nodes = nodes_of(alloc, "device,5,First,unit.eds,0,0\n")?;
-    let pdos = pdos_of(alloc, "5,2,10000,0,670,\n")?;
+    assert_eq!(rt; rule_of(alloc, &[])?, Some(Rule::Eds(None)));
+    let line = cop_eds::Refusal {
+        rule: cop_eds::Rule::Line,
+        line: 2,
+    };
     let cut = Vec::from_slice(alloc, b"[A]\n[1800su")?;
-    let rules = [
-        network(alloc, &nodes, &pdos, &[]),
-        network(alloc, &nodes, &pdos, &[file(alloc, "unit.eds", cut)?]),
-        network(
-            alloc,
-            &nodes,
-            &pdos,
-            &[file(alloc, "unit.eds", text_of(alloc, USUAL)?)?],
-        ),
-    ];
-    let carried = [
-        Rule::Eds(None),
-        Rule::Eds(Some(cop_eds::Refusal {
-            rule: cop_eds::Rule::Line,
-            line: 2,
-        })),
-        Rule::Transmit(Some(MappingFault::Absent)),
-    ];
-    for (made, rule) in rules.into_iter().zip(carried) {
-        match made {
-            Err(PlanFault::Refused(refusal)) => assert_eq!(rt; refusal.rule, rule),
-            Ok(_) => assert!(rt; false),
-            Err(fault) => return Err(Fail::from(fault)),
-        }
-    }
+    let cut = [file(alloc, "unit.eds", cut)?];
+    assert_eq!(rt; rule_of(alloc, &cut)?, Some(Rule::Eds(Some(line))));
+    let usual = [file(alloc, "unit.eds", text_of(alloc, USUAL)?)?];
+    let absent = Rule::Transmit(Some(MappingFault::Absent));
+    assert_eq!(rt; rule_of(alloc, &usual)?, Some(absent));
     Ok(())
 }
 
