@@ -2,7 +2,7 @@ use cop_dcf::{Setting, settings, write};
 use cop_dict::build;
 use cop_eds::parse;
 use cop_frame::Rate;
-use cop_net::{network, read_nodes, read_pdos};
+use cop_net::{NodeTable, PdoTable, network, read_nodes, read_pdos};
 use cop_plan::{Outcome, plan};
 use std::alloc::Global;
 use std::test::Fail;
@@ -13,8 +13,7 @@ const UNIT: &[u8] =
 const DCF: &[u8] =
     b"[FileInfo]\nFileName=unit.eds\nLastEDS=unit.eds\n[DeviceInfo]\nBaudRate_250=1\nBaudRate_500=1\nBaudRate_1000=1\n[MandatoryObjects]\nSupportedObjects=1\n1=0x1000\n[OptionalObjects]\nSupportedObjects=3\n1=0x1017\n2=0x1800\n3=0x1A00\n[ManufacturerObjects]\nSupportedObjects=1\n1=0x2000\n[1000]\nDataType=0x0007\nAccessType=ro\n[1017]\nDataType=0x0006\nAccessType=rw\nDefaultValue=0\nParameterValue=0x0064\n[1800]\nObjectType=0x9\nSubNumber=3\n[1800sub0]\nDataType=0x0005\nAccessType=ro\nDefaultValue=2\n[1800sub1]\nDataType=0x0007\nAccessType=rw\nDefaultValue=$NODEID+0x40000180\nParameterValue=0x40000181\n[1800sub2]\nDataType=0x0005\nAccessType=rw\nDefaultValue=255\n[1A00]\nObjectType=0x9\nSubNumber=3\n[1A00sub0]\nDataType=0x0005\nAccessType=ro\nDefaultValue=2\n[1A00sub1]\nDataType=0x0007\nAccessType=ro\nDefaultValue=0x20000120\n[1A00sub2]\nDataType=0x0007\nAccessType=ro\nDefaultValue=0x20000220\n[2000]\nObjectType=0x8\nSubNumber=3\n[2000sub0]\nDataType=0x0005\nAccessType=ro\nDefaultValue=2\n[2000sub1]\nDataType=0x0007\nAccessType=ro\nPDOMapping=1\n[2000sub2]\nDataType=0x0007\nAccessType=ro\nPDOMapping=1\n[DeviceComissioning]\nNodeID=5\nNodeName=Valve\nBaudrate=500\n";
 
-// What the plan of the valve sets in node 5.
-fn valve_settings(alloc: Global) -> Result<Vec<Setting>, Fail> {
+fn valve_tables(alloc: Global) -> Result<(NodeTable, PdoTable), Fail> {
     let nodes = read_nodes(
         alloc,
         b"row,node,name,eds,period,jitter\ndevice,5,Valve,unit.eds,0,0\nemcy,5,,,100000,0\nheartbeat,5,,,100000,0\n",
@@ -23,16 +22,25 @@ fn valve_settings(alloc: Global) -> Result<Vec<Setting>, Fail> {
         alloc,
         b"node,tpdo,period,jitter,deadline,consumers\n5,1,10000,0,670,\n",
     )?;
-    let file = (
+    Ok((nodes, pdos))
+}
+
+fn unit_file(alloc: Global) -> Result<(String, Vec<u8>), Fail> {
+    Ok((
         String::from_str(alloc, "unit.eds")?,
         Vec::from_slice(alloc, UNIT)?,
-    );
-    let valve = network(alloc, &nodes, &pdos, &[file])?;
-    let outcome = plan(alloc, &valve)?;
-    let Outcome::Planned(plan) = outcome else {
-        return Err(Fail::from("no rate passes"));
-    };
-    Ok(settings(alloc, &plan, &valve, 5)?)
+    ))
+}
+
+// What the plan of the valve sets in node 5.
+fn valve_settings(alloc: Global) -> Result<Vec<Setting>, Fail> {
+    let (nodes, pdos) = valve_tables(alloc)?;
+    let files = [unit_file(alloc)?];
+    let valve = network(alloc, &nodes, &pdos, &files)?;
+    match plan(alloc, &valve)? {
+        Outcome::Planned(plan) => Ok(settings(alloc, &plan, &valve, 5)?),
+        Outcome::Refused(_) => Err(Fail::from("no rate passes")),
+    }
 }
 
 fn setting(index: u16, sub: u8, value: u32, bytes: u8) -> Setting {
@@ -59,36 +67,39 @@ fn the_valve_has_three_settings(rt: HostRuntime) -> Result<(), Fail> {
     Ok(())
 }
 
+// The DCF of a text for node 5.
+fn dcf_of(alloc: Global, text: &[u8], settings: &[Setting], name: &[u8]) -> Result<Vec<u8>, Fail> {
+    let eds = parse(alloc, text)?;
+    Ok(write(alloc, &eds, settings, 5, b"Valve", Rate::Kbit500, name)?)
+}
+
+/// The DCF of the valve is written of its EDS text, and of itself again.
+const VALVE_TEXTS: &[&[u8]] = &[UNIT, DCF];
+
 #[test]
 fn the_dcf_of_the_valve(rt: HostRuntime) -> Result<(), Fail> {
-    let alloc = rt.alloc();
-    let found = valve_settings(alloc)?;
-    let eds = parse(alloc, UNIT)?;
-    let dcf = write(alloc, &eds, &found, 5, b"Valve", Rate::Kbit500, b"unit.eds")?;
-    assert_eq!(rt; dcf.as_slice(), DCF);
-    // It is read again, and what is written of it is the same.
-    let again = parse(alloc, &dcf)?;
-    let same = write(
-        alloc,
-        &again,
-        &found,
-        5,
-        b"Valve",
-        Rate::Kbit500,
-        b"unit.eds",
-    )?;
-    assert_eq!(rt; same.as_slice(), DCF);
-    let dict = build(alloc, &again, 5)?;
-    assert_eq!(rt; dict.read(0x1800, 1)?, [0x81, 1, 0, 0x40].as_slice());
-    assert_eq!(rt; dict.read(0x1017, 0)?, [100, 0].as_slice());
+    let found = valve_settings(rt.alloc())?;
+    for text in VALVE_TEXTS {
+        let dcf = dcf_of(rt.alloc(), text, &found, b"unit.eds")?;
+        assert_eq!(rt; dcf.as_slice(), DCF);
+    }
     Ok(())
 }
 
-// The DCF of a text, for a heartbeat of 100 ms.
-fn dcf_of(alloc: Global, text: &[u8]) -> Result<Vec<u8>, Fail> {
+// A value of the device that a text describes as node 5.
+fn value_in(alloc: Global, text: &[u8], index: u16, sub: u8) -> Result<Vec<u8>, Fail> {
     let eds = parse(alloc, text)?;
-    let beat = [setting(0x1017, 0, 100, 2)];
-    Ok(write(alloc, &eds, &beat, 5, b"Valve", Rate::Kbit500, b"a.eds")?)
+    let dict = build(alloc, &eds, 5)?;
+    Ok(dict.read(index, sub)?.to_vec(alloc)?)
+}
+
+#[test]
+fn the_device_of_the_dcf(rt: HostRuntime) -> Result<(), Fail> {
+    let cob_id = value_in(rt.alloc(), DCF, 0x1800, 1)?;
+    assert_eq!(rt; cob_id.as_slice(), [0x81, 1, 0, 0x40].as_slice());
+    let heartbeat = value_in(rt.alloc(), DCF, 0x1017, 0)?;
+    assert_eq!(rt; heartbeat.as_slice(), [100, 0].as_slice());
+    Ok(())
 }
 
 /// The three lists of a text with one object, each line with CR LF, LF or LF as its end.
@@ -116,14 +127,14 @@ const ENDS: &[(&str, &str)] = &[
 #[test]
 fn ends_of_lines(rt: HostRuntime) -> Result<(), Fail> {
     let alloc = rt.alloc();
+    // a heartbeat of 100 ms
+    let beat = [setting(0x1017, 0, 100, 2)];
     for case in ENDS {
         let (eds, dcf) = *case;
         let text = format!(in alloc; "{LISTS}{eds}")?;
         let wanted = format!(in alloc; "{LISTS}{dcf}")?;
-        assert_eq!(rt;
-            dcf_of(alloc, text.as_bytes())?.as_slice(),
-            wanted.as_bytes()
-        );
+        let found = dcf_of(alloc, text.as_bytes(), &beat, b"a.eds")?;
+        assert_eq!(rt; found.as_slice(), wanted.as_bytes());
     }
     Ok(())
 }
@@ -143,11 +154,9 @@ const WITHOUT_OBJECTS: &[(&[u8], &[u8])] = &[
 
 #[test]
 fn texts_without_objects(rt: HostRuntime) -> Result<(), Fail> {
-    let alloc = rt.alloc();
     for case in WITHOUT_OBJECTS {
         let (text, wanted) = *case;
-        let eds = parse(alloc, text)?;
-        let dcf = write(alloc, &eds, &[], 5, b"Valve", Rate::Kbit500, b"a.eds")?;
+        let dcf = dcf_of(rt.alloc(), text, &[], b"a.eds")?;
         assert_eq!(rt; dcf.as_slice(), wanted);
     }
     Ok(())

@@ -177,7 +177,6 @@ fn answer(rt: &impl process::Abort, dict: &mut Dictionary, rows: &[Row]) {
 #[test]
 fn sample(rt: HostRuntime) -> Result<(), Fail> {
     let mut dict = device(rt.alloc(), SAMPLE)?;
-    assert_eq!(rt; dict.read(0x1800, 1)?, [0x85, 0x01, 0x00, 0x40].as_slice());
     assert_eq!(rt; dict.read(0x1A00, 2)?, [0x20, 0x02, 0x00, 0x20].as_slice());
     let rows: &[Row] = &[
         ((0x1017, 0), &[0x64, 0], Ok(())),
@@ -201,17 +200,34 @@ fn sample(rt: HostRuntime) -> Result<(), Fail> {
     Ok(())
 }
 
+/// An address, and what is read there.
+type Reading = ((u16, u8), Result<&'static [u8], Abort>);
+
+const READINGS: &[Reading] = &[
+    ((0x1800, 1), Ok(&[0x85, 0x01, 0x00, 0x00])),
+    ((0x2000, 2), Ok(&[1])),
+    ((0x2001, 0), Ok(&[0xFE, 0xFF])),
+    ((0x2002, 0), Ok(b"n+$NODEID")),
+    ((0x2003, 0), Err(Abort::OpaqueType)),
+    ((0x2004, 0), Err(Abort::WriteOnly)),
+];
+
 #[test]
-fn types(rt: HostRuntime) -> Result<(), Fail> {
-    let mut dict = device(rt.alloc(), DEVICE)?;
-    assert_eq!(rt; dict.read(0x1800, 1)?, [0x85, 0x01, 0x00, 0x00].as_slice());
-    assert_eq!(rt; dict.read(0x2000, 2)?, [1].as_slice());
-    assert_eq!(rt; dict.read(0x2001, 0)?, [0xFE, 0xFF].as_slice());
+fn values_by_type(rt: HostRuntime) -> Result<(), Fail> {
+    let dict = device(rt.alloc(), DEVICE)?;
+    assert_eq!(rt; dict.entries().len(), 13);
+    for case in READINGS {
+        let ((index, sub), wanted) = *case;
+        assert_eq!(rt; dict.read(index, sub), wanted);
+    }
     let limited = dict.entry(0x2001, 0);
     assert_eq!(rt; limited.and_then(|entry| entry.integer()), Some(-2));
-    assert_eq!(rt; dict.read(0x2002, 0)?, b"n+$NODEID".as_slice());
-    assert_eq!(rt; dict.read(0x2003, 0), Err(Abort::OpaqueType));
-    assert_eq!(rt; dict.read(0x2004, 0), Err(Abort::WriteOnly));
+    Ok(())
+}
+
+#[test]
+fn writes_by_type(rt: HostRuntime) -> Result<(), Fail> {
+    let mut dict = device(rt.alloc(), DEVICE)?;
     let rows: &[Row] = &[
         ((0x2000, 2), &[1, 2], Err(0x0601_0002)),
         ((0x2003, 0), &[], Err(0x0601_0000)),
@@ -222,11 +238,18 @@ fn types(rt: HostRuntime) -> Result<(), Fail> {
         ((0x2002, 0), b"a longer name", Ok(())),
     ];
     answer(&rt, &mut dict, rows);
+    Ok(())
+}
+
+#[test]
+fn resets(rt: HostRuntime) -> Result<(), Fail> {
+    let mut dict = device(rt.alloc(), DEVICE)?;
+    let rows: &[Row] = &[((0x2002, 0), b"a longer name", Ok(()))];
+    answer(&rt, &mut dict, rows);
     dict.reset_communication();
     assert_eq!(rt; dict.read(0x2002, 0)?, b"a longer name".as_slice());
     dict.reset_all();
     assert_eq!(rt; dict.read(0x2002, 0)?, b"n+$NODEID".as_slice());
-    assert_eq!(rt; dict.entries().len(), 13);
     Ok(())
 }
 
@@ -268,10 +291,16 @@ fn stores(rt: HostRuntime) -> Result<(), Fail> {
         dict.store(0x2000, 2, &[0]);
     }
     assert_eq!(rt; dict.read(0x2000, 2)?, [0].as_slice());
+    assert!(rt; dict.entry(0x2002, 1).is_none());
+    Ok(())
+}
+
+#[test]
+fn widths_are_admitted(rt: HostRuntime) -> Result<(), Fail> {
+    let dict = device(rt.alloc(), DEVICE)?;
     assert_eq!(rt; dict.admits(0x2001, 0, None), Ok(Some(2)));
     assert_eq!(rt; dict.admits(0x2001, 0, Some(3)), Err(Abort::TooLong));
     assert_eq!(rt; dict.admits(0x2002, 0, Some(3)), Ok(None));
-    assert!(rt; dict.entry(0x2002, 1).is_none());
     Ok(())
 }
 

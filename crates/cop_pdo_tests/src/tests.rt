@@ -114,24 +114,36 @@ fn cob_ids(rt: HostRuntime) {
 }
 
 #[test]
-fn a_flag_and_a_byte(rt: HostRuntime) -> Result<(), Fail> {
+fn a_flag_and_a_byte_are_packed(rt: HostRuntime) -> Result<(), Fail> {
+    let dict = device(rt.alloc())?;
+    let sent = payload(&dict, Direction::Transmit, 1)?;
+    assert_eq!(rt; (sent.bits(), sent.bytes()), (9, 2));
+    assert_eq!(rt; pack(&dict, &sent), ([0x57, 0x01, 0, 0, 0, 0, 0, 0], 2));
+    Ok(())
+}
+
+#[test]
+fn layouts_are_compared(rt: HostRuntime) -> Result<(), Fail> {
+    let dict = device(rt.alloc())?;
+    let sent = payload(&dict, Direction::Transmit, 1)?;
+    let received = payload(&dict, Direction::Receive, 1)?;
+    assert!(rt; same_layout(&sent, &received));
+    let dummy = payload(&dict, Direction::Receive, 2)?;
+    assert!(rt; !same_layout(&sent, &dummy));
+    Ok(())
+}
+
+#[test]
+fn a_flag_and_a_byte_are_unpacked(rt: HostRuntime) -> Result<(), Fail> {
     let mut dict = device(rt.alloc())?;
-    let sent = payload(&dict, Direction::Transmit, 1);
-    let received = payload(&dict, Direction::Receive, 1);
-    let dummy = payload(&dict, Direction::Receive, 2);
-    match (sent, received, dummy) {
-        (Ok(sent), Ok(received), Ok(dummy)) => {
-            assert_eq!(rt; (sent.bits(), sent.bytes()), (9, 2));
-            assert!(rt; same_layout(&sent, &received) && !same_layout(&sent, &dummy));
-            assert_eq!(rt; pack(&dict, &sent), ([0x57, 0x01, 0, 0, 0, 0, 0, 0], 2));
-            assert!(rt; unpack(&mut dict, &received, &[0x57]).is_err());
-            assert_eq!(rt; dict.read(0x2001, 0), Ok([0xAB].as_slice()));
-            assert!(rt; unpack(&mut dict, &received, &[0x22, 0, 0xFF]).is_ok());
-            assert_eq!(rt; dict.read(0x2000, 0), Ok([0].as_slice()));
-            assert_eq!(rt; dict.read(0x2001, 0), Ok([0x11].as_slice()));
-        }
-        _ => assert!(rt; false),
-    }
+    let received = payload(&dict, Direction::Receive, 1)?;
+    assert!(rt; unpack(&mut dict, &received, &[0x57]).is_err());
+    assert_eq!(rt; dict.read(0x2001, 0), Ok([0xAB].as_slice()));
+    assert!(rt; unpack(&mut dict, &received, &[0x22, 0, 0xFF]).is_ok());
+    assert_eq!(rt;
+        (dict.read(0x2000, 0), dict.read(0x2001, 0)),
+        (Ok([0].as_slice()), Ok([0x11].as_slice()))
+    );
     Ok(())
 }
 

@@ -1,4 +1,4 @@
-use cop_rows::{Consumer, FrameKind, FrameRow, RowFault, Rule, read_nodes, read_pdos};
+use cop_rows::{Consumer, FrameKind, FrameRow, PdoRow, RowFault, Rule, read_nodes, read_pdos};
 use std::alloc::Global;
 use std::fmt::Write;
 use std::test::Fail;
@@ -21,51 +21,55 @@ const PDOS: &str = "node,tpdo,period,jitter,deadline,consumers";
 
 const NODES: &str = "row,node,name,eds,period,jitter";
 
-#[test]
-fn pdos_of_the_valve(rt: HostRuntime) -> Result<(), Fail> {
-    let text = table(rt.alloc(), PDOS, "5,1,10000,0,670,\n")?;
-    let table = read_pdos(rt.alloc(), text.as_bytes())?;
-    assert_eq!(rt; table.rows().len(), 1);
-    for row in table.rows() {
-        assert_eq!(rt; (row.node, row.tpdo), (5, 1));
-        assert_eq!(rt; (row.period, row.jitter, row.deadline), (10_000, 0, 670));
-        assert!(rt; row.consumers.as_slice().is_empty());
-    }
-    Ok(())
+/// A row of PDOs: node, TPDO, period, jitter, deadline and consumers.
+type Row = (u8, u16, u32, u32, u32, &'static [Consumer]);
+
+fn is_row(found: &PdoRow, wanted: &Row) -> bool {
+    let (node, tpdo, period, jitter, deadline, consumers) = *wanted;
+    (found.node, found.tpdo) == (node, tpdo)
+        && (found.period, found.jitter, found.deadline) == (period, jitter, deadline)
+        && found.consumers.as_slice() == consumers
 }
 
+/// Tables of PDOs, and the rows that are read.
+const READ_PDOS: &[(&[u8], &[Row])] = &[
+    (
+        b"node,tpdo,period,jitter,deadline,consumers\n5,1,10000,0,670,\n",
+        &[(5, 1, 10_000, 0, 670, &[])],
+    ),
+    // at the ends of their ranges
+    (
+        b"\xEF\xBB\xBFnode,tpdo,\"period\",jitter,deadline,consumers\r\n127,512,60000000,60000000,60000000,1.1 127.512 1.1\r\n001,1,100,0,1,\"2.3\"",
+        &[
+            (
+                127,
+                512,
+                60_000_000,
+                60_000_000,
+                60_000_000,
+                &[
+                    Consumer { node: 1, rpdo: 1 },
+                    Consumer {
+                        node: 127,
+                        rpdo: 512,
+                    },
+                    Consumer { node: 1, rpdo: 1 },
+                ],
+            ),
+            (1, 1, 100, 0, 1, &[Consumer { node: 2, rpdo: 3 }]),
+        ],
+    ),
+];
+
 #[test]
-fn pdos_at_the_ends_of_their_ranges(rt: HostRuntime) -> Result<(), Fail> {
-    let text =
-        b"\xEF\xBB\xBFnode,tpdo,\"period\",jitter,deadline,consumers\r\n127,512,60000000,60000000,60000000,1.1 127.512 1.1\r\n001,1,100,0,1,\"2.3\"";
-    let table = read_pdos(rt.alloc(), text.as_slice())?;
-    let consumers = [
-        Consumer { node: 1, rpdo: 1 },
-        Consumer {
-            node: 127,
-            rpdo: 512,
-        },
-        Consumer { node: 1, rpdo: 1 },
-    ];
-    match table.rows() {
-        [first, second] => {
-            assert_eq!(rt; (first.node, first.tpdo), (127, 512));
-            assert_eq!(rt;
-                (first.period, first.jitter, first.deadline),
-                (60_000_000, 60_000_000, 60_000_000)
-            );
-            assert_eq!(rt; first.consumers.as_slice(), consumers.as_slice());
-            assert_eq!(rt; (second.node, second.tpdo), (1, 1));
-            assert_eq!(rt;
-                (second.period, second.jitter, second.deadline),
-                (100, 0, 1)
-            );
-            assert_eq!(rt;
-                second.consumers.as_slice(),
-                [Consumer { node: 2, rpdo: 3 }].as_slice()
-            );
+fn pdos_are_read(rt: HostRuntime) -> Result<(), Fail> {
+    for case in READ_PDOS {
+        let (text, rows) = *case;
+        let table = read_pdos(rt.alloc(), text)?;
+        assert_eq!(rt; table.rows().len(), rows.len());
+        for (found, wanted) in table.rows().iter().zip(rows) {
+            assert!(rt; is_row(found, wanted));
         }
-        _ => assert!(rt; false),
     }
     Ok(())
 }
@@ -161,19 +165,28 @@ fn more_than_512_pdos(rt: HostRuntime) -> Result<(), Fail> {
     Ok(())
 }
 
+const VALVE: &str = "device,5,Valve,unit.eds,0,0\nemcy,5,,,100000,0\nheartbeat,5,,,100000,0\n";
+
 #[test]
-fn nodes_of_the_valve(rt: HostRuntime) -> Result<(), Fail> {
-    let rows = "device,5,Valve,unit.eds,0,0\nemcy,5,,,100000,0\nheartbeat,5,,,100000,0\n";
-    let text = table(rt.alloc(), NODES, rows)?;
+fn devices_of_the_valve(rt: HostRuntime) -> Result<(), Fail> {
+    let text = table(rt.alloc(), NODES, VALVE)?;
     let table = read_nodes(rt.alloc(), text.as_bytes())?;
     assert_eq!(rt; table.devices().len(), 1);
     for device in table.devices() {
         assert_eq!(rt; (device.place, device.node), (1, 5));
-        assert_eq!(rt; device.name.as_bytes(), b"Valve".as_slice());
-        assert_eq!(rt; device.eds.as_bytes(), b"unit.eds".as_slice());
-        assert!(rt; device.name == device.name.clone()?);
+        assert_eq!(rt;
+            (device.name.as_bytes(), device.eds.as_bytes()),
+            (b"Valve".as_slice(), b"unit.eds".as_slice())
+        );
         assert!(rt; device.name < device.eds);
     }
+    Ok(())
+}
+
+#[test]
+fn frames_of_the_valve(rt: HostRuntime) -> Result<(), Fail> {
+    let text = table(rt.alloc(), NODES, VALVE)?;
+    let table = read_nodes(rt.alloc(), text.as_bytes())?;
     let row = |place, kind| FrameRow {
         place,
         kind,

@@ -289,69 +289,180 @@ fn play(client: &mut Client, server: &mut Server, dict: &mut Dictionary, first: 
     Progress::Ignored
 }
 
+// Whether a value goes to the server and comes back.
+fn goes_and_comes(
+    client: &mut Client,
+    server: &mut Server,
+    dict: &mut Dictionary,
+    value: &[u8],
+) -> Result<bool, Fail> {
+    let first = client.download(0x2000, 0, value)?;
+    let is_given = play(client, server, dict, first) == Progress::Done;
+    let is_stored = dict.read(0x2000, 0)? == value;
+    let first = client.upload(0x2000, 0)?;
+    let is_asked = play(client, server, dict, first) == Progress::Done;
+    Ok(is_given && is_stored && is_asked && client.taken() == value)
+}
+
 #[test]
-fn client_against_server(rt: HostRuntime) -> Result<(), Fail> {
+fn values_go_and_come(rt: HostRuntime) -> Result<(), Fail> {
     let mut dict = dictionary(rt.alloc(), DEVICE)?;
     let mut server = Server::new(rt.alloc(), 5);
     let mut client = Client::new(rt.alloc(), 5);
     let mut value = Vec::new(rt.alloc());
-    value.resize(65_536, 0x5A)?;
+    value.resize(65_535, 0x5A)?;
     for len in (0..21usize).chain(65_535..65_536) {
         assert!(rt; len <= value.len());
-        let first = client.download(0x2000, 0, &value[..len])?;
-        assert_eq!(rt; client.upload(0x2000, 0), Err(ClientFault::Busy));
-        let end = play(&mut client, &mut server, &mut dict, first);
-        assert_eq!(rt; end, Progress::Done);
-        assert_eq!(rt; dict.read(0x2000, 0)?, &value[..len]);
-        let first = client.upload(0x2000, 0)?;
-        let end = play(&mut client, &mut server, &mut dict, first);
-        assert_eq!(rt; end, Progress::Done);
-        assert_eq!(rt; client.taken(), &value[..len]);
+        let is_back = goes_and_comes(&mut client, &mut server, &mut dict, &value[..len])?;
+        assert!(rt; is_back, "{len} bytes");
     }
-    let too_long = client.download(0x2000, 0, &value);
-    assert_eq!(rt; too_long, Err(ClientFault::TooLong));
-    let first = client.download(0x2001, 0, b"")?;
-    let end = play(&mut client, &mut server, &mut dict, first);
-    assert_eq!(rt; end, Progress::Aborted(0x0601_0002));
-    assert_eq!(rt; client.expire(), None);
     Ok(())
 }
 
 #[test]
-fn client_hears(rt: HostRuntime) -> Result<(), Fail> {
+fn calls_that_are_refused(rt: HostRuntime) -> Result<(), Fail> {
     let mut client = Client::new(rt.alloc(), 5);
-    let ended = |at: [u8; 3], code: u32| {
-        let [a, b, c, d] = code.to_le_bytes();
-        Progress::Ended(asks([0x80, at[0], at[1], at[2], a, b, c, d]), code)
-    };
+    let mut value = Vec::new(rt.alloc());
+    value.resize(65_536, 0x5A)?;
+    let too_long = client.download(0x2000, 0, &value);
+    assert_eq!(rt; too_long, Err(ClientFault::TooLong));
+    assert_eq!(rt; client.expire(), None);
+    let _ = client.download(0x2000, 0, b"")?;
+    assert_eq!(rt; client.upload(0x2000, 0), Err(ClientFault::Busy));
+    Ok(())
+}
+
+#[test]
+fn a_value_that_is_only_read(rt: HostRuntime) -> Result<(), Fail> {
+    let mut dict = dictionary(rt.alloc(), DEVICE)?;
+    let mut server = Server::new(rt.alloc(), 5);
+    let mut client = Client::new(rt.alloc(), 5);
+    let first = client.download(0x2001, 0, b"")?;
+    let end = play(&mut client, &mut server, &mut dict, first);
+    assert_eq!(rt; end, Progress::Aborted(0x0601_0002));
+    Ok(())
+}
+
+#[test]
+fn a_first_frame_and_its_expiry(rt: HostRuntime) -> Result<(), Fail> {
+    let mut client = Client::new(rt.alloc(), 5);
     let first = client.download(0x1800, 1, &[0x85, 1, 0, 0xC0])?;
     assert_eq!(rt; first, asks([0x23, 0, 0x18, 1, 0x85, 1, 0, 0xC0]));
     assert_eq!(rt; client.expire(), Some(asks([0x80, 0, 0x18, 1, 0, 0, 4, 5])));
-    let _ = client.download(0x1800, 1, &[255])?;
-    let other = client.step(&says([0x60, 0, 0x18, 2, 0, 0, 0, 0]));
-    assert_eq!(rt; other, ended([0, 0x18, 1], 0x0504_0001));
-    let _ = client.download(0x2000, 0, b"")?;
-    let empty = client.step(&says([0x60, 0, 0x20, 0, 0, 0, 0, 0]));
-    assert_eq!(rt; empty, Progress::Send(asks([0x0F, 0, 0, 0, 0, 0, 0, 0])));
-    let toggled = client.step(&says([0x30, 0, 0, 0, 0, 0, 0, 0]));
-    assert_eq!(rt; toggled, ended([0, 0x20, 0], 0x0503_0000));
-    // four bytes with no number of them, and a size that isn't stated
-    let _ = client.upload(0x2000, 0)?;
-    let four = client.step(&says([0x42, 0, 0x20, 0, 1, 2, 3, 4]));
-    assert_eq!(rt; four, Progress::Done);
-    assert_eq!(rt; client.taken(), [1, 2, 3, 4].as_slice());
-    let _ = client.upload(0x2000, 0)?;
-    let begun = client.step(&says([0x40, 0, 0x20, 0, 9, 9, 9, 9]));
-    assert_eq!(rt; begun, Progress::Send(asks([0x60, 0, 0, 0, 0, 0, 0, 0])));
-    let last = client.step(&says([0x0D, 7, 0, 0, 0, 0, 0, 0]));
-    assert_eq!(rt; last, Progress::Done);
-    assert_eq!(rt; client.taken(), [7].as_slice());
+    Ok(())
+}
+
+// The call of an idle client: a download of no bytes, which goes in segments, or of some, or an upload.
+#[derive(Clone, Copy)]
+enum Call {
+    Download(&'static [u8]),
+    Upload,
+}
+
+// What a client makes of an answer: it sends a frame, is done, or ends by an abort of its own.
+#[derive(Clone, Copy)]
+enum Makes {
+    Sends([u8; 8]),
+    IsDone,
+    Ends(u32),
+}
+
+// A call to 2000h sub 0, answers in turn with what the client makes of each, and the bytes that it has taken then.
+type Hearing = (Call, &'static [([u8; 8], Makes)], &'static [u8]);
+
+const HEARINGS: &[Hearing] = &[
+    // another address
+    (
+        Call::Download(&[255]),
+        &[([0x60, 0, 0x20, 2, 0, 0, 0, 0], Makes::Ends(0x0504_0001))],
+        b"",
+    ),
+    // no bytes go as one segment; a wrong toggle
+    (
+        Call::Download(b""),
+        &[
+            (
+                [0x60, 0, 0x20, 0, 0, 0, 0, 0],
+                Makes::Sends([0x0F, 0, 0, 0, 0, 0, 0, 0]),
+            ),
+            ([0x30, 0, 0, 0, 0, 0, 0, 0], Makes::Ends(0x0503_0000)),
+        ],
+        b"",
+    ),
+    // four bytes with no number of them
+    (
+        Call::Upload,
+        &[([0x42, 0, 0x20, 0, 1, 2, 3, 4], Makes::IsDone)],
+        &[1, 2, 3, 4],
+    ),
+    // a size that isn't stated
+    (
+        Call::Upload,
+        &[
+            (
+                [0x40, 0, 0x20, 0, 9, 9, 9, 9],
+                Makes::Sends([0x60, 0, 0, 0, 0, 0, 0, 0]),
+            ),
+            ([0x0D, 7, 0, 0, 0, 0, 0, 0], Makes::IsDone),
+        ],
+        &[7],
+    ),
     // more bytes than stated, and fewer
-    for (size, first) in [(3, 0), (8, 1)] {
-        let _ = client.upload(0x2000, 0)?;
-        let _ = client.step(&says([0x41, 0, 0x20, 0, size, 0, 0, 0]));
-        let end = client.step(&says([first, 1, 2, 3, 4, 5, 6, 7]));
-        assert_eq!(rt; end, ended([0, 0x20, 0], 0x0504_0001));
+    (
+        Call::Upload,
+        &[
+            (
+                [0x41, 0, 0x20, 0, 3, 0, 0, 0],
+                Makes::Sends([0x60, 0, 0, 0, 0, 0, 0, 0]),
+            ),
+            ([0, 1, 2, 3, 4, 5, 6, 7], Makes::Ends(0x0504_0001)),
+        ],
+        b"",
+    ),
+    (
+        Call::Upload,
+        &[
+            (
+                [0x41, 0, 0x20, 0, 8, 0, 0, 0],
+                Makes::Sends([0x60, 0, 0, 0, 0, 0, 0, 0]),
+            ),
+            ([1, 1, 2, 3, 4, 5, 6, 7], Makes::Ends(0x0504_0001)),
+        ],
+        b"",
+    ),
+];
+
+fn progress_of(makes: Makes) -> Progress {
+    match makes {
+        Makes::Sends(body) => Progress::Send(asks(body)),
+        Makes::IsDone => Progress::Done,
+        Makes::Ends(code) => {
+            let [a, b, c, d] = code.to_le_bytes();
+            Progress::Ended(asks([0x80, 0, 0x20, 0, a, b, c, d]), code)
+        }
+    }
+}
+
+// Whether a client makes of the answers what it should, and has the bytes then.
+fn hears(client: &mut Client, hearing: &Hearing) -> Result<bool, ClientFault> {
+    let (call, answers, taken) = *hearing;
+    let _ = match call {
+        Call::Download(bytes) => client.download(0x2000, 0, bytes)?,
+        Call::Upload => client.upload(0x2000, 0)?,
+    };
+    for (answer, makes) in answers {
+        if client.step(&says(*answer)) != progress_of(*makes) {
+            return Ok(false);
+        }
+    }
+    Ok(client.taken() == taken)
+}
+
+#[test]
+fn what_a_client_hears(rt: HostRuntime) -> Result<(), Fail> {
+    for (number, hearing) in HEARINGS.iter().enumerate() {
+        let mut client = Client::new(rt.alloc(), 5);
+        assert!(rt; hears(&mut client, hearing)?, "hearing {number}");
     }
     Ok(())
 }
