@@ -1,10 +1,14 @@
 -- Where the searches begin for the stream that is flagged next.
-use Rattle.std.proofs.Common.{◌≡◌, ℕ, ◌+◌, ◌-◌, ◌<◌, ◌≤◌, ◌⊎◌, inl, inr, true, false, length, get_or, set, slice_get, Option, Some, None, IfSome, IfNone, subst, arith, ⊎_elim, zero-le}
+use Rattle.std.proofs.Common.{◌≡◌, ℕ, ◌+◌, ◌-◌, ◌<◌, ◌≤◌, ◌⊎◌, inl, inr, zero, suc, Bool, List, [], ◌∷◌, ◌++◌, replicate, refl, ◌∙◌, true, false, length, get_or, set, slice_get, Option, Some, None, IfSome, IfNone, sum_by, sym, subst, arith, ⊎_elim, zero-le}
 use Rattle.std.proofs.lemmas.Bool.{cases_lt}
-use Rattle.std.proofs.lemmas.Option.{slice_get_cases}
+use Rattle.std.proofs.lemmas.List.Sums.{sum_by_push}
+use Rattle.std.proofs.lemmas.Option.{slice_get_cases, unwrap_or-slice_get}
 use Rattle.cop_frame.specs.Rate.{ticks_of}
 use Rattle.cop_rta.specs.declared.streams.Stream.{Stream}
+use Rattle.cop_rta.specs.declared.paces.Pace.{Pace}
 use Rattle.cop_rta.specs.declared.sweeps.Last.{Last}
+use Rattle.cop_rta.specs.Paces.{ArePacesOf, IsRow, load_in, last_time}
+use Rattle.cop_rta.proofs.PaceLemmas.{load_by_pace}
 use Rattle.cop_rta.specs.Solutions.{IsLeastSolution}
 use Rattle.cop_rta.specs.Sums.{sum_where}
 use Rattle.cop_rta.specs.Test.{is_flagged, of_stream, cost_of, load_of, blocking, interference, cost_at, busy_at, queueing_at, IsBusyTime, horizon}
@@ -125,3 +129,39 @@ module _ (v : Flags) (size : length v.flags ≡ length v.streams) (own : ℕ) (i
       → IfSome o (λ last. from_below + last.cost < last.from_below → from ≡ 0) → IfNone o (from ≡ 0) → IsBelowWait (place_in then own) 0 from
   wait_starts None is from_below from below room none first = rw first (λ y closed. zero-le)
   wait_starts (Some last) is from_below from below room none first = next_wait v size last is own in_own off from_below from below room none
+
+-- the row has its pace then
+pub row_more : (streams : List Stream) (flags : List Bool) (row paces : List Pace) (k : ℕ) (pace : Pace) → ArePacesOf streams paces → length flags ≡ length streams → k < length streams → pace ≡ get_or paces k pace
+    → is_flagged flags k ≡ false → IsRow streams flags row → IsRow streams (set flags k true) (row ++ pace ∷ [])
+row_more streams flags row paces k pace are size inside here off is = record {
+  sums = λ rate t early.
+      omega (
+        arith,
+        sum_by_push (load_in (ticks_of rate) t) row pace,
+        is.sums rate t early,
+        load_by_pace rate streams paces are k pace (omega (arith, inside, are.count)) here t early,
+        sum_more flags k (omega (arith, inside, size)) off (of_stream (load_of rate t) streams) (length streams) inside,
+      );
+}
+
+off_at : (n k : ℕ) → get_or (replicate n false) k false ≡ false
+off_at zero k = refl
+off_at (suc n) zero = refl
+off_at (suc n) (suc k) = off_at n k
+
+sum_of_none : (p : ℕ → Bool) (f : ℕ → ℕ) (n : ℕ) → ((k : ℕ) → p k ≡ false) → sum_where p f n ≡ 0
+unfolding sum_where
+sum_of_none p f zero off = refl
+sum_of_none p f (suc n) off = rw (off n) (omega (arith, sum_of_none p f n off))
+
+pub no_row : (streams : List Stream) (n : ℕ) → IsRow streams (replicate n false) []
+no_row streams n = record {
+  sums = λ rate t early.
+      sym (sum_of_none (is_flagged (replicate n false)) (of_stream (load_of rate t) streams) (length streams) (λ k. unwrap_or-slice_get (replicate n false) k false ∙ off_at n k));
+}
+
+-- what a row takes is what those above one take, and what this one does
+pub row_is : (v : Flags) (row paces : List Pace) (own : ℕ) (pace : Pace) → ArePacesOf v.streams paces → own < length v.streams → pace ≡ get_or paces own pace → is_flagged v.flags own ≡ true → IsRow v.streams v.flags row
+    → (t total load : ℕ) → t ≤ last_time → total ≡ sum_by (load_in (ticks_of v.rate) t) row → load ≡ load_in (ticks_of v.rate) t pace → total ≡ interference (place_in v own) t + load
+row_is v row paces own pace are inside here flag is t total load early all mine =
+    omega (arith, all, mine, is.sums v.rate t early, load_by_pace v.rate v.streams paces are own pace (omega (arith, inside, are.count)) here t early, interference_is v own inside flag t)

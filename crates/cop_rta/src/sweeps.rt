@@ -5,11 +5,13 @@ ghost use Rattle.cop_rta.specs.declared.verdicts.Verdict.TheVariants.{Long};
 ghost use Rattle.cop_rta.specs.Test.{is_flagged, flagged_place, place_of, place_by_id, horizon, IsBusyTime};
 ghost use Rattle.cop_rta.specs.Verdict.{IsJudged};
 ghost use Rattle.cop_rta.specs.Waits.{IsBelowBusy};
+ghost use Rattle.cop_rta.specs.Paces.{IsRow};
 ghost use Rattle.cop_rta.specs.Placing.{IsLast};
 
 use crate::above::Above;
 use crate::demands::{Busy, longest_below};
 use crate::judging::judged;
+use crate::paces::Pace;
 use crate::sets::StreamSet;
 use crate::verdicts::Verdict;
 use cop_frame::Rate;
@@ -64,10 +66,11 @@ fn time_after(busy: &Busy<'_>, last: Option<Last>) -> Option<u64>
     }
 }
 
-// Flags one more stream, and judges it with those that were flagged above it.
+// Flags one more stream, and judges it with those that were flagged above it. The paces of all these stand in a row.
 fn judge_next(
     streams: &StreamSet,
     above: &mut [bool],
+    row: &[Pace],
     index: usize,
     rate: Rate,
     last: Option<Last>,
@@ -75,6 +78,8 @@ fn judge_next(
     requires size { length above.old ≡ length streams.now }
     requires index { index < length streams.now }
     requires unflagged { is_flagged above.old index ≡ false }
+    requires few { length row.now ≤ 2048 }
+    requires row { IsRow streams.now (set above.old index true) row.now }
     requires last { IfSome last (IsLast (record { streams = streams.now; flags = above.old; rate = rate })) }
     ensures above { above.new ≡ set above.old index true }
     ensures judged { IsJudged (flagged_place streams.now (set above.old index true) index rate) result.verdict }
@@ -83,7 +88,7 @@ fn judge_next(
     above[index] = true;
     let flagged = Above::flagged(above);
     let from_below = longest_below(streams.streams(), &flagged, index, rate);
-    let busy = Busy::with(streams, flagged, index, rate, from_below);
+    let busy = Busy::with(streams, flagged, index, rate, from_below).in_row(row);
     let from = wait_after(last, from_below);
     let time = time_after(&busy, last);
     let judged = judged(&busy, time, from);
@@ -113,10 +118,12 @@ pub fn verdicts_by_id(
     let count = set.streams().len();
     let mut above = vec![in alloc; false; count]?;
     let mut verdicts = vec![in alloc; Verdict::Long; count]?;
+    let mut row = Vec::new(alloc);
     let mut last = None;
     for id in 0..2048 {
         if let Some(index) = set.place_of(id) {
-            let swept = judge_next(set, &mut above, index, rate, last);
+            row.push(set.paces()[index])?;
+            let swept = judge_next(set, &mut above, &row, index, rate, last);
             verdicts[index] = swept.verdict;
             last = Some(swept.last);
         }
