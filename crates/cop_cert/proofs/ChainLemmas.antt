@@ -1,8 +1,11 @@
--- One number more of a chain.
-use Rattle.std.proofs.Common.{◌≡◌, ◌≢◌, ℕ, ◌^◌, ◌<◌, ◌≤◌, List, [], ◌∷◌, ◌++◌, All, refl, arith}
+-- One number more of a chain, and what a chain of the code's values is.
+use Rattle.std.specs.declared.alloc.AllocError.{AllocError}
+use Rattle.std.proofs.Common.{◌≡◌, ◌≢◌, ℕ, ◌-◌, ◌^◌, ◌<◌, ◌≤◌, ◌⊎◌, inl, inr, min, Result, Ok, Err, IfOk, List, [], ◌∷◌, ◌++◌, All, refl, arith}
+use Rattle.std.proofs.lemmas.Bool.{cases_lt}
 use Rattle.std.proofs.lemmas.List.Elements.{All-nil, All-cons, All-append}
 use Rattle.cop_cert.specs.Evidence.{last_after, last_of}
-use Rattle.cop_cert.specs.Chains.{Follows, IsChain}
+use Rattle.cop_rta.specs.Test.{horizon}
+use Rattle.cop_cert.specs.Chains.{Follows, IsRun, IsChain, IsWholeChain}
 
 -- the chain so far, and its last number
 pub record Chained (f : ℕ → ℕ) (from limit : ℕ) (numbers : List ℕ) (last : ℕ) : Type 0 where
@@ -45,3 +48,30 @@ module _ (f : ℕ → ℕ) (limit : ℕ) where
   chain_more from last next numbers more c e within other is fits rises =
       let longer = chain_push from last next numbers c.chain c.ends within (omega (arith, c.rises)) is fits in
       rw e (record { chain = longer.0; ends = longer.1; rises = omega (arith, rises, is) })
+
+-- a chain of what the code gives of an equation that is small is one of its values
+module _ (f : ℕ → ℕ) (small : (t : ℕ) → t ≤ horizon → f t ≤ 2 ^ 64 - 1) where
+  follows_whole : (a : ℕ) (rest : List ℕ) → Follows (λ t. min (f t) (2 ^ 64 - 1)) horizon a rest → Follows f horizon a rest
+  unfolding Follows
+  follows_whole a [] h = h
+  follows_whole a (b ∷ rest) h = (h.0, h.1, omega (arith, h.2, small a h.0), follows_whole b rest h.3)
+
+  run_whole : (numbers : List ℕ) → IsRun (λ t. min (f t) (2 ^ 64 - 1)) horizon numbers → IsRun f horizon numbers
+  run_whole [] h = h
+  run_whole (a ∷ rest) h = follows_whole a rest h
+
+  ends_whole : (last : ℕ) → (horizon < last) ⊎ (last ≡ min (f last) (2 ^ 64 - 1)) → (horizon < last) ⊎ (last ≡ f last)
+  ends_whole last (inl above) = inl above
+  ends_whole last (inr solves) = go (cases_lt horizon last)
+    where
+      go : (horizon < last) ⊎ (last ≤ horizon) → (horizon < last) ⊎ (last ≡ f last)
+      go (inl above) = inl above
+      go (inr within) = inr (omega (arith, solves, small last within))
+
+pub whole_all : (f : ℕ → ℕ) (from : ℕ) (r : Result (List ℕ) AllocError) → ((t : ℕ) → t ≤ horizon → f t ≤ 2 ^ 64 - 1)
+    → IfOk r (IsWholeChain (λ t. min (f t) (2 ^ 64 - 1)) from horizon) → IfOk r (IsWholeChain f from horizon)
+whole_all f from (Err e) small whole = tt
+whole_all f from (Ok numbers) small whole = record {
+  chain = record { begins = whole.chain.begins; follows = run_whole f small numbers whole.chain.follows; fit = whole.chain.fit };
+  ends = ends_whole f small (last_of numbers) whole.ends;
+}

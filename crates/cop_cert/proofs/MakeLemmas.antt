@@ -1,11 +1,10 @@
 -- The chains that are made are whole, and they are evidence.
 use Rattle.std.specs.declared.alloc.AllocError.{AllocError}
-use Rattle.std.proofs.Common.{Result, Ok, Err, IfOk, ◌≡◌, ℕ, ◌+◌, ◌*◌, ◌<◌, ◌≤◌, ◌⊎◌, inl, inr, List, [], ◌∷◌, length, get_or, slice_get, Some, None, sym, arith, le_antisymm, le_of_eq, zero-le, mul-le-mul_left, ⊎_elim}
+use Rattle.std.proofs.Common.{Result, Ok, Err, IfOk, ◌≡◌, ℕ, ◌+◌, ◌*◌, ◌^◌, ◌<◌, ◌≤◌, ◌⊎◌, inl, inr, List, [], ◌∷◌, length, get_or, slice_get, Some, None, sym, arith, le_antisymm, le_of_eq, zero-le, mul-le-mul_left, ⊎_elim}
 use Rattle.std.proofs.lemmas.Bool.{cases_lt}
 use Rattle.std.proofs.lemmas.Option.{slice_get_cases}
 use Rattle.cop_rta.specs.declared.streams.Stream.{Stream}
 use Rattle.cop_rta.specs.Test.{Place, busy_at, queueing_at, blocking, cost_at, horizon, IsBusyTime, IsQueuedWithin}
-use Rattle.cop_rta.specs.Levels.{most_instances}
 use Rattle.cop_rta.specs.TestLemmas.{busy_at-mono, queueing_at-mono}
 use Rattle.cop_rta.specs.Verdict.{IsLong, IsFirstLate}
 use Rattle.cop_rta.proofs.LeastLemmas.{same_least}
@@ -45,11 +44,11 @@ end_solves f limit last (inl above) h = absurd (omega arith)
 end_solves f limit last (inr e) h = e
 
 -- few instances are queued within the horizon
-few_queued : (p : Place) (t q : ℕ) → p.index < length p.streams → t ≤ horizon → IsQueuedWithin p t q → q ≤ most_instances
+few_queued : (p : Place) (t q : ℕ) → p.index < length p.streams → t ≤ horizon → IsQueuedWithin p t q → q ≤ 2 ^ 20
 few_queued p t q inside within queued = go (slice_get_cases p.streams p.index).1
   where
     go : ((s : Stream) × (p.index < length p.streams) × (slice_get p.streams p.index ≡ Some s) × (get_or p.streams p.index s ≡ s)) ⊎ ((length p.streams ≤ p.index) × (slice_get p.streams p.index ≡ None))
-        → q ≤ most_instances
+        → q ≤ 2 ^ 20
     go (inl s) =
         let low : q * s.0.period < t + s.0.jitter = rw s.2 at queued in
         let more : q * 400 ≤ q * s.0.period = mul-le-mul_left q s.0.period_least in
@@ -88,11 +87,14 @@ module _ (p : Place) where
     unfolding queueing_at
     wait_starts = omega (arith, late.answers.queueing.solves)
 
+    pub start_within : blocking p + q * cost_at p ≤ horizon
+    start_within = omega (arith, wait_starts, wait_within)
+
     pub start_rises : blocking p + q * cost_at p ≤ queueing_at p q (blocking p + q * cost_at p)
     unfolding queueing_at
     start_rises = omega arith
 
-    pub few_instances : q ≤ most_instances
+    pub few_instances : q ≤ 2 ^ 20
     few_instances = few_queued p late.time q inside late.within late.queued
 
     queue_made : (numbers : List ℕ) → IsWholeChain (queueing_at p q) (blocking p + q * cost_at p) horizon numbers → IsQueueOf p q numbers

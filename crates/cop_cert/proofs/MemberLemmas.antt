@@ -1,6 +1,8 @@
 -- Lists of members: that they rise, one of them, and which are marked.
-use Rattle.std.proofs.Common.{◌≡◌, ◌≢◌, ◌⊎◌, inl, inr, ℕ, zero, suc, ◌+◌, ◌<◌, ◌≤◌, Bool, true, false, ◌||◌, ◌==◌, List, [], ◌∷◌, length, get_or, drop, All, refl, ap, arith, add-one, drop-cons, drop_of_length-le, ne_eqb, set, ◌∙◌, eq-eqb}
+use Rattle.std.proofs.Common.{◌≡◌, ◌≢◌, ◌⊎◌, inl, inr, ℕ, zero, suc, ◌+◌, ◌<◌, ◌≤◌, Bool, true, false, ◌||◌, ◌==◌, List, [], ◌∷◌, length, map, not, get_or, slice_get, Some, None, sym, true≢false, drop, All, refl, ap, arith, add-one, drop-cons, drop_of_length-le, ne_eqb, set, ◌∙◌, eq-eqb}
 use Rattle.cop_rta.specs.Test.{is_flagged}
+use Rattle.cop_rta.specs.Placing.{HasOneAbove}
+use Rattle.std.proofs.lemmas.Option.{slice_get_cases}
 use Rattle.std.proofs.lemmas.Bool.{cases_lt, or_left, or_right}
 use Rattle.cop_rta.specs.declared.streams.Stream.{Stream}
 use Rattle.cop_rta.proofs.FlagLemmas.{flag_set}
@@ -95,3 +97,17 @@ pub members_flagged : (bound : ℕ) (streams : List Stream) (pdos : ℕ) (ms : L
 members_flagged bound streams pdos ms flags same inside i d below =
     let count : length (pdos_of ms) ≡ length ms = length-map ms (λ m. m.pdo) in
     rw (at_member ms i d below) (listed_flagged bound streams pdos (pdos_of ms) flags same inside i d.pdo (omega (arith, count, below)))
+
+-- flags that are turned twice are what they were
+pub turned_twice : (flags : List Bool) → map not (map not flags) ≡ flags
+turned_twice [] = refl
+turned_twice (true ∷ rest) = ap (λ xs. true ∷ xs) (turned_twice rest)
+turned_twice (false ∷ rest) = ap (λ xs. false ∷ xs) (turned_twice rest)
+
+-- a flag that is set is one of a list
+pub has_one : (flags : List Bool) (k : ℕ) → is_flagged flags k ≡ true → HasOneAbove flags
+has_one flags k on = (k, inside (slice_get_cases flags k).1, on)
+  where
+    inside : ((b : Bool) × (k < length flags) × (slice_get flags k ≡ Some b) × (get_or flags k b ≡ b)) ⊎ ((length flags ≤ k) × (slice_get flags k ≡ None)) → k < length flags
+    inside (inl b) = b.1
+    inside (inr past) = let off : false ≡ true = rw past.1 at on in absurd (true≢false (sym off))

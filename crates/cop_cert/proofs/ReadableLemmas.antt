@@ -1,17 +1,16 @@
 -- What is read can be written: a draft keeps, record by record, what a file may hold.
-use Rattle.std.proofs.Common.{◌≡◌, ℕ, suc, ◌+◌, ◌<◌, ◌≤◌, ◌^◌, ◌==◌, Bool, true, false, not, ◌&&◌, ◌||◌, if◌then◌else◌, nat_lt, nat_le, List, [], ◌∷◌, ◌++◌, length, get_or, All, AllPairs, Result, Ok, Err, Option, Some, None, IfOk, refl, sym, ap, ◌∙◌, arith, cond, length-append}
+use Rattle.std.proofs.Common.{◌≡◌, ℕ, ◌+◌, ◌<◌, ◌≤◌, ◌^◌, ◌==◌, Bool, true, false, not, ◌&&◌, ◌||◌, nat_lt, nat_le, List, [], ◌∷◌, ◌++◌, length, All, AllPairs, Result, Ok, Err, Option, Some, None, IfOk, refl, arith, cond, length-append}
 use Rattle.std.proofs.lemmas.List.Elements.{All-append}
 use Rattle.std.proofs.lemmas.List.Quantifiers.{all_pairs_push}
 use Rattle.std.proofs.lemmas.Bool.Decides.{nat_tests}
 use Rattle.cop_frame.specs.Rate.{kbits_of}
 use Rattle.cop_table.specs.Reading.{◌>>=◌, Gives}
-use Rattle.cop_table.specs.Numbers.{number_of}
 use Rattle.cop_table.specs.Records.{field}
 use Rattle.cop_table.specs.Rows.{rows_from}
 use Rattle.cop_cert.specs.Format.{Fields}
 use Rattle.cop_cert.specs.Entries.{pdo_of, number_in, rate_in, pdo_in, word_of, or_rule, with_value, is_value_of, entry_in}
 use Rattle.cop_cert.specs.Faults.{placed}
-use Rattle.cop_cert.specs.Reading.{is_complete, longer, with_busy, with_queue, refusal_of, begun, after, broken_by, unless_broken, begin, with_number, with_evidence, add, by_word, next, at_hand, taken, finished, ended, rows_in, after_version, refusals_of}
+use Rattle.cop_cert.specs.Reading.{is_complete, longer, with_busy, with_queue, refusal_of, begun, after, broken_by, unless_broken, begin, with_number, with_evidence, add, by_word, next, taken, finished, rows_in, after_version, refusals_of}
 use Rattle.cop_cert.specs.Writable.{IsWritableList, IsWritableEvidence, IsWritableRefusal, AreWritable}
 use Rattle.cop_cert.specs.declared.drafts.Draft.{Draft}
 use Rattle.cop_cert.specs.declared.entries.Entry.{Entry}
@@ -24,7 +23,6 @@ use Rattle.cop_cert.specs.declared.faults.Rule.{Rule}
 use Rattle.cop_cert.specs.declared.faults.Rule.TheVariants as rules
 use Rattle.cop_cert.specs.declared.refusals.Evidence.{Evidence}
 use Rattle.cop_cert.specs.declared.refusals.Evidence.TheVariants.{Long, Late}
-use Rattle.cop_cert.specs.declared.refusals.Member.{Member}
 use Rattle.cop_cert.specs.declared.refusals.Refusal.{Refusal}
 
 -- ---- readings that succeed

@@ -2,7 +2,7 @@
 use Rattle.std.specs.declared.alloc.AllocError.{AllocError}
 use Rattle.std.proofs.Common.{◌≡◌, ℕ, ◌<◌, length, true, sym, ◌∙◌, subst, List, Result, Ok, Err, IfOk, Option, Some, None}
 use Rattle.cop_rta.specs.Test.{is_flagged, busy_at, horizon}
-use Rattle.cop_rta.specs.Levels.{Flags, place_in}
+use Rattle.cop_rta.specs.Placing.{Flags, place_in}
 use Rattle.cop_rta.proofs.PlaceEquations.{busy_is}
 use Rattle.cop_cert.specs.Chains.{IsWholeChain}
 use Rattle.cop_cert.specs.Evidence.{IsClimb, IsBusyList, IsBusyEnd}

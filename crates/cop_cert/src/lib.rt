@@ -4,7 +4,6 @@
 mod checking;
 mod drafts;
 mod entries;
-mod equations;
 mod faults;
 mod items;
 mod laws;

@@ -1,8 +1,8 @@
 //! Making a refusal.
 
-ghost use Rattle.std.specs.Prelude.{◌≡◌, ℕ, ◌<◌, ◌≤◌, ◌||◌, ◌↔◌, true, IsTrue, IfOk, length, All, AllPairs};
-ghost use Rattle.cop_rta.specs.Test.{flagged_place, is_flagged, busy_at, horizon, Passes};
-ghost use Rattle.cop_rta.specs.Levels.{place_in};
+ghost use Rattle.std.specs.Prelude.{◌≡◌, ℕ, ◌<◌, ◌≤◌, ◌||◌, ◌↔◌, true, IsTrue, IfOk, not, map, length, All, AllPairs};
+ghost use Rattle.cop_rta.specs.Test.{flagged_place, place_of, is_flagged, busy_at, horizon, Passes};
+ghost use Rattle.cop_rta.specs.Placing.{place_in};
 ghost use Rattle.cop_rta.specs.Verdict.{IsFirstLate};
 ghost use Rattle.cop_cert.specs.Assignments.{least_id};
 ghost use Rattle.cop_cert.specs.Sets.{is_in_trial};
@@ -10,24 +10,23 @@ ghost use Rattle.cop_cert.specs.Rising.{RiseFrom};
 ghost use Rattle.cop_cert.specs.Evidence.{is_listed, IsRefusal};
 ghost use Rattle.cop_cert.specs.Chains.{AllFail, FailTogether, IsWholeChain, IsQueueOf, IsWholeEvidence, AreMade, IsMade, HasAtMost};
 
-use crate::equations::{BusyOf, Equation, QueueOf};
 use crate::items::Items;
 use crate::refusals::{Evidence, Member, Refusal};
 use crate::trials::flag_fixed;
 use cop_frame::Rate;
-use cop_rta::{HORIZON, Level, Loads, Stream, StreamSet, Verdict, verdict};
+use cop_rta::{Busy, Demand, HORIZON, Place, Stream, StreamSet, Verdict, verdict};
 use std::alloc::{AllocError, Global};
 
 /// An equation's values from a number on, up to its solution or to the first number above the horizon.
-fn chain<E: Equation>(alloc: Global, equation: &E, from: u64) -> Result<Items<u64>, AllocError>
-    requires { from ≤ E.equation equation.now from }
-    ensures { IfOk result (IsWholeChain (E.equation equation.now) from horizon) }
+fn chain<D: Demand>(alloc: Global, demand: &D, from: u64) -> Result<Items<u64>, AllocError>
+    requires { from ≤ D.demand demand.now from }
+    ensures { IfOk result (IsWholeChain (D.demand demand.now) from horizon) }
 {
     let mut numbers = Items::new(alloc);
     numbers.push(from)?;
     let mut last = from;
     while last <= HORIZON {
-        let next = equation.at(last);
+        let next = demand.at(last);
         if next == last {
             return Ok(numbers);
         }
@@ -37,52 +36,49 @@ fn chain<E: Equation>(alloc: Global, equation: &E, from: u64) -> Result<Items<u6
     Ok(numbers)
 }
 
-/// The chain of the busy equation, which the flagged streams share. One of them is at the index.
-fn busy_list(alloc: Global, level: &Level<'_>, index: usize) -> Result<Items<u64>, AllocError>
-    requires index { index < length level.now.streams }
-    requires flagged { is_flagged level.now.flags index ≡ true }
-    ensures { IfOk result (λ numbers. (k : ℕ) → k < length level.now.streams → is_flagged level.now.flags k ≡ true → IsWholeChain (busy_at (place_in level.now k)) 1 horizon numbers) }
+/// The chain of the busy equation, which those that are not below share. One of them is at the index.
+fn busy_list(alloc: Global, place: &Place<'_, '_>, index: usize) -> Result<Items<u64>, AllocError>
+    requires few { length place.now.streams ≤ 1100 }
+    requires index { index < length place.now.streams }
+    requires above { is_flagged place.now.flags index ≡ true }
+    ensures { IfOk result (λ numbers. (k : ℕ) → k < length place.now.streams → is_flagged place.now.flags k ≡ true → IsWholeChain (busy_at (place_in place.now k)) 1 horizon numbers) }
 {
-    chain(alloc, &BusyOf::new(level, index), 1)
+    chain(alloc, &place.equations(index), 1)
 }
 
 /// The chain of the queueing equation of an instance that is late, from B + q C.
-fn queue_list(
-    alloc: Global,
-    level: &Level<'_>,
-    index: usize,
-    q: u64,
-) -> Result<Items<u64>, AllocError>
-    requires index { index < length level.now.streams }
-    requires flagged { is_flagged level.now.flags index ≡ true }
-    requires late { (r : ℕ) × IsFirstLate (place_in level.now index) q r }
-    ensures { IfOk result (IsQueueOf (place_in level.now index) q) }
+fn queue_list(alloc: Global, busy: &Busy<'_>, q: u64) -> Result<Items<u64>, AllocError>
+    requires few { length busy.now.streams ≤ 1100 }
+    requires index { busy.now.index < length busy.now.streams }
+    requires late { (r : ℕ) × IsFirstLate (place_of busy.now) q r }
+    ensures { IfOk result (IsQueueOf (place_of busy.now) q) }
 {
-    let start = level.start_of(index, q);
-    chain(alloc, &QueueOf::new(level, index, q), start)
+    let start = busy.start_of(q) as u64;
+    chain(alloc, &busy.queueing(q), start)
 }
 
-/// The evidence that a flagged stream fails, with the whole chains. `busy` is the chain of the busy equation.
+/// The evidence that a stream that is not below fails, with the whole chains. `busy` is the chain of the busy equation.
 fn evidence_of(
     alloc: Global,
-    level: &Level<'_>,
+    place: &Place<'_, '_>,
     index: usize,
     busy: &[u64],
 ) -> Result<Evidence, AllocError>
-    requires index { index < length level.now.streams }
-    requires flagged { is_flagged level.now.flags index ≡ true }
-    requires busy { IsWholeChain (busy_at (place_in level.now index)) 1 horizon busy.now }
-    requires fails { Passes (place_in level.now index) → ⊥ }
-    ensures { IfOk result (IsWholeEvidence (place_in level.now index)) }
+    requires few { length place.now.streams ≤ 1100 }
+    requires index { index < length place.now.streams }
+    requires above { is_flagged place.now.flags index ≡ true }
+    requires busy { IsWholeChain (busy_at (place_in place.now index)) 1 horizon busy.now }
+    requires fails { Passes (place_in place.now index) → ⊥ }
+    ensures { IfOk result (IsWholeEvidence (place_in place.now index)) }
 {
-    match level.verdict(index) {
+    match place.judge(index) {
         Verdict::Pass { .. } => unreachable!(),
         Verdict::Long => {
             let busy = Items::copied(alloc, busy)?;
             Ok(Evidence::Long { busy })
         }
         Verdict::Late { q, .. } => {
-            let queue = queue_list(alloc, level, index, q)?;
+            let queue = queue_list(alloc, &place.equations(index), q)?;
             let busy = Items::copied(alloc, busy)?;
             Ok(Evidence::Late { q, busy, queue })
         }
@@ -92,19 +88,20 @@ fn evidence_of(
 /// The members with the evidence of each. `busy` is the chain of the busy equation, which they share.
 fn members_with(
     alloc: Global,
-    level: &Level<'_>,
+    place: &Place<'_, '_>,
     pdos: &[usize],
     busy: &[u64],
 ) -> Result<Items<Member>, AllocError>
-    requires inside { All (λ p. p < length level.now.streams) pdos.now }
-    requires flagged { All (λ p. is_flagged level.now.flags p ≡ true) pdos.now }
-    requires fails { All (λ p. Passes (place_in level.now p) → ⊥) pdos.now }
-    requires busy { (k : ℕ) → k < length level.now.streams → is_flagged level.now.flags k ≡ true → IsWholeChain (busy_at (place_in level.now k)) 1 horizon busy.now }
-    ensures { IfOk result (AreMade level.now.streams (is_flagged level.now.flags) level.now.rate pdos.now) }
+    requires few { length place.now.streams ≤ 1100 }
+    requires inside { All (λ p. p < length place.now.streams) pdos.now }
+    requires above { All (λ p. is_flagged place.now.flags p ≡ true) pdos.now }
+    requires fails { All (λ p. Passes (place_in place.now p) → ⊥) pdos.now }
+    requires busy { (k : ℕ) → k < length place.now.streams → is_flagged place.now.flags k ≡ true → IsWholeChain (busy_at (place_in place.now k)) 1 horizon busy.now }
+    ensures { IfOk result (AreMade place.now.streams (is_flagged place.now.flags) place.now.rate pdos.now) }
 {
     let mut members = Items::new(alloc);
     for pdo in pdos {
-        let evidence = evidence_of(alloc, level, *pdo, busy)?;
+        let evidence = evidence_of(alloc, place, *pdo, busy)?;
         members.push(Member {
             pdo: *pdo,
             evidence,
@@ -114,17 +111,31 @@ fn members_with(
 }
 
 /// The members with the evidence of each.
-fn members_of(alloc: Global, level: &Level<'_>, pdos: &[usize]) -> Result<Items<Member>, AllocError>
-    requires inside { All (λ p. p < length level.now.streams) pdos.now }
-    requires flagged { All (λ p. is_flagged level.now.flags p ≡ true) pdos.now }
-    requires fails { All (λ p. Passes (place_in level.now p) → ⊥) pdos.now }
-    ensures { IfOk result (AreMade level.now.streams (is_flagged level.now.flags) level.now.rate pdos.now) }
+fn members_of(
+    alloc: Global,
+    place: &Place<'_, '_>,
+    pdos: &[usize],
+) -> Result<Items<Member>, AllocError>
+    requires few { length place.now.streams ≤ 1100 }
+    requires inside { All (λ p. p < length place.now.streams) pdos.now }
+    requires above { All (λ p. is_flagged place.now.flags p ≡ true) pdos.now }
+    requires fails { All (λ p. Passes (place_in place.now p) → ⊥) pdos.now }
+    ensures { IfOk result (AreMade place.now.streams (is_flagged place.now.flags) place.now.rate pdos.now) }
 {
     let Some(first) = pdos.first() else {
         return Ok(Items::new(alloc));
     };
-    let busy = busy_list(alloc, level, *first)?;
-    members_with(alloc, level, pdos, busy.as_slice())
+    let busy = busy_list(alloc, place, *first)?;
+    members_with(alloc, place, pdos, busy.as_slice())
+}
+
+/// Flags those that were not flagged, and no others.
+fn turn(flags: &mut [bool])
+    ensures { flags.new ≡ map not flags.old }
+{
+    for flag in flags.iter_mut() {
+        *flag = !*flag;
+    }
 }
 
 #[tactic(auto, using(crate::proofs::MemberLemmas::flag_number))]
@@ -228,10 +239,10 @@ pub fn make(
 {
     let streams = set.streams();
     let mut flags = [false; StreamSet::MOST];
-    let above = &mut flags[..streams.len()];
-    flag_trial_of(streams, pdos, members, above);
-    let loads = Loads::new(alloc, set, rate)?;
-    let level = Level::new(alloc, &loads, above)?;
-    let members = members_of(alloc, &level, members)?;
+    let flags = &mut flags[..streams.len()];
+    flag_trial_of(streams, pdos, members, flags);
+    turn(flags);
+    let place = Place::new(set, flags, rate);
+    let members = members_of(alloc, &place, members)?;
     Ok(Refusal { rate, members })
 }

@@ -7,7 +7,7 @@ use Rattle.cop_frame.specs.declared.rates.Rate.{Rate}
 use Rattle.cop_rta.specs.declared.streams.Stream.{Stream}
 use Rattle.cop_rta.specs.Test.{Passes, flagged_place, is_flagged}
 use Rattle.cop_rta.specs.Sums.{sum_where}
-use Rattle.cop_rta.specs.Levels.{Flags, place_in}
+use Rattle.cop_rta.specs.Placing.{Flags, place_in}
 use Rattle.cop_rta.specs.Placing.{HasOneAbove}
 use Rattle.cop_rta.proofs.MoreAbove.{passes_under_fewer}
 use Rattle.cop_cert.specs.Assignments.{least_id}

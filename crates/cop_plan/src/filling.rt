@@ -6,7 +6,7 @@ ghost use Rattle.cop_rta.specs.Sums.{sum_where};
 ghost use Rattle.cop_cert.specs.Assignments.{least_id};
 ghost use Rattle.cop_cert.specs.Evidence.{is_listed};
 ghost use Rattle.cop_cert.specs.Sets.{is_in_trial};
-ghost use Rattle.cop_rta.specs.Levels.{place_in};
+ghost use Rattle.cop_rta.specs.Placing.{place_in};
 ghost use Rattle.cop_plan.specs.Fillings.{IsFound, least_of, solved_of};
 
 use crate::plans::LEAST_ID;

@@ -28,8 +28,8 @@ const TOO_BUSY: &[u8] = b"id,bytes,period,jitter,deadline\n0x181,8,500,0,500\n";
 
 const NONE: &[u8] = b"id,bytes,period,jitter,deadline\n";
 
-// What is planned for a table all of whose streams are PDOs, and how many trials it took.
-fn answer(alloc: Global, table: &[u8], candidates: &[Rate]) -> Result<(Outcome, u64), Fail> {
+// What is planned for a table all of whose streams are PDOs, and what it took.
+fn answer(alloc: Global, table: &[u8], candidates: &[Rate]) -> Result<(Outcome, Count), Fail> {
     let set = read_streams(alloc, table)?;
     let mut rates = RateSet::new();
     for rate in candidates {
@@ -41,7 +41,7 @@ fn answer(alloc: Global, table: &[u8], candidates: &[Rate]) -> Result<(Outcome, 
     }
     let mut count = Count { trials: 0, busy: 0 };
     let outcome = assign(alloc, &set, pdos, &rates, &mut count)?;
-    Ok((outcome, count.trials))
+    Ok((outcome, count))
 }
 
 // The plan of an outcome.
@@ -171,13 +171,33 @@ fn is_long(refusal: &Refusal) -> bool {
 #[test]
 fn slowest_rates_are_planned(rt: HostRuntime) -> Result<(), Fail> {
     for row in ROWS {
-        let (outcome, trials) = answer(rt.alloc(), row.table, row.candidates)?;
+        let (outcome, count) = answer(rt.alloc(), row.table, row.candidates)?;
         let plan = plan_of(outcome)?;
         assert_eq!(rt; plan.rate(), row.rate);
         assert_eq!(rt; plan.ids(), row.ids);
         assert!(rt; are_refused(plan.refusals(), row.refused));
-        assert!(rt; trials <= row.trials);
+        assert!(rt; count.trials <= row.trials);
         assert_eq!(rt; responses(rt.alloc(), &plan)?.as_slice(), row.responses);
+    }
+    Ok(())
+}
+
+// A table, the candidates, and how many busy times are sought: one for each place that is looked at.
+const SOUGHT: &[(&[u8], &[Rate], u64)] = &[
+    // At four rates no PDO passes at the lowest place, at the fifth each gets its place.
+    (THREE, ALL, 7),
+    (AT_THE_DEADLINE, ALL, 4),
+    // At the first rate one PDO gets its place, and the other does not pass.
+    (TWO, &[Rate::Kbit125, Rate::Kbit250], 4),
+    (TOO_BUSY, &[Rate::Kbit125], 1),
+    (NONE, &[Rate::Kbit500], 0),
+];
+
+#[test]
+fn busy_times_are_counted(rt: HostRuntime) -> Result<(), Fail> {
+    for (table, candidates, busy) in SOUGHT {
+        let (_, count) = answer(rt.alloc(), table, candidates)?;
+        assert_eq!(rt; count.busy, *busy);
     }
     Ok(())
 }
@@ -236,7 +256,7 @@ fn the_last_refusal_has_its_evidence(rt: HostRuntime) -> Result<(), Fail> {
 
 #[test]
 fn no_rate_passes(rt: HostRuntime) -> Result<(), Fail> {
-    let (outcome, trials) = answer(rt.alloc(), TOO_BUSY, &[Rate::Kbit125])?;
+    let (outcome, count) = answer(rt.alloc(), TOO_BUSY, &[Rate::Kbit125])?;
     match outcome {
         Outcome::Refused(refusals) => {
             let refusals = refusals.as_slice();
@@ -245,7 +265,7 @@ fn no_rate_passes(rt: HostRuntime) -> Result<(), Fail> {
         }
         Outcome::Planned(_) => assert!(rt; false),
     }
-    assert_eq!(rt; trials, 1);
+    assert_eq!(rt; count.trials, 1);
     Ok(())
 }
 

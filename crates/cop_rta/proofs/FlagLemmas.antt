@@ -5,7 +5,7 @@ use Rattle.std.proofs.lemmas.List.{get_or-set_same, get_or-set_other}
 use Rattle.std.proofs.lemmas.Option.{unwrap_or-slice_get}
 use Rattle.cop_rta.specs.Test.{is_flagged}
 use Rattle.cop_rta.specs.Sums.{sum_where, max_where}
-use Rattle.cop_rta.specs.Levels.{is_unflagged}
+use Rattle.cop_rta.specs.Placing.{is_unflagged}
 use Rattle.cop_rta.proofs.PlaceEquations.{but, sum_but}
 
 pub flag_set : (flags : List Bool) (own k : ℕ) → own < length flags → is_flagged (set flags own true) k ≡ ((own == k) || is_flagged flags k)

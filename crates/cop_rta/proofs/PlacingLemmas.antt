@@ -11,9 +11,8 @@ use Rattle.cop_rta.specs.SumsLemmas.{sum_where-mono}
 use Rattle.cop_rta.specs.Solutions.{IsLeastSolution}
 use Rattle.cop_rta.specs.Test.{is_flagged, is_above, of_stream, cost_of, cost_at, load_of, interference, busy_at, queueing_at, IsBusyTime, horizon}
 use Rattle.cop_rta.specs.Waits.{IsBelowWait, IsBelowBusy}
-use Rattle.cop_rta.specs.Levels.{Flags, place_in, busy_of, is_unflagged}
-use Rattle.cop_rta.specs.Placing.{longest_of, once_each, IsSharedTime}
-use Rattle.cop_rta.proofs.PlaceEquations.{but, sum_but, busy_is, blocking_is}
+use Rattle.cop_rta.specs.Placing.{Flags, place_in, busy_of, is_unflagged, longest_of, once_each, IsSharedTime}
+use Rattle.cop_rta.proofs.PlaceEquations.{but, sum_but, busy_is, blocking_is, equations}
 use Rattle.cop_rta.proofs.QueueLemmas.{cost_in_load, cost_pos, ticks_pos}
 
 -- one transfer of a stream is no more than what it asks for from 1 on
@@ -52,29 +51,29 @@ module _ (v : Flags) (own : ℕ) (inside : own < length v.streams) (flag : is_fl
       go (inl s) = rw s.2 (cost_pos v.rate s.0)
       go (inr past) = absurd (omega (arith, past.0, inside))
 
-  equations : busy_at (place_in v own) ≡ busy_of v.rate v.streams v.flags
-  equations = λ i t. busy_is v own inside flag t i
+  here : busy_at (place_in v own) ≡ busy_of v
+  here = equations v own inside flag
 
   -- what one of them finds is the time of all
   pub shared_of : (o : Option ℕ) → IfSome o (IsBusyTime (place_in v own)) → IfSome o (λ t. t ≤ horizon) → IfNone o ((t : ℕ) → IsBusyTime (place_in v own) t → horizon < t) → IsSharedTime v o
   shared_of None found within none = record {
     found = tt;
     within = tt;
-    none = λ t least. none t (subst (λ (f : ℕ → ℕ). IsLeastSolution f 1 t) (sym equations) least);
+    none = λ t least. none t (subst (λ (f : ℕ → ℕ). IsLeastSolution f 1 t) (sym here) least);
   }
   shared_of (Some t) found within none = record {
-    found = subst (λ (f : ℕ → ℕ). IsLeastSolution f 1 t) equations found;
+    found = subst (λ (f : ℕ → ℕ). IsLeastSolution f 1 t) here found;
     within = within;
     none = tt;
   }
 
   pub found_here : (o : Option ℕ) → IsSharedTime v o → IfSome o (IsBusyTime (place_in v own))
   found_here None is = tt
-  found_here (Some t) is = subst (λ (f : ℕ → ℕ). IsLeastSolution f 1 t) (sym equations) is.found
+  found_here (Some t) is = subst (λ (f : ℕ → ℕ). IsLeastSolution f 1 t) (sym here) is.found
 
   pub none_here : (o : Option ℕ) → IsSharedTime v o → IfNone o ((t : ℕ) → IsBusyTime (place_in v own) t → horizon < t)
   none_here (Some t) is = tt
-  none_here None is = λ t busy. is.none t (subst (λ (f : ℕ → ℕ). IsLeastSolution f 1 t) equations busy)
+  none_here None is = λ t busy. is.none t (subst (λ (f : ℕ → ℕ). IsLeastSolution f 1 t) here busy)
 
 -- ---- one more stream below
 

@@ -1,8 +1,12 @@
 -- What the test asks of a stream at any rate, as numbers that are made once.
-use Rattle.std.specs.Prelude.{ℕ, ◌≡◌, ◌+◌, ◌*◌, ◌/◌, ◌^◌, ◌≤◌, Bool, true, false, not, map, List, length, slice_get, Some}
+use Rattle.std.specs.Prelude.{ℕ, ◌≡◌, ◌+◌, ◌*◌, ◌/◌, ◌^◌, ◌≤◌, Bool, true, false, not, map, List, length, slice_get, Some, sum_by}
 use Rattle.std.specs.Int.{div_ceil}
 use Rattle.cop_rta.specs.declared.streams.Stream.{Stream}
 use Rattle.cop_rta.specs.declared.paces.Pace.{Pace}
+use Rattle.cop_frame.specs.declared.rates.Rate.{Rate}
+use Rattle.cop_frame.specs.Rate.{ticks_of}
+use Rattle.cop_rta.specs.Sums.{sum_where}
+use Rattle.cop_rta.specs.Test.{is_flagged, of_stream, load_of}
 
 -- the times that paces are asked about
 abbrev pub last_time : ℕ
@@ -11,6 +15,10 @@ last_time = 2 ^ 35
 -- how many instances there are within some time, by a product in place of a quotient
 abbrev pub counted_in : ℕ → Pace → ℕ
 counted_in time pace = (time + pace.ahead) * pace.inverse / 2 ^ 64
+
+-- what they take, where a bit takes some ticks
+abbrev pub load_in : ℕ → ℕ → Pace → ℕ
+load_in ticks time pace = counted_in time pace * (pace.bits * ticks)
 
 -- the pace of a stream
 pub record IsPaceOf (s : Stream) (pace : Pace) : Type 0 where
@@ -26,3 +34,13 @@ pub record ArePacesOf (streams : List Stream) (paces : List Pace) : Type 0 where
 abbrev pub flags_above : Bool → List Bool → List Bool
 flags_above false flags = flags
 flags_above true flags = map not flags
+
+-- the paces of the streams that are flagged, in any order
+pub record IsRow (streams : List Stream) (flags : List Bool) (row : List Pace) : Type 0 where
+  pub sums : (rate : Rate) (time : ℕ) → time ≤ last_time → sum_by (load_in (ticks_of rate) time) row ≡ sum_where (is_flagged flags) (of_stream (load_of rate time) streams) (length streams)
+
+-- such a row where the stream at an index is one of them
+pub record HasRow (streams : List Stream) (flags : List Bool) (index : ℕ) (row : List Pace) : Type 0 where
+  pub own : is_flagged flags index ≡ true
+  pub few : length row ≤ 2048
+  pub is : IsRow streams flags row

@@ -1,23 +1,44 @@
 -- What is kept of the streams above at a place, so that no trial sums it up again.
-use Rattle.std.specs.Prelude.{ℕ, ◌≡◌, ◌<◌, ◌≤◌, true, Bool, List, length, Option, IfSome, IfNone}
+use Rattle.std.specs.Prelude.{ℕ, ◌≡◌, ◌+◌, ◌<◌, ◌≤◌, true, not, Bool, List, length, Option, IfSome, IfNone}
+use Rattle.cop_frame.specs.declared.rates.Rate.{Rate}
+use Rattle.cop_rta.specs.declared.streams.Stream.{Stream}
+use Rattle.cop_rta.specs.declared.sweeps.Last.{Last}
 use Rattle.cop_rta.specs.Sums.{sum_where, max_where}
 use Rattle.cop_rta.specs.Solutions.{IsLeastSolution}
-use Rattle.cop_rta.specs.Test.{is_flagged, of_stream, cost_of, horizon}
-use Rattle.cop_rta.specs.Levels.{Flags, is_unflagged, busy_of}
+use Rattle.cop_rta.specs.Test.{Place, flagged_place, is_flagged, of_stream, cost_of, cost_at, load_of, horizon}
+use Rattle.cop_rta.specs.Waits.{IsBelowWait}
 
--- the longest transfer of those that are not above
+-- flagged streams at a rate
+pub record Flags : Type 0 where
+  pub streams : List Stream
+  pub flags : List Bool
+  pub rate : Rate
+
+-- one stream with the flagged ones above it
+abbrev pub place_in : Flags → ℕ → Place
+place_in v index = flagged_place v.streams v.flags index v.rate
+
+-- stream k is not flagged
+abbrev pub is_unflagged : List Bool → ℕ → Bool
+is_unflagged flags k = not (is_flagged flags k)
+
+-- the longest transfer of those that are not flagged
 abbrev pub longest_of : Flags → ℕ
 longest_of v = max_where (is_unflagged v.flags) (of_stream (cost_of v.rate) v.streams) (length v.streams)
 
--- one transfer of each that is above
+-- one transfer of each that is flagged
 abbrev pub once_each : Flags → ℕ
 once_each v = sum_where (is_flagged v.flags) (of_stream (cost_of v.rate) v.streams) (length v.streams)
 
--- the busy time of each that is above, if it is within the horizon
+-- the busy equation of each that is flagged: it is the same for all
+unfoldable pub busy_of : Flags → ℕ → ℕ
+busy_of v t = longest_of v + sum_where (is_flagged v.flags) (of_stream (load_of v.rate t) v.streams) (length v.streams)
+
+-- the busy time of each that is flagged, if it is within the horizon
 pub record IsSharedTime (v : Flags) (time : Option ℕ) : Type 0 where
-  pub found : IfSome time (IsLeastSolution (busy_of v.rate v.streams v.flags) 1)
+  pub found : IfSome time (IsLeastSolution (busy_of v) 1)
   pub within : IfSome time (λ t. t ≤ horizon)
-  pub none : IfNone time ((t : ℕ) → IsLeastSolution (busy_of v.rate v.streams v.flags) 1 t → horizon < t)
+  pub none : IfNone time ((t : ℕ) → IsLeastSolution (busy_of v) 1 t → horizon < t)
 
 -- some stream is above
 abbrev pub HasOneAbove : List Bool → Type 0
@@ -30,3 +51,15 @@ pub record IsPlaced (v : Flags) (from_below costs : ℕ) (time : Option ℕ) : T
   pub costs_are : costs ≡ once_each v
   pub costs_most : costs ≤ 59400000
   pub shared : IsSharedTime v time
+
+-- what is known of one of the flagged streams, of which it was judged last
+pub record IsLast (v : Flags) (last : Last) : Type 0 where
+  pub index : ℕ
+  pub inside : index < length v.streams
+  pub flagged : is_flagged v.flags index ≡ true
+  pub cost : last.cost ≡ cost_at (place_in v index)
+  pub cost_most : last.cost ≤ 54000
+  pub longest : last.from_below ≡ longest_of v
+  pub shared : IsSharedTime v last.busy
+  pub wait : IsBelowWait (place_in v index) 0 last.wait
+  pub within : last.wait ≤ horizon

@@ -1,5 +1,5 @@
 -- Where the search for a wait may begin.
-use Rattle.std.specs.Prelude.{ℕ, ◌+◌, ◌-◌, ◌≤◌, nat_lt, if◌then◌else◌}
+use Rattle.std.specs.Prelude.{ℕ, ◌≤◌}
 use Rattle.cop_rta.specs.Test.{Place, busy_at, queueing_at}
 
 -- a number that is not past any that the equation of instance q does not lead past: so the wait is not below it
@@ -10,7 +10,6 @@ IsBelowWait p q from = (y : ℕ) → queueing_at p q y ≤ y → from ≤ y
 abbrev pub IsBelowBusy : Place → ℕ → Type 0
 IsBelowBusy p from = (y : ℕ) → 1 ≤ y → busy_at p y ≤ y → from ≤ y
 
--- such a number for the first instance of the stream whose place is next below another's, where that one's longest
--- transfer from below, its transfer and its wait are known
-abbrev pub wait_after : ℕ → ℕ → ℕ → ℕ → ℕ
-wait_after before below cost wait = if nat_lt (below + cost) before then 0 else wait + (below + cost - before)
+-- the waits that are sought: none that meets a deadline is longer, nor one within the horizon
+abbrev pub latest_wait : ℕ
+latest_wait = 520000000

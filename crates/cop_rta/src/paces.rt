@@ -21,7 +21,7 @@ pub(crate) struct Pace {
 }
 
 impl Pace {
-    ghost use Rattle.cop_rta.specs.Paces.{last_time, counted_in, IsPaceOf};
+    ghost use Rattle.cop_rta.specs.Paces.{last_time, counted_in, load_in, IsPaceOf};
 
     /// The pace of a stream.
     pub(crate) fn new(stream: &Stream) -> Pace
@@ -64,7 +64,7 @@ impl Pace {
     pub(crate) fn load(&self, ticks: u64, time: u64) -> u64
         requires ticks { ticks ≤ 400 }
         requires time { time ≤ last_time }
-        ensures value { result ≡ counted_in time self.now * (self.now.bits * ticks) }
+        ensures value { result ≡ load_in ticks time self.now }
         ensures most { result ≤ 2 ^ 44 }
     {
         self.instances(time) * self.cost(ticks)

@@ -5,9 +5,8 @@ ghost use Rattle.cop_rta.specs.Test.{Passes, is_flagged, of_stream, cost_of};
 ghost use Rattle.cop_rta.specs.Sums.{sum_where};
 ghost use Rattle.cop_rta.specs.Verdict.{IsJudged, IsPass};
 ghost use Rattle.cop_rta.specs.Waits.{IsBelowWait};
-ghost use Rattle.cop_rta.specs.Levels.{Flags, place_in};
 ghost use Rattle.cop_rta.specs.Paces.{flags_above};
-ghost use Rattle.cop_rta.specs.Placing.{longest_of, once_each, HasOneAbove, IsSharedTime};
+ghost use Rattle.cop_rta.specs.Placing.{Flags, place_in, longest_of, once_each, HasOneAbove, IsSharedTime};
 
 use crate::above::Above;
 use crate::demands::{Busy, longest_below};
@@ -113,9 +112,8 @@ pub struct Place<'a, 'b> {
 
 impl<'a, 'b> Model for Place<'a, 'b> {
     ghost use Rattle.std.specs.Prelude.{true};
-    ghost use Rattle.cop_rta.specs.Levels.{Flags};
     ghost use Rattle.cop_rta.specs.Paces.{flags_above};
-    ghost use Rattle.cop_rta.specs.Placing.{IsPlaced};
+    ghost use Rattle.cop_rta.specs.Placing.{Flags, IsPlaced};
 
     ghost Value = { Flags };
 
@@ -155,8 +153,8 @@ impl<'a, 'b> Place<'a, 'b> {
         self.below[index]
     }
 
-    // The equations of a stream that is not below.
-    fn equations(&self, index: usize) -> Busy<'_>
+    /// The equations of a stream that is not below.
+    pub fn equations(&self, index: usize) -> Busy<'_>
         requires index { index < length self.now.streams }
         requires above { is_flagged self.now.flags index ≡ true }
         ensures { result ≡ record { streams = self.now.streams; flags = self.now.flags; index = index; rate = self.now.rate } }
@@ -184,7 +182,7 @@ impl<'a, 'b> Place<'a, 'b> {
         ensures pass { IsPass result ↔ Passes (place_in self.now index) }
     {
         let busy = self.busy;
-        judged(&self.equations(index), busy, self.first_wait(index))
+        judged(&self.equations(index), busy, self.first_wait(index)).verdict
     }
 
     /// Whether a stream that is not below passes, with all others that are not below above it. No number past its

@@ -2,7 +2,7 @@ use Rattle.std.proofs.Common.{◌<◌, length, refl, arith}
 use Rattle.std.proofs.lemmas.List.{take_all}
 use Rattle.std.proofs.lemmas.List.Elements.{All-more}
 use Rattle.cop_rta.specs.Test.{flagged_place}
-use Rattle.cop_rta.specs.Levels.{Flags}
+use Rattle.cop_rta.specs.Placing.{Flags}
 use Rattle.cop_cert.specs.declared.refusals.Member.{Member}
 use Rattle.cop_cert.specs.Evidence.{IsEvidence}
 use Rattle.cop_cert.proofs.TrialLemmas.{end_for_each}

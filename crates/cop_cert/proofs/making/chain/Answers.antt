@@ -5,12 +5,12 @@ use Rattle.cop_cert.proofs.making.chain.Goals as goal
 
 pub loop-last-init : goal.loop-last-init
 loop-last-init g c =
-    rw (c.in_ok-push.ensures.ok, c.new-numbers.ensures) (chain_one (g.E.Equation.equation c.args.equation.now) horizon c.args.from (omega arith) c.requires)
+    rw (c.in_ok-push.ensures.ok, c.new-numbers.ensures) (chain_one (g.D.Demand.demand c.args.demand.now) horizon c.args.from (omega arith) c.requires)
 
 pub loop-last-preserved : goal.loop-last-preserved
 loop-last-preserved g c =
-    let f : ℕ → ℕ = g.E.Equation.equation c.args.equation.now in
+    let f : ℕ → ℕ = g.D.Demand.demand c.args.demand.now in
     let up : c.loop-last.last ≤ c.at-next.result = omega (arith, c.loop-last.invariant.rises, c.at-next.ensures) in
     chain_more f horizon c.args.from c.loop-last.last c.at-next.result c.loop-last.numbers c.push-in-loop-last.new.self c.loop-last.invariant
     c.in_ok-push-2.ensures.ok (omega arith) c.if-next-last.false c.at-next.ensures (omega arith)
-    (g.met.E.Equation.never_falls c.args.equation.now c.loop-last.last c.at-next.result up)
+    (g.met.D.Demand.never_falls c.args.demand.now c.loop-last.last c.at-next.result up (omega (arith)))

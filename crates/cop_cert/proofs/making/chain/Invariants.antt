@@ -4,7 +4,7 @@ use Rattle.std.proofs.Common.{◌+◌, ◌-◌}
 use Rattle.cop_cert.proofs.making.chain.Given as goal
 
 abbrev pub invariant-loop-last : goal.invariant-loop-last
-invariant-loop-last g l = Chained (g.E.Equation.equation l.equation) l.from horizon l.numbers l.last
+invariant-loop-last g l = Chained (g.D.Demand.demand l.demand) l.from horizon l.numbers l.last
 
 abbrev pub decreases-loop-last : goal.decreases-loop-last
 decreases-loop-last g l = horizon + 1 - l.last

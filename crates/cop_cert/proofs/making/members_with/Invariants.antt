@@ -4,4 +4,4 @@ use Rattle.cop_cert.specs.Chains.{AreMade}
 use Rattle.cop_cert.proofs.making.members_with.Given as goal
 
 abbrev pub invariant-loop-pdo : goal.invariant-loop-pdo
-invariant-loop-pdo l = AreMade l.level.streams (is_flagged l.level.flags) l.level.rate (take l.pdo-index l.pdos) l.members
+invariant-loop-pdo l = AreMade l.place.streams (is_flagged l.place.flags) l.place.rate (take l.pdo-index l.pdos) l.members

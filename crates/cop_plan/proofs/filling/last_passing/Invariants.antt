@@ -1,6 +1,6 @@
 use Rattle.std.proofs.Common.{ℕ, ◌≡◌, ◌<◌, ◌≤◌, ◌+◌, ◌-◌, true}
 use Rattle.cop_rta.specs.Test.{Passes, is_flagged}
-use Rattle.cop_rta.specs.Levels.{place_in}
+use Rattle.cop_rta.specs.Placing.{place_in}
 use Rattle.cop_rta.specs.Sums.{sum_where}
 use Rattle.cop_plan.proofs.filling.last_passing.Given as goal
 

@@ -1,5 +1,5 @@
 use Rattle.std.proofs.Common.{◌≡◌, ◌<◌, true, length, arith}
-use Rattle.cop_rta.specs.Levels.{Flags}
+use Rattle.cop_rta.specs.Placing.{Flags}
 use Rattle.cop_rta.specs.Paces.{flags_above}
 use Rattle.cop_rta.specs.Test.{is_flagged}
 use Rattle.cop_rta.proofs.PlacingLemmas.{busy_from, others_once, cost_pos_at, shared_of}

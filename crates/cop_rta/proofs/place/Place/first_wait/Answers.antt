@@ -1,6 +1,6 @@
 use Rattle.std.proofs.Common.{◌≡◌, ◌+◌, ◌-◌, arith, refl}
 use Rattle.cop_rta.specs.Test.{cost_at}
-use Rattle.cop_rta.specs.Levels.{place_in}
+use Rattle.cop_rta.specs.Placing.{place_in}
 use Rattle.cop_rta.specs.Placing.{longest_of, once_each}
 use Rattle.cop_rta.proofs.PlacingLemmas.{others_once, wait_from_sums}
 use Rattle.cop_rta.proofs.place.Place.first_wait.Goals as goal

@@ -1,4 +1,4 @@
-use Rattle.cop_rta.specs.Levels.{place_in}
+use Rattle.cop_rta.specs.Placing.{place_in}
 use Rattle.cop_rta.specs.Placing.{IsSharedTime}
 use Rattle.cop_rta.proofs.PlacingLemmas.{found_here, none_here}
 use Rattle.cop_rta.proofs.VerdictLemmas.{pass_iff}
@@ -15,4 +15,4 @@ pub judged-requires-clause-none : goal.judged-requires-clause-none
 judged-requires-clause-none c = rw c.equations.ensures (none_here c.args.self.now c.args.index c.requires.index c.requires.above c.self.inside.busy (shared c))
 
 pub returns-clause-pass : goal.returns-clause-pass
-returns-clause-pass c = pass_iff (place_in c.args.self.now c.args.index) c.judged.result (rw c.equations.ensures at c.judged.ensures)
+returns-clause-pass c = pass_iff (place_in c.args.self.now c.args.index) c.judged.result.verdict (rw c.equations.ensures at c.judged.ensures.judged)

@@ -2,7 +2,7 @@ use Rattle.std.proofs.Common.{◌≡◌, ◌<◌, ◌-◌, ◌∙◌, ap, List, 
 use Rattle.std.proofs.lemmas.Grind.{common_steps}
 use Rattle.std.proofs.lemmas.List.{length-map, length-set}
 use Rattle.cop_rta.specs.Test.{is_flagged, cost_at}
-use Rattle.cop_rta.specs.Levels.{Flags, place_in}
+use Rattle.cop_rta.specs.Placing.{Flags, place_in}
 use Rattle.cop_rta.specs.Placing.{longest_of, once_each}
 use Rattle.cop_rta.proofs.PlacingLemmas.{others_once, turned, longest_then, costs_then}
 use Rattle.cop_rta.proofs.place.Place.lower.Goals as goal

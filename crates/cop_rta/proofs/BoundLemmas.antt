@@ -1,0 +1,74 @@
+-- Within the horizon no equation of a set of streams passes 64 bits, so what the code gives at a time is its value.
+use Rattle.std.proofs.Common.{◌≡◌, ℕ, zero, suc, ◌+◌, ◌-◌, ◌*◌, ◌^◌, ◌≤◌, Bool, true, false, if◌then◌else◌, List, length, slice_get, Option, Some, None, arith, zero-le, mul-le-mul_left, mul-le-mul_right, lit≤}
+use Rattle.std.specs.Int.{div_ceil}
+use Rattle.std.specs.Option.{option_map_or}
+use Rattle.cop_frame.specs.declared.rates.Rate.{Rate}
+use Rattle.cop_frame.specs.declared.rates.Rate.TheVariants.{Kbit10, Kbit20, Kbit50, Kbit125, Kbit250, Kbit500, Kbit800, Kbit1000}
+use Rattle.cop_frame.specs.Rate.{ticks_of}
+use Rattle.cop_rta.specs.declared.streams.Stream.{Stream}
+use Rattle.cop_rta.specs.CeilLemmas.{div_ceil-least}
+use Rattle.cop_rta.specs.Sums.{sum_where, max_where}
+use Rattle.cop_rta.specs.Test.{Place, of_stream, is_above, is_below, cost_of, load_of, blocking, interference, busy_at, queueing_at, cost_at, horizon}
+
+ticks_most : (rate : Rate) → ticks_of rate ≤ 400
+ticks_most Kbit10 = lit≤ tt
+ticks_most Kbit20 = lit≤ tt
+ticks_most Kbit50 = lit≤ tt
+ticks_most Kbit125 = lit≤ tt
+ticks_most Kbit250 = lit≤ tt
+ticks_most Kbit500 = lit≤ tt
+ticks_most Kbit800 = lit≤ tt
+ticks_most Kbit1000 = lit≤ tt
+
+cost_most : (rate : Rate) (s : Stream) → cost_of rate s ≤ 54000
+cost_most rate s =
+    let bits : (55 + 10 * s.bytes) * ticks_of rate ≤ 135 * ticks_of rate = mul-le-mul_right (ticks_of rate) (omega (arith, s.bytes_in_range)) in
+    omega (arith, bits, ticks_most rate)
+
+-- there are no more instances than ticks
+load_most : (rate : Rate) (x : ℕ) (s : Stream) → x ≤ horizon + 400 → load_of rate x s ≤ 2 ^ 44
+load_most rate x s early =
+    let wide : (x + s.jitter) * 1 ≤ (x + s.jitter) * s.period = mul-le-mul_left (x + s.jitter) (omega (arith, s.period_least)) in
+    let few : div_ceil (x + s.jitter) s.period ≤ x + s.jitter = div_ceil-least (x + s.jitter) s.period (x + s.jitter) (omega (arith, s.period_least)) (omega (arith, wide)) in
+    let most : div_ceil (x + s.jitter) s.period * cost_of rate s ≤ div_ceil (x + s.jitter) s.period * 54000 = mul-le-mul_left (div_ceil (x + s.jitter) s.period) (cost_most rate s) in
+    omega (arith, most, few, early, s.jitter_in_range)
+
+of_stream_most : (f : Stream → ℕ) (streams : List Stream) (k most : ℕ) → ((s : Stream) → f s ≤ most) → of_stream f streams k ≤ most
+of_stream_most f streams k most h = go (slice_get streams k)
+  where
+    go : (o : Option Stream) → option_map_or f o 0 ≤ most
+    go None = zero-le
+    go (Some s) = h s
+
+choice_most : (b : Bool) (m most : ℕ) → m ≤ most → (if b then m else 0) ≤ most
+choice_most true m most h = h
+choice_most false m most h = zero-le
+
+sum_most : (p : ℕ → Bool) (f : ℕ → ℕ) (most n : ℕ) → ((k : ℕ) → f k ≤ most) → sum_where p f n ≤ n * most
+unfolding sum_where
+sum_most p f most zero h = zero-le
+sum_most p f most (suc n) h =
+    let next : suc n * most ≡ n * most + most = grind arith in
+    omega (arith, next, sum_most p f most n h, choice_most (p n) (f n) most (h n))
+
+max_most : (p : ℕ → Bool) (f : ℕ → ℕ) (most n : ℕ) → ((k : ℕ) → f k ≤ most) → max_where p f n ≤ most
+unfolding max_where
+max_most p f most zero h = zero-le
+max_most p f most (suc n) h = omega (arith, max_most p f most n h, choice_most (p n) (f n) most (h n))
+
+module _ (p : Place) (few : length p.streams ≤ 1100) where
+  interference_most : (x : ℕ) → x ≤ horizon + 400 → interference p x ≤ 1100 * 2 ^ 44
+  interference_most x early =
+      let sum : interference p x ≤ length p.streams * 2 ^ 44 = sum_most (is_above p) (of_stream (load_of p.rate x) p.streams) (2 ^ 44) (length p.streams) (λ k. of_stream_most (load_of p.rate x) p.streams k (2 ^ 44) (λ s. load_most p.rate x s early)) in
+      omega (arith, sum, few)
+
+  pub busy_small : (t : ℕ) → t ≤ horizon → busy_at p t ≤ 2 ^ 64 - 1
+  unfolding busy_at
+  busy_small t early =
+      let longest : blocking p ≤ 54000 = max_most (is_below p) (of_stream (cost_of p.rate) p.streams) 54000 (length p.streams) (λ k. of_stream_most (cost_of p.rate) p.streams k 54000 (cost_most p.rate)) in
+      let own : of_stream (load_of p.rate t) p.streams p.index ≤ 2 ^ 44 = of_stream_most (load_of p.rate t) p.streams p.index (2 ^ 44) (λ s. load_most p.rate t s (omega (arith, early))) in
+      omega (arith, longest, own, interference_most t (omega (arith, early)))
+
+  pub queueing_small : (q : ℕ) → blocking p + q * cost_at p ≤ horizon → (w : ℕ) → w ≤ horizon → queueing_at p q w ≤ 2 ^ 64 - 1
+  unfolding queueing_at
+  queueing_small q start w early = omega (arith, start, interference_most (w + ticks_of p.rate) (omega (arith, early, ticks_most p.rate)))
