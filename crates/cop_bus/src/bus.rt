@@ -95,6 +95,13 @@ impl Bus {
         })
     }
 
+    /// The rate at which frames are sent.
+    pub fn rate(&self) -> Rate
+        ensures { result ≡ self.now.rate }
+    {
+        self.rate
+    }
+
     /// The rings, in the order of the set.
     pub fn rings(&self) -> &[Ring]
         ensures { result.now ≡ self.now.rings }

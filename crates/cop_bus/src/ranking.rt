@@ -41,19 +41,17 @@ fn is_before(rank: &Rank, other: &Rank) -> bool
     rank.at < other.at || (rank.at == other.at && rank.id < other.id)
 }
 
-fn earlier(left: Option<Rank>, right: Option<Rank>) -> Option<Rank>
-    ensures { result ≡ earlier left right }
+// Of two nodes the one that holds the earlier rank: a place in the list is cheaper to hand on than the rank.
+fn winner(nodes: &[Option<Rank>], left: usize, right: usize) -> usize
+    requires left { left < length nodes.now }
+    requires right { right < length nodes.now }
+    ensures within { result < length nodes.now }
+    ensures won { rank_at nodes.now result ≡ earlier (rank_at nodes.now left) (rank_at nodes.now right) }
 {
-    match (left, right) {
-        (None, other) => other,
-        (Some(rank), None) => Some(rank),
-        (Some(rank), Some(other)) => {
-            if is_before(&other, &rank) {
-                Some(other)
-            } else {
-                Some(rank)
-            }
-        }
+    match (&nodes[left], &nodes[right]) {
+        (None, _) => right,
+        (Some(_), None) => left,
+        (Some(rank), Some(other)) => { if is_before(other, rank) { right } else { left } }
     }
 }
 
@@ -68,7 +66,8 @@ fn settle(nodes: &mut Vec<Option<Rank>>, places: usize, changed: usize)
 {
     let mut node = changed / 2;
     while node > 0 {
-        nodes[node] = earlier(nodes[node + node], nodes[node + node + 1]);
+        let first = winner(nodes, node + node, node + node + 1);
+        nodes[node] = nodes[first];
         node /= 2;
     }
 }

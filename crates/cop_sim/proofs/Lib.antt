@@ -24,3 +24,4 @@ pub mod Beginning
 pub mod DrawingLemmas
 pub mod Written
 pub mod Obeying
+pub mod Unique
