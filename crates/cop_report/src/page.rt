@@ -10,7 +10,7 @@ use crate::pdos::{push_pdos, tightest};
 use crate::premises::{push_inputs, push_premises};
 use crate::rates::{push_loads, push_rates};
 use crate::style::STYLE;
-use crate::units::{Micros, Percent};
+use crate::units::{Count, Micros, Percent};
 use cop_net::Network;
 use cop_plan::Outcome;
 use std::alloc::{AllocError, Global};
@@ -38,7 +38,7 @@ fn push_title(page: &mut String, figures: &Figures) -> Result<(), AllocError> {
             let kbits = rate.kbits();
             write!(
                 page,
-                "<h1>CANopen plan: <span class=\"good\">{kbits} kbit/s</span></h1>\n"
+                "<h1>CANopen plan: <span class=\"good\">{kbits}&nbsp;kbit/s</span></h1>\n"
             )
         }
         None => page.push_str("<h1>CANopen plan: <span class=\"bad\">no rate passes</span></h1>\n"),
@@ -47,8 +47,15 @@ fn push_title(page: &mut String, figures: &Figures) -> Result<(), AllocError> {
 
 /// Adds what the page is about.
 fn push_lead(page: &mut String, report: Report<'_, '_>) -> Result<(), AllocError> {
-    let (pdos, devices) = (report.network.pdos(), report.network.devices().len());
-    write!(page, "<p>{pdos} PDOs of {devices} devices. ")?;
+    let pdos = Count {
+        number: report.network.pdos(),
+        thing: "PDO",
+    };
+    let devices = Count {
+        number: report.network.devices().len(),
+        thing: "device",
+    };
+    write!(page, "<p>{pdos} of {devices}. ")?;
     if report.figures.rate.is_some() {
         page.push_str(
             "This is the slowest rate that all devices support and at which some choice of identifiers passes the \
@@ -104,10 +111,11 @@ fn push_header(page: &mut String, report: Report<'_, '_>) -> Result<(), AllocErr
     page.push_str("<div class=\"tiles\">\n")?;
     push_tightest(page, report)?;
     push_planned_load(page, report.figures)?;
-    let refused = report.figures.refused.len();
+    let number = report.figures.refused.len();
+    let words = if number == 1 { "refused rate" } else { "refused rates" };
     write!(
         page,
-        "<div><b>{refused}</b>refused rates, with evidence</div>\n</div>\n</header>\n"
+        "<div><b>{number}</b>{words}, with evidence</div>\n</div>\n</header>\n"
     )
 }
 

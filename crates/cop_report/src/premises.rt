@@ -7,7 +7,7 @@ use std::alloc::AllocError;
 /// What has to be true on the machine.
 const PREMISES: &str = "<section>
 <h2>What has to be true on the machine</h2>
-<p>Where it is, each PDO ends each of its transfers within its deadline: that is proved. The plan holds where</p>
+<p>It is proved that each PDO ends each of its transfers within its deadline where</p>
 <ul>
 <li>each used TPDO and RPDO has its identifier as planned, and every other PDO of these devices is switched off (bit 31 of its
 COB-ID is set); heartbeats have their times. This is what the DCF files say and what the boot manager sends;</li>

@@ -60,10 +60,13 @@ fn push_members(
     members: &[Failing],
 ) -> Result<(), AllocError> {
     let count = members.len();
+    if count == 1 {
+        return page.push_str("<p>That is so even with all other PDOs below it.</p>\n");
+    }
     write!(
         page,
         "<details><summary>The {count} PDOs of which none can have the lowest priority among them</summary>\n\
-<p>Each is taken with the others of the list above it, and none of the other PDOs.</p>\n<ul>\n"
+<p>Each of them with the others above it, and all other PDOs below it:</p>\n<ul>\n"
     )?;
     for member in members {
         page.push_str("<li>")?;
@@ -135,7 +138,7 @@ fn push_load(page: &mut String, load: &Load, planned: Option<Rate>) -> Result<()
 pub(crate) fn push_loads(page: &mut String, figures: &Figures) -> Result<(), AllocError> {
     page.push_str(
         "<section>\n<h2>Load of the bus</h2>\n\
-<p>The longest frame of each stream over its period. The line is a full bus; a bar ends at 150 %. \
+<p>The longest frame of each stream over its period. The line is a full bus; a bar ends at 150&nbsp;%. \
 <span class=\"key pdo\"></span> PDOs <span class=\"key fixed\"></span> fixed frames</p>\n\
 <div class=\"scroll\"><table>\n<tr><th>Rate</th><th></th><th class=\"n\">Load</th><th class=\"n\">PDOs</th><th class=\"n\">Fixed</th></tr>\n",
     )?;

@@ -62,3 +62,18 @@ impl fmt::Display for Identifier {
         write!(f, "{id:03X}h")
     }
 }
+
+/// A number of things, as 1 PDO or 2 PDOs.
+#[derive(Clone, Copy, Debug)]
+pub(crate) struct Count<'a> {
+    pub number: usize,
+    pub thing: &'a str,
+}
+
+impl fmt::Display for Count<'_> {
+    fn fmt<W: fmt::Write>(&self, f: &mut fmt::Formatter<W>) -> fmt::Result {
+        let (number, thing) = (self.number, self.thing);
+        let plural = if number == 1 { "" } else { "s" };
+        write!(f, "{number} {thing}{plural}")
+    }
+}

@@ -213,7 +213,7 @@ fn the_loads_are_those_of_the_tables(rt: HostRuntime) -> Result<(), Fail> {
 
 /// What the page of the network says.
 const SAID: &[&str] = &[
-    "500 kbit/s",
+    "500&nbsp;kbit/s",
     "At 250 kbit/s TPDO 1 of Valve (node 5) needs 1340 µs, its deadline is 670 µs.",
     "<li>TPDO 1 sends <b>181h</b></li>",
     "<li>switched off: TPDO 2</li>",
