@@ -112,7 +112,11 @@ fn push_header(page: &mut String, report: Report<'_, '_>) -> Result<(), AllocErr
     push_tightest(page, report)?;
     push_planned_load(page, report.figures)?;
     let number = report.figures.refused.len();
-    let words = if number == 1 { "refused rate" } else { "refused rates" };
+    let words = if number == 1 {
+        "refused rate"
+    } else {
+        "refused rates"
+    };
     write!(
         page,
         "<div><b>{number}</b>{words}, with evidence</div>\n</div>\n</header>\n"
