@@ -3,6 +3,7 @@
 use crate::commands::MOST_UNTIL;
 use crate::files::{Folder, file_fault, print, read_eds_files, read_file, read_input, read_tables};
 use crate::orders::{NetworkFiles, Order, Request};
+use crate::reporting::write_report;
 use cop_engine::{
     Fault, RunFault, boot_bytes, check_bytes, check_status, deliver, judge_bytes, none_passes,
     outcome_of, plan_bytes, plan_status, run_plan, test_bytes, text_status,
@@ -138,6 +139,7 @@ pub fn carry_out(rt: &HostRuntime, request: Request<'_>) -> Result<u8, Fault> {
             network,
             trace,
         } => run(rt, (seed, until), network, trace),
+        Order::Report { network, out } => write_report(rt, network, out),
         Order::Explain { number } => explain(rt, number),
     }
 }

@@ -136,6 +136,18 @@ fn judge_command<'a>(alloc: Global) -> Result<Command<'a>, AllocError> {
     ))
 }
 
+fn report_command<'a>(alloc: Global) -> Result<Command<'a>, AllocError> {
+    let about =
+        "Writes a page that shows the plan: why no slower rate, the load, the PDOs and the settings";
+    network_command(alloc, "report", about)?
+        .after_help("Example: canplan report nodes.csv pdos.csv report.html")
+        .arg(operand(
+            alloc,
+            "OUT",
+            "The file that the page is written to, in HTML",
+        ))
+}
+
 fn explain_command<'a>(alloc: Global) -> Result<Command<'a>, AllocError> {
     let number = Arg::new(alloc, "NUMBER")
         .required(true)
@@ -160,5 +172,6 @@ pub fn command<'a>(alloc: Global) -> Result<Command<'a>, AllocError> {
         .subcommand(boot_command(alloc)?)?
         .subcommand(run_command(alloc)?)?
         .subcommand(judge_command(alloc)?)?
+        .subcommand(report_command(alloc)?)?
         .subcommand(explain_command(alloc)?)
 }

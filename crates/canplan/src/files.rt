@@ -118,6 +118,14 @@ fn write_and_rename(rt: &HostRuntime, part: &str, path: &str, bytes: &[u8]) -> i
     fs::rename(rt, part, path)
 }
 
+/// Writes a file, whole or not at all.
+pub fn write_file(rt: &HostRuntime, path: &str, bytes: &[u8]) -> Result<(), Fault> {
+    match write_whole(rt, path, bytes) {
+        Ok(()) => Ok(()),
+        Err(error) => Err(file_fault(rt, path, &error)),
+    }
+}
+
 /// A folder that files are put into, each whole or not at all, and the fault at which that failed.
 #[derive(Drop)]
 pub struct Folder<'a> {
@@ -130,10 +138,7 @@ impl Folder<'_> {
     fn write(&self, name: &str, bytes: &[u8]) -> Result<(), Fault> {
         let folder = self.path;
         let path = format!(in self.rt.alloc(); "{folder}/{name}")?;
-        match write_whole(self.rt, &path, bytes) {
-            Ok(()) => Ok(()),
-            Err(error) => Err(file_fault(self.rt, &path, &error)),
-        }
+        write_file(self.rt, &path, bytes)
     }
 }
 

@@ -1,0 +1,4 @@
+pub mod Loads
+pub mod Reasons
+pub mod Figures
+pub mod Measures

@@ -1,0 +1,110 @@
+//! The section of a page on what each node is set to.
+
+ghost use Rattle.std.specs.Prelude.{length};
+ghost use Rattle.cop_plan.specs.Plans.{IsPlan};
+
+use crate::units::{Escaped, Identifier};
+use cop_dcf::{Setting, settings};
+use cop_net::{DeviceRow, Network};
+use cop_plan::Plan;
+use std::alloc::{AllocError, Global};
+use std::str;
+
+/// Whether a setting is that of a PDO's COB-ID.
+fn is_cob_id(setting: &Setting) -> bool {
+    setting.sub == 1
+}
+
+/// Whether a COB-ID switches its PDO off: its bit 31 is set.
+fn is_off(setting: &Setting) -> bool {
+    setting.value >= 1 << 31
+}
+
+/// The kind and the number of the PDO with a communication record.
+fn pdo_of(index: u16) -> (&'static str, u16) {
+    if index >= 0x1800 {
+        ("TPDO", index - 0x17FF)
+    } else {
+        ("RPDO", index.saturating_sub(0x13FF))
+    }
+}
+
+/// Whether a record is switched on by some setting.
+fn is_used(settings: &[Setting], index: u16) -> bool {
+    settings.iter().any(|other| other.index == index && is_cob_id(other) && !is_off(other))
+}
+
+/// Adds the PDOs that get an identifier.
+fn push_used(page: &mut String, settings: &[Setting]) -> Result<(), AllocError> {
+    for setting in settings {
+        if is_cob_id(setting) && !is_off(setting) {
+            let (kind, number) = pdo_of(setting.index);
+            let verb = if kind == "TPDO" { "sends" } else { "takes" };
+            let id = Identifier((setting.value % 2048) as u16);
+            write!(page, "<li>{kind} {number} {verb} <b>{id}</b></li>\n")?;
+        }
+    }
+    Ok(())
+}
+
+/// Adds the PDOs that are switched off.
+fn push_unused(page: &mut String, settings: &[Setting]) -> Result<(), AllocError> {
+    let mut comma = "<li>switched off: ";
+    for setting in settings {
+        if is_cob_id(setting) && is_off(setting) && !is_used(settings, setting.index) {
+            let (kind, number) = pdo_of(setting.index);
+            write!(page, "{comma}{kind} {number}")?;
+            comma = ", ";
+        }
+    }
+    if comma == ", " {
+        page.push_str("</li>\n")?;
+    }
+    Ok(())
+}
+
+/// Adds the time of a heartbeat.
+fn push_heartbeat(page: &mut String, time: u16) -> Result<(), AllocError> {
+    if time == 0 {
+        page.push_str("<li>no heartbeat</li>\n")
+    } else {
+        write!(page, "<li>heartbeat every {time} ms</li>\n")
+    }
+}
+
+/// Adds what a device is set to.
+fn push_device(
+    page: &mut String,
+    row: &DeviceRow,
+    settings: &[Setting],
+    heartbeat: u16,
+) -> Result<(), AllocError> {
+    let name = Escaped(str::from_utf8(row.name.as_bytes()).unwrap_or("?"));
+    let eds = Escaped(str::from_utf8(row.eds.as_bytes()).unwrap_or("?"));
+    let node = row.node;
+    write!(
+        page,
+        "<article>\n<h3>{name} <small>node {node}, {eds}</small></h3>\n<ul>\n"
+    )?;
+    push_used(page, settings)?;
+    push_unused(page, settings)?;
+    push_heartbeat(page, heartbeat)?;
+    page.push_str("</ul>\n</article>\n")
+}
+
+/// Adds what each node is set to.
+pub(crate) fn push_nodes(
+    page: &mut String,
+    alloc: Global,
+    network: &Network<'_>,
+    plan: &Plan,
+) -> Result<(), AllocError>
+    requires { IsPlan network.now.equipment.rates network.now.set (length network.now.rows) plan.now }
+{
+    page.push_str("<section>\n<h2>What each node is set to</h2>\n<div class=\"cards\">\n")?;
+    for row in network.devices() {
+        let settings = settings(alloc, plan, network, row.node)?;
+        push_device(page, row, &settings, network.heartbeat(row.node))?;
+    }
+    page.push_str("</div>\n</section>\n")
+}

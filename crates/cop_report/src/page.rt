@@ -1,0 +1,156 @@
+//! The page of a report: one file of HTML with its style and its pictures, and no script.
+
+ghost use Rattle.std.specs.Prelude.{length};
+ghost use Rattle.cop_plan.specs.Plans.{IsOutcome};
+
+use crate::devices::sent_by;
+use crate::figures::Figures;
+use crate::nodes::push_nodes;
+use crate::pdos::{push_pdos, tightest};
+use crate::premises::{push_inputs, push_premises};
+use crate::rates::{push_loads, push_rates};
+use crate::style::STYLE;
+use crate::units::{Count, Micros, Percent};
+use cop_net::Network;
+use cop_plan::Outcome;
+use std::alloc::{AllocError, Global};
+
+/// A file that was read: its name and how many bytes it has.
+#[derive(Clone, Copy, Debug)]
+pub struct Input<'a> {
+    pub name: &'a str,
+    pub size: usize,
+}
+
+/// What a page is made of: a network, what the planner answers for it, the numbers of that, and the files that were read.
+#[derive(Clone, Copy)]
+pub struct Report<'a, 'n> {
+    pub network: &'a Network<'n>,
+    pub outcome: &'a Outcome,
+    pub figures: &'a Figures,
+    pub inputs: &'a [Input<'a>],
+}
+
+/// Adds the rate in large.
+fn push_title(page: &mut String, figures: &Figures) -> Result<(), AllocError> {
+    match figures.rate {
+        Some(rate) => {
+            let kbits = rate.kbits();
+            write!(
+                page,
+                "<h1>CANopen plan: <span class=\"good\">{kbits}&nbsp;kbit/s</span></h1>\n"
+            )
+        }
+        None => page.push_str("<h1>CANopen plan: <span class=\"bad\">no rate passes</span></h1>\n"),
+    }
+}
+
+/// Adds what the page is about.
+fn push_lead(page: &mut String, report: Report<'_, '_>) -> Result<(), AllocError> {
+    let pdos = Count {
+        number: report.network.pdos(),
+        thing: "PDO",
+    };
+    let devices = Count {
+        number: report.network.devices().len(),
+        thing: "device",
+    };
+    write!(page, "<p>{pdos} of {devices}. ")?;
+    if report.figures.rate.is_some() {
+        page.push_str(
+            "This is the slowest rate that all devices support and at which some choice of identifiers passes the \
+response-time test of Davis, Burns, Bril and Lukkien (2007).</p>\n",
+        )
+    } else {
+        page.push_str(
+            "At no rate that all devices support any choice of identifiers passes the response-time test of Davis, Burns, \
+Bril and Lukkien (2007). The reasons at each rate are below: longer deadlines or periods, fewer frames of fixed identifiers, \
+or devices with a faster rate can help.</p>\n",
+        )
+    }
+}
+
+/// Adds the tile of the tightest PDO.
+fn push_tightest(page: &mut String, report: Report<'_, '_>) -> Result<(), AllocError> {
+    let Some(times) = tightest(&report.figures.pdos) else {
+        return Ok(());
+    };
+    let Some(row) = report.network.rows().get(times.pdo) else {
+        return Ok(());
+    };
+    let margin = Micros(
+        times
+            .stream
+            .deadline
+            .unwrap_or(0)
+            .saturating_sub(times.response),
+    );
+    let pdo = sent_by(report.network, row);
+    write!(
+        page,
+        "<div><b>{margin} µs</b>left at the tightest: {pdo}</div>\n"
+    )
+}
+
+/// Adds the tile of the load at the planned rate.
+fn push_planned_load(page: &mut String, figures: &Figures) -> Result<(), AllocError> {
+    for load in figures.loads.iter() {
+        if figures.rate == Some(load.rate) {
+            let all = Percent(load.pdos.saturating_add(load.fixed));
+            write!(page, "<div><b>{all}</b>load of the bus at most</div>\n")?;
+        }
+    }
+    Ok(())
+}
+
+/// Adds what there is to know at first sight.
+fn push_header(page: &mut String, report: Report<'_, '_>) -> Result<(), AllocError> {
+    page.push_str("<header>\n")?;
+    push_title(page, report.figures)?;
+    push_lead(page, report)?;
+    page.push_str("<div class=\"tiles\">\n")?;
+    push_tightest(page, report)?;
+    push_planned_load(page, report.figures)?;
+    let number = report.figures.refused.len();
+    let words = if number == 1 {
+        "refused rate"
+    } else {
+        "refused rates"
+    };
+    write!(
+        page,
+        "<div><b>{number}</b>{words}, with evidence</div>\n</div>\n</header>\n"
+    )
+}
+
+/// Adds the sections that a plan alone has.
+fn push_plan(page: &mut String, alloc: Global, report: Report<'_, '_>) -> Result<(), AllocError>
+    requires { IsOutcome report.network.now.equipment.rates report.network.now.set (length report.network.now.rows) report.outcome.now }
+{
+    if let Outcome::Planned(plan) = report.outcome {
+        push_pdos(page, report.network, report.figures)?;
+        push_nodes(page, alloc, report.network, plan)?;
+        push_premises(page)?;
+    }
+    Ok(())
+}
+
+/// The page of a report. `Err` is want of memory.
+pub fn page_of(alloc: Global, report: Report<'_, '_>) -> Result<String, AllocError>
+    requires { IsOutcome report.network.now.equipment.rates report.network.now.set (length report.network.now.rows) report.outcome.now }
+{
+    let mut page = String::new(alloc);
+    page.push_str(
+        "<!DOCTYPE html>\n<html lang=\"en\">\n<head>\n<meta charset=\"utf-8\">\n\
+<meta name=\"viewport\" content=\"width=device-width, initial-scale=1\">\n<title>CANopen plan</title>\n<style>",
+    )?;
+    page.push_str(STYLE)?;
+    page.push_str("</style>\n</head>\n<body>\n<main>\n")?;
+    push_header(&mut page, report)?;
+    push_rates(&mut page, report.network, report.figures)?;
+    push_loads(&mut page, report.figures)?;
+    push_plan(&mut page, alloc, report)?;
+    push_inputs(&mut page, report.inputs)?;
+    page.push_str("<footer>Made by canplan.</footer>\n</main>\n</body>\n</html>\n")?;
+    Ok(page)
+}

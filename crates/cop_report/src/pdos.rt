@@ -1,0 +1,118 @@
+//! The section of a page on the PDOs.
+
+use crate::bars::ResponseBar;
+use crate::devices::{device_of, taken_by};
+use crate::figures::Figures;
+use crate::times::PdoTimes;
+use crate::units::{Identifier, Micros};
+use cop_net::{Consumer, Network, PdoRow};
+use std::alloc::AllocError;
+
+/// The deadline of a PDO in ticks.
+fn deadline_of(times: &PdoTimes) -> u64 {
+    times.stream.deadline.unwrap_or(0)
+}
+
+/// What a PDO uses of its deadline, in millionths.
+fn used(times: &PdoTimes) -> u64 {
+    times.response.saturating_mul(1000000) / deadline_of(times).max(1)
+}
+
+/// The PDO that uses the most of its deadline.
+pub(crate) fn tightest(times: &[PdoTimes]) -> Option<&PdoTimes> {
+    let mut found: Option<&PdoTimes> = None;
+    for time in times {
+        if found.is_none_or(|other| used(other) < used(time)) {
+            found = Some(time);
+        }
+    }
+    found
+}
+
+/// Adds who takes a PDO.
+fn push_consumers(
+    page: &mut String,
+    network: &Network<'_>,
+    consumers: &[Consumer],
+) -> Result<(), AllocError> {
+    if consumers.is_empty() {
+        return page.push_str("nobody of the table");
+    }
+    for (number, consumer) in consumers.iter().enumerate() {
+        let comma = if number == 0 { "" } else { ", " };
+        let taken = taken_by(network, *consumer);
+        write!(page, "{comma}{taken}")?;
+    }
+    Ok(())
+}
+
+/// Adds the numbers of a PDO.
+fn push_times(page: &mut String, times: &PdoTimes, is_tightest: bool) -> Result<(), AllocError> {
+    let bytes = times.stream.bytes;
+    let period = Micros(times.stream.period);
+    let jitter = Micros(times.stream.jitter);
+    let deadline = Micros(deadline_of(times));
+    write!(
+        page,
+        "<td class=\"n\">{bytes}</td><td class=\"n\">{period}</td><td class=\"n\">{jitter}</td><td class=\"n\">{deadline}</td>"
+    )?;
+    let response = Micros(times.response);
+    let margin = Micros(deadline_of(times).saturating_sub(times.response));
+    let bar = ResponseBar {
+        response: times.response,
+        deadline: deadline_of(times),
+        is_tightest,
+    };
+    write!(
+        page,
+        "<td class=\"n\">{response}</td><td class=\"wide\">{bar}</td><td class=\"n\">{margin}</td>"
+    )
+}
+
+/// Adds the line of a PDO.
+fn push_pdo(
+    page: &mut String,
+    network: &Network<'_>,
+    row: &PdoRow,
+    times: &PdoTimes,
+    is_tightest: bool,
+) -> Result<(), AllocError> {
+    let (class, note) = if is_tightest {
+        (" class=\"tightest\"", " <em>tightest</em>")
+    } else {
+        ("", "")
+    };
+    let id = Identifier(times.stream.id);
+    let device = device_of(network, row.node);
+    let tpdo = row.tpdo;
+    write!(
+        page,
+        "<tr{class}><th scope=\"row\">{id}</th><td>{device}{note}</td><td class=\"n\">{tpdo}</td>"
+    )?;
+    push_times(page, times, is_tightest)?;
+    page.push_str("<td class=\"taken\">")?;
+    push_consumers(page, network, row.consumers.as_slice())?;
+    page.push_str("</td></tr>\n")
+}
+
+/// Adds the PDOs by rising identifier.
+pub(crate) fn push_pdos(
+    page: &mut String,
+    network: &Network<'_>,
+    figures: &Figures,
+) -> Result<(), AllocError> {
+    page.push_str(
+        "<section>\n<h2>PDOs by identifier</h2>\n\
+<p>Times are microseconds. The response is the greatest time from an event to the end of its transfer; a bar is full where it \
+takes the whole deadline.</p>\n<div class=\"scroll\"><table>\n<tr><th>Identifier</th><th>Device</th><th class=\"n\">TPDO</th>\
+<th class=\"n\">Bytes</th><th class=\"n\">Period</th><th class=\"n\">Jitter</th><th class=\"n\">Deadline</th>\
+<th class=\"n\">Response</th><th></th><th class=\"n\">Margin</th><th>Taken by</th></tr>\n",
+    )?;
+    let most = tightest(&figures.pdos).map(|times| times.pdo);
+    for times in figures.pdos.iter() {
+        if let Some(row) = network.rows().get(times.pdo) {
+            push_pdo(page, network, row, times, most == Some(times.pdo))?;
+        }
+    }
+    page.push_str("</table></div>\n</section>\n")
+}

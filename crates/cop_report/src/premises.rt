@@ -1,0 +1,43 @@
+//! The sections of a page on what the guarantee rests on: the machine, and the files that were read.
+
+use crate::page::Input;
+use crate::units::Escaped;
+use std::alloc::AllocError;
+
+/// What has to be true on the machine.
+const PREMISES: &str = "<section>
+<h2>What has to be true on the machine</h2>
+<p>It is proved that each PDO ends each of its transfers within its deadline where</p>
+<ul>
+<li>each used TPDO and RPDO has its identifier as planned, and every other PDO of these devices is switched off (bit 31 of its
+COB-ID is set); heartbeats have their times. This is what the DCF files say and what the boot manager sends;</li>
+<li>all nodes run at the plan's rate, and nothing else sends on the bus;</li>
+<li>events are as far apart as the periods say and frames are queued within their jitters, the fixed frames' included, and no
+frame is longer than its mapping;</li>
+<li>there are no error frames: a bound holds for runs without retransmission;</li>
+<li>controllers send their waiting frames in the order of identifiers, and a waiting frame starts as soon as the bus is
+idle.</li>
+</ul>
+</section>
+";
+
+/// Adds what has to be true on the machine.
+pub(crate) fn push_premises(page: &mut String) -> Result<(), AllocError> {
+    page.push_str(PREMISES)
+}
+
+/// Adds the files that were read.
+pub(crate) fn push_inputs(page: &mut String, inputs: &[Input<'_>]) -> Result<(), AllocError> {
+    page.push_str(
+        "<section>\n<h2>Files that were read</h2>\n<div class=\"scroll\"><table>\n\
+<tr><th>File</th><th class=\"n\">Bytes</th></tr>\n",
+    )?;
+    for input in inputs {
+        let (name, size) = (Escaped(input.name), input.size);
+        write!(
+            page,
+            "<tr><td>{name}</td><td class=\"n\">{size}</td></tr>\n"
+        )?;
+    }
+    page.push_str("</table></div>\n</section>\n")
+}

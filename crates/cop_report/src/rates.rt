@@ -1,0 +1,149 @@
+//! The sections of a page on the rates: why slower ones fail, and how much of the bus is used.
+
+use crate::bars::LoadBar;
+use crate::devices::sent_by;
+use crate::figures::Figures;
+use crate::loads::Load;
+use crate::refused::{Failing, RefusedRate};
+use crate::units::{Micros, Percent};
+use cop_frame::Rate;
+use cop_net::Network;
+use cop_rta::Verdict;
+use std::alloc::AllocError;
+
+/// The greatest load that the bars show, in billionths: past it a bar is cut.
+const GREATEST: u64 = 1500000000;
+
+/// The member that is shown of a refusal: the first that is late, or else the first.
+fn shown(members: &[Failing]) -> Option<&Failing> {
+    for member in members {
+        if matches!(member.verdict, Verdict::Late { .. }) {
+            return Some(member);
+        }
+    }
+    members.first()
+}
+
+/// Adds what is said of a member: how long it needs, and until when it has time.
+fn push_verdict(page: &mut String, failing: &Failing) -> Result<(), AllocError> {
+    let deadline = Micros(failing.deadline.unwrap_or(0));
+    match failing.verdict {
+        Verdict::Late { response, .. } => {
+            let response = Micros(response);
+            write!(page, "needs {response} µs, its deadline is {deadline} µs")
+        }
+        _ => write!(
+            page,
+            "has no busy time that ends within 10 s, which counts as failed; its deadline is {deadline} µs"
+        ),
+    }
+}
+
+/// Adds what is said of a PDO that fails.
+fn push_failing(
+    page: &mut String,
+    network: &Network<'_>,
+    failing: &Failing,
+) -> Result<(), AllocError> {
+    if let Some(row) = network.rows().get(failing.pdo) {
+        let pdo = sent_by(network, row);
+        write!(page, "{pdo} ")?;
+        push_verdict(page, failing)?;
+    }
+    Ok(())
+}
+
+/// Adds all PDOs of a refusal.
+fn push_members(
+    page: &mut String,
+    network: &Network<'_>,
+    members: &[Failing],
+) -> Result<(), AllocError> {
+    let count = members.len();
+    if count == 1 {
+        return page.push_str("<p>That is so even with all other PDOs below it.</p>\n");
+    }
+    write!(
+        page,
+        "<details><summary>The {count} PDOs of which none can have the lowest priority among them</summary>\n\
+<p>Each of them with the others above it, and all other PDOs below it:</p>\n<ul>\n"
+    )?;
+    for member in members {
+        page.push_str("<li>")?;
+        push_failing(page, network, member)?;
+        page.push_str("</li>\n")?;
+    }
+    page.push_str("</ul></details>\n")
+}
+
+/// Adds why a rate fails.
+fn push_refused(
+    page: &mut String,
+    network: &Network<'_>,
+    refused: &RefusedRate,
+) -> Result<(), AllocError> {
+    let kbits = refused.rate.kbits();
+    let members = refused.members.as_slice();
+    if let Some(failing) = shown(members) {
+        write!(page, "<h3>{kbits} kbit/s fails</h3>\n<p>At {kbits} kbit/s ")?;
+        push_failing(page, network, failing)?;
+        page.push_str(".</p>\n")?;
+        push_members(page, network, members)?;
+    }
+    Ok(())
+}
+
+/// Adds why each slower rate fails.
+pub(crate) fn push_rates(
+    page: &mut String,
+    network: &Network<'_>,
+    figures: &Figures,
+) -> Result<(), AllocError> {
+    page.push_str("<section>\n<h2>Why no slower rate</h2>\n")?;
+    if figures.refused.is_empty() {
+        page.push_str("<p>No slower rate is supported by all devices.</p>\n")?;
+    }
+    for refused in figures.refused.iter() {
+        push_refused(page, network, refused)?;
+    }
+    page.push_str("</section>\n")
+}
+
+/// Adds the load at a rate.
+fn push_load(page: &mut String, load: &Load, planned: Option<Rate>) -> Result<(), AllocError> {
+    let kbits = load.rate.kbits();
+    let class = if planned == Some(load.rate) {
+        " class=\"chosen\""
+    } else {
+        ""
+    };
+    let bar = LoadBar {
+        pdos: load.pdos,
+        fixed: load.fixed,
+        greatest: GREATEST,
+    };
+    let all = Percent(load.pdos.saturating_add(load.fixed));
+    let (pdos, fixed) = (Percent(load.pdos), Percent(load.fixed));
+    write!(
+        page,
+        "<tr{class}><th scope=\"row\">{kbits} kbit/s</th><td class=\"wide\">{bar}</td><td class=\"n\">{all}</td>"
+    )?;
+    write!(
+        page,
+        "<td class=\"n\">{pdos}</td><td class=\"n\">{fixed}</td></tr>\n"
+    )
+}
+
+/// Adds the load at each candidate rate.
+pub(crate) fn push_loads(page: &mut String, figures: &Figures) -> Result<(), AllocError> {
+    page.push_str(
+        "<section>\n<h2>Load of the bus</h2>\n\
+<p>The longest frame of each stream over its period. The line is a full bus; a bar ends at 150&nbsp;%. \
+<span class=\"key pdo\"></span> PDOs <span class=\"key fixed\"></span> fixed frames</p>\n\
+<div class=\"scroll\"><table>\n<tr><th>Rate</th><th></th><th class=\"n\">Load</th><th class=\"n\">PDOs</th><th class=\"n\">Fixed</th></tr>\n",
+    )?;
+    for load in figures.loads.iter() {
+        push_load(page, load, figures.rate)?;
+    }
+    page.push_str("</table></div>\n</section>\n")
+}

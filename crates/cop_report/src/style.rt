@@ -1,0 +1,41 @@
+//! The style of a page.
+
+/// Light, and dark where the reader's system is.
+pub(crate) const STYLE: &str = "
+:root { color-scheme: light dark; --back: #f6f7f9; --card: #ffffff; --text: #1b2430; --soft: #5b6776; --line: #dde2e8;
+  --track: #e7ebf0; --pdo: #2f6fd0; --fixed: #93a4b8; --tight: #c2570c; --mark: #fff3e2; --good: #1c7a4b; --bad: #b3261e; }
+@media (prefers-color-scheme: dark) { :root { --back: #12161c; --card: #1a2029; --text: #e6eaf0; --soft: #9aa7b6;
+  --line: #2c3541; --track: #2a323d; --pdo: #6ea4ff; --fixed: #69798c; --tight: #ff9f4a; --mark: #33261a; --good: #62c995;
+  --bad: #ff8a80; } }
+* { box-sizing: border-box; }
+body { margin: 0; background: var(--back); color: var(--text); font: 16px/1.5 system-ui, sans-serif; }
+main { max-width: 80rem; margin: 0 auto; padding: 1.5rem 1rem 3rem; }
+h1 { font-size: 1.7rem; line-height: 1.2; margin: 0 0 .3rem; }
+h2 { font-size: 1.2rem; margin: 0 0 .6rem; }
+h3 { font-size: 1rem; margin: .8rem 0 .2rem; }
+p { margin: .2rem 0 .6rem; max-width: 46rem; }
+ul { margin: .2rem 0 .4rem; padding-left: 1.2rem; }
+small, .soft { color: var(--soft); font-weight: normal; }
+section { background: var(--card); border: 1px solid var(--line); border-radius: 10px; padding: 1.1rem 1.2rem; margin-top: 1.1rem; }
+.tiles { display: grid; grid-template-columns: repeat(auto-fit, minmax(11rem, 1fr)); gap: .8rem; margin-top: 1rem; }
+.tiles div { background: var(--card); border: 1px solid var(--line); border-radius: 10px; padding: .7rem 1rem; }
+.tiles b { display: block; font-size: 1.5rem; line-height: 1.3; }
+.good { color: var(--good); } .bad { color: var(--bad); }
+.cards { display: grid; grid-template-columns: repeat(auto-fill, minmax(17rem, 1fr)); gap: .4rem 1.4rem; }
+.scroll { overflow-x: auto; }
+.taken { white-space: normal; min-width: 13rem; }
+table { border-collapse: collapse; width: 100%; font-size: .92rem; }
+th, td { text-align: left; padding: .32rem .6rem; border-bottom: 1px solid var(--line); white-space: nowrap; }
+tr:first-child th { color: var(--soft); font-weight: 600; }
+.n { text-align: right; font-variant-numeric: tabular-nums; }
+.wide { min-width: 9rem; width: 30%; }
+.bar { display: block; width: 100%; height: .7rem; border-radius: 3px; }
+.track { fill: var(--track); } .pdo { fill: var(--pdo); background: var(--pdo); } .fixed { fill: var(--fixed); background: var(--fixed); }
+.tight { fill: var(--tight); }
+.full { stroke: var(--bad); stroke-width: 2; vector-effect: non-scaling-stroke; }
+.tightest td, .tightest th, .chosen td, .chosen th { background: var(--mark); }
+.tightest em { color: var(--tight); font-style: normal; font-weight: 600; }
+.key { display: inline-block; width: .8rem; height: .8rem; border-radius: 3px; margin-left: .8rem; }
+details { margin-bottom: .6rem; } summary { cursor: pointer; color: var(--soft); }
+footer { color: var(--soft); font-size: .88rem; margin-top: 1.2rem; }
+";

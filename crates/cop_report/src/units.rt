@@ -1,0 +1,79 @@
+//! How values are shown on a page.
+
+use std::fmt;
+
+/// A text in which no character is markup.
+#[derive(Clone, Copy, Debug)]
+pub struct Escaped<'a>(pub &'a str);
+
+impl fmt::Display for Escaped<'_> {
+    fn fmt<W: fmt::Write>(&self, f: &mut fmt::Formatter<W>) -> fmt::Result {
+        for character in self.0.chars() {
+            match character {
+                '&' => f.write_str("&amp;")?,
+                '<' => f.write_str("&lt;")?,
+                '>' => f.write_str("&gt;")?,
+                '"' => f.write_str("&quot;")?,
+                '\'' => f.write_str("&#39;")?,
+                other => f.write_char(other)?,
+            }
+        }
+        Ok(())
+    }
+}
+
+/// Ticks of 250 ns as microseconds.
+#[derive(Clone, Copy, Debug)]
+pub struct Micros(pub u64);
+
+impl fmt::Display for Micros {
+    fn fmt<W: fmt::Write>(&self, f: &mut fmt::Formatter<W>) -> fmt::Result {
+        let whole = self.0 / 4;
+        let rest = match self.0 % 4 {
+            0 => "",
+            1 => ".25",
+            2 => ".5",
+            _ => ".75",
+        };
+        write!(f, "{whole}{rest}")
+    }
+}
+
+/// Billionths as percent, to a tenth.
+#[derive(Clone, Copy, Debug)]
+pub struct Percent(pub u64);
+
+impl fmt::Display for Percent {
+    fn fmt<W: fmt::Write>(&self, f: &mut fmt::Formatter<W>) -> fmt::Result {
+        let tenths = self.0.div_ceil(1000000);
+        let whole = tenths / 10;
+        let rest = tenths % 10;
+        write!(f, "{whole}.{rest} %")
+    }
+}
+
+/// An identifier in hexadecimal, as 181h.
+#[derive(Clone, Copy, Debug)]
+pub struct Identifier(pub u16);
+
+impl fmt::Display for Identifier {
+    fn fmt<W: fmt::Write>(&self, f: &mut fmt::Formatter<W>) -> fmt::Result {
+        let id = self.0;
+        write!(f, "{id:03X}h")
+    }
+}
+
+/// A number of things, as 1 PDO or 2 PDOs.
+#[derive(Clone, Copy, Debug)]
+pub(crate) struct Count<'a> {
+    pub number: usize,
+    pub thing: &'a str,
+}
+
+impl fmt::Display for Count<'_> {
+    fn fmt<W: fmt::Write>(&self, f: &mut fmt::Formatter<W>) -> fmt::Result {
+        let (number, thing) = (self.number, self.thing);
+        let plural = if number == 1 { "" } else { "s" };
+        write!(f, "{number} {thing}{plural}")
+    }
+}

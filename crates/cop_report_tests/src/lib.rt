@@ -1,0 +1,6 @@
+//! Tests of the public items of `cop_report`, in a crate of their own so that the library is proved once.
+
+#![tactic(auto)]
+
+#[cfg(test)]
+mod tests;
