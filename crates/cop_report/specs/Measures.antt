@@ -1,11 +1,14 @@
 -- The numbers of evidence that a planner makes are small.
-use Rattle.std.specs.Prelude.{ℕ, ◌<◌, ◌≤◌, All}
+use Rattle.std.specs.Prelude.{ℕ, ◌^◌, ◌<◌, ◌≤◌, All}
 use Rattle.cop_rta.specs.Test.{horizon}
-use Rattle.cop_rta.specs.Levels.{most_instances}
 use Rattle.cop_cert.specs.declared.refusals.Evidence.{Evidence}
 use Rattle.cop_cert.specs.declared.refusals.Evidence.TheVariants.{Long, Late}
 use Rattle.cop_cert.specs.declared.refusals.Refusal.{Refusal}
 use Rattle.cop_cert.specs.Evidence.{last_of}
+
+-- no instance that is queued within the horizon has a greater number
+abbrev pub most_instances : ℕ
+most_instances = 2 ^ 20
 
 -- the queue list ends within the horizon, and the instance's number is small
 abbrev pub IsMeasured : Evidence → Type 0
