@@ -20,10 +20,11 @@ ticks_most Kbit500 = lit≤ tt
 ticks_most Kbit800 = lit≤ tt
 ticks_most Kbit1000 = lit≤ tt
 
+pub cost_within : (rate : Rate) (s : Stream) → cost_of rate s ≤ 135 * ticks_of rate
+cost_within rate s = mul-le-mul_right (ticks_of rate) (omega (arith, s.bytes_in_range))
+
 cost_most : (rate : Rate) (s : Stream) → cost_of rate s ≤ 54000
-cost_most rate s =
-    let bits : (55 + 10 * s.bytes) * ticks_of rate ≤ 135 * ticks_of rate = mul-le-mul_right (ticks_of rate) (omega (arith, s.bytes_in_range)) in
-    omega (arith, bits, ticks_most rate)
+cost_most rate s = omega (arith, cost_within rate s, ticks_most rate)
 
 -- there are no more instances than ticks
 load_most : (rate : Rate) (x : ℕ) (s : Stream) → x ≤ horizon + 400 → load_of rate x s ≤ 2 ^ 44
@@ -33,7 +34,7 @@ load_most rate x s early =
     let most : div_ceil (x + s.jitter) s.period * cost_of rate s ≤ div_ceil (x + s.jitter) s.period * 54000 = mul-le-mul_left (div_ceil (x + s.jitter) s.period) (cost_most rate s) in
     omega (arith, most, few, early, s.jitter_in_range)
 
-of_stream_most : (f : Stream → ℕ) (streams : List Stream) (k most : ℕ) → ((s : Stream) → f s ≤ most) → of_stream f streams k ≤ most
+pub of_stream_most : (f : Stream → ℕ) (streams : List Stream) (k most : ℕ) → ((s : Stream) → f s ≤ most) → of_stream f streams k ≤ most
 of_stream_most f streams k most h = go (slice_get streams k)
   where
     go : (o : Option Stream) → option_map_or f o 0 ≤ most
@@ -51,7 +52,7 @@ sum_most p f most (suc n) h =
     let next : suc n * most ≡ n * most + most = grind arith in
     omega (arith, next, sum_most p f most n h, choice_most (p n) (f n) most (h n))
 
-max_most : (p : ℕ → Bool) (f : ℕ → ℕ) (most n : ℕ) → ((k : ℕ) → f k ≤ most) → max_where p f n ≤ most
+pub max_most : (p : ℕ → Bool) (f : ℕ → ℕ) (most n : ℕ) → ((k : ℕ) → f k ≤ most) → max_where p f n ≤ most
 unfolding max_where
 max_most p f most zero h = zero-le
 max_most p f most (suc n) h = omega (arith, max_most p f most n h, choice_most (p n) (f n) most (h n))
