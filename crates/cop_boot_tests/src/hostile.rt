@@ -8,7 +8,6 @@ use crate::tests::{
 use cop_boot::{Device, End, Input, Manager, drive};
 use cop_frame::Frame;
 use cop_nmt::NodeState;
-use cop_sdo::Server;
 use std::alloc::Global;
 use std::test::Fail;
 
