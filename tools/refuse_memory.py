@@ -75,28 +75,51 @@ def faults_of_test(shim, tests, name, pool):
     return count, [(n, (it.stdout + it.stderr).decode()) for n, it in wrong.items()]
 
 
+def call(shim, words, **more):
+    """A call of the program with a folder of its own, and the files that it leaves there."""
+    with tempfile.TemporaryDirectory() as out:
+        ended = run(shim, [word.replace("OUT", out) for word in words], **more)
+        left = {}
+        for name in os.listdir(out):
+            with open(f"{out}/{name}", "rb") as file:
+                left[name] = file.read()
+    return ended, left
+
+
+def is_refused(ended, left, ample, whole):
+    """Whether a call that met want of memory says so, and leaves files that are whole; a trace may be cut."""
+    says = ended.returncode == 6 and ended.stdout in (b"", ample.stdout) and ended.stderr in (b"canplan: memory\n", b"")
+    stands = all(text == whole.get(name) or name == "trace.csv" and whole[name].startswith(text) for name, text in left.items())
+    return says and stands
+
+
 def faults_of_program(shim, words, pool):
     """The same of a call of the program."""
-    count, ample = count_of(shim, words)
-    told = (ample.returncode, ample.stdout)
-    runs = {n: pool.submit(run, shim, words, REFUSED=str(n)) for n in turns(count)}
+    told, whole = call(shim, words, TELLS="1")
+    count = int(told.stderr.rsplit(b"allocations ", 1)[1])
+    ample = (told.returncode, told.stdout, whole)
+    runs = {n: pool.submit(call, shim, words, REFUSED=str(n)) for n in turns(count)}
     ends = {n: it.result() for n, it in runs.items()}
-    refused = lambda it: it.returncode == 6 and it.stdout in (b"", ample.stdout) and it.stderr in (b"canplan: memory\n", b"")
-    wrong = {n: it for n, it in ends.items() if (it.returncode, it.stdout) != told and not refused(it)}
-    return count, [(n, f"{it.returncode} {it.stderr}") for n, it in wrong.items()]
+    wrong = {
+        n: (ended, left)
+        for n, (ended, left) in ends.items()
+        if (ended.returncode, ended.stdout, left) != ample and not is_refused(ended, left, told, whole)
+    }
+    return count, [(n, f"{ended.returncode} {ended.stderr} {sorted(left)}") for n, (ended, left) in wrong.items()]
 
 
-def calls_of_program(out):
-    """The calls of the program on the examples, by a name."""
+def calls_of_program():
+    """The calls of the program on the examples, by a name. What is called OUT is a folder of each call's own."""
     examples = f"{HERE}/examples"
     yield "test", ["test", "--rate", "125", f"{examples}/three-frames.csv"]
     yield "usage", ["test", "--rate", "7", f"{examples}/three-frames.csv"]
     for name in "valve", "conveyor", "crane":
         tables = [f"{examples}/{name}/nodes.csv", f"{examples}/{name}/pdos.csv"]
-        yield f"plan {name}", ["plan", *tables, out]
+        yield f"plan {name}", ["plan", *tables, "OUT"]
         yield f"check {name}", ["check", *tables, f"{examples}/{name}/refusals.csv"]
         yield f"boot {name}", ["boot", "--seed", "1", *tables]
-        yield f"run {name}", ["run", "--seed", "42", "--until", "20000", *tables, f"{out}/trace.csv"]
+        yield f"run {name}", ["run", "--seed", "42", "--until", "20000", *tables, "OUT/trace.csv"]
+        yield f"report {name}", ["report", *tables, "OUT/report.html"]
     valve = [f"{examples}/valve/nodes.csv", f"{examples}/valve/pdos.csv"]
     yield "judge valve", ["judge", *valve, f"{examples}/valve/trace.csv"]
 
@@ -129,7 +152,7 @@ def main(crates):
                 wrong += report(f"{crate} {name}", faults_of_test(shim, tests, name, pool))
         program = f"{HERE}/crates/canplan/out/canplan"
         if "canplan" in crates and os.path.isfile(program):
-            for name, words in calls_of_program(at):
+            for name, words in calls_of_program():
                 wrong += report(f"canplan {name}", faults_of_program(shim, [program, *words], pool))
     print(f"{wrong} wrong")
     return 1 if wrong else 0

@@ -5,6 +5,7 @@ ghost use Rattle.std.specs.String.{string_bytes};
 ghost use Rattle.cop_engine.specs.Networks.{ExplainsNetwork};
 ghost use Rattle.cop_engine.specs.Dcfs.{HaveTexts};
 ghost use Rattle.cop_engine.specs.Plans.{AreFilesFor, AreFilesOf};
+ghost use Rattle.cop_engine.specs.Guarantee.{IsGuaranteed};
 
 use crate::dcfs::{DcfFile, dcf_files};
 use crate::faults::Fault;
@@ -57,13 +58,16 @@ fn files_of(
 #[tactic(auto, using(crate::proofs::DcfLemmas::have_texts))]
 /// The plan of a network, from its tables and its EDS files: a table of nodes, a table of PDOs, and the EDS files by the
 /// names that the devices give. Otherwise the first rule that they break, or want of memory.
+///
+/// What the files guarantee is told at [`planner_guarantee`](crate::planner_guarantee).
 pub fn plan_bytes(
     alloc: Global,
     nodes: &[u8],
     pdos: &[u8],
     eds_files: &[(String, Vec<u8>)],
 ) -> Result<Files, Fault>
-    ensures { MatchResult result (λ files. AreFilesOf nodes.now pdos.now (map (λ f. record { name = string_bytes f.0; text = f.1.items }) eds_files.now) files) (λ fault. ExplainsNetwork nodes.now pdos.now (map (λ f. record { name = string_bytes f.0; text = f.1.items }) eds_files.now) fault) }
+    ensures exact { MatchResult result (λ files. AreFilesOf nodes.now pdos.now (map (λ f. record { name = string_bytes f.0; text = f.1.items }) eds_files.now) files) (λ fault. ExplainsNetwork nodes.now pdos.now (map (λ f. record { name = string_bytes f.0; text = f.1.items }) eds_files.now) fault) }
+    ensures guaranteed { IfOk result (λ files. (f : AreFilesOf nodes.now pdos.now (map (λ f. record { name = string_bytes f.0; text = f.1.items }) eds_files.now) files) → IsGuaranteed f.found f.streams f.planned.outcome) }
 {
     let nodes = read_nodes(alloc, nodes)?;
     let pdos = read_pdos(alloc, pdos)?;
