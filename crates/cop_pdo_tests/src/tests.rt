@@ -107,9 +107,13 @@ fn device(alloc: Global) -> Result<Dictionary, AllocError> {
 #[test]
 fn cob_ids(rt: HostRuntime) {
     assert_eq!(rt; off(0x4000_0185), 0xC000_0185);
-    assert_eq!(rt; on(0x4000_0185, 0x181), 0x4000_0181);
-    assert_eq!(rt; on(0xC000_0185, 0x181), 0x4000_0181);
-    assert_eq!(rt; on(0x8000_0185, 0x181), 0x181);
+    for (from, to) in [
+        (0x4000_0185, 0x4000_0181),
+        (0xC000_0185, 0x4000_0181),
+        (0x8000_0185, 0x181),
+    ] {
+        assert_eq!(rt; on(from, 0x181), to);
+    }
     assert!(rt; exists(0x4000_0185) && !exists(0x8000_0185));
 }
 

@@ -175,8 +175,7 @@ fn slowest_rates_are_planned(rt: HostRuntime) -> Result<(), Fail> {
         let plan = plan_of(outcome)?;
         assert_eq!(rt; plan.rate(), row.rate);
         assert_eq!(rt; plan.ids(), row.ids);
-        assert!(rt; are_refused(plan.refusals(), row.refused));
-        assert!(rt; count.trials <= row.trials);
+        assert!(rt; are_refused(plan.refusals(), row.refused) && count.trials <= row.trials);
         assert_eq!(rt; responses(rt.alloc(), &plan)?.as_slice(), row.responses);
     }
     Ok(())
@@ -300,10 +299,9 @@ fn the_largest_table_keeps_its_order(rt: HostRuntime) -> Result<(), Fail> {
     );
     assert!(rt; plan.order().iter().enumerate().all(|(k, pdo)| *pdo == k));
     let list = responses(rt.alloc(), &plan)?;
-    assert_eq!(rt; list.first().copied(), Some(1080));
-    assert_eq!(rt; list.get(1).copied(), Some(1620));
-    assert_eq!(rt; list.get(510).copied(), Some(276_480));
-    assert_eq!(rt; list.get(511).copied(), Some(276_480));
+    for (pdo, response) in [(0, 1080), (1, 1620), (510, 276_480), (511, 276_480)] {
+        assert_eq!(rt; list.get(pdo).copied(), Some(response));
+    }
     Ok(())
 }
 

@@ -500,6 +500,16 @@ fn memory_refused_to_a_download(rt: HostRuntime) -> Result<(), Fail> {
         assert_eq!(rt; dict.read(0x2000, 0)?, stored);
     }
     assert!(rt; !stored.is_empty());
+    Ok(())
+}
+
+#[test]
+fn memory_refused_to_no_short_download(rt: HostRuntime) -> Result<(), Fail> {
+    let Ok(mut dict) = dictionary(rt.alloc(), &DEVICE[..4]) else {
+        return Ok(());
+    };
+    let mut server = Server::new(rt.alloc(), 5);
+    let mut client = Client::new(rt.alloc(), 5);
     // one to four bytes of an object of one width take no memory
     let first = client.download(0x1017, 0, &[1, 2])?;
     assert_eq!(rt;

@@ -22,14 +22,21 @@ fn ids(rt: &HostRuntime, text: &[u8]) -> Result<Option<Vec<(Option<u64>, usize)>
     Ok(Some(found))
 }
 
+const IDS: &[(&[u8], Option<u64>)] = &[
+    (b"0x7fF", Some(0x7FF)),
+    (b"0x", None),
+    (b"0xFFFFFFFFFFFFFFFFFF", Some(u64::MAX)),
+    (b"385", Some(385)),
+];
+
 #[test]
 fn numbers_are_read(rt: HostRuntime) {
     assert_eq!(rt; number(10, b"0000000012"), Some(12));
     assert_eq!(rt; number(10, b"00000000012"), None);
-    assert_eq!(rt; id(b"0x7fF"), Some(0x7FF));
-    assert_eq!(rt; id(b"0x"), None);
-    assert_eq!(rt; id(b"0xFFFFFFFFFFFFFFFFFF"), Some(u64::MAX));
-    assert_eq!(rt; id(b"385"), Some(385));
+    for case in IDS {
+        let (text, want) = *case;
+        assert_eq!(rt; id(text), want);
+    }
 }
 
 #[test]
