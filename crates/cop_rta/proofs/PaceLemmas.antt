@@ -8,7 +8,7 @@ use Rattle.cop_frame.specs.declared.rates.Rate.{Rate}
 use Rattle.cop_frame.specs.Rate.{ticks_of}
 use Rattle.cop_rta.specs.declared.streams.Stream.{Stream}
 use Rattle.cop_rta.specs.declared.paces.Pace.{Pace}
-use Rattle.cop_rta.specs.Test.{of_stream, cost_of, load_of}
+use Rattle.cop_rta.specs.Test.{of_stream, load_of}
 use Rattle.cop_rta.specs.Paces.{last_time, bits_in, IsPaceOf, ArePacesOf}
 use Rattle.cop_rta.proofs.InverseLemmas.{high_product, rounded_up}
 use Rattle.std.specs.Int.{div_ceil}
@@ -65,14 +65,6 @@ module _ (rate : Rate) (streams : List Stream) (paces : List Pace) (are : ArePac
 
   pub bits_more : (t : ℕ) → t ≤ last_time → (bits total : ℕ) → bits * ticks_of rate ≡ total → (bits + bits_in t pace) * ticks_of rate ≡ total + of_stream (load_of rate t) streams k
   bits_more t early bits total is = omega (arith, times_sum bits (bits_in t pace) (ticks_of rate), is, load_by_pace t early)
-
-  pub cost_by_pace : pace.bits * ticks_of rate ≡ of_stream (cost_of rate) streams k
-  cost_by_pace = go (slice_get_cases streams k).1
-    where
-      go : ((s : Stream) × (k < length streams) × (slice_get streams k ≡ Some s) × (get_or streams k s ≡ s)) ⊎ ((length streams ≤ k) × (slice_get streams k ≡ None))
-          → pace.bits * ticks_of rate ≡ of_stream (cost_of rate) streams k
-      go (inl s) = rw (s.2, (pace_here s.0 s.2).bits) refl
-      go (inr past) = absurd (omega (arith, past.0, inside, are.count))
 
 -- the paces of no stream
 pub no_paces : (streams : List Stream) (paces : List Pace) → streams ≡ [] → paces ≡ [] → ArePacesOf streams paces

@@ -1,9 +1,9 @@
 -- Where the search for a wait begins.
-use Rattle.std.proofs.Common.{ℕ, ◌+◌, ◌-◌, ◌*◌, ◌<◌, ◌≤◌, ◌≡◌, ◌^◌, min, arith, slice_get, length, Some, sym, subst, zero-le, le_of_eq, ⊎_elim}
+use Rattle.std.proofs.Common.{ℕ, ◌+◌, ◌-◌, ◌<◌, ◌≤◌, ◌≡◌, ◌^◌, min, arith, slice_get, length, Some, sym, subst, zero-le, le_of_eq, ⊎_elim}
 use Rattle.std.proofs.lemmas.Bool.{cases_lt}
 use Rattle.cop_rta.specs.declared.streams.Stream.{Stream}
 use Rattle.cop_rta.specs.Solutions.{IsLeastSolution}
-use Rattle.cop_rta.specs.Test.{StreamPlace, cost_at, cost_of, busy_at, queueing_at, IsBusyTime, IsQueuedWithin, IsResponse}
+use Rattle.cop_rta.specs.Test.{StreamPlace, cost_at, cost_of, busy_at, queueing_at, IsBusyTime, IsQueuedWithin}
 use Rattle.cop_rta.specs.Waits.{IsBelowWait, IsBelowBusy}
 use Rattle.cop_rta.specs.TestLemmas.{busy_at-mono, queueing_at-mono}
 use Rattle.cop_rta.proofs.LeastLemmas.{least_exists, same_least, uncapped}
@@ -56,14 +56,6 @@ pub has_wait : (p : StreamPlace) (t q limit : ℕ) → p.index < length p.stream
 has_wait p t q limit inside busy within queued none =
     let w = wait_exists_at p t q inside busy queued in
     omega (arith, none w.0 w.1, w.2, within)
-
--- the response of an instance that waits so long
-pub responds : (p : StreamPlace) (s : Stream) (q w cost r : ℕ) → slice_get p.streams p.index ≡ Some s → cost ≡ cost_of p.rate s → IsLeastSolution (queueing_at p q) 0 w → r ≡ s.jitter + w + cost - q * s.period → IsResponse p q r
-responds p s q w cost r is c least e = record {
-  wait = w;
-  queueing = least;
-  response = rw (is, ← c) e;
-}
 
 -- the next instance waits at least until this one is sent
 pub next_from : (p : StreamPlace) (s : Stream) (q w cost : ℕ) → slice_get p.streams p.index ≡ Some s → cost ≡ cost_of p.rate s → IsLeastSolution (queueing_at p q) 0 w → IsBelowWait p (q + 1) (w + cost)

@@ -40,16 +40,6 @@ impl Pace {
         }
     }
 
-    /// The longest transfer, where a bit takes some ticks.
-    pub(crate) fn cost(&self, ticks: u64) -> u64
-        requires { ticks ≤ 400 }
-        ensures value { result ≡ self.now.bits * ticks }
-        ensures most { result ≤ 54000 }
-    {
-        let Pace { bits, .. } = *self;
-        bits * ticks
-    }
-
     /// How many instances may be queued within a time.
     pub(crate) fn instances(&self, time: u64) -> u64
         requires { time ≤ last_time }
