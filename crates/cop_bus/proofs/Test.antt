@@ -8,7 +8,7 @@ use Rattle.cop_frame.specs.declared.rates.Rate.{Rate}
 use Rattle.cop_frame.specs.Rate.{ticks_of}
 use Rattle.cop_rta.specs.declared.streams.Stream.{Stream}
 use Rattle.cop_rta.specs.Sums.{sum_where, max_where}
-use Rattle.cop_rta.specs.Test.{Passes, Place, place_by_id, of_stream, cost_of, load_of, has_lower_id, is_above, is_below, interference, blocking as blocking_at, busy_at, queueing_at, IsQueuedWithin, period_at, jitter_at, cost_at, deadline_at}
+use Rattle.cop_rta.specs.Test.{Passes, StreamPlace, place_by_id, of_stream, cost_of, load_of, has_lower_id, is_above, is_below, interference, blocking as blocking_at, busy_at, queueing_at, IsQueuedWithin, period_at, jitter_at, cost_at, deadline_at}
 use Rattle.cop_rta.specs.Witnesses.{HasWitnesses}
 use Rattle.cop_rta.proofs.WitnessLemmas.{passes_has_witnesses}
 use Rattle.cop_bus.proofs.Totals.{total}
@@ -97,7 +97,7 @@ others : (j k : ℕ) → (j ≡ k → ⊥) → (j == k) ≡ false
 others j k h = grind (arith, nat_tests)
 
 module _ (streams : List Stream) (index : ℕ) (rate : Rate) (m : Stream) (its : slice_get streams index ≡ Some m) where
-  abbrev place : Place
+  abbrev place : StreamPlace
   place = place_by_id streams index rate
 
   abbrev pub above : List Stream

@@ -5,7 +5,7 @@ use Rattle.std.proofs.lemmas.Bool.{cases_lt, cases_eq, ltb-true, lt-ltb, le-ltb,
 use Rattle.std.proofs.lemmas.Option.{slice_get_cases}
 use Rattle.cop_frame.specs.declared.rates.Rate.{Rate}
 use Rattle.cop_rta.specs.declared.streams.Stream.{Stream}
-use Rattle.cop_rta.specs.Test.{Place, of_stream}
+use Rattle.cop_rta.specs.Test.{StreamPlace, of_stream}
 use Rattle.cop_rta.specs.Witnesses.{HasMoreAbove}
 use Rattle.cop_cert.specs.Assignments.{least_id, greatest_id, AreFixedOutside, id_under, is_lower, place_under}
 use Rattle.cop_cert.specs.Sets.{is_in_trial, trial}
@@ -19,7 +19,7 @@ other_is k index a b h e = go (cases_eq k index)
     go (inr other) = rw (ne_eqb k index other) (h other (rw (ne_eqb k index other) at e))
 
 -- each other stream above is above there too
-pub more_above : (p : Place) (more : ℕ → Bool) → ((k : ℕ) → k < length p.streams → k ≢ p.index → p.above k ≡ true → more k ≡ true) → HasMoreAbove p more
+pub more_above : (p : StreamPlace) (more : ℕ → Bool) → ((k : ℕ) → k < length p.streams → k ≢ p.index → p.above k ≡ true → more k ≡ true) → HasMoreAbove p more
 more_above p more h = λ k below e. other_is k p.index (p.above k) (more k) (h k below) e
 
 module _ (streams : List Stream) (pdos : ℕ) where

@@ -2,7 +2,7 @@
 use Rattle.std.proofs.Common.{◌≡◌, ◌↔◌, ℕ, ◌+◌, ◌-◌, ◌^◌, ◌<◌, ◌≤◌, min, List, [], ◌∷◌, length, get_or, drop, refl, arith, add-one, drop-cons, drop_of_length-le, All, Option, Some, None, MatchOption, ◌*◌, Fits, w64}
 use Rattle.std.proofs.lemmas.List.{get_or_default}
 use Rattle.std.proofs.lemmas.List.Elements.{All-head, All-tail}
-use Rattle.cop_rta.specs.Test.{Place, busy_at, queueing_at, blocking, cost_at}
+use Rattle.cop_rta.specs.Test.{StreamPlace, busy_at, queueing_at, blocking, cost_at}
 use Rattle.cop_cert.specs.Evidence.{Climbs, IsClimb, first_of, last_after, last_of, IsBusyList, IsQueueList}
 
 split_at : (xs : List ℕ) (i : ℕ) → i < length xs → drop i xs ≡ get_or xs i 0 ∷ drop (i + 1) xs
@@ -56,13 +56,13 @@ list_end : (f : ℕ → ℕ) (P : Type 0) (numbers : List ℕ) (r : Option ℕ) 
 list_end f P numbers None fit both h = λ p. h ((capped f (2 ^ 64 - 1) numbers fit).1 (both.0 p))
 list_end f P numbers (Some last) fit both h = (both.1 ((capped f (2 ^ 64 - 1) numbers fit).0 h.0), h.1)
 
-pub busy_list_end : (p : Place) (numbers : List ℕ) (r : Option ℕ) → first_of numbers ≡ 1 → All (λ n. n ≤ 2 ^ 64 - 1) numbers
+pub busy_list_end : (p : StreamPlace) (numbers : List ℕ) (r : Option ℕ) → first_of numbers ≡ 1 → All (λ n. n ≤ 2 ^ 64 - 1) numbers
     → MatchOption r (IsClimb (λ t. min (busy_at p t) (2 ^ 64 - 1)) numbers → ⊥) (λ last. IsClimb (λ t. min (busy_at p t) (2 ^ 64 - 1)) numbers × (last ≡ last_of numbers))
     → MatchOption r (IsBusyList p numbers → ⊥) (λ last. IsBusyList p numbers × (last ≡ last_of numbers))
 busy_list_end p numbers r first fit h =
     list_end (busy_at p) (IsBusyList p numbers) numbers r fit (λ l. l.climbs, λ c. record { climbs = c; begins = first }) h
 
-pub queue_list_end : (p : Place) (q : ℕ) (numbers : List ℕ) (r : Option ℕ) → first_of numbers ≤ blocking p + q * cost_at p → All (λ n. n ≤ 2 ^ 64 - 1) numbers
+pub queue_list_end : (p : StreamPlace) (q : ℕ) (numbers : List ℕ) (r : Option ℕ) → first_of numbers ≤ blocking p + q * cost_at p → All (λ n. n ≤ 2 ^ 64 - 1) numbers
     → MatchOption r (IsClimb (λ t. min (queueing_at p q t) (2 ^ 64 - 1)) numbers → ⊥) (λ last. IsClimb (λ t. min (queueing_at p q t) (2 ^ 64 - 1)) numbers × (last ≡ last_of numbers))
     → MatchOption r (IsQueueList p q numbers → ⊥) (λ last. IsQueueList p q numbers × (last ≡ last_of numbers))
 queue_list_end p q numbers r first fit h =

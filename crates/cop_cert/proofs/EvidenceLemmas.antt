@@ -1,7 +1,7 @@
 -- A stream with evidence fails.
 use Rattle.std.proofs.Common.{ℕ, ◌+◌, ◌-◌, ◌*◌, ◌<◌, ◌≤◌, List, [], ◌∷◌, Option, Some, None, refl, arith, le_trans}
 use Rattle.std.specs.Option.{ForSome, IsSomeAnd}
-use Rattle.cop_rta.specs.Test.{Place, Passes, busy_at, queueing_at, blocking, cost_at, jitter_at, period_at, deadline_at}
+use Rattle.cop_rta.specs.Test.{StreamPlace, Passes, busy_at, queueing_at, blocking, cost_at, jitter_at, period_at, deadline_at}
 use Rattle.cop_rta.specs.TestLemmas.{busy_at-mono, queueing_at-mono}
 use Rattle.cop_rta.specs.Witnesses.{HasWitnesses}
 use Rattle.cop_rta.proofs.WitnessLemmas.{passes_has_witnesses}
@@ -20,12 +20,12 @@ module _ (f : ℕ → ℕ) (rises : (x y : ℕ) → x ≤ y → f x ≤ f y) (to
   climb_below [] low c = absurd c
   climb_below (a ∷ rest) low c = climbs_below a rest low c
 
-busy_below : (p : Place) (numbers : List ℕ) → IsBusyList p numbers → (shown : HasWitnesses p) → last_of numbers ≤ shown.time
+busy_below : (p : StreamPlace) (numbers : List ℕ) → IsBusyList p numbers → (shown : HasWitnesses p) → last_of numbers ≤ shown.time
 busy_below p numbers list shown =
     climb_below (busy_at p) (busy_at-mono p) shown.time shown.closed numbers (omega (arith, list.begins, shown.started)) list.climbs
 
 -- the equation begins at B + q C
-starts : (p : Place) (q first wait : ℕ) → first ≤ blocking p + q * cost_at p → queueing_at p q wait ≤ wait → first ≤ wait
+starts : (p : StreamPlace) (q first wait : ℕ) → first ≤ blocking p + q * cost_at p → queueing_at p q wait ≤ wait → first ≤ wait
 unfolding queueing_at
 starts p q first wait low closed = omega arith
 
@@ -33,7 +33,7 @@ on_time_or_late : (o : Option ℕ) (a w c x last : ℕ) → last ≤ w → ForSo
 on_time_or_late None a w c x last le h late = late
 on_time_or_late (Some d) a w c x last le h late = let on_time : a + w + c ≤ d + x = h d refl in omega arith
 
-pub evidence_shows : (p : Place) (e : Evidence) → IsEvidence p e → HasWitnesses p → ⊥
+pub evidence_shows : (p : StreamPlace) (e : Evidence) → IsEvidence p e → HasWitnesses p → ⊥
 evidence_shows p (Long busy) e shown = omega (arith, busy_below p busy e.list shown, e.high, shown.within)
 evidence_shows p (Late q busy queue) e shown =
     let w = shown.each q (omega (arith, e.reached, busy_below p busy e.list shown)) in
@@ -41,5 +41,5 @@ evidence_shows p (Late q busy queue) e shown =
     (climb_below (queueing_at p q) (queueing_at-mono p q) w.0 w.1 queue (starts p q (first_of queue) w.0 e.waits.begins w.1) e.waits.climbs)
     w.2 e.late
 
-pub evidence_fails : (p : Place) (e : Evidence) → IsEvidence p e → Passes p → ⊥
+pub evidence_fails : (p : StreamPlace) (e : Evidence) → IsEvidence p e → Passes p → ⊥
 evidence_fails p e shows passes = evidence_shows p e shows (passes_has_witnesses p passes)

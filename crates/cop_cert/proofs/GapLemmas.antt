@@ -9,7 +9,7 @@ use Rattle.cop_frame.specs.Rate.{ticks_of}
 use Rattle.cop_rta.specs.declared.streams.Stream.{Stream}
 use Rattle.cop_rta.specs.CeilLemmas.{div_ceil-mono, div_ceil_above}
 use Rattle.cop_rta.specs.Sums.{sum_where}
-use Rattle.cop_rta.specs.Test.{Place, of_stream, is_above, cost_of, load_of, blocking, interference, busy_at, queueing_at, cost_at, horizon}
+use Rattle.cop_rta.specs.Test.{StreamPlace, of_stream, is_above, cost_of, load_of, blocking, interference, busy_at, queueing_at, cost_at, horizon}
 use Rattle.std.proofs.lemmas.Option.{slice_get_cases}
 use Rattle.cop_cert.specs.declared.refusals.Evidence.{Evidence}
 use Rattle.cop_cert.specs.declared.refusals.Evidence.TheVariants.{Long, Late}
@@ -72,15 +72,15 @@ unfolding sum_where
 sum_gap p f g zero h = gap_same 0
 sum_gap p f g (suc n) h = gap_add (sum_where p f n) (sum_where p g n) _ _ (sum_gap p f g n h) (choice_gap (p n) (f n) (g n) (h n))
 
-interference_gap : (p : Place) (x y : ℕ) → x ≤ y → HasGap (interference p x) (interference p y)
+interference_gap : (p : StreamPlace) (x y : ℕ) → x ≤ y → HasGap (interference p x) (interference p y)
 interference_gap p x y h =
     sum_gap (is_above p) (of_stream (load_of p.rate x) p.streams) (of_stream (load_of p.rate y) p.streams) (length p.streams) (λ k. load_gap p.rate x y h (slice_get p.streams k))
 
-pub busy_gap : (p : Place) (x y : ℕ) → x ≤ y → HasGap (busy_at p x) (busy_at p y)
+pub busy_gap : (p : StreamPlace) (x y : ℕ) → x ≤ y → HasGap (busy_at p x) (busy_at p y)
 unfolding busy_at
 busy_gap p x y h = gap_add _ _ _ _ (gap_same (blocking p)) (gap_add _ _ _ _ (load_gap p.rate x y h (slice_get p.streams p.index)) (interference_gap p x y h))
 
-pub queueing_gap : (p : Place) (q x y : ℕ) → x ≤ y → HasGap (queueing_at p q x) (queueing_at p q y)
+pub queueing_gap : (p : StreamPlace) (q x y : ℕ) → x ≤ y → HasGap (queueing_at p q x) (queueing_at p q y)
 unfolding queueing_at
 queueing_gap p q x y h = gap_add _ _ _ _ (gap_same (blocking p)) (gap_add _ _ _ _ (gap_same (q * cost_at p)) (interference_gap p (x + ticks_of p.rate) (y + ticks_of p.rate) (omega arith)))
 
@@ -128,14 +128,14 @@ sum_some p f (suc n) h some = ⊎_elim
     (λ (none : (if p n then f n else 0) ≤ 0). omega (arith, sum_some p f n h (omega arith)))
     (cases_lt 0 (if p n then f n else 0))
 
-queue_first : (p : Place) (q : ℕ) → blocking p + q * cost_at p < queueing_at p q (blocking p + q * cost_at p) → 220 ≤ queueing_at p q (blocking p + q * cost_at p)
+queue_first : (p : StreamPlace) (q : ℕ) → blocking p + q * cost_at p < queueing_at p q (blocking p + q * cost_at p) → 220 ≤ queueing_at p q (blocking p + q * cost_at p)
 unfolding queueing_at
 queue_first p q up =
     let x : ℕ = blocking p + q * cost_at p + ticks_of p.rate in
     let some : 0 < interference p x = omega arith in
     omega (arith, sum_some (is_above p) (of_stream (load_of p.rate x) p.streams) (length p.streams) (λ k. load_some p.rate x (slice_get p.streams k)) some)
 
-busy_first : (p : Place) (s : Stream) → slice_get p.streams p.index ≡ Some s → 220 ≤ busy_at p 1
+busy_first : (p : StreamPlace) (s : Stream) → slice_get p.streams p.index ≡ Some s → 220 ≤ busy_at p 1
 unfolding busy_at
 busy_first p s is =
     let some : 0 < div_ceil (1 + s.jitter) s.period = div_ceil_above 0 (1 + s.jitter) s.period (omega (arith, s.period_least)) (omega arith) in
@@ -143,16 +143,16 @@ busy_first p s is =
     let one : 1 * cost_of p.rate s ≤ div_ceil (1 + s.jitter) s.period * cost_of p.rate s = mul-le-mul_right (cost_of p.rate s) some in
     omega (arith, own, one, cost_220 p.rate s)
 
-pub count_busy : (p : Place) (numbers : List ℕ) → p.index < length p.streams → IsChain (busy_at p) 1 horizon numbers → length numbers ≤ 181820
+pub count_busy : (p : StreamPlace) (numbers : List ℕ) → p.index < length p.streams → IsChain (busy_at p) 1 horizon numbers → length numbers ≤ 181820
 count_busy p numbers inside c = ⊎_elim
     (λ s. count_chain (busy_at p) horizon (busy_gap p) 1 numbers (le_refl horizon) (λ _. busy_first p s.0 s.2) c)
     (λ past. absurd (omega (arith, past.0)))
     (slice_get_cases p.streams p.index).1
 
-pub count_queue : (p : Place) (q : ℕ) (numbers : List ℕ) → IsChain (queueing_at p q) (blocking p + q * cost_at p) horizon numbers → length numbers ≤ 181820
+pub count_queue : (p : StreamPlace) (q : ℕ) (numbers : List ℕ) → IsChain (queueing_at p q) (blocking p + q * cost_at p) horizon numbers → length numbers ≤ 181820
 count_queue p q numbers c = count_chain (queueing_at p q) horizon (queueing_gap p q) (blocking p + q * cost_at p) numbers (le_refl horizon) (queue_first p q) c
 
 -- whole chains are short
-pub whole_is_short : (p : Place) (e : Evidence) → p.index < length p.streams → IsWholeEvidence p e → HasAtMost 181820 e
+pub whole_is_short : (p : StreamPlace) (e : Evidence) → p.index < length p.streams → IsWholeEvidence p e → HasAtMost 181820 e
 whole_is_short p (Long busy) inside h = count_busy p busy inside h.chain
 whole_is_short p (Late q busy queue) inside h = (count_busy p busy inside h.busy_time.chain, count_queue p q queue h.queue_of.waits.chain)

@@ -3,7 +3,7 @@ use Rattle.std.proofs.Common.{◌≡◌, ℕ, ◌<◌, ◌≤◌, Bool, List, []
 use Rattle.std.proofs.lemmas.List.{length-map}
 use Rattle.cop_frame.specs.declared.rates.Rate.{Rate}
 use Rattle.cop_rta.specs.declared.streams.Stream.{Stream}
-use Rattle.cop_rta.specs.Test.{Place, busy_at, queueing_at, horizon}
+use Rattle.cop_rta.specs.Test.{StreamPlace, busy_at, queueing_at, horizon}
 use Rattle.cop_rta.proofs.LeastLemmas.{same_least}
 use Rattle.cop_cert.specs.declared.refusals.Evidence.{Evidence}
 use Rattle.cop_cert.specs.declared.refusals.Evidence.TheVariants.{Long, Late}
@@ -41,7 +41,7 @@ made_under streams rate members found bound pdos above same made =
     record { rate_is = refl; members_are = subst (λ (test : ℕ → Bool). AreMade streams test rate members found) e made }
 
 -- whole chains are evidence
-pub whole_shows : (p : Place) (e : Evidence) → IsWholeEvidence p e → IsEvidence p e
+pub whole_shows : (p : StreamPlace) (e : Evidence) → IsWholeEvidence p e → IsEvidence p e
 whole_shows p (Long busy) h = record {
   list = record { climbs = run_climbs (busy_at p) horizon busy h.chain.follows; begins = h.chain.begins };
   high = h.above;
@@ -82,7 +82,7 @@ chain_writable : (f : ℕ → ℕ) (from : ℕ) (numbers : List ℕ) → IsChain
 chain_writable f from [] c short = absurd c.follows
 chain_writable f from (a ∷ rest) c short = record { some = omega arith; count = omega (arith, short); fit = c.fit }
 
-whole_is_writable : (p : Place) (e : Evidence) → p.index < length p.streams → IsWholeEvidence p e → IsWritableEvidence e
+whole_is_writable : (p : StreamPlace) (e : Evidence) → p.index < length p.streams → IsWholeEvidence p e → IsWritableEvidence e
 whole_is_writable p (Long busy) inside h = chain_writable (busy_at p) 1 busy h.chain (whole_is_short p (Long busy) inside h)
 whole_is_writable p (Late q busy queue) inside h =
     let short = whole_is_short p (Late q busy queue) inside h in

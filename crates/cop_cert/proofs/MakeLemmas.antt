@@ -4,7 +4,7 @@ use Rattle.std.proofs.Common.{Result, Ok, Err, IfOk, ◌≡◌, ℕ, ◌+◌, �
 use Rattle.std.proofs.lemmas.Bool.{cases_lt}
 use Rattle.std.proofs.lemmas.Option.{slice_get_cases}
 use Rattle.cop_rta.specs.declared.streams.Stream.{Stream}
-use Rattle.cop_rta.specs.Test.{Place, busy_at, queueing_at, blocking, cost_at, horizon, IsBusyTime, IsQueuedWithin}
+use Rattle.cop_rta.specs.Test.{StreamPlace, busy_at, queueing_at, blocking, cost_at, horizon, IsBusyTime, IsQueuedWithin}
 use Rattle.cop_rta.specs.TestLemmas.{busy_at-mono, queueing_at-mono}
 use Rattle.cop_rta.specs.Verdict.{IsLong, IsFirstLate}
 use Rattle.cop_rta.proofs.LeastLemmas.{same_least}
@@ -44,7 +44,7 @@ end_solves f limit last (inl above) h = absurd (omega arith)
 end_solves f limit last (inr e) h = e
 
 -- few instances are queued within the horizon
-few_queued : (p : Place) (t q : ℕ) → p.index < length p.streams → t ≤ horizon → IsQueuedWithin p t q → q ≤ 2 ^ 20
+few_queued : (p : StreamPlace) (t q : ℕ) → p.index < length p.streams → t ≤ horizon → IsQueuedWithin p t q → q ≤ 2 ^ 20
 few_queued p t q inside within queued = go (slice_get_cases p.streams p.index).1
   where
     go : ((s : Stream) × (p.index < length p.streams) × (slice_get p.streams p.index ≡ Some s) × (get_or p.streams p.index s ≡ s)) ⊎ ((length p.streams ≤ p.index) × (slice_get p.streams p.index ≡ None))
@@ -56,14 +56,14 @@ few_queued p t q inside within queued = go (slice_get_cases p.streams p.index).1
     go (inr past) = absurd (omega (arith, past.0, inside))
 
 -- where the chain of the busy equation ends at a solution, that is the busy time
-pub is_busy_time : (p : Place) (numbers : List ℕ) → IsChain (busy_at p) 1 horizon numbers → last_of numbers ≡ busy_at p (last_of numbers) → IsBusyTime p (last_of numbers)
+pub is_busy_time : (p : StreamPlace) (numbers : List ℕ) → IsChain (busy_at p) 1 horizon numbers → last_of numbers ≡ busy_at p (last_of numbers) → IsBusyTime p (last_of numbers)
 is_busy_time p numbers c solves = record {
   within = omega (arith, c.begins, first_least (busy_at p) horizon numbers c.follows);
   solves = solves;
   least = λ y start e. climb_below (busy_at p) (busy_at-mono p) y (le_of_eq (sym e)) numbers (omega (arith, c.begins, start)) (run_climbs (busy_at p) horizon numbers c.follows);
 }
 
-module _ (p : Place) where
+module _ (p : StreamPlace) where
   pub busy_solved : (numbers : List ℕ) (t : ℕ) → IsWholeChain (busy_at p) 1 horizon numbers → IsBusyTime p t → t ≤ horizon → EndsSolved (busy_at p) 1 horizon numbers
   busy_solved numbers t whole busy within =
       to_solution (busy_at p) horizon 1 numbers t (busy_at-mono p) whole.chain busy.within (le_of_eq (sym busy.solves)) within (end_solves (busy_at p) horizon (last_of numbers) whole.ends)

@@ -2,7 +2,7 @@
 use Rattle.std.specs.Prelude.{◌≡◌, ℕ, ◌<◌, ◌≤◌, ◌⊎◌, Bool, nat_lt, if◌then◌else◌, List, length}
 use Rattle.cop_frame.specs.declared.rates.Rate.{Rate}
 use Rattle.cop_rta.specs.declared.streams.Stream.{Stream}
-use Rattle.cop_rta.specs.Test.{Place, Passes, of_stream}
+use Rattle.cop_rta.specs.Test.{StreamPlace, Passes, of_stream}
 
 -- the least and the greatest identifier that a PDO may get
 abbrev pub least_id : ℕ
@@ -30,7 +30,7 @@ id_under streams pdos ids k = if nat_lt k pdos then ids k else of_stream (λ s. 
 abbrev pub is_lower : List Stream → ℕ → (ℕ → ℕ) → ℕ → ℕ → Bool
 is_lower streams pdos ids index k = nat_lt (id_under streams pdos ids k) (id_under streams pdos ids index)
 
-abbrev pub place_under : Rate → List Stream → ℕ → (ℕ → ℕ) → ℕ → Place
+abbrev pub place_under : Rate → List Stream → ℕ → (ℕ → ℕ) → ℕ → StreamPlace
 place_under rate streams pdos ids index = record { streams = streams; above = is_lower streams pdos ids index; index = index; rate = rate }
 
 -- each PDO passes

@@ -2,7 +2,7 @@
 use Rattle.std.specs.Prelude.{◌≡◌, ℕ, ◌+◌, ◌-◌, ◌*◌, ◌^◌, ◌<◌, ◌≤◌, ◌⊎◌, Bool, List, [], ◌∷◌, All, AllPairs, length}
 use Rattle.cop_frame.specs.declared.rates.Rate.{Rate}
 use Rattle.cop_rta.specs.declared.streams.Stream.{Stream}
-use Rattle.cop_rta.specs.Test.{Place, Passes, busy_at, queueing_at, blocking, cost_at, jitter_at, period_at, horizon}
+use Rattle.cop_rta.specs.Test.{StreamPlace, Passes, busy_at, queueing_at, blocking, cost_at, jitter_at, period_at, horizon}
 use Rattle.cop_rta.specs.Verdict.{IsFirstLate}
 use Rattle.cop_cert.specs.declared.refusals.Evidence.{Evidence}
 use Rattle.cop_cert.specs.declared.refusals.Evidence.TheVariants.{Long, Late}
@@ -43,17 +43,17 @@ pub record EndsSolved (f : ℕ → ℕ) (from limit : ℕ) (numbers : List ℕ) 
   pub solves : last_of numbers ≡ f (last_of numbers)
 
 -- the chain of an instance's queueing equation up to its wait, where it is the first that is late
-pub record IsQueueOf (p : Place) (q : ℕ) (queue : List ℕ) : Type 0 where
+pub record IsQueueOf (p : StreamPlace) (q : ℕ) (queue : List ℕ) : Type 0 where
   pub waits : EndsSolved (queueing_at p q) (blocking p + q * cost_at p) horizon queue
   pub first : IsFirstLate p q (jitter_at p + last_of queue + cost_at p - q * period_at p)
 
 -- the busy list up to the busy time, and the queue list of the first instance that is late
-pub record IsWholeLate (p : Place) (q : ℕ) (busy queue : List ℕ) : Type 0 where
+pub record IsWholeLate (p : StreamPlace) (q : ℕ) (busy queue : List ℕ) : Type 0 where
   pub busy_time : EndsSolved (busy_at p) 1 horizon busy
   pub queue_of : IsQueueOf p q queue
 
 -- evidence with the whole chains: the first number above the horizon, or the first instance that is late
-abbrev pub IsWholeEvidence : Place → Evidence → Type 0
+abbrev pub IsWholeEvidence : StreamPlace → Evidence → Type 0
 IsWholeEvidence p (Long busy) = EndsAbove (busy_at p) 1 horizon busy
 IsWholeEvidence p (Late q busy queue) = IsWholeLate p q busy queue
 

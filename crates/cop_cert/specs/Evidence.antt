@@ -1,7 +1,7 @@
 -- Lists of numbers that show that a stream fails.
 use Rattle.std.specs.Prelude.{◌≡◌, ℕ, ◌+◌, ◌-◌, ◌*◌, ◌<◌, ◌≤◌, ◌==◌, ◌||◌, Bool, false, List, [], ◌∷◌, length, map, All, AllPairs, Option, MatchOption}
 use Rattle.cop_rta.specs.declared.streams.Stream.{Stream}
-use Rattle.cop_rta.specs.Test.{Place, busy_at, queueing_at, blocking, cost_at, jitter_at, period_at, horizon, IsQueuedWithin, IsLate}
+use Rattle.cop_rta.specs.Test.{StreamPlace, busy_at, queueing_at, blocking, cost_at, jitter_at, period_at, horizon, IsQueuedWithin, IsLate}
 use Rattle.cop_cert.specs.declared.refusals.Evidence.{Evidence}
 use Rattle.cop_cert.specs.declared.refusals.Evidence.TheVariants.{Long, Late}
 use Rattle.cop_cert.specs.declared.refusals.Member.{Member}
@@ -32,26 +32,26 @@ last_of [] = 0
 last_of (a ∷ rest) = last_after a rest
 
 -- a busy list climbs by the busy equation from 1
-pub record IsBusyList (p : Place) (numbers : List ℕ) : Type 0 where
+pub record IsBusyList (p : StreamPlace) (numbers : List ℕ) : Type 0 where
   pub climbs : IsClimb (busy_at p) numbers
   pub begins : first_of numbers ≡ 1
 
 -- where a list ends, if it is a busy list
-abbrev pub IsBusyEnd : Place → List ℕ → Option ℕ → Type 0
+abbrev pub IsBusyEnd : StreamPlace → List ℕ → Option ℕ → Type 0
 IsBusyEnd p numbers end = MatchOption end (IsBusyList p numbers → ⊥) (λ last. IsBusyList p numbers × (last ≡ last_of numbers))
 
 -- a queue list of instance q climbs by its queueing equation from B + q C at most
-pub record IsQueueList (p : Place) (q : ℕ) (numbers : List ℕ) : Type 0 where
+pub record IsQueueList (p : StreamPlace) (q : ℕ) (numbers : List ℕ) : Type 0 where
   pub climbs : IsClimb (queueing_at p q) numbers
   pub begins : first_of numbers ≤ blocking p + q * cost_at p
 
 -- the busy list ends above the horizon
-pub record ShowsLong (p : Place) (busy : List ℕ) : Type 0 where
+pub record ShowsLong (p : StreamPlace) (busy : List ℕ) : Type 0 where
   pub list : IsBusyList p busy
   pub high : horizon < last_of busy
 
 -- the busy list reaches instance q, and the queue list ends where its response is past the deadline
-pub record ShowsLate (p : Place) (q : ℕ) (busy queue : List ℕ) : Type 0 where
+pub record ShowsLate (p : StreamPlace) (q : ℕ) (busy queue : List ℕ) : Type 0 where
   pub list : IsBusyList p busy
   pub reached : IsQueuedWithin p (last_of busy) q
   pub waits : IsQueueList p q queue
@@ -62,7 +62,7 @@ busy_list_of (Long busy) = busy
 busy_list_of (Late q busy queue) = busy
 
 -- what shows that the stream of a place fails
-abbrev pub IsEvidence : Place → Evidence → Type 0
+abbrev pub IsEvidence : StreamPlace → Evidence → Type 0
 IsEvidence p (Long busy) = ShowsLong p busy
 IsEvidence p (Late q busy queue) = ShowsLate p q busy queue
 

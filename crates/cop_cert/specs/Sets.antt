@@ -3,14 +3,14 @@ use Rattle.std.specs.Prelude.{◌≡◌, ℕ, ◌<◌, Bool, true, false, nat_lt
 use Rattle.std.specs.Option.{option_map_or}
 use Rattle.cop_frame.specs.declared.rates.Rate.{Rate}
 use Rattle.cop_rta.specs.declared.streams.Stream.{Stream}
-use Rattle.cop_rta.specs.Test.{Place, Passes}
+use Rattle.cop_rta.specs.Test.{StreamPlace, Passes}
 
 -- in a trial the members of a set are above, and the fixed frames with an identifier below a bound; all others are below
 abbrev pub is_in_trial : ℕ → List Stream → ℕ → (ℕ → Bool) → ℕ → Bool
 is_in_trial bound streams pdos members k =
     if nat_lt k pdos then members k else option_map_or (λ s. nat_lt s.id bound) (slice_get streams k) false
 
-abbrev pub trial : ℕ → Rate → List Stream → ℕ → (ℕ → Bool) → ℕ → Place
+abbrev pub trial : ℕ → Rate → List Stream → ℕ → (ℕ → Bool) → ℕ → StreamPlace
 trial bound rate streams pdos members index =
     record { streams = streams; above = is_in_trial bound streams pdos members; index = index; rate = rate }
 

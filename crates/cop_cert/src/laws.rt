@@ -3,7 +3,7 @@
 ghost use Rattle.std.specs.Prelude.{◌≡◌, ℕ, ◌≤◌, Bool, List, length, Ok};
 ghost use Rattle.cop_frame.specs.declared.rates.Rate.{Rate};
 ghost use Rattle.cop_rta.specs.declared.streams.Stream.{Stream};
-ghost use Rattle.cop_rta.specs.Test.{Passes, Place};
+ghost use Rattle.cop_rta.specs.Test.{Passes, StreamPlace};
 ghost use Rattle.cop_cert.specs.declared.refusals.Evidence.{Evidence};
 ghost use Rattle.cop_cert.specs.declared.refusals.Refusal.{Refusal};
 ghost use Rattle.cop_cert.specs.Assignments.{least_id, NoAssignmentPasses};
@@ -24,7 +24,7 @@ pub fn refusal_sets_rule_out()
 
 /// Evidence that a stream fails and that it passes exclude one another.
 pub fn evidence_excludes_passing()
-    ensures { (p : Place) (evidence : Evidence) → IsEvidence p evidence → Passes p → ⊥ }
+    ensures { (p : StreamPlace) (evidence : Evidence) → IsEvidence p evidence → Passes p → ⊥ }
 {}
 
 /// Where a refusal holds, no assignment of identifiers passes at its rate: this is what a check that says so means.

@@ -3,7 +3,7 @@ use Rattle.std.proofs.Common.{◌≡◌, ℕ, suc, ◌+◌, ◌*◌, ◌<◌, �
 use Rattle.cop_frame.specs.declared.rates.Rate.{Rate}
 use Rattle.cop_rta.specs.declared.streams.Stream.{Stream}
 use Rattle.cop_rta.specs.declared.verdicts.Verdict.TheVariants as verdicts
-use Rattle.cop_rta.specs.Test.{Place, busy_at, queueing_at, blocking, cost_at, horizon}
+use Rattle.cop_rta.specs.Test.{StreamPlace, busy_at, queueing_at, blocking, cost_at, horizon}
 use Rattle.cop_rta.specs.Verdict.{IsFirstLate}
 use Rattle.cop_rta.proofs.VerdictLemmas.{judged_same}
 use Rattle.cop_cert.specs.declared.refusals.Evidence.{Evidence}
@@ -48,7 +48,7 @@ module _ (f : ℕ → ℕ) (limit : ℕ) where
 
 -- ---- evidence
 
-module _ (p : Place) where
+module _ (p : StreamPlace) where
   instance_once : (q k r s : ℕ) → IsFirstLate p q r → IsFirstLate p k s → q ≡ k
   instance_once q k r s a b =
       let e : verdicts.Late q r ≡ verdicts.Late k s = judged_same p (verdicts.Late q r) (verdicts.Late k s) a b in

@@ -9,10 +9,10 @@ use Rattle.cop_frame.specs.Rate.{ticks_of}
 use Rattle.cop_rta.specs.declared.streams.Stream.{Stream}
 use Rattle.cop_rta.specs.Solutions.{IsLeastSolution}
 use Rattle.cop_rta.specs.Sums.{sum_where, max_where}
-use Rattle.cop_rta.specs.Test.{Place, Passes, IsResponse, IsOnTime, is_above, is_below, of_stream, cost_of, load_of, busy_at, queueing_at, period_at, jitter_at}
+use Rattle.cop_rta.specs.Test.{StreamPlace, Passes, IsResponse, IsOnTime, is_above, is_below, of_stream, cost_of, load_of, busy_at, queueing_at, period_at, jitter_at}
 use Rattle.cop_plan.specs.Values.{Timing, timing_of}
 
-abbrev place : List Stream → (ℕ → Bool) → ℕ → Rate → Place
+abbrev place : List Stream → (ℕ → Bool) → ℕ → Rate → StreamPlace
 place streams above index rate = record { streams = streams; above = above; index = index; rate = rate }
 
 module _ (one other : List Stream) (e : map timing_of one ≡ map timing_of other) where

@@ -2,7 +2,7 @@
 use Rattle.std.proofs.Common.{◌≡◌, ℕ, ◌<◌, ◌≤◌, ◌⊎◌, inl, inr, List, length, get_or, slice_get, Some, None, All, arith, sym, le_of_eq}
 use Rattle.std.proofs.lemmas.Option.{slice_get_cases}
 use Rattle.cop_rta.specs.declared.streams.Stream.{Stream}
-use Rattle.cop_rta.specs.Test.{Place, busy_at, horizon}
+use Rattle.cop_rta.specs.Test.{StreamPlace, busy_at, horizon}
 use Rattle.cop_rta.specs.TestLemmas.{busy_at-mono}
 use Rattle.cop_rta.specs.Verdict.{IsLong, IsJudged}
 use Rattle.cop_cert.specs.declared.refusals.Evidence.{Evidence}
@@ -20,17 +20,17 @@ use Rattle.cop_report.specs.Measures.{IsMeasured, AreMeasured}
 use Rattle.cop_report.specs.Reasons.{said_of, verdict_of, IsTestedIn}
 
 -- a busy list that climbs past the horizon shows that no busy time is within it
-busy_past : (p : Place) (numbers : List ℕ) → EndsAbove (busy_at p) 1 horizon numbers → IsLong p
+busy_past : (p : StreamPlace) (numbers : List ℕ) → EndsAbove (busy_at p) 1 horizon numbers → IsLong p
 busy_past p numbers h = λ t busy.
     let closed : busy_at p t ≤ t = le_of_eq (sym busy.solves) in
     let below = climb_below (busy_at p) (busy_at-mono p) t closed numbers (omega (arith, h.chain.begins, busy.within)) (run_climbs (busy_at p) horizon numbers h.chain.follows) in
     omega (arith, below, h.above)
 
-tested : (p : Place) (s : Stream) (e : Evidence) → slice_get p.streams p.index ≡ Some s → IsWholeEvidence p e → IsJudged p (said_of p.rate s e)
+tested : (p : StreamPlace) (s : Stream) (e : Evidence) → slice_get p.streams p.index ≡ Some s → IsWholeEvidence p e → IsJudged p (said_of p.rate s e)
 tested p s (Long busy) is h = busy_past p busy h
 tested p s (Late q busy queue) is h = rw is at h.queue_of.first
 
-measured : (p : Place) (e : Evidence) → p.index < length p.streams → IsWholeEvidence p e → IsMeasured e
+measured : (p : StreamPlace) (e : Evidence) → p.index < length p.streams → IsWholeEvidence p e → IsMeasured e
 measured p (Long busy) inside h = tt
 measured p (Late q busy queue) inside h = (few_instances p inside q _ h.queue_of.first, h.queue_of.waits.within)
 
@@ -44,7 +44,7 @@ module _ (streams : List Stream) (pdos : ℕ) (count : pdos ≤ length streams) 
   refusal_tested : (r : Refusal) → IsGreatestRefusal streams pdos r → IsTestedIn streams pdos r
   refusal_tested r g k d below = go (slice_get_cases streams (get_or r.members k d).pdo).1
     where
-      p : Place
+      p : StreamPlace
       p = trial least_id r.rate streams pdos (is_member r.members) (get_or r.members k d).pdo
 
       go : ((s : Stream) × ((get_or r.members k d).pdo < length streams) × (slice_get streams (get_or r.members k d).pdo ≡ Some s) × (get_or streams (get_or r.members k d).pdo s ≡ s)) ⊎ ((length streams ≤ (get_or r.members k d).pdo) × (slice_get streams (get_or r.members k d).pdo ≡ None))

@@ -8,7 +8,7 @@ use Rattle.cop_frame.specs.Rate.{ticks_of}
 use Rattle.cop_rta.specs.declared.streams.Stream.{Stream}
 use Rattle.cop_rta.specs.CeilLemmas.{div_ceil-least}
 use Rattle.cop_rta.specs.Sums.{sum_where, max_where}
-use Rattle.cop_rta.specs.Test.{Place, of_stream, is_above, is_below, cost_of, load_of, blocking, interference, busy_at, queueing_at, cost_at, horizon}
+use Rattle.cop_rta.specs.Test.{StreamPlace, of_stream, is_above, is_below, cost_of, load_of, blocking, interference, busy_at, queueing_at, cost_at, horizon}
 
 ticks_most : (rate : Rate) → ticks_of rate ≤ 400
 ticks_most Kbit10 = lit≤ tt
@@ -57,7 +57,7 @@ unfolding max_where
 max_most p f most zero h = zero-le
 max_most p f most (suc n) h = omega (arith, max_most p f most n h, choice_most (p n) (f n) most (h n))
 
-module _ (p : Place) (few : length p.streams ≤ 1100) where
+module _ (p : StreamPlace) (few : length p.streams ≤ 1100) where
   interference_most : (x : ℕ) → x ≤ horizon + 400 → interference p x ≤ 1100 * 2 ^ 44
   interference_most x early =
       let sum : interference p x ≤ length p.streams * 2 ^ 44 = sum_most (is_above p) (of_stream (load_of p.rate x) p.streams) (2 ^ 44) (length p.streams) (λ k. of_stream_most (load_of p.rate x) p.streams k (2 ^ 44) (λ s. load_most p.rate x s early)) in

@@ -1,14 +1,15 @@
 -- Where the searches begin for the stream that is flagged next.
-use Rattle.std.proofs.Common.{◌≡◌, ℕ, ◌+◌, ◌-◌, ◌<◌, ◌≤◌, ◌⊎◌, inl, inr, zero, suc, Bool, List, [], ◌∷◌, ◌++◌, replicate, refl, ◌∙◌, true, false, length, get_or, set, slice_get, Option, Some, None, IfSome, IfNone, sum_by, sym, subst, arith, ⊎_elim, zero-le}
+use Rattle.std.proofs.Common.{◌≡◌, ℕ, ◌+◌, ◌-◌, ◌*◌, ◌<◌, ◌≤◌, ◌⊎◌, inl, inr, zero, suc, Bool, List, [], ◌∷◌, ◌++◌, replicate, refl, ◌∙◌, true, false, length, get_or, set, slice_get, Option, Some, None, IfSome, IfNone, sum_by, subst, arith, ⊎_elim, zero-le}
 use Rattle.std.proofs.lemmas.Bool.{cases_lt}
 use Rattle.std.proofs.lemmas.List.Sums.{sum_by_push}
 use Rattle.std.proofs.lemmas.Option.{slice_get_cases, unwrap_or-slice_get}
+use Rattle.std.proofs.Math.Nat.{le_of_mul-le-mul_right}
 use Rattle.cop_frame.specs.Rate.{ticks_of}
 use Rattle.cop_rta.specs.declared.streams.Stream.{Stream}
 use Rattle.cop_rta.specs.declared.paces.Pace.{Pace}
 use Rattle.cop_rta.specs.declared.sweeps.Last.{Last}
-use Rattle.cop_rta.specs.Paces.{ArePacesOf, IsRow, load_in, last_time}
-use Rattle.cop_rta.proofs.PaceLemmas.{load_by_pace}
+use Rattle.cop_rta.specs.Paces.{ArePacesOf, IsRow, bits_in, last_time}
+use Rattle.cop_rta.proofs.PaceLemmas.{load_by_pace, times_sum, bits_more}
 use Rattle.cop_rta.specs.Solutions.{IsLeastSolution}
 use Rattle.cop_rta.specs.Sums.{sum_where}
 use Rattle.cop_rta.specs.Test.{is_flagged, of_stream, cost_of, load_of, blocking, interference, cost_at, busy_at, queueing_at, IsBusyTime, horizon}
@@ -135,13 +136,11 @@ pub row_more : (streams : List Stream) (flags : List Bool) (row paces : List Pac
     → is_flagged flags k ≡ false → IsRow streams flags row → IsRow streams (set flags k true) (row ++ pace ∷ [])
 row_more streams flags row paces k pace are size inside here off is = record {
   sums = λ rate t early.
-      omega (
+      rw (sum_by_push (bits_in t) row pace) (omega (
         arith,
-        sum_by_push (load_in (ticks_of rate) t) row pace,
-        is.sums rate t early,
-        load_by_pace rate streams paces are k pace (omega (arith, inside, are.count)) here t early,
+        bits_more rate streams paces are k pace (omega (arith, inside, are.count)) here t early (sum_by (bits_in t) row) _ (is.sums rate t early),
         sum_more flags k (omega (arith, inside, size)) off (of_stream (load_of rate t) streams) (length streams) inside,
-      );
+      ));
 }
 
 off_at : (n k : ℕ) → get_or (replicate n false) k false ≡ false
@@ -157,11 +156,18 @@ sum_of_none p f (suc n) off = rw (off n) (omega (arith, sum_of_none p f n off))
 pub no_row : (streams : List Stream) (n : ℕ) → IsRow streams (replicate n false) []
 no_row streams n = record {
   sums = λ rate t early.
-      sym (sum_of_none (is_flagged (replicate n false)) (of_stream (load_of rate t) streams) (length streams) (λ k. unwrap_or-slice_get (replicate n false) k false ∙ off_at n k));
+      omega (arith, sum_of_none (is_flagged (replicate n false)) (of_stream (load_of rate t) streams) (length streams) (λ k. unwrap_or-slice_get (replicate n false) k false ∙ off_at n k));
 }
 
--- what a row takes is what those above one take, and what this one does
+without : (total own ticks others : ℕ) → 0 < ticks → total * ticks ≡ others + own * ticks → (own ≤ total) × ((total - own) * ticks ≡ others)
+without total own ticks others pos e =
+    let le : own ≤ total = le_of_mul-le-mul_right {m = own} {n = total} {k = ticks} (omega (arith, e)) pos in
+    let back : total - own + own ≡ total = omega (arith, le) in
+    (le, omega (arith, e, rw back at (times_sum (total - own) own ticks)))
+
+-- the bits of a row without those of one stream are what those above it take
 pub row_is : (v : Flags) (row paces : List Pace) (own : ℕ) (pace : Pace) → ArePacesOf v.streams paces → own < length v.streams → pace ≡ get_or paces own pace → is_flagged v.flags own ≡ true → IsRow v.streams v.flags row
-    → (t total load : ℕ) → t ≤ last_time → total ≡ sum_by (load_in (ticks_of v.rate) t) row → load ≡ load_in (ticks_of v.rate) t pace → total ≡ interference (place_in v own) t + load
-row_is v row paces own pace are inside here flag is t total load early all mine =
-    omega (arith, all, mine, is.sums v.rate t early, load_by_pace v.rate v.streams paces are own pace (omega (arith, inside, are.count)) here t early, interference_is v own inside flag t)
+    → (t total bits : ℕ) → t ≤ last_time → total ≡ sum_by (bits_in t) row → bits ≡ bits_in t pace → (bits ≤ total) × ((total - bits) * ticks_of v.rate ≡ interference (place_in v own) t)
+row_is v row paces own pace are inside here flag is t total bits early all mine =
+    without total bits (ticks_of v.rate) (interference (place_in v own) t) (ticks_pos v.rate)
+    (rw (all, mine) (omega (arith, is.sums v.rate t early, load_by_pace v.rate v.streams paces are own pace (omega (arith, inside, are.count)) here t early, interference_is v own inside flag t)))

@@ -6,11 +6,11 @@ use Rattle.cop_rta.specs.declared.verdicts.Verdict.{Verdict}
 use Rattle.cop_rta.specs.declared.verdicts.Verdict.TheVariants.{Pass, Late, Long}
 use Rattle.cop_rta.specs.Solutions.{IsLeastSolution}
 use Rattle.cop_rta.specs.Sums.{sum_where, max_where}
-use Rattle.cop_rta.specs.Test.{Place, is_above, is_below, of_stream, cost_of, load_of, blocking, interference, busy_at, queueing_at, IsBusyTime, IsResponse}
+use Rattle.cop_rta.specs.Test.{StreamPlace, is_above, is_below, of_stream, cost_of, load_of, blocking, interference, busy_at, queueing_at, IsBusyTime, IsResponse}
 use Rattle.cop_rta.specs.Verdict.{IsJudged}
 use Rattle.cop_rta.specs.Witnesses.{under}
 
-module _ (p : Place) (above : ℕ → Bool) (same : (k : ℕ) → (k ≡ p.index → ⊥) → p.above k ≡ above k) where
+module _ (p : StreamPlace) (above : ℕ → Bool) (same : (k : ℕ) → (k ≡ p.index → ⊥) → p.above k ≡ above k) where
   above_same : (k : ℕ) → is_above p k ≡ is_above (under p above) k
   above_same k = go (cases_eq k p.index)
     where

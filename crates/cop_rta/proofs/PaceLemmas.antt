@@ -8,11 +8,11 @@ use Rattle.cop_frame.specs.declared.rates.Rate.{Rate}
 use Rattle.cop_frame.specs.Rate.{ticks_of}
 use Rattle.cop_rta.specs.declared.streams.Stream.{Stream}
 use Rattle.cop_rta.specs.declared.paces.Pace.{Pace}
-use Rattle.cop_rta.specs.Test.{of_stream, cost_of, load_of}
-use Rattle.cop_rta.specs.Paces.{last_time, counted_in, IsPaceOf, ArePacesOf}
+use Rattle.cop_rta.specs.Test.{of_stream, load_of}
+use Rattle.cop_rta.specs.Paces.{last_time, bits_in, IsPaceOf, ArePacesOf}
 use Rattle.cop_rta.proofs.InverseLemmas.{high_product, rounded_up}
 use Rattle.std.specs.Int.{div_ceil}
-use Rattle.std.proofs.Math.Nat.{lt-div-mul-add, div-mul-le_self}
+use Rattle.std.proofs.Math.Nat.{lt-div-mul-add, div-mul-le_self, mul_assoc}
 use Rattle.std.proofs.lemmas.Nat.{mul-lt}
 
 times_next : (a b : ℕ) → (a + 1) * b ≡ a * b + b
@@ -47,25 +47,24 @@ pace_made s pace bits ahead inverse = record {
   instances = λ time early. exact time s.jitter s.period pace.ahead pace.inverse early (omega (arith, s.period_least)) s.period_most s.jitter_in_range ahead inverse;
 }
 
+-- a sum of bits as ticks
+pub times_sum : (a b ticks : ℕ) → (a + b) * ticks ≡ a * ticks + b * ticks
+times_sum a b ticks = grind arith
+
 module _ (rate : Rate) (streams : List Stream) (paces : List Pace) (are : ArePacesOf streams paces) (k : ℕ) (pace : Pace) (inside : k < length paces) (here : pace ≡ get_or paces k pace) where
   pace_here : (s : Stream) → slice_get streams k ≡ Some s → IsPaceOf s pace
   pace_here s there = are.each k s pace there (slice_get_read paces (length paces) k pace refl inside here)
 
-  pub load_by_pace : (t : ℕ) → t ≤ last_time → counted_in t pace * (pace.bits * ticks_of rate) ≡ of_stream (load_of rate t) streams k
+  pub load_by_pace : (t : ℕ) → t ≤ last_time → bits_in t pace * ticks_of rate ≡ of_stream (load_of rate t) streams k
   load_by_pace t early = go (slice_get_cases streams k).1
     where
       go : ((s : Stream) × (k < length streams) × (slice_get streams k ≡ Some s) × (get_or streams k s ≡ s)) ⊎ ((length streams ≤ k) × (slice_get streams k ≡ None))
-          → counted_in t pace * (pace.bits * ticks_of rate) ≡ of_stream (load_of rate t) streams k
-      go (inl s) = rw (s.2, (pace_here s.0 s.2).instances t early, (pace_here s.0 s.2).bits) refl
+          → bits_in t pace * ticks_of rate ≡ of_stream (load_of rate t) streams k
+      go (inl s) = rw (s.2, (pace_here s.0 s.2).instances t early, (pace_here s.0 s.2).bits) (mul_assoc _ _ _)
       go (inr past) = absurd (omega (arith, past.0, inside, are.count))
 
-  pub cost_by_pace : pace.bits * ticks_of rate ≡ of_stream (cost_of rate) streams k
-  cost_by_pace = go (slice_get_cases streams k).1
-    where
-      go : ((s : Stream) × (k < length streams) × (slice_get streams k ≡ Some s) × (get_or streams k s ≡ s)) ⊎ ((length streams ≤ k) × (slice_get streams k ≡ None))
-          → pace.bits * ticks_of rate ≡ of_stream (cost_of rate) streams k
-      go (inl s) = rw (s.2, (pace_here s.0 s.2).bits) refl
-      go (inr past) = absurd (omega (arith, past.0, inside, are.count))
+  pub bits_more : (t : ℕ) → t ≤ last_time → (bits total : ℕ) → bits * ticks_of rate ≡ total → (bits + bits_in t pace) * ticks_of rate ≡ total + of_stream (load_of rate t) streams k
+  bits_more t early bits total is = omega (arith, times_sum bits (bits_in t pace) (ticks_of rate), is, load_by_pace t early)
 
 -- the paces of no stream
 pub no_paces : (streams : List Stream) (paces : List Pace) → streams ≡ [] → paces ≡ [] → ArePacesOf streams paces

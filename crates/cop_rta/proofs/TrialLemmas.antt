@@ -5,16 +5,16 @@ use Rattle.std.specs.Int.{div_ceil}
 use Rattle.std.specs.Option.{ForSome}
 use Rattle.cop_rta.specs.declared.streams.Stream.{Stream}
 use Rattle.cop_rta.specs.Solutions.{IsLeastSolution}
-use Rattle.cop_rta.specs.Test.{Place, Passes, IsResponse, IsOnTime, IsBusyTime, IsQueuedWithin, busy_at, queueing_at, cost_of, cost_at, jitter_at, period_at, horizon}
+use Rattle.cop_rta.specs.Test.{StreamPlace, Passes, IsResponse, IsOnTime, IsBusyTime, IsQueuedWithin, busy_at, queueing_at, cost_of, cost_at, jitter_at, period_at, horizon}
 use Rattle.cop_rta.specs.CeilLemmas.{div_ceil_above, below_div_ceil}
 use Rattle.cop_rta.proofs.LeastLemmas.{same_least}
 use Rattle.cop_rta.proofs.QueueLemmas.{wait_exists}
 
 -- the instances below n are on time
-pub record AreOnTimeBelow (p : Place) (n : ℕ) : Type 0 where
+pub record AreOnTimeBelow (p : StreamPlace) (n : ℕ) : Type 0 where
   pub each : (k : ℕ) → k < n → (r : ℕ) × IsResponse p k r × IsOnTime p r
 
-pub none_yet : (p : Place) → AreOnTimeBelow p 0
+pub none_yet : (p : StreamPlace) → AreOnTimeBelow p 0
 none_yet p = record { each = λ k h. absurd (omega arith) }
 
 in_time : (j w c x d most : ℕ) → j + most + c ≡ d + x → w ≤ most → j + w + c - x ≤ d
@@ -23,7 +23,7 @@ in_time j w c x d most e h = omega arith
 at_deadline : (o : Option ℕ) (d r : ℕ) → o ≡ Some d → r ≤ d → ForSome o (λ d. r ≤ d)
 at_deadline o d r is h = λ x some. let same : d ≡ x = cc in omega (arith, same, h)
 
-module _ (p : Place) (s : Stream) (here : slice_get p.streams p.index ≡ Some s) where
+module _ (p : StreamPlace) (s : Stream) (here : slice_get p.streams p.index ≡ Some s) where
   response_here : (q w : ℕ) → jitter_at p + w + cost_at p - q * period_at p ≡ s.jitter + w + cost_of p.rate s - q * s.period
   response_here q w = rw here refl
 

@@ -1,31 +1,31 @@
 -- Where the search for a wait begins.
-use Rattle.std.proofs.Common.{ℕ, ◌+◌, ◌-◌, ◌*◌, ◌<◌, ◌≤◌, ◌≡◌, ◌^◌, min, arith, slice_get, length, Some, sym, subst, zero-le, le_of_eq, ⊎_elim}
+use Rattle.std.proofs.Common.{ℕ, ◌+◌, ◌-◌, ◌<◌, ◌≤◌, ◌≡◌, ◌^◌, min, arith, slice_get, length, Some, sym, subst, zero-le, le_of_eq, ⊎_elim}
 use Rattle.std.proofs.lemmas.Bool.{cases_lt}
 use Rattle.cop_rta.specs.declared.streams.Stream.{Stream}
 use Rattle.cop_rta.specs.Solutions.{IsLeastSolution}
-use Rattle.cop_rta.specs.Test.{Place, cost_at, cost_of, busy_at, queueing_at, IsBusyTime, IsQueuedWithin, IsResponse}
+use Rattle.cop_rta.specs.Test.{StreamPlace, cost_at, cost_of, busy_at, queueing_at, IsBusyTime, IsQueuedWithin}
 use Rattle.cop_rta.specs.Waits.{IsBelowWait, IsBelowBusy}
 use Rattle.cop_rta.specs.TestLemmas.{busy_at-mono, queueing_at-mono}
 use Rattle.cop_rta.proofs.LeastLemmas.{least_exists, same_least, uncapped}
 use Rattle.cop_rta.proofs.QueueLemmas.{wait_exists_at, busy_at_pos}
 
-pub none_below : (p : Place) → IsBelowWait p 0 0
+pub none_below : (p : StreamPlace) → IsBelowWait p 0 0
 none_below p = λ y closed. zero-le
 
 -- one instance more takes its cost more
-next_asks : (p : Place) (q x : ℕ) → queueing_at p (q + 1) x ≡ queueing_at p q x + cost_at p
+next_asks : (p : StreamPlace) (q x : ℕ) → queueing_at p (q + 1) x ≡ queueing_at p q x + cost_at p
 unfolding queueing_at
 next_asks p q x = grind arith
 
 -- what the equation does not lead past, the wait is not past
-pub wait_below : (p : Place) (q w : ℕ) → IsLeastSolution (queueing_at p q) 0 w → IsBelowWait p q w
+pub wait_below : (p : StreamPlace) (q w : ℕ) → IsLeastSolution (queueing_at p q) 0 w → IsBelowWait p q w
 wait_below p q w s y closed =
     let found = least_exists (queueing_at p q) y (record { mono = queueing_at-mono p q }) closed in
     let same : w ≡ found.0 = same_least (queueing_at p q) 0 w found.0 s found.1 in
     omega (arith, same, found.2)
 
 -- the next instance does not wait less than until this one is sent
-pub next_below : (p : Place) (q w : ℕ) → IsBelowWait p q w → IsBelowWait p (q + 1) (w + cost_at p)
+pub next_below : (p : StreamPlace) (q w : ℕ) → IsBelowWait p q w → IsBelowWait p (q + 1) (w + cost_at p)
 next_below p q w below y closed =
     let asked : queueing_at p (q + 1) y ≡ queueing_at p q y + cost_at p = next_asks p q y in
     let up : queueing_at p q (y - cost_at p) ≤ queueing_at p q y = queueing_at-mono p q (y - cost_at p) y (omega arith) in
@@ -33,7 +33,7 @@ next_below p q w below y closed =
     omega (arith, before, asked, closed)
 
 -- the equation does not fall there
-pub rises : (p : Place) (q from : ℕ) → IsBelowWait p q from → from ≤ queueing_at p q from
+pub rises : (p : StreamPlace) (q from : ℕ) → IsBelowWait p q from → from ≤ queueing_at p q from
 rises p q from below = ⊎_elim
     (λ (lt : queueing_at p q from < from).
     let again : queueing_at p q (queueing_at p q from) ≤ queueing_at p q from = queueing_at-mono p q (queueing_at p q from) from (omega (arith, lt)) in
@@ -42,7 +42,7 @@ rises p q from below = ⊎_elim
     (cases_lt (queueing_at p q from) from)
 
 -- what is found from such a number on is the wait
-pub wait_from : (p : Place) (q from w : ℕ) → IsBelowWait p q from → w < 2 ^ 64 - 1 → IsLeastSolution (λ t. min (queueing_at p q t) (2 ^ 64 - 1)) from w → IsLeastSolution (queueing_at p q) 0 w
+pub wait_from : (p : StreamPlace) (q from w : ℕ) → IsBelowWait p q from → w < 2 ^ 64 - 1 → IsLeastSolution (λ t. min (queueing_at p q t) (2 ^ 64 - 1)) from w → IsLeastSolution (queueing_at p q) 0 w
 wait_from p q from w b low s =
     let here : IsLeastSolution (queueing_at p q) from w = uncapped (queueing_at p q) (2 ^ 64 - 1) from w low s in
     record {
@@ -52,27 +52,19 @@ wait_from p q from w b low s =
     }
 
 -- an instance of a busy time has a wait within it
-pub has_wait : (p : Place) (t q limit : ℕ) → p.index < length p.streams → IsBusyTime p t → t ≤ limit → IsQueuedWithin p t q → ((w : ℕ) → IsLeastSolution (queueing_at p q) 0 w → limit < w) → ⊥
+pub has_wait : (p : StreamPlace) (t q limit : ℕ) → p.index < length p.streams → IsBusyTime p t → t ≤ limit → IsQueuedWithin p t q → ((w : ℕ) → IsLeastSolution (queueing_at p q) 0 w → limit < w) → ⊥
 has_wait p t q limit inside busy within queued none =
     let w = wait_exists_at p t q inside busy queued in
     omega (arith, none w.0 w.1, w.2, within)
 
--- the response of an instance that waits so long
-pub responds : (p : Place) (s : Stream) (q w cost r : ℕ) → slice_get p.streams p.index ≡ Some s → cost ≡ cost_of p.rate s → IsLeastSolution (queueing_at p q) 0 w → r ≡ s.jitter + w + cost - q * s.period → IsResponse p q r
-responds p s q w cost r is c least e = record {
-  wait = w;
-  queueing = least;
-  response = rw (is, ← c) e;
-}
-
 -- the next instance waits at least until this one is sent
-pub next_from : (p : Place) (s : Stream) (q w cost : ℕ) → slice_get p.streams p.index ≡ Some s → cost ≡ cost_of p.rate s → IsLeastSolution (queueing_at p q) 0 w → IsBelowWait p (q + 1) (w + cost)
+pub next_from : (p : StreamPlace) (s : Stream) (q w cost : ℕ) → slice_get p.streams p.index ≡ Some s → cost ≡ cost_of p.rate s → IsLeastSolution (queueing_at p q) 0 w → IsBelowWait p (q + 1) (w + cost)
 next_from p s q w cost is c least =
     let e : cost_at p ≡ cost = rw is (sym c) in
     subst (λ (n : ℕ). IsBelowWait p (q + 1) (w + n)) e (next_below p q w (wait_below p q w least))
 
 -- the busy equation does not fall there either
-pub busy_rises : (p : Place) (from : ℕ) → p.index < length p.streams → 1 ≤ from → IsBelowBusy p from → from ≤ busy_at p from
+pub busy_rises : (p : StreamPlace) (from : ℕ) → p.index < length p.streams → 1 ≤ from → IsBelowBusy p from → from ≤ busy_at p from
 busy_rises p from inside start below = ⊎_elim
     (λ (lt : busy_at p from < from).
     let some : 1 ≤ busy_at p from = omega (arith, busy_at_pos p inside, busy_at-mono p 1 from start) in

@@ -1,6 +1,6 @@
 -- The test and its form by witnesses are the same.
 use Rattle.std.proofs.Common.{ℕ, ◌+◌, ◌-◌, ◌*◌, ◌<◌, ◌≤◌, ◌≡◌, arith, sym, le_refl, refl, length, le_trans, le_of_eq}
-use Rattle.cop_rta.specs.Test.{Place, Passes, busy_at, queueing_at, cost_at, jitter_at, period_at}
+use Rattle.cop_rta.specs.Test.{StreamPlace, Passes, busy_at, queueing_at, cost_at, jitter_at, period_at}
 use Rattle.cop_rta.specs.TestLemmas.{busy_at-mono, queueing_at-mono}
 use Rattle.cop_rta.specs.Witnesses.{HasWitnesses}
 use Rattle.cop_rta.proofs.LeastLemmas.{climb, least_exists}
@@ -12,7 +12,7 @@ over a x r d e h = omega arith
 under_deadline : (a w x d : ℕ) → w ≤ a → a ≤ d + x → w - x ≤ d
 under_deadline a w x d h e = omega arith
 
-pub passes_has_witnesses : (p : Place) → Passes p → HasWitnesses p
+pub passes_has_witnesses : (p : StreamPlace) → Passes p → HasWitnesses p
 passes_has_witnesses p passes = record {
   time = passes.time;
   started = passes.busy.within;
@@ -29,7 +29,7 @@ later x t u j h e = omega arith
 sooner : (j w w' c : ℕ) → w ≤ w' → j + w + c ≤ j + w' + c
 sooner j w w' c h = omega arith
 
-pub witnesses_pass : (p : Place) → p.index < length p.streams → HasWitnesses p → Passes p
+pub witnesses_pass : (p : StreamPlace) → p.index < length p.streams → HasWitnesses p → Passes p
 witnesses_pass p inside shown =
     let u : ℕ = shown.time in
     let t = climb (busy_at p) 1 u (record { mono = busy_at-mono p }) shown.closed u 1 (record { started = le_refl 1; rises = busy_at_pos p inside; passed_none = λ y s e. s }) shown.started (omega arith) in

@@ -16,9 +16,9 @@ last_time = 2 ^ 35
 abbrev pub counted_in : ℕ → Pace → ℕ
 counted_in time pace = (time + pace.ahead) * pace.inverse / 2 ^ 64
 
--- what they take, where a bit takes some ticks
-abbrev pub load_in : ℕ → ℕ → Pace → ℕ
-load_in ticks time pace = counted_in time pace * (pace.bits * ticks)
+-- how many bits they have at most
+abbrev pub bits_in : ℕ → Pace → ℕ
+bits_in time pace = counted_in time pace * pace.bits
 
 -- the pace of a stream
 pub record IsPaceOf (s : Stream) (pace : Pace) : Type 0 where
@@ -37,7 +37,7 @@ flags_above true flags = map not flags
 
 -- the paces of the streams that are flagged, in any order
 pub record IsRow (streams : List Stream) (flags : List Bool) (row : List Pace) : Type 0 where
-  pub sums : (rate : Rate) (time : ℕ) → time ≤ last_time → sum_by (load_in (ticks_of rate) time) row ≡ sum_where (is_flagged flags) (of_stream (load_of rate time) streams) (length streams)
+  pub sums : (rate : Rate) (time : ℕ) → time ≤ last_time → sum_by (bits_in time) row * ticks_of rate ≡ sum_where (is_flagged flags) (of_stream (load_of rate time) streams) (length streams)
 
 -- such a row where the stream at an index is one of them
 pub record HasRow (streams : List Stream) (flags : List Bool) (index : ℕ) (row : List Pace) : Type 0 where

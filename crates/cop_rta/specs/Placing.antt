@@ -5,7 +5,7 @@ use Rattle.cop_rta.specs.declared.streams.Stream.{Stream}
 use Rattle.cop_rta.specs.declared.sweeps.Last.{Last}
 use Rattle.cop_rta.specs.Sums.{sum_where, max_where}
 use Rattle.cop_rta.specs.Solutions.{IsLeastSolution}
-use Rattle.cop_rta.specs.Test.{Place, flagged_place, is_flagged, of_stream, cost_of, cost_at, load_of, horizon}
+use Rattle.cop_rta.specs.Test.{StreamPlace, flagged_place, is_flagged, of_stream, cost_of, cost_at, load_of, horizon}
 use Rattle.cop_rta.specs.Waits.{IsBelowWait}
 
 -- flagged streams at a rate
@@ -15,7 +15,7 @@ pub record Flags : Type 0 where
   pub rate : Rate
 
 -- one stream with the flagged ones above it
-abbrev pub place_in : Flags → ℕ → Place
+abbrev pub place_in : Flags → ℕ → StreamPlace
 place_in v index = flagged_place v.streams v.flags index v.rate
 
 -- stream k is not flagged

@@ -3,39 +3,39 @@
 ghost use Rattle.std.specs.Prelude.{◌≡◌, ◌↔◌, ℕ, ◌+◌, ◌<◌, ◌≤◌, Bool, length};
 ghost use Rattle.cop_rta.specs.declared.verdicts.Verdict.{Verdict};
 ghost use Rattle.cop_rta.specs.Solutions.{IsLeastSolution};
-ghost use Rattle.cop_rta.specs.Test.{Place, Passes, busy_at, queueing_at, cost_at, IsBusyTime, IsQueuedWithin};
+ghost use Rattle.cop_rta.specs.Test.{StreamPlace, Passes, busy_at, queueing_at, cost_at, IsBusyTime, IsQueuedWithin};
 ghost use Rattle.cop_rta.specs.Verdict.{IsJudged};
 ghost use Rattle.cop_rta.specs.Witnesses.{HasWitnesses, HasMoreAbove, under};
 
 /// A stream passes exactly where there are numbers that neither equation leads past and that are in time.
 pub fn passes_by_witnesses()
-    ensures { (p : Place) → p.index < length p.streams → (Passes p ↔ HasWitnesses p) }
+    ensures { (p : StreamPlace) → p.index < length p.streams → (Passes p ↔ HasWitnesses p) }
 {}
 
 /// Neither equation falls as time goes on.
 pub fn equations_never_fall()
-    ensures busy { (p : Place) (x y : ℕ) → x ≤ y → busy_at p x ≤ busy_at p y }
-    ensures queueing { (p : Place) (q x y : ℕ) → x ≤ y → queueing_at p q x ≤ queueing_at p q y }
+    ensures busy { (p : StreamPlace) (x y : ℕ) → x ≤ y → busy_at p x ≤ busy_at p y }
+    ensures queueing { (p : StreamPlace) (q x y : ℕ) → x ≤ y → queueing_at p q x ≤ queueing_at p q y }
 {}
 
 /// More streams above never lower either equation: what the longest transfer from below loses, the sums gain.
 pub fn more_above_asks_no_less()
-    ensures busy { (p : Place) (more : ℕ → Bool) (t : ℕ) → HasMoreAbove p more → 1 ≤ t → busy_at p t ≤ busy_at (under p more) t }
-    ensures queueing { (p : Place) (more : ℕ → Bool) (q w : ℕ) → HasMoreAbove p more → queueing_at p q w ≤ queueing_at (under p more) q w }
+    ensures busy { (p : StreamPlace) (more : ℕ → Bool) (t : ℕ) → HasMoreAbove p more → 1 ≤ t → busy_at p t ≤ busy_at (under p more) t }
+    ensures queueing { (p : StreamPlace) (more : ℕ → Bool) (q w : ℕ) → HasMoreAbove p more → queueing_at p q w ≤ queueing_at (under p more) q w }
 {}
 
 /// A stream that passes with more streams above it passes with fewer.
 pub fn passes_with_fewer_above()
-    ensures { (p : Place) (more : ℕ → Bool) → p.index < length p.streams → HasMoreAbove p more → Passes (under p more) → Passes p }
+    ensures { (p : StreamPlace) (more : ℕ → Bool) → p.index < length p.streams → HasMoreAbove p more → Passes (under p more) → Passes p }
 {}
 
 /// Each instance of a busy period has a least waiting time, and its transfer ends within the period.
 pub fn each_instance_waits()
-    ensures { (p : Place) (t q : ℕ) → p.index < length p.streams → IsBusyTime p t → IsQueuedWithin p t q
+    ensures { (p : StreamPlace) (t q : ℕ) → p.index < length p.streams → IsBusyTime p t → IsQueuedWithin p t q
         → (w : ℕ) × IsLeastSolution (queueing_at p q) 0 w × (w + cost_at p ≤ t) }
 {}
 
 /// The test says one thing of each place.
 pub fn one_verdict()
-    ensures { (p : Place) (v w : Verdict) → IsJudged p v → IsJudged p w → v ≡ w }
+    ensures { (p : StreamPlace) (v w : Verdict) → IsJudged p v → IsJudged p w → v ≡ w }
 {}

@@ -21,7 +21,7 @@ pub(crate) struct Pace {
 }
 
 impl Pace {
-    ghost use Rattle.cop_rta.specs.Paces.{last_time, counted_in, load_in, IsPaceOf};
+    ghost use Rattle.cop_rta.specs.Paces.{last_time, counted_in, bits_in, IsPaceOf};
 
     /// The pace of a stream.
     pub(crate) fn new(stream: &Stream) -> Pace
@@ -40,16 +40,6 @@ impl Pace {
         }
     }
 
-    /// The longest transfer, where a bit takes some ticks.
-    pub(crate) fn cost(&self, ticks: u64) -> u64
-        requires { ticks ≤ 400 }
-        ensures value { result ≡ self.now.bits * ticks }
-        ensures most { result ≤ 54000 }
-    {
-        let Pace { bits, .. } = *self;
-        bits * ticks
-    }
-
     /// How many instances may be queued within a time.
     pub(crate) fn instances(&self, time: u64) -> u64
         requires { time ≤ last_time }
@@ -60,13 +50,13 @@ impl Pace {
         ((u128::from(time + ahead) * u128::from(inverse)) >> 64) as u64
     }
 
-    /// What they take, where a bit takes some ticks.
-    pub(crate) fn load(&self, ticks: u64, time: u64) -> u64
-        requires ticks { ticks ≤ 400 }
-        requires time { time ≤ last_time }
-        ensures value { result ≡ load_in ticks time self.now }
-        ensures most { result ≤ 2 ^ 44 }
+    /// How many bits they have at most. What they take is so many times a bit's ticks, which are the same for all streams:
+    /// a sum over streams is multiplied once.
+    pub(crate) fn bits_within(&self, time: u64) -> u64
+        requires { time ≤ last_time }
+        ensures value { result ≡ bits_in time self.now }
+        ensures most { result ≤ 2 ^ 36 }
     {
-        self.instances(time) * self.cost(ticks)
+        self.instances(time) * self.bits
     }
 }

@@ -9,7 +9,7 @@ ghost use Rattle.cop_rta.specs.Paces.{flags_above};
 ghost use Rattle.cop_rta.specs.Placing.{Flags, place_in, longest_of, once_each, HasOneAbove, IsSharedTime};
 
 use crate::above::Above;
-use crate::demands::{Busy, longest_below};
+use crate::demands::{Busy, cost, longest_below};
 use crate::judging::{is_on_time, judged};
 use crate::sets::StreamSet;
 use crate::verdicts::Verdict;
@@ -32,18 +32,17 @@ fn first_above(above: &Above<'_>, count: usize) -> usize
 }
 
 // One transfer of each stream that is above.
-#[tactic(auto, using(crate::specs::SumsLemmas::steps, crate::proofs::PaceLemmas::cost_by_pace))]
+#[tactic(auto, using(crate::specs::SumsLemmas::steps))]
 fn costs_above(set: &StreamSet, above: &Above<'_>, rate: Rate) -> u64
     requires { length above.now ≡ length set.now }
     ensures value { result ≡ sum_where (is_flagged above.now) (of_stream (cost_of rate) set.now) (length set.now) }
     ensures most { result ≤ 59400000 }
 {
-    let ticks = u64::from(rate.ticks_per_bit());
-    let paces = set.paces();
+    let streams = set.streams();
     let mut total = 0;
-    for (k, pace) in paces.iter().enumerate() {
+    for (k, stream) in streams.iter().enumerate() {
         if above.has(k) {
-            total += pace.cost(ticks);
+            total += cost(stream, rate);
         }
     }
     total

@@ -1,7 +1,7 @@
 use cop_frame::Rate;
 use cop_rta::{
-    Busy, HORIZON, SetFault, Stream, StreamSet, TableFault, Verdict, least, read_streams, verdict,
-    verdicts_by_id,
+    Busy, HORIZON, Search, SetFault, Stream, StreamSet, TableFault, Verdict, least, read_streams,
+    seek_least, verdict, verdicts_by_id,
 };
 use std::process::Abort;
 use std::test::Fail;
@@ -153,6 +153,37 @@ fn busy_times_and_waits(rt: HostRuntime) -> Result<(), Fail> {
         assert_eq!(rt;
             wait(&rt, &one, &[false], 0, Rate::Kbit1000, q),
             Some(wanted)
+        );
+    }
+    Ok(())
+}
+
+#[test]
+fn instances_and_responses(rt: HostRuntime) -> Result<(), Fail> {
+    // the jitter is above the period
+    let table: &[u8] = b"id,bytes,period,jitter,deadline\n0x181,8,1000,2500,2635\n";
+    let one = read_streams(rt.alloc(), table)?;
+    assert_eq!(rt; one.len(), 1);
+    let busy = Busy::new(&one, &[false], 0, Rate::Kbit1000);
+    assert_eq!(rt; busy.instances(1620), 3);
+    for (q, wait, response) in [(0, 0, 10_540), (1, 540, 7080), (2, 1080, 3620)] {
+        assert_eq!(rt; busy.response(q, wait), response);
+    }
+    Ok(())
+}
+
+#[test]
+fn steps_of_a_search(rt: HostRuntime) -> Result<(), Fail> {
+    let table: &[u8] =
+        b"id,bytes,period,jitter,deadline\n0x181,7,2500,0,2500\n0x182,7,3500,0,3250\n0x183,7,3500,0,3250\n";
+    let three = read_streams(rt.alloc(), table)?;
+    assert_eq!(rt; three.len(), 3);
+    let queueing = Busy::new(&three, &[true, true, false], 2, Rate::Kbit125).queueing(1);
+    // from 0 by 12,000, 16,000 and 20,000
+    for (limit, solution) in [(HORIZON, Some(24_000)), (23_999, None)] {
+        assert_eq!(rt;
+            seek_least(&queueing, 0, limit),
+            Search { solution, steps: 4 }
         );
     }
     Ok(())

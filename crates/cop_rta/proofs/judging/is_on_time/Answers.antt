@@ -24,16 +24,16 @@ pub returns-in_default-latest : goal.returns-in_default-latest
 returns-in_default-latest c =
     let cost = cost_is (goal.at.returns-in_default-latest c).After-cost-own in (
       λ never. absurd (true≢false (sym never)),
-      λ passes. absurd (late (place_of c.args.busy.now) c.stream-stream.result.now c.stream-stream.ensures c.in-Some.time c.div_ceil-count.result c.loop-q.q c.in-Some-deadline.deadline c.in-Some-deadline.is
-          (rw c.in-Some.is at c.requires.found) c.div_ceil-count.ensures c.loop-q-test.true (λ w waits met. omega (arith, met, cost, c.in_default-latest.ensures.none)) passes),
+      λ passes. absurd (late (place_of c.args.busy.now) c.stream-stream.result.now c.stream-stream.ensures c.in-Some.time c.instances-count.result c.loop-q.q c.in-Some-deadline.deadline c.in-Some-deadline.is
+          (rw c.in-Some.is at c.requires.found) (rw c.stream-stream.ensures at c.instances-count.ensures.count) c.loop-q-test.true (λ w waits met. omega (arith, met, cost, c.in_default-latest.ensures.none)) passes),
     )
 
 pub returns-in_default-wait_within : goal.returns-in_default-wait_within
 returns-in_default-wait_within c =
     let cost = cost_is (goal.at.returns-in_default-wait_within c).After-cost-own in (
       λ never. absurd (true≢false (sym never)),
-      λ passes. absurd (late (place_of c.args.busy.now) c.stream-stream.result.now c.stream-stream.ensures c.in-Some.time c.div_ceil-count.result c.loop-q.q c.in-Some-deadline.deadline c.in-Some-deadline.is
-          (rw c.in-Some.is at c.requires.found) c.div_ceil-count.ensures c.loop-q-test.true (λ w waits met. omega (arith, met, cost, c.in-Some-latest.ensures.some, c.in_default-wait_within.ensures.none w waits)) passes),
+      λ passes. absurd (late (place_of c.args.busy.now) c.stream-stream.result.now c.stream-stream.ensures c.in-Some.time c.instances-count.result c.loop-q.q c.in-Some-deadline.deadline c.in-Some-deadline.is
+          (rw c.in-Some.is at c.requires.found) (rw c.stream-stream.ensures at c.instances-count.ensures.count) c.loop-q-test.true (λ w waits met. omega (arith, met, cost, c.in-Some-latest.ensures.some, c.in_default-wait_within.ensures.none w waits)) passes),
     )
 
 pub loop-q-preserved : goal.loop-q-preserved
@@ -47,7 +47,7 @@ loop-q-preserved c =
 
 pub returns : goal.returns
 returns c = (
-  λ _. all_on_time (place_of c.args.busy.now) c.stream-stream.result.now c.stream-stream.ensures c.in-Some.time c.div_ceil-count.result (rw c.in-Some.is at c.requires.found) (rw c.in-Some.is at c.requires.within) c.div_ceil-count.ensures
-      (subst (λ (n : ℕ). AreOnTimeBelow (place_of c.args.busy.now) n) (let end : c.loop-q.q ≡ c.div_ceil-count.result = omega arith in end) c.loop-q.invariant.on_time),
+  λ _. all_on_time (place_of c.args.busy.now) c.stream-stream.result.now c.stream-stream.ensures c.in-Some.time c.instances-count.result (rw c.in-Some.is at c.requires.found) (rw c.in-Some.is at c.requires.within) (rw c.stream-stream.ensures at c.instances-count.ensures.count)
+      (subst (λ (n : ℕ). AreOnTimeBelow (place_of c.args.busy.now) n) (let end : c.loop-q.q ≡ c.instances-count.result = omega arith in end) c.loop-q.invariant.on_time),
   λ _. refl,
 )
