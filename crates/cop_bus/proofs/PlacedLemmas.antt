@@ -1,6 +1,6 @@
 -- Rings that are found by their identifiers.
-use Rattle.std.proofs.Common.{◌≡◌, ◌≢◌, ℕ, zero, suc, ◌+◌, ◌*◌, ◌<◌, ◌≤◌, ◌⊎◌, inl, inr, List, [], ◌∷◌, length, slice_get, slice_set, refl, sym, ◌∙◌, ap, subst, arith, false, Result, Ok, Err, OnOk, OnErr}
-use Rattle.std.specs.Prelude.{Option, Some, All}
+use Rattle.std.proofs.Common.{◌≡◌, ◌≢◌, ℕ, zero, suc, ◌+◌, ◌*◌, ◌<◌, ◌≤◌, ◌⊎◌, inl, inr, List, [], ◌∷◌, ◌++◌, length, slice_get, slice_set, refl, sym, ◌∙◌, ap, subst, arith, false, Result, Ok, Err, OnOk, OnErr}
+use Rattle.std.specs.Prelude.{Option, None, Some, All}
 use Rattle.std.specs.Option.{option_map_or}
 use Rattle.std.specs.BTreeMap.{BTreeMap, get}
 use Rattle.std.specs.Cmp.{nat_cmp_is}
@@ -8,7 +8,8 @@ use Rattle.std.specs.Ordering.{nat_cmp, is_eq}
 use Rattle.std.specs.declared.cmp.Ordering.TheVariants.{Less, Greater}
 use Rattle.std.proofs.lemmas.Bool.{cases_lt, cases_eq, cases_order}
 use Rattle.std.proofs.lemmas.List.{length-set}
-use Rattle.std.proofs.lemmas.Option.{slice_get_within}
+use Rattle.std.proofs.lemmas.List.Elements.{All-contains, All-drop, All-map, All-nil, All-push, All-set}
+use Rattle.std.proofs.lemmas.Option.{slice_get_within, get_or_from_slice_get}
 use Rattle.cop_frame.specs.declared.rates.Rate.{Rate}
 use Rattle.cop_frame.specs.Rate.{ticks_of}
 use Rattle.cop_rta.proofs.IdentifierLemmas.{two_apart}
@@ -19,7 +20,8 @@ use Rattle.cop_bus.specs.declared.queues.First.{First}
 use Rattle.cop_bus.specs.declared.rings.Full.{Full}
 use Rattle.cop_bus.specs.Rings.{RingValue, most_of, rings_of}
 use Rattle.cop_bus.specs.Queues.{IsLowest}
-use Rattle.cop_bus.specs.Bus.{Bus, ArePlaced, ArePlacedTo, Starts, without_first}
+use Rattle.cop_bus.specs.Bus.{Bus, ArePlaced, ArePlacedTo, AreQueuedBy, Starts, without_first}
+use Rattle.cop_bus.specs.declared.bus.Started.{Started}
 
 pub set-here : {A : Type 0} (xs : List A) (i : ℕ) (x : A) → i < length xs → slice_get (slice_set xs i x) i ≡ Some x
 set-here [] i x l = absurd (omega arith)
@@ -160,3 +162,32 @@ one-place streams distinct i j k l e f same-id = go (cases_order i j)
     go (inl q) = q
     go (inr (inl lt)) = absurd (two_apart streams distinct i j lt (slice_get_within streams j l f) (ap (λ o. option_map_or (λ s. s.id) o 0) e ∙ same-id ∙ sym (ap (λ o. option_map_or (λ s. s.id) o 0) f)))
     go (inr (inr gt)) = absurd (two_apart streams distinct j i gt (slice_get_within streams i k e) (ap (λ o. option_map_or (λ s. s.id) o 0) f ∙ sym same-id ∙ sym (ap (λ o. option_map_or (λ s. s.id) o 0) e)))
+
+-- ---- when the instances that wait were queued
+
+pub rings-queued : (streams : List Stream) (t : ℕ) → AreQueuedBy (rings_of streams) t
+rings-queued streams t = All-map (λ (r : RingValue). All (λ y. y.at ≤ t) r.waiting) (λ (k : Stream). record { id = k.id; waiting = []; most = most_of k }) streams
+    (λ i k l. All-nil (λ (y : Instance). y.at ≤ t))
+
+at-place : {A : Type 0} (P : A → Type 0) (xs : List A) (i : ℕ) (x : A) → slice_get xs i ≡ Some x → All P xs → P x
+at-place P xs i x e h = All-contains P xs x h (i, slice_get_within xs i x e, get_or_from_slice_get xs i x x e)
+
+-- an instance was queued at a place, or the ring was full
+pub queued-more : (rings after : List RingValue) (p : ℕ) (y : Instance) (result : Result (Unit {0}) Full) → p < length rings →
+    ((r : RingValue) → slice_get rings p ≡ Some r → OnOk result (after ≡ slice_set rings p (record { id = r.id; waiting = r.waiting ++ y ∷ []; most = r.most }))) → OnErr result (after ≡ rings) →
+    (t : ℕ) → y.at ≤ t → AreQueuedBy rings t → AreQueuedBy after t
+queued-more rings after p y (Ok u) low ok err t l h =
+    let w = there rings p low in
+    subst (λ (rs : List RingValue). AreQueuedBy rs t) (sym (ok w.0 w.1))
+    (All-set (λ (r : RingValue). All (λ z. z.at ≤ t) r.waiting) rings p (record { id = w.0.id; waiting = w.0.waiting ++ y ∷ []; most = w.0.most })
+    (All-push (λ z. z.at ≤ t) w.0.waiting y (at-place (λ (r : RingValue). All (λ z. z.at ≤ t) r.waiting) rings p w.0 w.1 h) l) h)
+queued-more rings after p y (Err f) low ok err t l h = subst (λ (rs : List RingValue). AreQueuedBy rs t) (sym err) h
+
+pub queued-started : (old : Bus) (now : ℕ) (joiners : List Instance) (new : Bus) (result : Option Started) → Starts old now joiners new result → (t : ℕ) → AreQueuedBy old.rings t → AreQueuedBy new.rings t
+queued-started old now joiners new None s t h = subst (λ (b : Bus). AreQueuedBy b.rings t) (sym s.1) h
+queued-started old now joiners new (Some started) s t h = elim s.1 [
+  | inl w ↦ subst (λ (b : Bus). AreQueuedBy b.rings t) (sym w.after)
+      (All-set (λ (r : RingValue). All (λ z. z.at ≤ t) r.waiting) old.rings w.place (without_first w.ring)
+      (All-drop (λ z. z.at ≤ t) 1 w.ring.waiting (at-place (λ (r : RingValue). All (λ z. z.at ≤ t) r.waiting) old.rings w.place w.ring w.here h)) h)
+  | inr w ↦ subst (λ (b : Bus). AreQueuedBy b.rings t) (sym w.after) h
+]
