@@ -32,4 +32,5 @@ pub mod Appended
 pub mod HexLemmas
 pub mod RankLemmas
 pub mod QueueLemmas
+pub mod AtPlace
 pub mod PlacedLemmas

@@ -1,43 +1,25 @@
 -- Rings that are found by their identifiers.
-use Rattle.std.proofs.Common.{◌≡◌, ◌≢◌, ℕ, zero, suc, ◌+◌, ◌*◌, ◌<◌, ◌≤◌, ◌⊎◌, inl, inr, List, [], ◌∷◌, length, slice_get, slice_set, refl, sym, ◌∙◌, ap, subst, arith, false, Result, Ok, Err, OnOk, OnErr}
-use Rattle.std.specs.Prelude.{Option, Some, All}
-use Rattle.std.specs.Option.{option_map_or}
+use Rattle.std.proofs.Common.{◌≡◌, ◌≢◌, ℕ, zero, suc, ◌+◌, ◌*◌, ◌<◌, ◌≤◌, inl, inr, List, [], ◌∷◌, ◌++◌, length, slice_get, slice_set, refl, sym, ◌∙◌, ap, subst, arith, false, Result, Ok, Err, OnOk, OnErr}
+use Rattle.std.specs.Prelude.{Option, None, Some, All}
 use Rattle.std.specs.BTreeMap.{BTreeMap, get}
 use Rattle.std.specs.Cmp.{nat_cmp_is}
 use Rattle.std.specs.Ordering.{nat_cmp, is_eq}
 use Rattle.std.specs.declared.cmp.Ordering.TheVariants.{Less, Greater}
-use Rattle.std.proofs.lemmas.Bool.{cases_lt, cases_eq, cases_order}
+use Rattle.std.proofs.lemmas.Bool.{cases_lt, cases_eq}
 use Rattle.std.proofs.lemmas.List.{length-set}
+use Rattle.std.proofs.lemmas.List.Elements.{All-drop, All-map, All-nil, All-push, All-set}
 use Rattle.std.proofs.lemmas.Option.{slice_get_within}
 use Rattle.cop_frame.specs.declared.rates.Rate.{Rate}
 use Rattle.cop_frame.specs.Rate.{ticks_of}
-use Rattle.cop_rta.proofs.IdentifierLemmas.{two_apart}
 use Rattle.cop_rta.specs.declared.streams.Stream.{Stream}
-use Rattle.cop_rta.specs.Streams.{AreDistinct}
 use Rattle.cop_bus.specs.declared.bus.Instance.{Instance}
 use Rattle.cop_bus.specs.declared.queues.First.{First}
 use Rattle.cop_bus.specs.declared.rings.Full.{Full}
+use Rattle.cop_bus.proofs.AtPlace.{set-here, set-other, some-one, there-is, at-place}
 use Rattle.cop_bus.specs.Rings.{RingValue, most_of, rings_of}
 use Rattle.cop_bus.specs.Queues.{IsLowest}
-use Rattle.cop_bus.specs.Bus.{Bus, ArePlaced, ArePlacedTo, Starts, without_first}
-
-pub set-here : {A : Type 0} (xs : List A) (i : ℕ) (x : A) → i < length xs → slice_get (slice_set xs i x) i ≡ Some x
-set-here [] i x l = absurd (omega arith)
-set-here (y ∷ xs) zero x l = refl
-set-here (y ∷ xs) (suc i) x l = set-here xs i x (omega arith)
-
-pub set-other : {A : Type 0} (xs : List A) (i j : ℕ) (x : A) → j ≢ i → slice_get (slice_set xs i x) j ≡ slice_get xs j
-set-other [] i j x n = refl
-set-other (y ∷ xs) zero zero x n = absurd (n refl)
-set-other (y ∷ xs) zero (suc j) x n = refl
-set-other (y ∷ xs) (suc i) zero x n = refl
-set-other (y ∷ xs) (suc i) (suc j) x n = set-other xs i j x (λ e. n (ap suc e))
-
-same : {A : Type 0} (o : Option A) (x y : A) → o ≡ Some x → o ≡ Some y → x ≡ y
-same o x y e f = go x y (sym e ∙ f)
-  where
-    go : {A : Type 0} (x y : A) → Some x ≡ Some y → x ≡ y
-    go x y e = cc
+use Rattle.cop_bus.specs.Bus.{Bus, ArePlaced, ArePlacedTo, AreQueuedBy, Starts, without_first}
+use Rattle.cop_bus.specs.declared.bus.Started.{Started}
 
 -- ---- identifiers
 
@@ -56,12 +38,12 @@ placed-more streams i k old new one here put others h = record {
   each = λ j l m e. elim (cases_eq k.id l.id) [
     | inl s ↦ (let q = one j l e s in ap (get nat_cmp new) (sym s) ∙ put ∙ ap Some q)
     | inr s ↦ others l.id (apart k.id l.id s) ∙ h.each j l (elim (cases_eq j i) [
-      | inl q ↦ absurd (s (ap (λ (v : Stream). v.id) (same (slice_get streams i) k l here (subst (λ n. slice_get streams n ≡ Some l) q e))))
+      | inl q ↦ absurd (s (ap (λ (v : Stream). v.id) (some-one (slice_get streams i) k l here (subst (λ n. slice_get streams n ≡ Some l) q e))))
       | inr q ↦ (elim (cases_lt j i) [ inl w ↦ w | inr w ↦ absurd (q (omega (arith, w, m))) ])
     ]) e
   ];
   within = λ id j e. elim (cases_eq k.id id) [
-    | inl s ↦ (let q = same (get nat_cmp new id) i j (ap (get nat_cmp new) (sym s) ∙ put) e in omega (arith, q))
+    | inl s ↦ (let q = some-one (get nat_cmp new id) i j (ap (get nat_cmp new) (sym s) ∙ put) e in omega (arith, q))
     | inr s ↦ (let w = h.within id j (sym (others id (apart k.id id s)) ∙ e) in omega (arith, w))
   ];
 }
@@ -88,23 +70,18 @@ all-placed streams n places l m h = record {
 pub placed-set : (places : BTreeMap ℕ ℕ) (rings : List RingValue) (p : ℕ) (r s : RingValue) → slice_get rings p ≡ Some r → s.id ≡ r.id → ArePlaced places rings → ArePlaced places (slice_set rings p s)
 placed-set places rings p r s e q h = record {
   each = λ i v f. elim (cases_eq i p) [
-    | inl c ↦ (let w = same (slice_get (slice_set rings p s) p) s v (set-here rings p s (slice_get_within rings p r e)) (subst (λ n. slice_get (slice_set rings p s) n ≡ Some v) c f) in
+    | inl c ↦ (let w = some-one (slice_get (slice_set rings p s) p) s v (set-here rings p s (slice_get_within rings p r e)) (subst (λ n. slice_get (slice_set rings p s) n ≡ Some v) c f) in
         ap (get nat_cmp places) (ap (λ (t : RingValue). t.id) (sym w) ∙ q) ∙ h.each p r e ∙ ap Some (sym c))
     | inr c ↦ h.each i v (sym (set-other rings p i s c) ∙ f)
   ];
   within = λ id i f. (let w = h.within id i f in let l = length-set rings p s in omega (arith, w, l));
 }
 
-there : (rings : List RingValue) (i : ℕ) → i < length rings → (r : RingValue) × (slice_get rings i ≡ Some r)
-there [] i l = absurd (omega arith)
-there (y ∷ rings) zero l = (y, refl)
-there (y ∷ rings) (suc i) l = there rings i (omega arith)
-
 -- an instance was queued at a place, or the ring was full
 pub placed-queued : (places : BTreeMap ℕ ℕ) (rings after : List RingValue) (p : ℕ) (next : RingValue → RingValue) (result : Result (Unit {0}) Full) → ((r : RingValue) → (next r).id ≡ r.id) → p < length rings →
     ((r : RingValue) → slice_get rings p ≡ Some r → OnOk result (after ≡ slice_set rings p (next r))) → OnErr result (after ≡ rings) → ArePlaced places rings → ArePlaced places after
 placed-queued places rings after p next (Ok u) same-id low ok err h =
-    let w = there rings p low in subst (ArePlaced places) (sym (ok w.0 w.1)) (placed-set places rings p w.0 (next w.0) w.1 (same-id w.0) h)
+    let w = there-is rings p low in subst (ArePlaced places) (sym (ok w.0 w.1)) (placed-set places rings p w.0 (next w.0) w.1 (same-id w.0) h)
 placed-queued places rings after p next (Err f) same-id low ok err h = subst (ArePlaced places) (sym err) h
 
 -- ---- the first instance of a ring is sent
@@ -148,15 +125,32 @@ queued-there rate places rings after running now p place id r next result e h g 
     go : (result : Result (Unit {0}) Full) → slice_get rings place ≡ Some r → ((v : RingValue) → slice_get rings p ≡ Some v → OnOk result (after ≡ slice_set rings p (next v))) →
         OnOk result (bus_of rate after running ≡ bus_of rate (slice_set rings place (next r)) running)
     go (Ok u) w ok =
-        let one : p ≡ place = same (get nat_cmp places id) p place g (ap (get nat_cmp places) (sym q) ∙ h.each place r w) in
+        let one : p ≡ place = some-one (get nat_cmp places id) p place g (ap (get nat_cmp places) (sym q) ∙ h.each place r w) in
         ap (λ (rs : List RingValue). bus_of rate rs running) (ok r (subst (λ n. slice_get rings n ≡ Some r) (sym one) w) ∙ ap (λ n. slice_set rings n (next r)) one)
     go (Err x) w ok = tt
 
--- two places of one identifier are one
-pub one-place : (streams : List Stream) → AreDistinct streams → (i j : ℕ) (k l : Stream) → slice_get streams i ≡ Some k → slice_get streams j ≡ Some l → k.id ≡ l.id → i ≡ j
-one-place streams distinct i j k l e f same-id = go (cases_order i j)
-  where
-    go : (i ≡ j) ⊎ ((i < j) ⊎ (j < i)) → i ≡ j
-    go (inl q) = q
-    go (inr (inl lt)) = absurd (two_apart streams distinct i j lt (slice_get_within streams j l f) (ap (λ o. option_map_or (λ s. s.id) o 0) e ∙ same-id ∙ sym (ap (λ o. option_map_or (λ s. s.id) o 0) f)))
-    go (inr (inr gt)) = absurd (two_apart streams distinct j i gt (slice_get_within streams i k e) (ap (λ o. option_map_or (λ s. s.id) o 0) f ∙ sym same-id ∙ sym (ap (λ o. option_map_or (λ s. s.id) o 0) e)))
+-- ---- when the instances that wait were queued
+
+pub rings-queued : (streams : List Stream) (t : ℕ) → AreQueuedBy (rings_of streams) t
+rings-queued streams t = All-map (λ (r : RingValue). All (λ y. y.at ≤ t) r.waiting) (λ (k : Stream). record { id = k.id; waiting = []; most = most_of k }) streams
+    (λ i k l. All-nil (λ (y : Instance). y.at ≤ t))
+
+-- an instance was queued at a place, or the ring was full
+pub queued-more : (rings after : List RingValue) (p : ℕ) (y : Instance) (result : Result (Unit {0}) Full) → p < length rings →
+    ((r : RingValue) → slice_get rings p ≡ Some r → OnOk result (after ≡ slice_set rings p (record { id = r.id; waiting = r.waiting ++ y ∷ []; most = r.most }))) → OnErr result (after ≡ rings) →
+    (t : ℕ) → y.at ≤ t → AreQueuedBy rings t → AreQueuedBy after t
+queued-more rings after p y (Ok u) low ok err t l h =
+    let w = there-is rings p low in
+    subst (λ (rs : List RingValue). AreQueuedBy rs t) (sym (ok w.0 w.1))
+    (All-set (λ (r : RingValue). All (λ z. z.at ≤ t) r.waiting) rings p (record { id = w.0.id; waiting = w.0.waiting ++ y ∷ []; most = w.0.most })
+    (All-push (λ z. z.at ≤ t) w.0.waiting y (at-place (λ (r : RingValue). All (λ z. z.at ≤ t) r.waiting) rings p w.0 w.1 h) l) h)
+queued-more rings after p y (Err f) low ok err t l h = subst (λ (rs : List RingValue). AreQueuedBy rs t) (sym err) h
+
+pub queued-started : (old : Bus) (now : ℕ) (joiners : List Instance) (new : Bus) (result : Option Started) → Starts old now joiners new result → (t : ℕ) → AreQueuedBy old.rings t → AreQueuedBy new.rings t
+queued-started old now joiners new None s t h = subst (λ (b : Bus). AreQueuedBy b.rings t) (sym s.1) h
+queued-started old now joiners new (Some started) s t h = elim s.1 [
+  | inl w ↦ subst (λ (b : Bus). AreQueuedBy b.rings t) (sym w.after)
+      (All-set (λ (r : RingValue). All (λ z. z.at ≤ t) r.waiting) old.rings w.place (without_first w.ring)
+      (All-drop (λ z. z.at ≤ t) 1 w.ring.waiting (at-place (λ (r : RingValue). All (λ z. z.at ≤ t) r.waiting) old.rings w.place w.ring w.here h)) h)
+  | inr w ↦ subst (λ (b : Bus). AreQueuedBy b.rings t) (sym w.after) h
+]

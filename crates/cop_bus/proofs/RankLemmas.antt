@@ -1,11 +1,11 @@
--- The root of a tournament is the first of the ranks.
-use Rattle.std.proofs.Common.{◌≡◌, ◌≢◌, ℕ, zero, suc, ◌+◌, ◌-◌, ◌/◌, ◌≤◌, ◌<◌, ◌⊎◌, inl, inr, List, length, drop, slice_set, replicate, refl, sym, ◌∙◌, ap, subst, arith, Bool, true, false, cond, nat_lt, ◌&&◌, ◌||◌}
-use Rattle.std.specs.Prelude.{Option, None, Some, ◌==◌}
+-- Ranks and the tournament over them.
+use Rattle.std.proofs.Common.{◌≡◌, ◌≢◌, ℕ, zero, suc, ◌+◌, ◌-◌, ◌/◌, ◌≤◌, ◌<◌, ◌⊎◌, inl, inr, List, ◌∷◌, [], ◌++◌, length, slice_set, replicate, refl, sym, ◌∙◌, ap, subst, arith, Bool, true, false, cond, nat_lt, ◌&&◌, ◌||◌}
+use Rattle.std.specs.Prelude.{Option, None, Some, ◌==◌, slice_index}
 use Rattle.std.specs.Option.{ForSome}
 use Rattle.std.proofs.lemmas.Bool.{cases_lt, cases_eq, cases_Bool, ltb-true, lt-ltb, eq-eqb, eqb-true, and_parts, and_from, or_cases}
-use Rattle.std.proofs.lemmas.List.{get_or-drop, get_or-set_same, get_or-set_other, length-drop, get_or_past}
+use Rattle.std.proofs.lemmas.List.{get_or-set_same, get_or-set_other, get_or_past, get_or_push, get_or_append_left, length-set}
 use Rattle.cop_bus.specs.declared.ranking.Rank.{Rank}
-use Rattle.cop_bus.specs.Ranks.{is_before, earlier, rank_at, IsWonAt, IsTournament, IsNotAfter, IsFirstOf}
+use Rattle.cop_bus.specs.Ranks.{is_before, leader, rank_at, above, AreNodes, IsApart, IsLed, Leads, AreLedBut, AreSiblings, IsTournament, IsNotAfter, IsFirstOf}
 
 -- ---- two ranks
 
@@ -44,39 +44,39 @@ before-false s r f = elim (cases_lt r.at s.at) [
     or-last true c e = refl
     or-last false c e = e
 
--- what x holds does not come after what y holds
-abbrev Leads : Option Rank → Option Rank → Type 0
-Leads x y = (s : Rank) → y ≡ Some s → (r : Rank) × (x ≡ Some r) × IsNotAfter r s
+-- ---- two places
 
-leads-more : (x y z : Option Rank) → Leads x y → Leads y z → Leads x z
-leads-more x y z a b s e = (let w = b s e in let v = a w.0 w.1 in (v.0, v.1, after-more v.0 w.0 s v.2 w.2))
+pub leads-itself : (ranks : List (Option Rank)) (p : ℕ) → Leads ranks p p
+leads-itself ranks p s e = (s, e, after-same s)
 
--- the earlier of two leads both, and is one of them
-leads-left : (x y : Option Rank) → Leads (earlier x y) x
-leads-left None y s e = absurd (cc)
-leads-left (Some r) None s e = (let q = some-one r s e in (r, refl, subst (λ v. IsNotAfter r v) q (after-same r)))
-leads-left (Some r) (Some t) s e = (let q = some-one r s e in elim (cases_Bool (is_before t r)) [
-  | inl b ↦ (t, ap (λ v. cond v (Some t) (Some r)) b, subst (λ v. IsNotAfter t v) q (before-true t r b))
-  | inr b ↦ (r, ap (λ v. cond v (Some t) (Some r)) b, subst (λ v. IsNotAfter r v) q (after-same r))
-])
+leads-more : (ranks : List (Option Rank)) (p q i : ℕ) → Leads ranks p q → Leads ranks q i → Leads ranks p i
+leads-more ranks p q i a b s e = (let w = b s e in let v = a w.0 w.1 in (v.0, v.1, after-more v.0 w.0 s v.2 w.2))
 
-leads-right : (x y : Option Rank) → Leads (earlier x y) y
-leads-right None y s e = (s, e, after-same s)
-leads-right (Some r) None s e = absurd (cc)
-leads-right (Some r) (Some t) s e = (let q = some-one t s e in elim (cases_Bool (is_before t r)) [
-  | inl b ↦ (t, ap (λ v. cond v (Some t) (Some r)) b, subst (λ v. IsNotAfter t v) q (after-same t))
-  | inr b ↦ (r, ap (λ v. cond v (Some t) (Some r)) b, subst (λ v. IsNotAfter r v) q (before-false t r b))
-])
+-- the leader of two leads both, and is one of them
+pub leader-leads : (ranks : List (Option Rank)) (p q : ℕ) → Leads ranks (leader p (rank_at ranks p) q (rank_at ranks q)) p × Leads ranks (leader p (rank_at ranks p) q (rank_at ranks q)) q
+leader-leads ranks p q = go (rank_at ranks p) (rank_at ranks q) refl refl
+  where
+    go : (x y : Option Rank) → rank_at ranks p ≡ x → rank_at ranks q ≡ y → Leads ranks (leader p x q y) p × Leads ranks (leader p x q y) q
+    go None None e f = (leads-itself ranks p, λ s g. absurd (cc))
+    go (Some r) None e f = (leads-itself ranks p, λ s g. absurd (cc))
+    go None (Some t) e f = ((λ s g. absurd (cc)), leads-itself ranks q)
+    go (Some r) (Some t) e f = elim (cases_Bool (is_before t r)) [
+      | inl b ↦ subst (λ v. Leads ranks v p × Leads ranks v q) (sym (ap (λ v. cond v q p) b))
+          ((λ s g. (let z = some-one r s (sym e ∙ g) in (t, f, subst (λ v. IsNotAfter t v) z (before-true t r b)))), leads-itself ranks q)
+      | inr b ↦ subst (λ v. Leads ranks v p × Leads ranks v q) (sym (ap (λ v. cond v q p) b))
+          (leads-itself ranks p, (λ s g. (let z = some-one t s (sym f ∙ g) in (r, e, subst (λ v. IsNotAfter r v) z (before-false t r b)))))
+    ]
 
-one-of : (x y : Option Rank) (s : Rank) → earlier x y ≡ Some s → (x ≡ Some s) ⊎ (y ≡ Some s)
-one-of None y s e = inr e
-one-of (Some r) None s e = inl e
-one-of (Some r) (Some t) s e = elim (cases_Bool (is_before t r)) [
-  | inl b ↦ inr (sym (ap (λ v. cond v (Some t) (Some r)) b) ∙ e)
-  | inr b ↦ inl (sym (ap (λ v. cond v (Some t) (Some r)) b) ∙ e)
+pub leader-one : (p q : ℕ) (x y : Option Rank) → (leader p x q y ≡ p) ⊎ (leader p x q y ≡ q)
+leader-one p q None None = inl refl
+leader-one p q (Some r) None = inl refl
+leader-one p q None (Some t) = inr refl
+leader-one p q (Some r) (Some t) = elim (cases_Bool (is_before t r)) [
+  | inl b ↦ inr (ap (λ v. cond v q p) b)
+  | inr b ↦ inl (ap (λ v. cond v q p) b)
 ]
 
--- ---- the root
+-- ---- the nodes above one another
 
 -- each number is twice another, or one more
 half : (j : ℕ) → (h : ℕ) × ((j ≡ h + h) ⊎ (j ≡ h + h + 1))
@@ -86,101 +86,209 @@ half (suc j) = (let w = half j in elim w.1 [
   | inr e ↦ (suc w.0, inl (omega (arith, e)))
 ])
 
-module _ (places : ℕ) (nodes : List (Option Rank)) (won : (k : ℕ) → 1 ≤ k → k < places → IsWonAt nodes k) where
+-- one node further up
+pub above-more : (j n : ℕ) → above (suc j) n ≡ above j n / 2
+above-more zero n = refl
+above-more (suc j) n = above-more j (n / 2)
+
+above-none : (j : ℕ) → above j 0 ≡ 0
+above-none zero = refl
+above-none (suc j) = ap (above j) (let e : 0 / 2 ≡ 0 = omega arith in e) ∙ above-none j
+
+-- each node is apart from the root
+pub root-apart : (k n : ℕ) → 1 ≤ k → n ≤ 1 → IsApart k n
+root-apart k n l m j e = (let z : above j (n / 2) ≡ 0 = ap (above j) (let e : n / 2 ≡ 0 = omega (arith, m) in e) ∙ above-none j in absurd (omega (arith, z, e, l)))
+
+-- a node that does not stand above the one above n, and is not that one, does not stand above n
+apart-more : (k n : ℕ) → n / 2 ≢ k → IsApart k (n / 2) → IsApart k n
+apart-more k n d a zero e = d e
+apart-more k n d a (suc j) e = a j e
+
+-- ---- the root
+
+module _ (leaders : List ℕ) (ranks : List (Option Rank)) (led : (k : ℕ) → 1 ≤ k → k < length ranks → IsLed ranks leaders k) where
   -- the root leads each node
-  up : (n j : ℕ) → j ≤ n → 1 ≤ j → j < places + places → Leads (rank_at nodes 1) (rank_at nodes j)
+  up : (n j : ℕ) → j ≤ n → 1 ≤ j → j < length ranks + length ranks → Leads ranks (slice_index leaders 1) (slice_index leaders j)
   up zero j l m u = absurd (omega (arith, l, m))
   up (suc n) j l m u = elim (cases_eq j 1) [
-    | inl e ↦ (λ s q. (s, sym (ap (rank_at nodes) e) ∙ q, after-same s))
+    | inl e ↦ subst (λ i. Leads ranks (slice_index leaders 1) (slice_index leaders i)) (sym e) (leads-itself ranks (slice_index leaders 1))
     | inr e ↦ (let w = half j in elim w.1 [
       | inl d ↦ (let k = w.0 in
           let a : 1 ≤ k = omega (arith, d, m) in
-          let b : k < places = omega (arith, d, u) in
-          let v = subst (λ x. Leads x (rank_at nodes (k + k))) (sym (won k a b)) (leads-left (rank_at nodes (k + k)) (rank_at nodes (k + k + 1))) in
-          subst (λ i. Leads (rank_at nodes 1) (rank_at nodes i)) (sym d)
-          (leads-more (rank_at nodes 1) (rank_at nodes k) (rank_at nodes (k + k)) (up n k (omega (arith, d, l, a)) a (omega (arith, b))) v))
+          let b : k < length ranks = omega (arith, d, u) in
+          subst (λ i. Leads ranks (slice_index leaders 1) (slice_index leaders i)) (sym d)
+          (leads-more ranks (slice_index leaders 1) (slice_index leaders k) (slice_index leaders (k + k)) (up n k (omega (arith, d, l, a)) a (omega (arith, b))) (led k a b).0))
       | inr d ↦ (let k = w.0 in
           let a : 1 ≤ k = elim (cases_lt 0 k) [ inl g ↦ g | inr g ↦ absurd (e (omega (arith, d, g))) ] in
-          let b : k < places = omega (arith, d, u) in
-          let v = subst (λ x. Leads x (rank_at nodes (k + k + 1))) (sym (won k a b)) (leads-right (rank_at nodes (k + k)) (rank_at nodes (k + k + 1))) in
-          subst (λ i. Leads (rank_at nodes 1) (rank_at nodes i)) (sym d)
-          (leads-more (rank_at nodes 1) (rank_at nodes k) (rank_at nodes (k + k + 1)) (up n k (omega (arith, d, l, a)) a (omega (arith, b))) v))
+          let b : k < length ranks = omega (arith, d, u) in
+          subst (λ i. Leads ranks (slice_index leaders 1) (slice_index leaders i)) (sym d)
+          (leads-more ranks (slice_index leaders 1) (slice_index leaders k) (slice_index leaders (k + k + 1)) (up n k (omega (arith, d, l, a)) a (omega (arith, b))) (led k a b).1))
     ])
   ]
 
-  -- what a node holds stands at a place
-  down : (n j : ℕ) → places + places ≤ j + n → 1 ≤ j → j < places + places → (s : Rank) → rank_at nodes j ≡ Some s → (i : ℕ) × (i < places) × (rank_at nodes (places + i) ≡ Some s)
-  down zero j l m u s e = absurd (omega (arith, l, u))
-  down (suc n) j l m u s e = elim (cases_lt j places) [
-    | inr g ↦ (let d : j ≡ places + (j - places) = omega (arith, g) in (j - places, omega (arith, g, u), sym (ap (rank_at nodes) d) ∙ e))
-    | inl g ↦ elim (one-of (rank_at nodes (j + j)) (rank_at nodes (j + j + 1)) s (sym (won j m g) ∙ e)) [
-      | inl f ↦ down n (j + j) (omega (arith, l, m)) (omega (arith, m)) (omega (arith, g)) s f
-      | inr f ↦ down n (j + j + 1) (omega (arith, l, m)) (omega arith) (omega (arith, g)) s f
-    ]
-  ]
-
--- the rank of a place stands behind the nodes
-pub rank-behind : (places : ℕ) (nodes : List (Option Rank)) (i : ℕ) → rank_at (drop places nodes) i ≡ rank_at nodes (places + i)
-rank-behind places nodes i = get_or-drop places nodes i None
-
-pub root-first : (places : ℕ) (nodes : List (Option Rank)) → IsTournament places nodes → 1 ≤ places → IsFirstOf (drop places nodes) (rank_at nodes 1)
-root-first places nodes t m = go (rank_at nodes 1) refl
+pub root-first : (leaders : List ℕ) (ranks : List (Option Rank)) → IsTournament leaders ranks → 1 ≤ length ranks → IsFirstOf ranks (rank_at ranks (slice_index leaders 1))
+root-first leaders ranks t m = go (rank_at ranks (slice_index leaders 1)) refl
   where
-    go : (root : Option Rank) → rank_at nodes 1 ≡ root → IsFirstOf (drop places nodes) root
-    go None e = λ i. none i (rank_at (drop places nodes) i) refl
-      where
-        none : (i : ℕ) (x : Option Rank) → rank_at (drop places nodes) i ≡ x → rank_at (drop places nodes) i ≡ None
-        none i None f = f
-        none i (Some s) f = elim (cases_lt i places) [
-          | inl l ↦ (let w = up places nodes t.won (places + i) (places + i) (omega arith) (omega (arith, m)) (omega (arith, l)) s (sym (rank-behind places nodes i) ∙ f) in
-              let z : None ≡ Some w.0 = sym e ∙ w.1 in absurd (cc))
-          | inr l ↦ get_or_past (drop places nodes) i None (let n = length-drop places nodes in let k = t.many in omega (arith, n, k, l))
-        ]
+    root : ℕ
+    root = slice_index leaders 1
+
+    leads : (i : ℕ) → i < length ranks → Leads ranks (slice_index leaders 1) i
+    leads i l = subst (Leads ranks (slice_index leaders 1)) (t.nodes.leaves i l) (up leaders ranks t.led (length ranks + i) (length ranks + i) (omega arith) (omega (arith, m)) (omega (arith, l)))
+
+    none : (i : ℕ) (x : Option Rank) → rank_at ranks (slice_index leaders 1) ≡ None → rank_at ranks i ≡ x → rank_at ranks i ≡ None
+    none i None e f = f
+    none i (Some s) e f = elim (cases_lt i (length ranks)) [
+      | inl l ↦ (let w = leads i l s f in let z : None ≡ Some w.0 = sym e ∙ w.1 in absurd (cc))
+      | inr l ↦ get_or_past ranks i None l
+    ]
+
+    go : (x : Option Rank) → rank_at ranks (slice_index leaders 1) ≡ x → IsFirstOf ranks x
+    go None e = λ i. none i (rank_at ranks i) e refl
     go (Some r) e =
-        let w = down places nodes t.won (places + places) 1 (omega arith) (omega arith) (omega (arith, m)) r e in
-        let here : rank_at (drop places nodes) w.0 ≡ Some r = rank-behind places nodes w.0 ∙ w.2 in
-        let own : r.place ≡ w.0 = t.own w.0 r here in
-        let low = w.1 in
+        let own : r.place ≡ slice_index leaders 1 = t.own (slice_index leaders 1) r e in
+        let low = t.nodes.within 1 (omega arith) (omega (arith, m)) in
         record {
-          within = (let n = length-drop places nodes in let k = t.many in omega (arith, n, k, own, low));
-          here = ap (rank_at (drop places nodes)) own ∙ here;
-          first = λ i s f. elim (cases_lt i places) [
-            | inl l ↦ (let v = up places nodes t.won (places + i) (places + i) (omega arith) (omega (arith, m)) (omega (arith, l)) s (sym (rank-behind places nodes i) ∙ f) in
-                let q = some-one v.0 r (sym v.1 ∙ e) in subst (λ x. IsNotAfter x s) q v.2)
-            | inr l ↦ (let z : None ≡ Some s = sym (get_or_past (drop places nodes) i None (let n = length-drop places nodes in let k = t.many in omega (arith, n, k, l))) ∙ f in absurd (cc))
+          within = omega (arith, own, low);
+          here = ap (rank_at ranks) own ∙ e;
+          first = λ i s f. elim (cases_lt i (length ranks)) [
+            | inl l ↦ (let v = leads i l s f in let q = some-one v.0 r (sym v.1 ∙ e) in subst (λ x. IsNotAfter x s) q v.2)
+            | inr l ↦ (let z : None ≡ Some s = sym (get_or_past ranks i None l) ∙ f in absurd (cc))
           ];
         }
 
 -- ---- a change
 
--- the nodes hold the earlier of those below them, but perhaps one does not
-abbrev pub IsWonBut : ℕ → List (Option Rank) → ℕ → Type 0
-IsWonBut places nodes node = (k : ℕ) → 1 ≤ k → k < places → k ≢ node → IsWonAt nodes k
-
-pub won-above : (places : ℕ) (nodes : List (Option Rank)) (node : ℕ) (rank : Option Rank) → length nodes ≡ places + places → IsWonBut places nodes node → 1 ≤ node → node < places →
-    rank ≡ earlier (rank_at nodes (node + node)) (rank_at nodes (node + node + 1)) → IsWonBut places (slice_set nodes node rank) (node / 2)
-won-above places nodes node rank many won least low is k l m n = elim (cases_eq k node) [
-  | inl e ↦ subst (IsWonAt (slice_set nodes node rank)) (sym e)
-      (get_or-set_same nodes node rank None (omega (arith, many, low)) ∙ is
-      ∙ sym (ap (λ x. earlier x (rank_at nodes (node + node + 1))) (other (node + node) (λ f. absurd (omega (arith, f, least)))))
-      ∙ sym (ap (earlier (rank_at (slice_set nodes node rank) (node + node))) (other (node + node + 1) (λ f. absurd (omega (arith, f, least))))))
-  | inr e ↦ other k e ∙ won k l m e
-      ∙ sym (ap (λ x. earlier x (rank_at nodes (k + k + 1))) (other (k + k) (λ f. n (omega (arith, f)))))
-      ∙ sym (ap (earlier (rank_at (slice_set nodes node rank) (k + k))) (other (k + k + 1) (λ f. n (omega (arith, f)))))
-]
+-- a node names another place below it
+pub over-set : (places from till : ℕ) (leaders : List ℕ) (node first : ℕ) → AreNodes places from leaders → ((k : ℕ) → till ≤ k → k ≢ node → from ≤ k) → node < places → first < places → (j : ℕ) → above j (places + first) ≡ node →
+    AreNodes places till (slice_set leaders node first)
+over-set places from till leaders node first t wider low f j o = record {
+  many = length-set leaders node first ∙ t.many;
+  leaves = λ i l. other (places + i) (λ e. absurd (omega (arith, e, low))) ∙ t.leaves i l;
+  within = λ k l m. elim (cases_eq k node) [
+    | inl e ↦ subst (λ v. v < places) (sym (same k e)) f
+    | inr e ↦ subst (λ v. v < places) (sym (other k e)) (t.within k (wider k l e) m)
+  ];
+  over = λ k l m. elim (cases_eq k node) [
+    | inl e ↦ (j, ap (λ v. above j (places + v)) (same k e) ∙ o ∙ sym e)
+    | inr e ↦ (let w = t.over k (wider k l e) m in (w.0, ap (λ v. above w.0 (places + v)) (other k e) ∙ w.1))
+  ];
+}
   where
-    other : (j : ℕ) → j ≢ node → rank_at (slice_set nodes node rank) j ≡ rank_at nodes j
-    other j d = get_or-set_other nodes node j rank None d
+    other : (j : ℕ) → j ≢ node → slice_index (slice_set leaders node first) j ≡ slice_index leaders j
+    other j d = get_or-set_other leaders node j first 0 d
 
--- a place's rank changes
-pub won-place : (places : ℕ) (nodes : List (Option Rank)) (node : ℕ) (rank : Option Rank) → ((k : ℕ) → 1 ≤ k → k < places → IsWonAt nodes k) → places ≤ node → IsWonBut places (slice_set nodes node rank) (node / 2)
-won-place places nodes node rank won high k l m n =
-    other k (λ f. absurd (omega (arith, f, m, high))) ∙ won k l m
-    ∙ sym (ap (λ x. earlier x (rank_at nodes (k + k + 1))) (other (k + k) (λ f. n (omega (arith, f)))))
-    ∙ sym (ap (earlier (rank_at (slice_set nodes node rank) (k + k))) (other (k + k + 1) (λ f. n (omega (arith, f)))))
-  where
-    other : (j : ℕ) → j ≢ node → rank_at (slice_set nodes node rank) j ≡ rank_at nodes j
-    other j d = get_or-set_other nodes node j rank None d
+    same : (j : ℕ) → j ≡ node → slice_index (slice_set leaders node first) j ≡ first
+    same j e = ap (slice_index (slice_set leaders node first)) e ∙ get_or-set_same leaders node first 0 (let n = t.many in omega (arith, n, low))
+
+leads-is : (ranks : List (Option Rank)) (p q p' q' : ℕ) → p' ≡ p → q' ≡ q → Leads ranks p q → Leads ranks p' q'
+leads-is ranks p q p' q' e f h = subst (λ v. Leads ranks v q') (sym e) (subst (Leads ranks p) (sym f) h)
+
+-- the node above one names the leader of that and its sibling
+module _ (ranks : List (Option Rank)) (leaders : List ℕ) (node other first next : ℕ) (nodes : AreNodes (length ranks) 1 leaders) (least : 1 < node) (most : node < length ranks + length ranks)
+    (named : slice_index leaders node ≡ first) (beside : AreSiblings node other) (is : next ≡ leader first (rank_at ranks first) (slice_index leaders other) (rank_at ranks (slice_index leaders other))) where
+  pub other-least : 1 ≤ other
+  other-least = elim beside [ inl d ↦ (let a = d.1 in omega (arith, a)) | inr d ↦ (let a = d.1 in omega (arith, a, least)) ]
+
+  pub other-most : other < length ranks + length ranks
+  other-most = elim beside [ inl d ↦ (let a = d.0 in let b = d.1 in omega (arith, a, b, most)) | inr d ↦ (let a = d.0 in let b = d.1 in omega (arith, a, b, most)) ]
+
+  other-half : other / 2 ≡ node / 2
+  other-half = elim beside [ inl d ↦ (let b = d.1 in omega (arith, b)) | inr d ↦ (let b = d.1 in omega (arith, b)) ]
+
+  up-least : 1 ≤ node / 2
+  up-least = omega (arith, least)
+
+  up-most : node / 2 < length ranks
+  up-most = omega (arith, most)
+
+  one : (next ≡ slice_index leaders node) ⊎ (next ≡ slice_index leaders other)
+  one = elim (leader-one first (slice_index leaders other) (rank_at ranks first) (rank_at ranks (slice_index leaders other))) [
+    | inl e ↦ inl (is ∙ e ∙ sym named)
+    | inr e ↦ inr (is ∙ e)
+  ]
+
+  pub settled-nodes : AreNodes (length ranks) 1 (slice_set leaders (node / 2) next)
+  settled-nodes = elim one [
+    | inl e ↦ (let w = nodes.over node (omega (arith, least)) most in
+        over-set (length ranks) 1 1 leaders (node / 2) next nodes (λ k l d. l) up-most (subst (λ v. v < length ranks) (sym e) (nodes.within node (omega (arith, least)) most))
+        (suc w.0) (above-more w.0 (length ranks + next) ∙ ap (λ v. v / 2) (ap (λ v. above w.0 (length ranks + v)) e ∙ w.1)))
+    | inr e ↦ (let w = nodes.over other other-least other-most in
+        over-set (length ranks) 1 1 leaders (node / 2) next nodes (λ k l d. l) up-most (subst (λ v. v < length ranks) (sym e) (nodes.within other other-least other-most))
+        (suc w.0) (above-more w.0 (length ranks + next) ∙ ap (λ v. v / 2) (ap (λ v. above w.0 (length ranks + v)) e ∙ w.1) ∙ other-half))
+  ]
+
+  kept : (j : ℕ) → j ≢ node / 2 → slice_index (slice_set leaders (node / 2) next) j ≡ slice_index leaders j
+  kept j d = get_or-set_other leaders (node / 2) j next 0 d
+
+  pub settled-named : slice_index (slice_set leaders (node / 2) next) (node / 2) ≡ next
+  settled-named = get_or-set_same leaders (node / 2) next 0 (let n = nodes.many in let l = up-most in omega (arith, n, l))
+
+  lead : Leads ranks next (slice_index leaders node) × Leads ranks next (slice_index leaders other)
+  lead = (let w = leader-leads ranks first (slice_index leaders other) in (
+    leads-is ranks (leader first (rank_at ranks first) (slice_index leaders other) (rank_at ranks (slice_index leaders other))) first next (slice_index leaders node) is named w.0,
+    leads-is ranks (leader first (rank_at ranks first) (slice_index leaders other) (rank_at ranks (slice_index leaders other))) (slice_index leaders other) next (slice_index leaders other) is refl w.1,
+  ))
+
+  led-here : IsLed ranks (slice_set leaders (node / 2) next) (node / 2)
+  led-here =
+      let p : ℕ = node / 2 in
+      let l = up-least in
+      let a = kept (p + p) (λ e. absurd (omega (arith, e, l))) in
+      let b = kept (p + p + 1) (λ e. absurd (omega (arith, e, l))) in
+      elim beside [
+        | inl d ↦ (
+          leads-is ranks next (slice_index leaders node) (slice_index (slice_set leaders p next) p) (slice_index (slice_set leaders p next) (p + p)) settled-named (a ∙ ap (slice_index leaders) (sym d.0)) lead.0,
+          leads-is ranks next (slice_index leaders other) (slice_index (slice_set leaders p next) p) (slice_index (slice_set leaders p next) (p + p + 1)) settled-named (b ∙ ap (slice_index leaders) (sym d.1)) lead.1,
+        )
+        | inr d ↦ (
+          leads-is ranks next (slice_index leaders other) (slice_index (slice_set leaders p next) p) (slice_index (slice_set leaders p next) (p + p)) settled-named (a ∙ ap (slice_index leaders) (sym d.1)) lead.1,
+          leads-is ranks next (slice_index leaders node) (slice_index (slice_set leaders p next) p) (slice_index (slice_set leaders p next) (p + p + 1)) settled-named (b ∙ ap (slice_index leaders) (sym d.0)) lead.0,
+        )
+      ]
+
+  pub settled-led : AreLedBut ranks leaders node → AreLedBut ranks (slice_set leaders (node / 2) next) (node / 2)
+  settled-led led k l m a = elim (cases_eq k (node / 2)) [
+    | inl e ↦ subst (IsLed ranks (slice_set leaders (node / 2) next)) (sym e) led-here
+    | inr e ↦ (let w = led k l m (apart-more k node (λ z. e (sym z)) a) in (
+      leads-is ranks (slice_index leaders k) (slice_index leaders (k + k)) (slice_index (slice_set leaders (node / 2) next) k) (slice_index (slice_set leaders (node / 2) next) (k + k)) (kept k e) (kept (k + k) (λ f. a 0 (omega (arith, f)))) w.0,
+      leads-is ranks (slice_index leaders k) (slice_index leaders (k + k + 1)) (slice_index (slice_set leaders (node / 2) next) k) (slice_index (slice_set leaders (node / 2) next) (k + k + 1)) (kept k e) (kept (k + k + 1) (λ f. a 0 (omega (arith, f)))) w.1,
+    ))
+  ]
+
+pub all-led : (ranks : List (Option Rank)) (leaders : List ℕ) (node : ℕ) → node ≤ 1 → AreLedBut ranks leaders node → (k : ℕ) → 1 ≤ k → k < length ranks → IsLed ranks leaders k
+all-led ranks leaders node low led k l m = led k l m (root-apart k node l low)
+
+-- a place's rank changes: the nodes that don't stand above it name other places
+module _ (ranks : List (Option Rank)) (leaders : List ℕ) (place : ℕ) (rank : Option Rank) (t : IsTournament leaders ranks) (low : place < length ranks) where
+  same-count : length (slice_set ranks place rank) ≡ length ranks
+  same-count = length-set ranks place rank
+
+  pub changed-nodes : AreNodes (length (slice_set ranks place rank)) 1 leaders
+  changed-nodes = subst (λ n. AreNodes n 1 leaders) (sym same-count) t.nodes
+
+  leads-other : (p q : ℕ) → p ≢ place → q ≢ place → Leads ranks p q → Leads (slice_set ranks place rank) p q
+  leads-other p q np nq h s e = (let w = h s (sym (get_or-set_other ranks place q rank None nq) ∙ e) in (w.0, get_or-set_other ranks place p rank None np ∙ w.1, w.2))
+
+  pub changed-led : AreLedBut (slice_set ranks place rank) leaders (length (slice_set ranks place rank) + place)
+  changed-led k l m a =
+      let n = same-count in
+      let w = t.led k l (omega (arith, n, m)) in (
+        leads-other (slice_index leaders k) (slice_index leaders (k + k)) here (below (k + k) (omega (arith, l)) (omega (arith, n, m)) (omega arith)) w.0,
+        leads-other (slice_index leaders k) (slice_index leaders (k + k + 1)) here (below (k + k + 1) (omega (arith, l)) (omega (arith, n, m)) (omega arith)) w.1,
+      )
+    where
+      apart : (j : ℕ) → above (suc j) (length ranks + place) ≢ k
+      apart j e = a j (ap (λ v. above (suc j) (v + place)) same-count ∙ e)
+
+      below : (c : ℕ) → 1 ≤ c → c < length ranks + length ranks → c / 2 ≡ k → slice_index leaders c ≢ place
+      below c x y h e = (let v = t.nodes.over c x y in apart v.0 (above-more v.0 (length ranks + place) ∙ ap (λ u. u / 2) (sym (ap (λ u. above v.0 (length ranks + u)) e) ∙ v.1) ∙ h))
+
+      own-node : (j : ℕ) → above j (length ranks + place) ≢ k
+      own-node zero f = (let n = same-count in absurd (omega (arith, n, m, f)))
+      own-node (suc j) f = apart j f
+
+      here : slice_index leaders k ≢ place
+      here e = (let n = same-count in let v = t.nodes.over k l (omega (arith, n, m)) in own-node v.0 (sym (ap (λ u. above v.0 (length ranks + u)) e) ∙ v.1))
 
 pub own-place : (ranks : List (Option Rank)) (place : ℕ) (rank : Option Rank) → ((i : ℕ) (r : Rank) → rank_at ranks i ≡ Some r → r.place ≡ i) → place < length ranks → ForSome rank (λ r. r.place ≡ place) →
     (i : ℕ) (r : Rank) → rank_at (slice_set ranks place rank) i ≡ Some r → r.place ≡ i
@@ -196,9 +304,30 @@ none-held zero i = refl
 none-held (suc n) zero = refl
 none-held (suc n) (suc i) = none-held n i
 
-pub drop-half : (n : ℕ) (x : Option Rank) → drop n (replicate (n + n) x) ≡ replicate n x
-drop-half n x = go n n
+-- the places that stand last
+pub places-more : (nodes : List ℕ) (places n : ℕ) → length nodes ≡ places + n → ((i : ℕ) → i < n → slice_index nodes (places + i) ≡ i) → (i : ℕ) → i < n + 1 → slice_index (nodes ++ n ∷ []) (places + i) ≡ i
+places-more nodes places n many before i l = elim (cases_eq i n) [
+  | inl e ↦ get_or_push nodes n 0 (places + i) (omega (arith, many, e)) ∙ sym e
+  | inr e ↦ get_or_append_left nodes (n ∷ []) 0 (places + i) (omega (arith, many, l, e)) ∙ before i (omega (arith, l, e))
+]
+
+pub places-nodes : (places : ℕ) (nodes : List ℕ) → length nodes ≡ places + places → ((i : ℕ) → i < places → slice_index nodes (places + i) ≡ i) → AreNodes places places nodes
+places-nodes places nodes many leaves = record {
+  many = many;
+  leaves = leaves;
+  within = λ k l m. (let e = at k l m in omega (arith, e, l, m));
+  over = λ k l m. (0, let e = at k l m in omega (arith, e, l));
+}
   where
-    go : (n m : ℕ) → drop n (replicate (n + m) x) ≡ replicate m x
-    go zero m = ap (λ k. replicate k x) (let e : 0 + m ≡ m = omega arith in e)
-    go (suc n) m = ap (λ k. drop (suc n) (replicate k x)) (let e : suc n + m ≡ suc (n + m) = omega arith in e) ∙ go n m
+    at : (k : ℕ) → places ≤ k → k < places + places → slice_index nodes k ≡ k - places
+    at k l m = ap (slice_index nodes) (let d : k ≡ places + (k - places) = omega (arith, l) in d) ∙ leaves (k - places) (omega (arith, l, m))
+
+-- one more node names the first place below it
+pub nodes-down : (places node : ℕ) (nodes : List ℕ) → 1 ≤ node → node < places → AreNodes places (node + 1) nodes → AreNodes places node (slice_set nodes node (slice_index nodes (node + node)))
+nodes-down places node nodes least low t =
+    let w = t.over (node + node) (omega (arith, least)) (omega (arith, low)) in
+    over-set places (node + 1) node nodes node (slice_index nodes (node + node)) t (λ k l d. omega (arith, l, d)) low (t.within (node + node) (omega (arith, least)) (omega (arith, low)))
+    (suc w.0) (above-more w.0 (places + slice_index nodes (node + node)) ∙ ap (λ v. v / 2) w.1 ∙ (let e : (node + node) / 2 ≡ node = omega arith in e))
+
+pub nodes-all : (places node : ℕ) (nodes : List ℕ) → node ≤ 1 → AreNodes places node nodes → AreNodes places 1 nodes
+nodes-all places node nodes low t = record { many = t.many; leaves = t.leaves; within = λ k l m. t.within k (omega (arith, l, low)) m; over = λ k l m. t.over k (omega (arith, l, low)) m }

@@ -17,6 +17,10 @@ pub record Bus : Type 0 where
   pub rings : List RingValue
   pub running : Option (ℕ × ℕ)
 
+-- all instances that wait were queued by a moment
+abbrev pub AreQueuedBy : List RingValue → ℕ → Type 0
+AreQueuedBy rings now = All (λ r. All (λ y. y.at ≤ now) r.waiting) rings
+
 -- each ring is found by its identifier
 pub record ArePlaced (places : BTreeMap ℕ ℕ) (rings : List RingValue) : Type 0 where
   pub each : (i : ℕ) (r : RingValue) → slice_get rings i ≡ Some r → get nat_cmp places r.id ≡ Some i

@@ -3,7 +3,7 @@
 ghost use Rattle.std.specs.Prelude.{◌≡◌, ◌≢◌, ◌+◌, ◌^◌, ◌<◌, ◌≤◌, ◌∷◌, ◌++◌, [], ◌↔◌, All, AllPairs, Any, OnOk, OnErr, IfOk, IfSome, IfNone, IsOk, None, Some, true, false, ℕ, ◌*◌, length, slice_get, slice_set};
 ghost use Rattle.cop_frame.specs.Rate.{ticks_of};
 ghost use Rattle.cop_rta.specs.Streams.{AreDistinct};
-ghost use Rattle.cop_bus.specs.Bus.{ArePlaced, IsLowestAt, Starts, is_lower, without_first};
+ghost use Rattle.cop_bus.specs.Bus.{ArePlaced, AreQueuedBy, IsLowestAt, Starts, is_lower, without_first};
 ghost use Rattle.cop_bus.specs.declared.bus.Instance.{Instance as Seen};
 ghost use Rattle.cop_bus.specs.Queues.{IsLowest};
 ghost use Rattle.cop_bus.specs.Rings.{RingValue, rings_of};
@@ -84,7 +84,8 @@ impl Bus {
     /// A bus on which nothing waits or runs, with room for as many instances of each stream of the set as
     /// [`most_of`](crate::most_of) says.
     pub fn with_rings(alloc: Global, streams: &StreamSet, rate: Rate) -> Result<Bus, AllocError>
-        ensures { IfOk result (λ bus. bus ≡ record { rate = rate; rings = rings_of streams.now; running = None }) }
+        ensures bus { IfOk result (λ bus. bus ≡ record { rate = rate; rings = rings_of streams.now; running = None }) }
+        ensures queued { IfOk result (λ bus. (now : ℕ) → AreQueuedBy bus.rings now) }
     {
         let streams = streams.streams();
         Ok(Bus {
@@ -132,6 +133,8 @@ impl Bus {
         ensures ok { (place : ℕ) (r : RingValue) → slice_get self.old.rings place ≡ Some r → r.id ≡ instance.id
             → OnOk result (self.new ≡ record self.old { rings = slice_set self.old.rings place (record r { waiting = r.waiting ++ instance ∷ [] }) }) }
         ensures err { OnErr result (self.new ≡ self.old) }
+        ensures running { self.new.running ≡ self.old.running }
+        ensures queued { (now : ℕ) → instance.at ≤ now → AreQueuedBy self.old.rings now → AreQueuedBy self.new.rings now }
     {
         match self.places.get(&instance.id) {
             Some(place) => {
@@ -148,11 +151,12 @@ impl Bus {
     pub fn start(&mut self, now: u64, joiners: &[Instance]) -> Option<Started>
         requires idle { self.old.running ≡ None }
         requires early { now < 2 ^ 63 }
-        requires queued { All (λ r. All (λ y. y.at ≤ now) r.waiting) self.old.rings }
+        requires queued { AreQueuedBy self.old.rings now }
         requires soon { All (λ j. (now < j.at) × (j.at < now + ticks_of self.old.rate)) joiners.now }
         requires none_waits { All (λ j. All (λ r. r.id ≡ j.id → r.waiting ≡ []) self.old.rings) joiners.now }
         requires distinct { AllPairs (λ j k. j.id ≢ k.id) joiners.now }
-        ensures { Starts self.old now joiners.now self.new result }
+        ensures starts { Starts self.old now joiners.now self.new result }
+        ensures queued { (now : ℕ) → AreQueuedBy self.old.rings now → AreQueuedBy self.new.rings now }
     {
         match self.queues.lowest() {
             Some(first) => Some(self.start_first(now, first, joiners)),

@@ -1,8 +1,8 @@
 //! The first of many places, found without a walk over them.
 
-ghost use Rattle.std.specs.Prelude.{◌≡◌, ◌≢◌, ℕ, ◌+◌, ◌/◌, ◌≤◌, ◌<◌, Some, None, IfOk, length, drop, replicate, slice_set};
+ghost use Rattle.std.specs.Prelude.{◌≡◌, ℕ, ◌+◌, ◌≤◌, ◌<◌, ◌^◌, None, IfOk, length, replicate, slice_index, slice_set};
 ghost use Rattle.std.specs.Option.{ForSome};
-ghost use Rattle.cop_bus.specs.Ranks.{is_before, earlier, rank_at, IsWonAt, IsFirstOf};
+ghost use Rattle.cop_bus.specs.Ranks.{is_before, leader, rank_at, AreNodes, AreLedBut, AreSiblings, IsLed, IsFirstOf};
 
 use std::alloc::{AllocError, Global};
 use std::marker::Model;
@@ -15,24 +15,24 @@ pub struct Rank {
     pub place: usize,
 }
 
-/// The ranks of places, of which some have none, as a tournament: node k holds the earlier one of the nodes 2k and
-/// 2k + 1, from 1 on, and behind those stand the ranks of the places.
+/// The ranks of places, of which some have none, and a tournament over them: node k names the place with the earlier
+/// rank of those that the nodes 2k and 2k + 1 name, from 1 on, and behind those stand the places themselves.
 #[derive(Drop)]
 pub struct Ranking {
-    places: usize,
-    nodes: Vec<Option<Rank>>,
+    ranks: Vec<Option<Rank>>,
+    leaders: Vec<usize>,
 }
 
 impl Model for Ranking {
-    ghost use Rattle.std.specs.Prelude.{List, Option, drop};
+    ghost use Rattle.std.specs.Prelude.{List, Option};
     ghost use Rattle.cop_bus.specs.declared.ranking.Rank.{Rank};
     ghost use Rattle.cop_bus.specs.Ranks.{IsTournament};
 
     ghost Value = { List (Option Rank) };
 
-    ghost view = { λ r. drop r.places r.nodes.items };
+    ghost view = { λ r. r.ranks.items };
 
-    ghost invariant = { λ r. IsTournament r.places r.nodes.items };
+    ghost invariant = { λ r. IsTournament r.leaders.items r.ranks.items };
 }
 
 fn is_before(rank: &Rank, other: &Rank) -> bool
@@ -41,35 +41,67 @@ fn is_before(rank: &Rank, other: &Rank) -> bool
     rank.at < other.at || (rank.at == other.at && rank.id < other.id)
 }
 
-// Of two nodes the one that holds the earlier rank: a place in the list is cheaper to hand on than the rank.
-fn winner(nodes: &[Option<Rank>], left: usize, right: usize) -> usize
-    requires left { left < length nodes.now }
-    requires right { right < length nodes.now }
-    ensures within { result < length nodes.now }
-    ensures won { rank_at nodes.now result ≡ earlier (rank_at nodes.now left) (rank_at nodes.now right) }
+// Of two places the one with the earlier rank.
+fn leader(ranks: &[Option<Rank>], place: usize, other: usize) -> usize
+    requires place { place < length ranks.now }
+    requires other { other < length ranks.now }
+    ensures { result ≡ leader place (rank_at ranks.now place) other (rank_at ranks.now other) }
 {
-    match (&nodes[left], &nodes[right]) {
-        (None, _) => right,
-        (Some(_), None) => left,
-        (Some(rank), Some(other)) => { if is_before(other, rank) { right } else { left } }
+    match (&ranks[place], &ranks[other]) {
+        (_, None) => place,
+        (None, Some(_)) => other,
+        (Some(rank), Some(next)) => { if is_before(next, rank) { other } else { place } }
     }
 }
 
-// Lets the nodes above a changed one hold the earlier of those below them again.
-fn settle(nodes: &mut Vec<Option<Rank>>, places: usize, changed: usize)
-    requires many { length nodes.old.items ≡ places + places }
-    requires within { changed < places + places }
-    requires won { (k : ℕ) → 1 ≤ k → k < places → k ≢ changed / 2 → IsWonAt nodes.old.items k }
-    ensures many { length nodes.new.items ≡ places + places }
-    ensures won { (k : ℕ) → 1 ≤ k → k < places → IsWonAt nodes.new.items k }
-    ensures ranks { drop places nodes.new.items ≡ drop places nodes.old.items }
+// The other node under the same one.
+fn sibling(node: usize) -> usize
+    requires { (1 < node) × (node + 1 < 2 ^ 64) }
+    ensures { AreSiblings node result }
 {
-    let mut node = changed / 2;
-    while node > 0 {
-        let first = winner(nodes, node + node, node + node + 1);
-        nodes[node] = nodes[first];
+    if node % 2 == 0 { node + 1 } else { node - 1 }
+}
+
+// Lets the nodes above a place whose rank has changed name the leading ones again.
+fn settle(leaders: &mut Vec<usize>, ranks: &[Option<Rank>], changed: usize)
+    requires nodes { AreNodes (length ranks.now) 1 leaders.old.items }
+    requires within { changed < length ranks.now }
+    requires led { AreLedBut ranks.now leaders.old.items (length ranks.now + changed) }
+    ensures nodes { AreNodes (length ranks.now) 1 leaders.new.items }
+    ensures led { (k : ℕ) → 1 ≤ k → k < length ranks.now → IsLed ranks.now leaders.new.items k }
+{
+    let mut node = ranks.len() + changed;
+    let mut first = changed;
+    while node > 1 {
+        first = leader(ranks, first, leaders[sibling(node)]);
         node /= 2;
+        leaders[node] = first;
     }
+}
+
+// The nodes of so many places, behind as many more.
+fn places_last(alloc: Global, places: usize) -> Result<Vec<usize>, AllocError>
+    ensures many { IfOk result (λ nodes. length nodes.items ≡ places + places) }
+    ensures leaves { IfOk result (λ nodes. (i : ℕ) → i < places → slice_index nodes.items (places + i) ≡ i) }
+{
+    let mut nodes = vec![in alloc; 0; places]?;
+    for place in 0..places {
+        nodes.push(place)?;
+    }
+    Ok(nodes)
+}
+
+// The nodes over so many places, of which none has a rank: each names the first place below it.
+fn nodes_over(alloc: Global, places: usize) -> Result<Vec<usize>, AllocError>
+    ensures { IfOk result (λ nodes. AreNodes places 1 nodes.items) }
+{
+    let mut nodes = places_last(alloc, places)?;
+    let mut node = places;
+    while node > 1 {
+        node -= 1;
+        nodes[node] = nodes[node + node];
+    }
+    Ok(nodes)
 }
 
 impl Ranking {
@@ -77,12 +109,9 @@ impl Ranking {
     pub fn new(alloc: Global, places: usize) -> Result<Ranking, AllocError>
         ensures { IfOk result (λ r. r ≡ replicate places None) }
     {
-        let Some(nodes) = places.checked_mul(2) else {
-            return Err(AllocError);
-        };
         Ok(Ranking {
-            places,
-            nodes: vec![in alloc; None; nodes]?,
+            ranks: vec![in alloc; None; places]?,
+            leaders: nodes_over(alloc, places)?,
         })
     }
 
@@ -90,11 +119,8 @@ impl Ranking {
     pub fn first(&self) -> Option<Rank>
         ensures { IsFirstOf self.now result }
     {
-        if self.places == 0 {
-            None
-        } else {
-            self.nodes[1]
-        }
+        let first = self.leaders.get(1)?;
+        self.ranks[*first]
     }
 
     /// Gives a place another rank, or takes its rank away.
@@ -103,8 +129,7 @@ impl Ranking {
         requires own { ForSome rank (λ r. r.place ≡ place) }
         ensures { self.new ≡ slice_set self.old place rank }
     {
-        let node = self.places + place;
-        self.nodes[node] = rank;
-        settle(&mut self.nodes, self.places, node);
+        self.ranks[place] = rank;
+        settle(&mut self.leaders, &self.ranks, place);
     }
 }

@@ -1,7 +1,8 @@
 use Rattle.std.proofs.Common.{◌≡◌, arith}
 use Rattle.std.specs.Prelude.{Some, get_or, slice_get}
 use Rattle.std.proofs.lemmas.Option.{slice_get-get_or}
-use Rattle.cop_bus.proofs.PlacedLemmas.{placed-more, all-placed, one-place}
+use Rattle.cop_bus.proofs.AtPlace.{one-place}
+use Rattle.cop_bus.proofs.PlacedLemmas.{placed-more, all-placed}
 use Rattle.cop_bus.proofs.bus.places_of.Goals as goal
 
 pub loop-i-preserved : goal.loop-i-preserved

@@ -1,13 +1,16 @@
-use Rattle.std.proofs.Common.{◌≡◌, ◌+◌, ◌<◌, length, drop}
-use Rattle.cop_bus.proofs.RankLemmas.{IsWonBut}
+use Rattle.std.proofs.Common.{◌≡◌, ◌+◌, ◌<◌, length}
+use Rattle.std.specs.Prelude.{slice_index}
+use Rattle.cop_bus.specs.Ranks.{AreNodes, AreLedBut}
 use Rattle.cop_bus.proofs.ranking.settle.Given as goal
 
 abbrev pub invariant-loop-node : goal.invariant-loop-node
 invariant-loop-node l = record {
-  many : length l.nodes.items ≡ l.places + l.places;
-  low : l.node + l.node < l.places + l.places;
-  won : IsWonBut l.places l.nodes.items l.node;
-  ranks : drop l.places l.nodes.items ≡ drop l.places l.fn.nodes.items;
+  nodes : AreNodes (length l.ranks) 1 l.leaders.items;
+  least : 0 < l.node;
+  most : l.node < length l.ranks + length l.ranks;
+  named : slice_index l.leaders.items l.node ≡ l.first;
+  within : l.first < length l.ranks;
+  led : AreLedBut l.ranks l.leaders.items l.node;
 }
 
 abbrev pub decreases-loop-node : goal.decreases-loop-node

@@ -1,15 +1,21 @@
-use Rattle.std.proofs.Common.{◌≤◌, arith, sym, subst, inl, inr}
-use Rattle.std.specs.Prelude.{None}
+use Rattle.std.proofs.Common.{◌≡◌, ◌<◌, ◌∙◌, ap, arith, get_or, length, sym, subst}
+use Rattle.std.specs.Prelude.{None, slice_index}
+use Rattle.std.proofs.lemmas.Bool.{ltb-true}
 use Rattle.std.proofs.lemmas.List.{get_or_read}
-use Rattle.std.proofs.lemmas.Bool.{cases_lt}
-use Rattle.cop_bus.specs.Ranks.{IsFirstOf}
+use Rattle.cop_bus.specs.Ranks.{IsFirstOf, rank_at}
 use Rattle.cop_bus.proofs.RankLemmas.{root-first}
 use Rattle.cop_bus.proofs.ranking.Ranking.first.Goals as goal
 
-pub returns-else-self-eq0 : goal.returns-else-self-eq0
-returns-else-self-eq0 c =
-    let least : 1 ≤ c.self.inside.places = elim (cases_lt 0 c.self.inside.places) [ inl l ↦ l | inr l ↦ absurd (c.if-self-eq0.false (omega (arith, l))) ] in
-    let many = c.self.invariant.many in
-    subst (λ ranks. IsFirstOf ranks c.index.result.now) c.self.view_is
-    (subst (IsFirstOf _) (sym (get_or_read c.self.inside.nodes.items 1 c.index.result.now (omega (arith, many, least)) c.index.ensures None))
-    (root-first c.self.inside.places c.self.inside.nodes.items c.self.invariant least))
+pub returns : goal.returns
+returns c =
+    let ranks = c.self.inside.ranks.items in
+    let leaders = c.self.inside.leaders.items in
+    let first = c.in_ok-first.first.now in
+    let many = c.self.invariant.nodes.many in
+    let look = c.in_ok-first.ensures.lookup in
+    let two : 1 < length leaders = subst (λ xs. 1 < length xs) c.deref.ensures.value (ltb-true 1 (length c.deref.result.now) (sym look.0)) in
+    let root : first ≡ slice_index leaders 1 = get_or_read leaders 1 first two (subst (λ xs. first ≡ get_or xs 1 first) c.deref.ensures.value look.1) 0 in
+    let low = c.self.invariant.nodes.within 1 (omega arith) (omega (arith, many, two)) in
+    let read : c.index.result.now ≡ rank_at ranks first = get_or_read ranks first c.index.result.now (omega (arith, root, low)) c.index.ensures None in
+    subst (λ xs. IsFirstOf xs c.index.result.now) c.self.view_is
+    (subst (IsFirstOf ranks) (sym (read ∙ ap (rank_at ranks) root)) (root-first leaders ranks c.self.invariant (omega (arith, many, two))))
