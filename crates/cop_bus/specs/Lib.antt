@@ -14,3 +14,4 @@ pub mod Piecewise
 pub mod Growing
 pub mod Ranks
 pub mod Queues
+pub mod Transfers

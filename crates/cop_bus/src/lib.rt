@@ -16,6 +16,7 @@ mod rings;
 mod rules;
 mod runs;
 mod steps;
+mod transfers;
 mod writing;
 
 pub use bus::{Bus, Instance, Started};
@@ -33,4 +34,5 @@ pub use reading::read_trace;
 pub use rings::{Full, Ring, most_of, rings_of};
 pub use runs::{Run, Trace};
 pub use steps::{Content, Step};
+pub use transfers::{Transfer, transfers_of};
 pub use writing::write_trace;

@@ -1,1 +1,2 @@
 pub mod ReasonLemmas
+pub mod LoadLemmas

@@ -8,7 +8,7 @@ use Rattle.cop_plan.specs.declared.assigning.Outcome.{Outcome}
 use Rattle.cop_plan.specs.declared.assigning.Outcome.TheVariants.{Planned, Refused}
 use Rattle.cop_report.specs.declared.times.PdoTimes.{PdoTimes}
 use Rattle.cop_report.specs.declared.figures.Figures.{Figures}
-use Rattle.cop_report.specs.Loads.{IsLoadOf}
+use Rattle.cop_report.specs.Loads.{AreLoads}
 use Rattle.cop_report.specs.Reasons.{AreReasons}
 
 -- a PDO of a plan: its stream under the plan's identifier, and its greatest response by the response-time test
@@ -27,10 +27,10 @@ abbrev pub AreFigures : Net → Outcome → Figures → Type 0
 AreFigures net (Planned plan) figures =
     (figures.rate ≡ Some plan.rate)
     × AreTimes plan figures.pdos.items
-    × All (IsLoadOf net) figures.loads.items
+    × AreLoads net figures.loads.items
     × AreReasons net plan.refusals figures.refused.items
 AreFigures net (Refused refusals) figures =
     (figures.rate ≡ None)
     × (figures.pdos.items ≡ [])
-    × All (IsLoadOf net) figures.loads.items
+    × AreLoads net figures.loads.items
     × AreReasons net refusals figures.refused.items

@@ -1,7 +1,7 @@
 //! How much of the bus some streams take.
 
-ghost use Rattle.std.specs.Prelude.{◌≡◌, ◌≤◌, ◌<◌, ◌^◌, All, IfOk, length, sum_by};
-ghost use Rattle.cop_report.specs.Loads.{share_of, load_of, IsLoadOf};
+ghost use Rattle.std.specs.Prelude.{◌≡◌, ◌≤◌, ◌<◌, ◌^◌, IfOk, length, sum_by};
+ghost use Rattle.cop_report.specs.Loads.{share_of, load_of, AreLoads};
 
 use cop_frame::{Rate, worst_bits};
 use cop_net::Network;
@@ -55,7 +55,7 @@ fn load_at(streams: &[Stream], pdos: usize, rate: Rate) -> Load
 
 /// The load of a network at each rate that all its devices support, the slowest first.
 pub(crate) fn loads_of(alloc: Global, network: &Network<'_>) -> Result<Vec<Load>, AllocError>
-    ensures { IfOk result (λ loads. All (IsLoadOf network.now) loads.items) }
+    ensures { IfOk result (λ loads. AreLoads network.now loads.items) }
 {
     let rates = network.rates();
     let streams = network.set().streams();
