@@ -1,4 +1,4 @@
-use Rattle.std.proofs.Common.{◌≡◌, ℕ, ◌≤◌, ◌<◌, ◌⊎◌, inl, inr, List, [], ◌∷◌, ◌++◌, length, refl, sym, ◌∙◌, ap, subst, arith, suc, zero, Bool, true, false, cond, nat_lt, replicate}
+use Rattle.std.proofs.Common.{◌≡◌, ℕ, ◌≤◌, ◌<◌, ◌⊎◌, inl, inr, List, length, refl, sym, ◌∙◌, ap, subst, arith, suc, zero, Bool, true, false, cond, nat_lt, replicate}
 use Rattle.std.specs.Prelude.{Option, None, Some, slice_set, slice_index, slice_index_or, ◌==◌}
 use Rattle.std.proofs.lemmas.Bool.{cases_lt}
 use Rattle.std.proofs.lemmas.List.{get_or-set_same, get_or-set_other, length-set, get_or-replicate, length-replicate}
@@ -145,14 +145,16 @@ next-end steps next e = record {
   places = λ a id l m o. absurd (omega arith);
 }
 
-pub last-start : (steps : List Step) (last : List (Option ℕ)) → length last ≡ 65536 → ((k : ℕ) → slice_index_or last k None ≡ None) → IsLast steps 0 last
-last-start steps last e h = record { ids = e; events = λ id l. h id }
+pub none-all : (n k : ℕ) (xs : List (Option ℕ)) → xs ≡ replicate n None → slice_index_or xs k None ≡ None
+none-all n k xs e = ap (λ ys. slice_index_or ys k None) e ∙ go n k
+  where
+    go : (n k : ℕ) → slice_index_or (replicate {A = Option ℕ} n None) k None ≡ None
+    go zero k = refl
+    go (suc n) zero = refl
+    go (suc n) (suc k) = go n k
 
-pub none-push : (last : List (Option ℕ)) → ((k : ℕ) → slice_index_or last k None ≡ None) → (k : ℕ) → slice_index_or (last ++ None ∷ []) k None ≡ None
-none-push [] h zero = refl
-none-push [] h (suc k) = refl
-none-push (x ∷ xs) h zero = h zero
-none-push (x ∷ xs) h (suc k) = none-push xs (λ j. h (suc j)) k
+pub last-start : (steps : List Step) (last : List (Option ℕ)) → last ≡ replicate 65536 None → IsLast steps 0 last
+last-start steps last e = record { ids = ap length e ∙ length-replicate {A = Option ℕ} 65536 None; events = λ id l. none-all 65536 id last e }
 
 pub unsent-start : (steps : List Step) (ahead : List ℕ) → IsAhead steps 0 ahead → IsUnsent steps 0 ahead
 unsent-start steps ahead h = record {

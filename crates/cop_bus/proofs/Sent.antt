@@ -1,8 +1,8 @@
-use Rattle.std.proofs.Common.{◌≡◌, ℕ, ◌<◌, inl, inr, List, [], ◌∷◌, length, take, refl, sym, ◌∙◌, ap, subst, arith, suc, zero, Bool, true, false, cond}
+use Rattle.std.proofs.Common.{◌≡◌, ℕ, ◌<◌, inl, inr, List, [], ◌∷◌, length, take, refl, sym, ◌∙◌, ap, subst, arith, suc, zero, Bool, true, false, cond, replicate}
 use Rattle.std.specs.Prelude.{Option, None, Some, slice_set, slice_index, slice_index_or, ◌==◌}
 use Rattle.std.proofs.lemmas.Bool.{cases_lt}
 use Rattle.std.proofs.lemmas.List.{take_all}
-use Rattle.std.proofs.lemmas.List.{get_or-set_same, get_or-set_other, length-set}
+use Rattle.std.proofs.lemmas.List.{get_or-set_same, get_or-set_other, length-replicate, length-set}
 use Rattle.cop_rta.specs.declared.streams.Stream.{Stream}
 use Rattle.cop_bus.specs.declared.steps.Step.{Step}
 use Rattle.cop_bus.specs.declared.steps.Step.TheVariants.{Queue, Start, End}
@@ -11,7 +11,7 @@ use Rattle.cop_bus.specs.Judge.{id_of, stream_of}
 use Rattle.cop_bus.specs.Late.{IsSent, is_late, sent_at}
 use Rattle.cop_bus.specs.Tables.{IsSentBy, IsUnsent, sent_after}
 use Rattle.cop_bus.proofs.StepLemmas.{bool_cases, one-true, one-false, count_to-past, nth_that-skip, nth_that-take, queue_shape, is_queue-of, is_start-of}
-use Rattle.cop_bus.proofs.Places.{eq_cases, not-eq}
+use Rattle.cop_bus.proofs.Places.{eq_cases, none-all, not-eq}
 use Rattle.cop_bus.proofs.Work.{true-eq}
 use Rattle.cop_bus.proofs.LateLemmas.{late_at}
 
@@ -114,8 +114,8 @@ sent-step steps i unsent sent (Start at id) l e f some u h = record {
           ∙ ap moment_of (sym (nth-more_other (is_start id) steps i (count_to (is_queue id) steps a) l g (λ r. s (same-place steps id a (slice_index unsent id) m b q here (r ∙ sym number)))))
     ]
 
-pub sent-none : (steps : List Step) (sent : List (Option ℕ)) → length sent ≡ length steps → ((k : ℕ) → slice_index_or sent k None ≡ None) → IsSentBy steps 0 sent
-sent-none steps sent e h = record { steps_long = e; moments = λ a id m q. h a }
+pub sent-none : (steps : List Step) (sent : List (Option ℕ)) → sent ≡ replicate (length steps) None → IsSentBy steps 0 sent
+sent-none steps sent e = record { steps_long = ap length e ∙ length-replicate {A = Option ℕ} (length steps) None; moments = λ a id m q. none-all (length steps) a sent e }
 
 pub sent-all : (steps : List Step) (i : ℕ) (sent : List (Option ℕ)) → i ≡ length steps → IsSentBy steps i sent → IsSent steps sent
 sent-all steps i sent e h = record {

@@ -153,22 +153,14 @@ fn link(step: &Step, i: usize, ahead: &mut Vec<usize>, next: &mut Vec<usize>)
 fn no_events(alloc: Global) -> Result<Vec<Option<u64>>, AllocError>
     ensures { (steps : List _) → IfOk result (λ last. IsLast steps 0 last.items) }
 {
-    let mut last = Vec::new(alloc);
-    for _id in 0..IDS {
-        last.push(None)?;
-    }
-    Ok(last)
+    Ok(vec![in alloc; None; IDS]?)
 }
 
 // No moment for any step.
 fn none_sent(alloc: Global, steps: &[Step]) -> Result<Vec<Option<u64>>, AllocError>
     ensures { IfOk result (λ sent. IsSentBy steps.now 0 sent.items) }
 {
-    let mut sent = Vec::new(alloc);
-    for _step in steps {
-        sent.push(None)?;
-    }
-    Ok(sent)
+    Ok(vec![in alloc; None; steps.len()]?)
 }
 
 // Notes at the stream's first unsent instance the moment of a start, which sends it.

@@ -19,6 +19,9 @@ const HEADER: [&[u8]; 6] = [b"kind", b"moment", b"id", b"event", b"bits", b"data
 /// The number by which the fault of a record is known.
 const UNREADABLE: u8 = 69;
 
+/// About how many bytes a record of a trace has: room for as many steps is taken at once.
+const BYTES_OF_RECORD: usize = 24;
+
 fn refused(place: usize) -> BusFault
     ensures { refused_at result ≡ Some (place, 69) }
 {
@@ -70,7 +73,7 @@ fn trace_of(alloc: Global, bytes: &[u8]) -> Result<Trace, BusFault>
 {
     let mut row = Record::new(alloc);
     let mut rows = rows_in(alloc, bytes, &mut row)?;
-    let mut steps = Vec::new(alloc);
+    let mut steps = Vec::with_capacity(alloc, bytes.len() / BYTES_OF_RECORD)?;
     let mut place = 0;
     'rows: while rows.read(&mut row)? {
         place += 1;

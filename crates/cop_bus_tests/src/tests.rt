@@ -1,7 +1,9 @@
-ghost use Rattle.std.specs.Prelude.{◌≤◌, ◌≡◌};
+ghost use Rattle.std.specs.Prelude.{◌≤◌, ◌≡◌, ℕ, None, IfOk};
+ghost use Rattle.cop_bus.specs.Bus.{AreQueuedBy};
 
 use cop_bus::{
-    Bus, BusFault, Content, Full, Instance, Step, Trace, first_late, judge, read_trace, write_trace,
+    Bus, BusFault, Content, Full, Instance, Started, Step, Trace, first_late, judge, read_trace,
+    write_trace,
 };
 use cop_frame::Rate;
 use cop_rta::{Stream, StreamSet};
@@ -298,7 +300,10 @@ fn instance(at: u64, id: u16, bits: u32) -> Instance
 }
 
 // Lets an instance wait on a bus that has its stream.
-fn wait(bus: &mut Bus, instance: Instance) -> Result<Result<(), Full>, Fail> {
+fn wait(bus: &mut Bus, instance: Instance) -> Result<Result<(), Full>, Fail>
+    ensures running { bus.new.running ≡ bus.old.running }
+    ensures queued { (now : ℕ) → instance.at ≤ now → AreQueuedBy bus.old.rings now → AreQueuedBy bus.new.rings now }
+{
     if !bus.has_stream(instance.id) {
         return Err(Fail::from("an unknown stream"));
     }
@@ -323,6 +328,63 @@ fn rings_hold_what_may_wait(rt: HostRuntime) -> Result<(), Fail> {
     assert_eq!(rt; lengths, Some(2));
     assert_eq!(rt; bus.running(), None);
     assert_eq!(rt; bus.end(), None);
+    Ok(())
+}
+
+// A bus on which two instances of 182h wait since 100 and 101, and then one of 181h since 102.
+fn bus_with_three(alloc: Global) -> Result<Bus, Fail>
+    ensures idle { IfOk result (λ bus. bus.running ≡ None) }
+    ensures queued { IfOk result (λ bus. (now : ℕ) → 102 ≤ now → AreQueuedBy bus.rings now) }
+{
+    let streams = two_streams(alloc, 8000)?;
+    let mut bus = Bus::with_rings(alloc, &streams, Rate::Kbit1000)?;
+    let _first = wait(&mut bus, instance(100, 0x182, 135))?;
+    let _second = wait(&mut bus, instance(101, 0x182, 111))?;
+    let _third = wait(&mut bus, instance(102, 0x181, 125))?;
+    Ok(bus)
+}
+
+// The lowest identifier is sent, for its bits times 4 ticks, and its ring is empty.
+#[test]
+fn lowest_identifier_is_sent(rt: HostRuntime) -> Result<(), Fail> {
+    let mut bus = bus_with_three(rt.alloc())?;
+    let started = Started {
+        id: 0x181,
+        joined: false,
+    };
+    assert_eq!(rt; bus.start(102, &[]), Some(started));
+    let lengths = bus.rings().first().map(|ring| ring.len());
+    assert_eq!(rt; lengths, Some(0));
+    assert_eq!(rt; bus.end(), Some((602, 0x181)));
+    assert_eq!(rt; bus.running(), None);
+    Ok(())
+}
+
+// Of two instances of one stream that which waits longest is sent first.
+#[test]
+fn first_of_a_ring_is_sent(rt: HostRuntime) -> Result<(), Fail> {
+    let mut bus = bus_with_three(rt.alloc())?;
+    let _one = bus.start(102, &[]);
+    let first = bus.end();
+    let _two = bus.start(602, &[]);
+    let second = bus.end();
+    let _three = bus.start(1142, &[]);
+    let third = bus.end();
+    for (ended, wanted) in [
+        (first, (602, 0x181)),
+        (second, (1142, 0x182)),
+        (third, (1586, 0x182)),
+    ] {
+        assert_eq!(rt; ended, Some(wanted));
+    }
+    Ok(())
+}
+
+#[test]
+fn nothing_starts_where_nothing_waits(rt: HostRuntime) -> Result<(), Fail> {
+    let streams = two_streams(rt.alloc(), 8000)?;
+    let mut bus = Bus::with_rings(rt.alloc(), &streams, Rate::Kbit1000)?;
+    assert_eq!(rt; bus.start(0, &[]), None);
     Ok(())
 }
 

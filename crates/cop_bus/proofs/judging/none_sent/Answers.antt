@@ -1,6 +1,6 @@
-use Rattle.std.proofs.Common.{arith}
+use Rattle.std.proofs.Common.{rules}
 use Rattle.cop_bus.proofs.Sent.{sent-none}
 use Rattle.cop_bus.proofs.judging.none_sent.Goals as goal
 
 pub returns : goal.returns
-returns c = sent-none c.args.steps.now c.loop-step.sent.items (omega (arith, c.loop-step.invariant.long, c.loop-step-test.false)) c.loop-step.invariant.none
+returns c = sent-none c.args.steps.now c.in_ok-vec.field-0.items (c.in_ok-vec.ensures.items_if_clones_equal (search rules))

@@ -1,7 +1,7 @@
-use Rattle.std.proofs.Common.{◌∙◌, Ok, ap, sym, subst, arith}
+use Rattle.std.proofs.Common.{◌∙◌, Ok, ap, length, sym, subst, arith}
 use Rattle.cop_bus.specs.Reading.{told, refused_at}
 use Rattle.cop_table.specs.Reading.{Gives}
-use Rattle.cop_bus.proofs.TraceLemmas.{stops, fails}
+use Rattle.cop_bus.proofs.TraceLemmas.{goes_on, stops, fails, nothing_left}
 use Rattle.cop_bus.proofs.reading.trace_of.Goals as goal
 
 pub returns-in-Ok-Until : goal.returns-in-Ok-Until
@@ -16,3 +16,18 @@ returns-in-Err c =
 
 pub overflow_add-place-2 : goal.overflow_add-place-2
 overflow_add-place-2 c = omega (arith, c.rows.invariant.small)
+
+pub rows-preserved : goal.rows-preserved
+rows-preserved c =
+    let next = rw c.if-branch.true at c.in_ok-read.ensures.next in
+    let long = ap length next in
+    record {
+      small = omega (arith, long, c.rows.invariant.small);
+      same = rw c.in_ok-push-in-Ok-Taken.ensures
+          (goes_on c.rows.place c.rows.steps.items _ c.read.new.self c.rows.rows _ c.in-Ok-Taken.step next (sym c.in-Ok-Taken.ensures ∙ ap Ok c.in-Ok-Taken.field-0-is) c.rows.invariant.same);
+    }
+
+pub returns : goal.returns
+returns c =
+    let next = rw c.if-branch.false at c.in_ok-read.ensures.next in
+    rw c.refused-2.ensures (nothing_left c.rows.place c.rows.steps.items c.rows.rows _ next.0 c.rows.invariant.same)
