@@ -59,32 +59,14 @@ fn queue_end(busy: &Busy<'_>, q: u64, numbers: &[u64]) -> Option<u64>
     climb(&busy.queueing(q), numbers)
 }
 
-/// The longest transfer of the stream itself: each instance's queueing starts so much later than that of the one before.
-fn cost(busy: &Busy<'_>) -> u128
-    ensures { result ≡ cost_at (place_of busy.now) }
+/// Whether a response is past the deadline, if there is one.
+fn is_late(deadline: Option<u64>, response: u128) -> bool
+    ensures { IsTrue result ↔ IsSomeAnd deadline (λ d. d < response) }
 {
-    busy.start_of(1) - busy.start_of(0)
-}
-
-/// Whether the response of an instance that waits so long is past the deadline, if there is one.
-fn is_late(stream: &Stream, cost: u128, q: u64, wait: u64) -> bool
-    ensures { IsTrue result ↔ IsSomeAnd stream.now.deadline (λ d. d < stream.now.jitter + wait + cost - q * stream.now.period) }
-{
-    match stream.deadline {
-        Some(deadline) => {
-            // No bound on the cost is known here.
-            cost.saturating_add(u128::from(stream.jitter) + u128::from(wait))
-                > u128::from(deadline) + u128::from(q) * u128::from(stream.period)
-        }
+    match deadline {
+        Some(deadline) => response > u128::from(deadline),
         None => false,
     }
-}
-
-/// Whether instance `q` is queued within a busy time.
-fn is_queued_within(stream: &Stream, busy_time: u64, q: u64) -> bool
-    ensures { IsTrue result ↔ (q * stream.now.period < busy_time + stream.now.jitter) }
-{
-    u128::from(q) * u128::from(stream.period) < u128::from(busy_time) + u128::from(stream.jitter)
 }
 
 /// Whether instance `q` is queued within a busy time, and a queue list shows that it is late.
@@ -95,8 +77,7 @@ fn shows_late(busy: &Busy<'_>, busy_time: u64, q: u64, queue: &[u64]) -> bool
     let Some(wait) = queue_end(busy, q, queue) else {
         return false;
     };
-    let stream = busy.stream();
-    is_queued_within(stream, busy_time, q) && is_late(stream, cost(busy), q, wait)
+    q < busy.instances(busy_time) && is_late(busy.stream().deadline, busy.response(q, wait))
 }
 
 /// Where a member's busy list ends, if it is one. `end` says the same of another list, `before`: flagged streams share
