@@ -49,6 +49,13 @@ pub(crate) fn push_place(
     Ok(())
 }
 
+/// Adds the name of a file in which a record is wanted past its last one.
+fn push_end(words: &mut Vec<u8>, alloc: Global, name: &str) -> Result<(), AllocError> {
+    let line = format!(in alloc; "{name}, past its last record\n")?;
+    words.extend_from_slice(line.as_bytes())?;
+    Ok(())
+}
+
 /// Adds the lines on a rule: what is broken, what is usually behind it, and what is right.
 pub(crate) fn push_rule(words: &mut Vec<u8>, alloc: Global, number: u8) -> Result<(), AllocError> {
     let Some(found) = explained(number) else {
@@ -75,8 +82,9 @@ pub fn record_words(
     record: u64,
 ) -> Result<Vec<u8>, AllocError> {
     let mut words = Vec::new(alloc);
-    if let Some(place) = record_at(source.text, record) {
-        push_place(&mut words, alloc, source.name, &place)?;
+    match record_at(source.text, record) {
+        Some(place) => push_place(&mut words, alloc, source.name, &place)?,
+        None => push_end(&mut words, alloc, source.name)?,
     }
     push_rule(&mut words, alloc, number)?;
     Ok(words)

@@ -444,6 +444,17 @@ fn a_record_is_shown_without_control_characters(rt: HostRuntime) -> Result<(), F
 }
 
 #[test]
+fn a_record_that_is_missing_is_told_by_its_file(rt: HostRuntime) -> Result<(), Fail> {
+    let source = Source {
+        name: "trace.csv",
+        text: b"kind,moment,id,event,bits,data\nqueue,0,1,0,65,05\n",
+    };
+    let said = record_words(rt.alloc(), source, 69, 2)?;
+    assert!(rt; said.starts_with(b"trace.csv, past its last record\nrule 69: a record"));
+    Ok(())
+}
+
+#[test]
 fn late_streams_are_told(rt: HostRuntime) -> Result<(), Fail> {
     let report = b"181h pass 8000\n183h late 1 14000\n184h long\n";
     let wanted =

@@ -32,7 +32,7 @@ loop-rate-preserved c = elim c.if-contains.branch [
   | else-contains w ↦ rw w.loads-is (
       passed_over c.args.network.now c.loop-rate.rate-index c.loop-rate.loads.items c.loop-rate-test.true
       (λ member. no_bit c.contains.result (c.contains.ensures.1 ((c.rates-rates.ensures.rates _).1 member)) w.if-contains.false) c.loop-rate.invariant
-  )
+      )
 ]
 
 pub returns : goal.returns
