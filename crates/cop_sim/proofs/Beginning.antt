@@ -22,7 +22,8 @@ use Rattle.cop_sim.specs.Seats.{next_at, answer_of, IsAsked}
 use Rattle.cop_sim.specs.Sinks.{IsCause, Took, LeftOff}
 use Rattle.cop_sim.specs.Stages.{IsSeat, IsAt, actor_of, IsFirst, AreFirst, FirstFault, IsLeft}
 use Rattle.cop_sim.proofs.Plays.{begins, nothing-yet}
-use Rattle.cop_sim.proofs.Places.{set-here, set-other, there-is, some-one, actor-at, stream-at}
+use Rattle.cop_bus.proofs.AtPlace.{set-here, set-other, there-is, some-one}
+use Rattle.cop_sim.proofs.Places.{actor-at, stream-at}
 use Rattle.cop_sim.proofs.Queues.{answered}
 
 module _ {B : Type 0} (offer : B → ℕ → Option Offer) (agrees : B → ℕ → ℕ → Bool) (until : ℕ) (streams : List Stream) (bs : List B) where

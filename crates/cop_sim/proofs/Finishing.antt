@@ -8,6 +8,7 @@ use Rattle.cop_bus.specs.Judge.{is_unfinished, is_not_idle}
 use Rattle.cop_bus.specs.Rings.{any_in}
 use Rattle.cop_bus.proofs.Work.{lt-true}
 use Rattle.cop_plan.specs.Values.{PlanValue}
+use Rattle.cop_bus.proofs.AtPlace.{contained}
 use Rattle.cop_sim.specs.declared.behaviours.Offer.{Offer}
 use Rattle.cop_sim.specs.declared.due.Due.{Due}
 use Rattle.cop_sim.specs.declared.playing.Event.TheVariants.{Nothing}
@@ -42,7 +43,7 @@ module _ {B : Type 0} (offer : B → ℕ → Option Offer) (agrees : B → ℕ �
         go : (j : Option ℕ) → IsAwaited actors h.next steps at.ahead j → at.ahead ≡ []
         go None w = w
         go (Some i) w =
-            let e : Some (w.3).0 ≡ None = sym (w.3).1 ∙ Places.next-is-offer offer agrees plan until firsts bs h steps at i w.0 w.1 ∙ done w.0 (Places.contained actors i w.0 w.1) in
+            let e : Some (w.3).0 ≡ None = sym (w.3).1 ∙ Places.next-is-offer offer agrees plan until firsts bs h steps at i w.0 w.1 ∙ done w.0 (contained actors i w.0 w.1) in
             absurd (cc)
 
     goes : Goes tau actors until steps []

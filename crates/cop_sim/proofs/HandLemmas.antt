@@ -7,7 +7,7 @@ use Rattle.cop_sim.specs.Hands.{AreTheirs}
 use Rattle.cop_bus.specs.Queues.{IsLowestOf}
 use Rattle.cop_bus.specs.declared.queues.First.{First}
 use Rattle.cop_sim.proofs.Chosen.{id-got}
-use Rattle.cop_sim.proofs.Places.{there-is}
+use Rattle.cop_bus.proofs.AtPlace.{there-is}
 use Rattle.std.proofs.lemmas.Option.{slice_get_within}
 use Rattle.cop_rta.specs.declared.streams.Stream.{Stream}
 use Rattle.cop_sim.specs.declared.behaviours.Offer.{Offer}

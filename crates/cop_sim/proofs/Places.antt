@@ -1,15 +1,15 @@
 -- The places of the streams: their actors, behaviours, offers and rings.
-use Rattle.std.proofs.Common.{◌≡◌, ◌≢◌, ℕ, zero, suc, ◌≤◌, ◌<◌, ◌⊎◌, inl, inr, List, [], ◌∷◌, ◌++◌, length, get_or, slice_get, slice_set, Option, Some, None, Contains, Bool, false, ◌==◌, ◌||◌, nat_lt, refl, sym, ap, ◌∙◌, subst, arith}
-use Rattle.std.specs.Option.{ForSome, option_map_or}
-use Rattle.std.proofs.lemmas.Bool.{cases_lt, cases_order}
-use Rattle.std.proofs.lemmas.Option.{slice_get_within, slice_get_read, get_or_from_slice_get}
+use Rattle.std.proofs.Common.{◌≡◌, ◌≢◌, ℕ, zero, suc, ◌≤◌, ◌<◌, ◌⊎◌, inl, inr, List, [], ◌∷◌, ◌++◌, length, get_or, slice_get, Option, Some, None, Contains, Bool, false, ◌==◌, ◌||◌, nat_lt, refl, sym, ap, ◌∙◌, subst, arith}
+use Rattle.std.specs.Option.{ForSome}
+use Rattle.std.proofs.lemmas.Bool.{cases_lt}
+use Rattle.std.proofs.lemmas.Option.{slice_get_within, slice_get_read}
 use Rattle.cop_rta.specs.declared.streams.Stream.{Stream}
 use Rattle.cop_rta.specs.Streams.{AreDistinct}
-use Rattle.cop_rta.proofs.IdentifierLemmas.{two_apart}
 use Rattle.cop_bus.specs.declared.steps.Step.{Step}
 use Rattle.cop_bus.specs.Judge.{stream_of, waits_after, any_waits}
 use Rattle.cop_bus.specs.Rings.{RingValue, any_in}
 use Rattle.cop_bus.specs.Trace.{is_queue}
+use Rattle.cop_bus.proofs.AtPlace.{there-is, some-one, one-place}
 use Rattle.cop_bus.proofs.Work.{true-eq, lt-true, eq-true}
 use Rattle.cop_bus.proofs.StepLemmas.{bool_cases}
 use Rattle.cop_plan.specs.Values.{PlanValue}
@@ -23,43 +23,8 @@ use Rattle.cop_sim.proofs.Kept.{count-raised}
 use Rattle.cop_sim.proofs.Chosen.{id-got}
 use Rattle.cop_sim.proofs.Held.{held-waits, held-none}
 
-pub set-here : {A : Type 0} (xs : List A) (i : ℕ) (x : A) → i < length xs → slice_get (slice_set xs i x) i ≡ Some x
-set-here [] i x l = absurd (omega arith)
-set-here (y ∷ xs) zero x l = refl
-set-here (y ∷ xs) (suc i) x l = set-here xs i x (omega arith)
-
-pub set-other : {A : Type 0} (xs : List A) (i j : ℕ) (x : A) → j ≢ i → slice_get (slice_set xs i x) j ≡ slice_get xs j
-set-other [] i j x n = refl
-set-other (y ∷ xs) zero zero x n = absurd (n refl)
-set-other (y ∷ xs) zero (suc j) x n = refl
-set-other (y ∷ xs) (suc i) zero x n = refl
-set-other (y ∷ xs) (suc i) (suc j) x n = set-other xs i j x (λ e. n (ap suc e))
-
-pub there-is : {A : Type 0} (xs : List A) (i : ℕ) → i < length xs → (x : A) × (slice_get xs i ≡ Some x)
-there-is [] i l = absurd (omega arith)
-there-is (y ∷ xs) zero l = (y, refl)
-there-is (y ∷ xs) (suc i) l = there-is xs i (omega arith)
-
-pub some-one : {A : Type 0} (o : Option A) (x y : A) → o ≡ Some x → o ≡ Some y → x ≡ y
-some-one o x y e f = go x y (sym e ∙ f)
-  where
-    go : {A : Type 0} (x y : A) → Some x ≡ Some y → x ≡ y
-    go x y e = cc
-
-pub contained : {A : Type 0} (xs : List A) (i : ℕ) (x : A) → slice_get xs i ≡ Some x → Contains xs x
-contained xs i x e = (i, slice_get_within xs i x e, get_or_from_slice_get xs i x x e)
-
 pub place-of : {A : Type 0} (xs : List A) (x : A) → Contains xs x → (i : ℕ) × (slice_get xs i ≡ Some x)
 place-of xs x c = (c.0, slice_get_read xs (length xs) c.0 x refl c.1 (sym c.2))
-
--- two places of one identifier are one
-pub one-place : (streams : List Stream) → AreDistinct streams → (i j : ℕ) (k l : Stream) → slice_get streams i ≡ Some k → slice_get streams j ≡ Some l → k.id ≡ l.id → i ≡ j
-one-place streams distinct i j k l e f same = go (cases_order i j)
-  where
-    go : (i ≡ j) ⊎ ((i < j) ⊎ (j < i)) → i ≡ j
-    go (inl q) = q
-    go (inr (inl lt)) = absurd (two_apart streams distinct i j lt (slice_get_within streams j l f) (ap (λ o. option_map_or (λ s. s.id) o 0) e ∙ same ∙ sym (ap (λ o. option_map_or (λ s. s.id) o 0) f)))
-    go (inr (inr gt)) = absurd (two_apart streams distinct j i gt (slice_get_within streams i k e) (ap (λ o. option_map_or (λ s. s.id) o 0) f ∙ sym same ∙ sym (ap (λ o. option_map_or (λ s. s.id) o 0) e)))
 
 module _ {B : Type 0} (offer : B → ℕ → Option Offer) (agrees : B → ℕ → ℕ → Bool) where
   pub actor-at : (ks : List Stream) (bs : List B) (i : ℕ) (k : Stream) (b : B) → slice_get ks i ≡ Some k → slice_get bs i ≡ Some b → slice_get (actors_of offer agrees ks bs) i ≡ Some (actor_of offer agrees k b)

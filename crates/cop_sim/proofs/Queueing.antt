@@ -24,7 +24,7 @@ use Rattle.cop_sim.proofs.Kept.{count-kept, count-raised, next-is, before-one}
 use Rattle.cop_sim.proofs.Going.{FindsTheSame, running-one}
 use Rattle.cop_sim.proofs.Queued as Queued
 use Rattle.cop_sim.proofs.Places as Places
-use Rattle.cop_sim.proofs.Places.{set-here, set-other, some-one, contained}
+use Rattle.cop_bus.proofs.AtPlace.{set-here, set-other, some-one, contained}
 use Rattle.cop_sim.proofs.Ending.{seat-other}
 
 -- the bus is not idle up to a moment that is not after the last step where something waits and nothing runs

@@ -26,7 +26,7 @@ use Rattle.cop_sim.proofs.Held.{held-joined, held-queued}
 use Rattle.cop_sim.proofs.Kept.{count-kept, next-is, by_end-is}
 use Rattle.cop_sim.proofs.Plays.{partial}
 use Rattle.cop_sim.proofs.Places as Places
-use Rattle.cop_sim.proofs.Places.{set-here, set-other, some-one}
+use Rattle.cop_bus.proofs.AtPlace.{set-here, set-other, some-one}
 use Rattle.cop_sim.proofs.Queueing as Queueing
 
 pub answered : (until : ℕ) (v : Option Offer) (o : Offer) → option_and_then (by_end until) v ≡ Some o → (v ≡ Some o) × (queued_at o ≤ until)

@@ -29,7 +29,8 @@ use Rattle.cop_sim.proofs.Held.{held-waits, held-none, held-started, held-joiner
 use Rattle.cop_sim.proofs.Competing.{may-competes, competes-may}
 use Rattle.cop_sim.proofs.Started as Started
 use Rattle.cop_sim.proofs.Places as Places
-use Rattle.cop_sim.proofs.Places.{set-here, set-other, some-one, contained, place-of}
+use Rattle.cop_bus.proofs.AtPlace.{set-here, set-other, some-one, contained}
+use Rattle.cop_sim.proofs.Places.{place-of}
 use Rattle.cop_sim.proofs.Ending.{pos, flipped-none, none-awaited, seat-kept, seat-other}
 
 none-first : (ys : List Instance) → slice_get ys 0 ≡ None → ys ≡ []
