@@ -10,7 +10,10 @@ use Rattle.cop_plan.specs.Plans.{IsPlan, AreAllRefused}
 use Rattle.cop_plan.specs.declared.assigning.Outcome.{Outcome}
 use Rattle.cop_plan.specs.declared.assigning.Outcome.TheVariants.{Planned, Refused}
 use Rattle.cop_sim.specs.Guarantee.{IsRunOf}
+use Rattle.cop_net.specs.Devices.{File}
 use Rattle.cop_engine.specs.Networks.{Found}
+use Rattle.cop_engine.specs.declared.plans.Files.{Files}
+use Rattle.cop_engine.specs.Plans.{AreFilesOf}
 
 -- the stream of a row's PDO under a plan: its identifier is the plan's, its times are the row's
 pub record IsPdoOf (plan : PlanValue) (p : ℕ) (row : PdoRow) (k : Stream) : Type 0 where
@@ -33,3 +36,8 @@ pub record MeetsDeadlines (rows : List PdoRow) (plan : PlanValue) : Type 0 where
 abbrev pub IsGuaranteed : Found → List Stream → Outcome → Type 0
 IsGuaranteed found streams (Planned plan) = IsPlan found.network.equipment.rates streams (length found.rows) plan × MeetsDeadlines found.rows plan
 IsGuaranteed found streams (Refused refusals) = AreAllRefused found.network.equipment.rates streams (length found.rows) refusals
+
+-- the files of the plan of the network that the tables and the EDS files say, with what the plan guarantees
+pub record AreGuaranteedFiles (nodes pdos : List ℕ) (eds : List File) (files : Files) : Type 0 where
+  pub exact : AreFilesOf nodes pdos eds files
+  pub guaranteed : IsGuaranteed exact.found exact.streams exact.planned.outcome

@@ -4,8 +4,8 @@ ghost use Rattle.std.specs.Prelude.{◌≡◌, ◌≤◌, length, map, IfOk, Mat
 ghost use Rattle.std.specs.String.{string_bytes};
 ghost use Rattle.cop_engine.specs.Networks.{ExplainsNetwork};
 ghost use Rattle.cop_engine.specs.Dcfs.{HaveTexts};
-ghost use Rattle.cop_engine.specs.Plans.{AreFilesFor, AreFilesOf};
-ghost use Rattle.cop_engine.specs.Guarantee.{IsGuaranteed};
+ghost use Rattle.cop_engine.specs.Plans.{AreFilesFor};
+ghost use Rattle.cop_engine.specs.Guarantee.{AreGuaranteedFiles};
 
 use crate::dcfs::{DcfFile, dcf_files};
 use crate::faults::Fault;
@@ -66,8 +66,7 @@ pub fn plan_bytes(
     pdos: &[u8],
     eds_files: &[(String, Vec<u8>)],
 ) -> Result<Files, Fault>
-    ensures exact { MatchResult result (λ files. AreFilesOf nodes.now pdos.now (map (λ f. record { name = string_bytes f.0; text = f.1.items }) eds_files.now) files) (λ fault. ExplainsNetwork nodes.now pdos.now (map (λ f. record { name = string_bytes f.0; text = f.1.items }) eds_files.now) fault) }
-    ensures guaranteed { IfOk result (λ files. (f : AreFilesOf nodes.now pdos.now (map (λ f. record { name = string_bytes f.0; text = f.1.items }) eds_files.now) files) → IsGuaranteed f.found f.streams f.planned.outcome) }
+    ensures { MatchResult result (AreGuaranteedFiles nodes.now pdos.now (map (λ f. record { name = string_bytes f.0; text = f.1.items }) eds_files.now)) (λ fault. ExplainsNetwork nodes.now pdos.now (map (λ f. record { name = string_bytes f.0; text = f.1.items }) eds_files.now) fault) }
 {
     let nodes = read_nodes(alloc, nodes)?;
     let pdos = read_pdos(alloc, pdos)?;

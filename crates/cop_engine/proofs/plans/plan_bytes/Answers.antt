@@ -3,6 +3,7 @@ use Rattle.cop_net.specs.Network.{IsNetwork, accepted}
 use Rattle.cop_engine.specs.Faults.{fault_of}
 use Rattle.cop_engine.proofs.DcfLemmas.{have_texts}
 use Rattle.cop_engine.proofs.NetworkLemmas.{nodes_explain, pdos_explain, network_explains, files_are, err_is}
+use Rattle.cop_engine.proofs.GuaranteeLemmas.{guaranteed}
 use Rattle.cop_engine.proofs.plans.plan_bytes.Goals as goal
 
 pub files_of-requires : goal.files_of-requires
@@ -26,5 +27,6 @@ returns-in_err-network c =
 
 pub returns : goal.returns
 returns c =
-    files_are c.args.nodes.now c.args.pdos.now _ c.in_ok-nodes.nodes c.in_ok-pdos.pdos c.in_ok-network.network c.in_ok-files_of.field-0
-    c.in_ok-nodes.ensures c.in_ok-pdos.ensures c.in_ok-network.ensures.exact c.in_ok-network.ensures.tables.0 c.in_ok-network.ensures.tables.1 (subst IsNetwork c.network-2.view_is c.network-2.invariant.0) c.in_ok-files_of.ensures
+    let f = files_are c.args.nodes.now c.args.pdos.now _ c.in_ok-nodes.nodes c.in_ok-pdos.pdos c.in_ok-network.network c.in_ok-files_of.field-0
+    c.in_ok-nodes.ensures c.in_ok-pdos.ensures c.in_ok-network.ensures.exact c.in_ok-network.ensures.tables.0 c.in_ok-network.ensures.tables.1 (subst IsNetwork c.network-2.view_is c.network-2.invariant.0) c.in_ok-files_of.ensures in
+    record { exact = f; guaranteed = guaranteed c.args.nodes.now c.args.pdos.now _ f.found f.read f.streams f.streams_are f.begins f.planned.outcome f.planned.planned }
