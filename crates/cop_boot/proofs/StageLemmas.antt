@@ -235,7 +235,7 @@ module _ (p : Plan) (sound : IsSound p) where
       served_due : (served : Served) → MayServe (record { node = p.number; state = idle }) dict (request_of p.number s) served
           → served ≡ record { server = record { node = p.number; state = idle }; dict = with_setting dict s; answer = Some (reply p.number (download_answer (address_of s))) }
       served_due served may =
-          may.sure (rw (request_again (address_of s) (bytes_of s) bytes) left.accepts.0) ∙ served_so p.number dict (address_of s) (bytes_of s) bytes ∙ rw left.accepts.1 refl
+          may.sure (rw (request_again (address_of s) (bytes_of s) bytes) (inl left.accepts.0)) ∙ served_so p.number dict (address_of s) (bytes_of s) bytes ∙ rw left.accepts.1 refl
 
       at_rest : (server : Serving) (old : List Entry) (served : Served) → server ≡ record { node = p.number; state = idle } → old ≡ dict
           → MayServe server old (request_of p.number s) served → MayServe (record { node = p.number; state = idle }) dict (request_of p.number s) served
@@ -378,9 +378,6 @@ after_from p now (Resetting since here) = Resetting since here
 after_from p now (Asked done since s more) = Asked done since s more
 after_from p now Done = Done
 after_from p now Lost = Lost
-
-no_four : (n : ℕ) → (0x700 + n == 0x580 + n) ≡ false
-no_four n = grind (arith, nat_tests)
 
 module _ (p : Plan) (sound : IsSound p) where
   -- the next setting goes out

@@ -88,7 +88,7 @@ module _ (client : Calling) (server : Serving) (dict : List Entry) (at : Address
   begun = let e = rw (started_so client at bytes rests short) at h.begins in cc
 
   heard : after ≡ called (given client.node at bytes).client h.answer
-  heard = let e = h.calls.sure (rw begun tt) in rw begun at e
+  heard = let e = h.calls.sure (inl (rw begun tt)) in rw begun at e
 
   written_due : due server dict h.started.frame ≡ replied client.node (settled dict at (written dict at.index at.sub bytes >>= λ new. stays idle new (download_answer at)))
   written_due = rw (begun, idles) (served_so client.node dict at bytes short)
@@ -113,7 +113,7 @@ module _ (client : Calling) (server : Serving) (dict : List Entry) (at : Address
 
   pub accepted : (new : List Entry) → HasWidth dict at.index at.sub → written dict at.index at.sub bytes ≡ Ok new → (after.progress ≡ progress.Done) × (served.dict ≡ new)
   accepted new width e =
-      let due_now = h.serves.sure (rw (begun, request_again at bytes short) width) in
+      let due_now = h.serves.sure (rw (begun, request_again at bytes short) (inl width)) in
       let is : served ≡ replied client.node (settled dict at (stays idle new (download_answer at))) = rw e at (due_now ∙ written_due) in
       let p = done_so client.node dict new at bytes served h.answer after is h.answered heard in
       (rw p.1 refl, p.2)

@@ -12,7 +12,7 @@ use Rattle.cop_sdo.specs.declared.address.Address.{Address}
 use Rattle.cop_sdo.specs.declared.transfer.Transfer.{Transfer}
 use Rattle.cop_sdo.specs.declared.transfer.Transfer.TheVariants.{Idle, Download, Upload}
 use Rattle.cop_sdo.specs.Request.{Request, Give, GiveUnsized, Begin, Segment, Ask, AskSegment, Cancel, Unknown}
-use Rattle.cop_sdo.specs.Service.{Bytes, Unsized, segments, fits, download_of, completed, downloads, narrow, accepted, after_one, after}
+use Rattle.cop_sdo.specs.Service.{Bytes, segments, fits, download_of, completed, narrow, after_one, after}
 use Rattle.cop_sdo.specs.Service as service
 use Rattle.cop_sdo.specs.Answers.{download_answer, segment_answer}
 use Rattle.cop_sdo.specs.Server.{State, idle, Moved, stays, stored, is_too_long, is_too_short, taken, asked, sent_on, settled, step}

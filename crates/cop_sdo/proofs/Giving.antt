@@ -1,5 +1,5 @@
 -- What comes of an answer to a download of 1 to 4 bytes, and what a server does with one.
-use Rattle.std.proofs.Common.{◌≡◌, ℕ, Bool, true, false, ◌&&◌, List, [], refl, ap, ◌∙◌, arith, ◌==◌, if◌then◌else◌, Some, Ok, Err}
+use Rattle.std.proofs.Common.{◌≡◌, ℕ, Bool, true, false, ◌&&◌, List, [], refl, ap, ◌∙◌, arith, ◌==◌, if◌then◌else◌, inl, Some, Ok, Err}
 use Rattle.std.proofs.lemmas.Bool.Decides.{nat_tests}
 use Rattle.cop_dict.specs.declared.abort.Abort.{Abort}
 use Rattle.cop_dict.specs.declared.abort.Abort.TheVariants as aborts
@@ -36,10 +36,10 @@ is_same at other h =
 
 module _ (node : ℕ) (at : Address) (bytes : List ℕ) (frame : Message) (next : Called) (h : MayCall (given node at bytes).client frame next) where
   pub ignored : is_answer node frame ≡ false → next ≡ record { client = (given node at bytes).client; progress = progress.Ignored }
-  ignored other = h.sure tt ∙ rw other refl
+  ignored other = h.sure (inl tt) ∙ rw other refl
 
   heard : is_answer node frame ≡ true → next ≡ concluded node at (reacted [] (tasks.Giving at) (reply_of frame.body))
-  heard answer = h.sure tt ∙ rw answer refl
+  heard answer = h.sure (inl tt) ∙ rw answer refl
 
   pub confirmed : is_answer node frame ≡ true → reply_of frame.body ≡ replies.Confirm at → next ≡ record { client = record { node = node; asking = resting }; progress = progress.Done }
   confirmed answer is = heard answer ∙ rw (is, same_number at.index, same_number at.sub) refl
@@ -71,8 +71,8 @@ module _ (node : ℕ) (dict : List Entry) (frame : Message) (at : Address) (byte
     (width : HasWidth dict at.index at.sub) where
   pub written_so : (new : List Entry) → written dict at.index at.sub bytes ≡ Ok new
       → next ≡ record { server = record { node = node; state = idle }; dict = new; answer = Some (reply node (download_answer at)) }
-  written_so new e = h.sure (rw gives width) ∙ rw (hears, gives, e) refl
+  written_so new e = h.sure (rw gives (inl width)) ∙ rw (hears, gives, e) refl
 
   pub refused_so : (abort : Abort) → written dict at.index at.sub bytes ≡ Err abort
       → next ≡ record { server = record { node = node; state = idle }; dict = dict; answer = Some (reply node (abort_body at (code_of abort))) }
-  refused_so abort e = h.sure (rw gives width) ∙ rw (hears, gives, e) refl
+  refused_so abort e = h.sure (rw gives (inl width)) ∙ rw (hears, gives, e) refl

@@ -1,5 +1,5 @@
 -- What the calls of a client give.
-use Rattle.std.specs.Prelude.{ℕ, ◌≡◌, Bool, true, false, IsOk, not, ◌&&◌, List, [], length, nat_lt, nat_le, if◌then◌else◌, Option, Some, None, Result, Ok, Err, ◌⊎◌}
+use Rattle.std.specs.Prelude.{ℕ, ◌≡◌, Bool, true, false, IsOk, IsErr, not, ◌&&◌, List, [], length, nat_lt, nat_le, if◌then◌else◌, Option, Some, None, Result, Ok, Err, ◌⊎◌}
 use Rattle.cop_dict.specs.declared.abort.Abort.TheVariants as aborts
 use Rattle.cop_dict.specs.Codes.{code_of}
 use Rattle.cop_sdo.specs.declared.address.Address.{Address}
@@ -9,9 +9,9 @@ use Rattle.cop_sdo.specs.declared.fault.ClientFault.{ClientFault}
 use Rattle.cop_sdo.specs.declared.fault.ClientFault.TheVariants as faults
 use Rattle.cop_sdo.specs.declared.task.Task.TheVariants as tasks
 use Rattle.cop_sdo.specs.Answers.{abort_body}
-use Rattle.cop_sdo.specs.Client.{Calling, Called, called, concluded, resting, request, give_body, begin_body, ask_body, is_idle, task_at}
-use Rattle.cop_sdo.specs.Exchange.{IsDownloading}
-use Rattle.cop_sdo.specs.Reply.{is_answer}
+use Rattle.cop_sdo.specs.Client.{Calling, Called, called, reacted, concluded, resting, request, give_body, begin_body, ask_body, is_idle, task_at}
+use Rattle.cop_sdo.specs.Exchange.{IsDownloading, brings_bytes}
+use Rattle.cop_sdo.specs.Reply.{is_answer, reply_of}
 
 -- a client after a transfer has begun, and its first frame
 pub record Started : Type 0 where
@@ -65,7 +65,12 @@ abbrev pub StartsExactly : Result Frame ClientFault → Calling → Calling → 
 StartsExactly (Ok frame) old new outcome = outcome ≡ Ok (record { client = new; frame = message_of frame })
 StartsExactly (Err fault) old new outcome = (outcome ≡ Err fault) × (new ≡ old)
 
+-- these take no memory: a frame in a download, one without bytes of a value, and one that is refused
+abbrev pub HearsInPlace : Calling → Message → Type 0
+HearsInPlace client frame =
+    IsDownloading client.asking.task ⊎ (brings_bytes (reply_of frame.body) ≡ false) ⊎ IsErr (reacted client.asking.bytes client.asking.task (reply_of frame.body))
+
 -- what a client may do with a frame: what is due, or, where memory is refused, its own abort
 pub record MayCall (client : Calling) (frame : Message) (next : Called) : Type 0 where
   pub either : (next ≡ called client frame) ⊎ ((is_idle client.asking.task ≡ false) × (is_answer client.node frame ≡ true) × (next ≡ concluded client.node (task_at client.asking.task) (Err aborts.NoMemory)))
-  pub sure : IsDownloading client.asking.task → next ≡ called client frame
+  pub sure : HearsInPlace client frame → next ≡ called client frame

@@ -1,5 +1,5 @@
 -- What a server does with one request, by cases.
-use Rattle.std.specs.Prelude.{ℕ, ◌≡◌, ◌+◌, Bool, true, false, not, ◌&&◌, ◌||◌, List, [], ◌++◌, length, take, drop, nat_lt, nat_le, if◌then◌else◌, Option, Some, None, Result, Ok, Err, IfOk, ◌⊎◌}
+use Rattle.std.specs.Prelude.{ℕ, ◌≡◌, ◌+◌, Bool, true, false, not, ◌&&◌, ◌||◌, List, [], ◌++◌, length, take, drop, nat_lt, nat_le, if◌then◌else◌, Option, Some, None, Result, Ok, Err, IfOk, IsErr, ◌⊎◌}
 use Rattle.std.specs.Bool.{beq}
 use Rattle.std.specs.Option.{option_map_or}
 use Rattle.cop_dict.specs.declared.abort.Abort.{Abort}
@@ -131,16 +131,17 @@ settled dict at (Err abort) = record { state = idle; dict = dict; answer = Some 
 abbrev pub step : State → List Entry → Request → Moved
 step state dict request = settled dict (named state.transfer request) (moved state dict request)
 
--- a segment that no transfer waits for, or with a wrong toggle, or with too many bytes
-abbrev pub refuses : Transfer → ℕ → Bool → ℕ → Bool
-refuses (Download at size toggle) count t more = not (beq t toggle) || is_too_long size (count + more)
-refuses _ count t more = true
+-- a segment that no transfer waits for, or with a wrong toggle, or with too many bytes, or the last with too few
+abbrev pub refuses : Transfer → ℕ → Bool → ℕ → Bool → Bool
+refuses (Download at size toggle) count t more is_last = not (beq t toggle) || is_too_long size (count + more) || (is_last && is_too_short size (count + more))
+refuses _ count t more is_last = true
 
--- these take no memory
+-- these take no memory: a download in one frame whose object is of fixed width or that is refused, a segment that is refused, an
+-- upload in one frame, and all other requests
 abbrev pub TakesNoMemory : State → List Entry → Request → Type 0
-TakesNoMemory state dict (Give at bytes) = HasWidth dict at.index at.sub
-TakesNoMemory state dict (GiveUnsized at four) = HasWidth dict at.index at.sub
-TakesNoMemory state dict (Segment toggle bytes is_last) = refuses state.transfer (length state.bytes) toggle (length bytes) ≡ true
+TakesNoMemory state dict (Give at bytes) = HasWidth dict at.index at.sub ⊎ IsErr (moved state dict (Give at bytes))
+TakesNoMemory state dict (GiveUnsized at four) = HasWidth dict at.index at.sub ⊎ IsErr (moved state dict (GiveUnsized at four))
+TakesNoMemory state dict (Segment toggle bytes is_last) = refuses state.transfer (length state.bytes) toggle (length bytes) is_last ≡ true
 TakesNoMemory state dict (Ask at) = IfOk (read_of dict at.index at.sub) (λ bytes. (nat_lt 0 (length bytes) && nat_le (length bytes) 4) ≡ true)
 TakesNoMemory state dict _ = Unit {0}
 

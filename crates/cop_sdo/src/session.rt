@@ -1,6 +1,6 @@
 //! What a server does with a request.
 
-ghost use Rattle.std.specs.Prelude.{◌≡◌, true, ◌+◌, ◌≤◌, ◌<◌, ◌^◌, List, length, vec_len, IfOk};
+ghost use Rattle.std.specs.Prelude.{◌≡◌, ◌⊎◌, true, ◌+◌, ◌≤◌, ◌<◌, ◌^◌, List, length, vec_len, IfOk, IsErr};
 ghost use Rattle.cop_sdo.specs.Server.{is_too_long, is_too_short, named, running_at};
 ghost use Rattle.cop_sdo.specs.Seen.{seen};
 ghost use Rattle.cop_sdo.specs.Service.{narrow};
@@ -60,7 +60,7 @@ impl Session {
         bytes: &[u8],
     ) -> Result<Option<[u8; 8]>, Abort>
         ensures exact { Does result self.new dict.old dict.new (stored dict.old at bytes.now (download_answer at)) }
-        ensures in_place { HasWidth dict.old at.index at.sub
+        ensures in_place { HasWidth dict.old at.index at.sub ⊎ IsErr (stored dict.old at bytes.now (download_answer at))
             → DoesExactly result self.new dict.old dict.new (stored dict.old at bytes.now (download_answer at)) }
     {
         dict.write(at.index, at.sub, bytes)?;
@@ -77,7 +77,8 @@ impl Session {
     ) -> Result<Option<[u8; 8]>, Abort>
         requires { length four.now ≡ 4 }
         ensures exact { Does result self.new dict.old dict.new (moved (state_of self.old) dict.old (GiveUnsized at four.now)) }
-        ensures in_place { HasWidth dict.old at.index at.sub → DoesExactly result self.new dict.old dict.new (moved (state_of self.old) dict.old (GiveUnsized at four.now)) }
+        ensures in_place { TakesNoMemory (state_of self.old) dict.old (GiveUnsized at four.now)
+            → DoesExactly result self.new dict.old dict.new (moved (state_of self.old) dict.old (GiveUnsized at four.now)) }
     {
         let width = dict.admits(at.index, at.sub, None)?;
         let count = narrow(width)?;
@@ -116,7 +117,7 @@ impl Session {
     ) -> Result<Option<[u8; 8]>, Abort>
         requires { length bytes.now ≤ 7 }
         ensures exact { Does result self.new dict.old dict.new (segment_came (state_of self.old) dict.old self.old.transfer toggle bytes.now is_last) }
-        ensures in_place { refuses self.old.transfer (vec_len self.old.bytes) toggle (length bytes.now) ≡ true → DoesExactly result self.new dict.old dict.new (segment_came (state_of self.old) dict.old self.old.transfer toggle bytes.now is_last) }
+        ensures in_place { refuses self.old.transfer (vec_len self.old.bytes) toggle (length bytes.now) is_last ≡ true → DoesExactly result self.new dict.old dict.new (segment_came (state_of self.old) dict.old self.old.transfer toggle bytes.now is_last) }
     {
         let Transfer::Download {
             at,
@@ -132,6 +133,9 @@ impl Session {
         if is_too_long(size, self.bytes.len(), bytes.len()) {
             return Err(Abort::TooLong);
         }
+        if is_last && is_too_short(size, self.bytes.len() + bytes.len()) {
+            return Err(Abort::TooShort);
+        }
         if self.bytes.extend_from_slice(bytes).is_err() {
             return Err(Abort::NoMemory);
         }
@@ -142,9 +146,6 @@ impl Session {
                 toggle: !toggle,
             };
             return Ok(Some(segment_answer(toggle)));
-        }
-        if is_too_short(size, self.bytes.len()) {
-            return Err(Abort::TooShort);
         }
         dict.write(at.index, at.sub, &self.bytes)?;
         self.end();
