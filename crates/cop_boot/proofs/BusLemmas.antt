@@ -1,5 +1,5 @@
 -- Channels as a log of frames, and how many of them are behind.
-use Rattle.std.proofs.Common.{◌≡◌, ◌==◌, ℕ, zero, suc, ◌+◌, ◌<◌, ◌≤◌, Bool, true, false, cond, List, [], ◌∷◌, ◌++◌, map, length, drop, set, get_or, drop-cons, drop_of_length-le, add-one, refl, ap, sym, subst, ◌∙◌, arith, nat_lt, Option, Some, None, ◌⊎◌, inl, inr}
+use Rattle.std.proofs.Common.{◌≡◌, ◌==◌, ℕ, zero, suc, ◌+◌, ◌<◌, ◌≤◌, Bool, true, false, cond, List, [], ◌∷◌, ◌++◌, map, length, drop, set, get_or, drop-cons, add-one, refl, ap, sym, subst, ◌∙◌, arith, nat_lt, Option, Some, None, ◌⊎◌, inl, inr}
 use Rattle.std.proofs.lemmas.Bool.{eqb-true}
 use Rattle.std.specs.Prelude.{filter, option_to_list}
 use Rattle.std.specs.List.{position, position_or_len}
@@ -30,15 +30,6 @@ module _ {X : Type 0} (p : X → Bool) where
       default [] i d e l = absurd (let g : ⊥ = omega arith in g)
       default (x ∷ xs) zero d e l = refl
       default (x ∷ xs) (suc i) d e l = default xs i d e (omega arith)
-
-  pub front_later : (xs : List X) (from i : ℕ) (x : X) → i < length xs → x ≡ get_or xs i x → p x ≡ false → filter p (drop i xs) ≡ filter p (drop from xs)
-      → filter p (drop (i + 1) xs) ≡ filter p (drop from xs)
-  front_later xs from i x inside is fail whole =
-      let test : p (get_or xs i x) ≡ false = ap p (sym is) ∙ fail in
-      sym (front_at xs i x inside ∙ rw test refl) ∙ whole
-
-  pub front_none : (xs : List X) (from i : ℕ) → length xs ≤ i → filter p (drop i xs) ≡ filter p (drop from xs) → filter p (drop from xs) ≡ []
-  front_none xs from i past whole = sym whole ∙ ap (filter p) (drop_of_length-le xs past)
 
 -- the device of a node, and the same in another state
 module _ (n : ℕ) where
@@ -220,7 +211,3 @@ pub from_none : (answers now : List Answer) (heard : List ℕ) (n from : ℕ) �
 from_none answers now heard n from same place next =
     ap (map (λ answer. message_of answer.frame)) (subst (λ now. filter (λ answer. answer.node == n) (drop (get_or heard n 0) now) ≡ []) same
     (subst (λ from. filter (λ answer. answer.node == n) (drop (get_or heard from 0) now) ≡ []) place next))
-
-pub from_kept : (answers : List Answer) (heard : List ℕ) (n k other front : ℕ) → k ≡ n → (other == n) ≡ false
-    → comes other (drop (get_or (set heard k (front + 1)) other 0) answers) ≡ comes other (drop (get_or heard other 0) answers)
-from_kept answers heard n k other front at apart = ap (λ i. comes other (drop i answers)) (set_other heard k n other (front + 1) at apart)

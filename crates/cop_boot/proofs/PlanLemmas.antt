@@ -6,7 +6,7 @@ use Rattle.std.proofs.Common.{Less, Equal}
 use Rattle.std.specs.Ordering.{nat_cmp}
 use Rattle.std.specs.Cmp.{nat_cmp_is}
 use Rattle.std.specs.List.{AllByRecursion, list_all}
-use Rattle.std.proofs.lemmas.List.Elements.{All-nil, All-cons, All-head, All-rest}
+use Rattle.std.proofs.lemmas.List.Elements.{All-nil, All-cons, All-rest}
 use Rattle.std.specs.List.Sorted.{IsStrictlySortedBy}
 use Rattle.std.proofs.lemmas.List.{map-append, append-nil}
 use Rattle.std.proofs.lemmas.Bool.Decides.{nat_tests}
@@ -79,12 +79,6 @@ goes_on all it rest one is managed leaves = (
   λ h. leaves.0 (subst CanManage (sym is) (All-cons (λ e. is_managed e.0 e.1.items ≡ true) one rest managed h)),
   λ h. All-rest (λ e. is_managed e.0 e.1.items ≡ true) one rest it is (leaves.1 h),
 )
-
-pub is_not : (all it rest : Plans) (one : ℕ × Vec Setting) → it ≡ one ∷ rest → is_managed one.0 one.1.items ≡ false → LeavesAll all it → CanManage all → ⊥
-is_not all it rest one is not leaves h = no (All-head (λ e. is_managed e.0 e.1.items ≡ true) one rest (subst CanManage is (leaves.1 h)))
-  where
-    no : is_managed one.0 one.1.items ≡ true → ⊥
-    no h = cc
 
 pub all_of : (all it : Plans) → it ≡ [] → LeavesAll all it → CanManage all
 all_of all it is leaves = leaves.0 (subst CanManage (sym is) (All-nil (λ e. is_managed e.0 e.1.items ≡ true)))

@@ -15,7 +15,7 @@ use Rattle.cop_bus.proofs.Totals.{AllPairs-from_Pairs}
 use Rattle.cop_bus.proofs.Whole.{takes-time}
 use Rattle.cop_bus.proofs.Work.{start_cases}
 use Rattle.cop_bus.proofs.StepLemmas as Steps
-use Rattle.cop_bus.proofs.StepLemmas.{same_some, moment-some, count_to-suc, count_to-le, count_to-past, nth_that-some, nth_that-at, nth_before, queue_shape, start_shape, is_queue-of, is_start-of, IsRest, each_instance, pairs_instances, instance_in}
+use Rattle.cop_bus.proofs.StepLemmas.{same_some, moment-some, count_to-past, nth_that-some, nth_that-at, nth_before, queue_shape, start_shape, is_queue-of, is_start-of, IsRest, each_instance, pairs_instances, instance_in}
 
 module _ (tau : ℕ) (streams : List Stream) (until : ℕ) (steps : List Step) (tick : 1 ≤ tau) (obeys : Obeys tau streams until steps) where
   abbrev pub queues : ℕ → ℕ → ℕ
@@ -106,13 +106,6 @@ module _ (tau : ℕ) (streams : List Stream) (until : ℕ) (steps : List Step) (
       let p = paired b at id (omega arith) h in
       let t = takes p.0 p.1 id p.2 p.3 p.4 p.5 in
       (w, omega (arith, p.8))
-
-  -- a start of the same moment is the same step
-  pub order_of_starts : (b c at at' id id' : ℕ) → b < length steps → c < length steps → step_at steps b ≡ Start at id → step_at steps c ≡ Start at' id' → at ≤ at' → b ≤ c
-  order_of_starts b c at at' id id' l k h g o = elim (cases_lt c b) [
-    | inr r ↦ r
-    | inl r ↦ (let w = starts_apart c b at' at id' id r l g h in absurd (omega (arith, w.1)))
-  ]
 
   -- what is queued by the moment of a start stands before it
   pub queued_before : (a b q at id k event : ℕ) (frame : Content) → a < length steps → b < length steps → step_at steps a ≡ Queue q k event frame → step_at steps b ≡ Start at id → q ≤ at → a < b

@@ -21,11 +21,6 @@ use Rattle.cop_bus.proofs.Found.{stream_cases, at-found}
 abbrev pub late_at : ℕ → List Stream → ℕ → List Step → ℕ → Bool
 late_at tau streams until steps i = is_late tau until (stream_of streams (id_of (step_at steps i))) (sent_at steps i (id_of (step_at steps i))) (step_at steps i)
 
-pub the-test : (tau : ℕ) (streams : List Stream) (until : ℕ) (steps : List Step) (i : ℕ) (id : ℕ) (o : Option Stream) (s : Option ℕ) (b : Bool) →
-    id ≡ id_of (step_at steps i) → o ≡ stream_of streams id → s ≡ sent_at steps i id → b ≡ is_late tau until o s (step_at steps i) → b ≡ late_at tau streams until steps i
-the-test tau streams until steps i id o s b e f g h =
-    h ∙ ap (λ v. is_late tau until v s (step_at steps i)) (f ∙ ap (stream_of streams) e) ∙ ap (λ v. is_late tau until (stream_of streams (id_of (step_at steps i))) v (step_at steps i)) (g ∙ ap (sent_at steps i) e)
-
 pub late-split : (tau : ℕ) (streams : List Stream) (until : ℕ) (steps : List Step) (i : ℕ) (b : Bool) → i < length steps → b ≡ late_at tau streams until steps i →
     first_late_from tau streams until steps i (drop i steps) ≡ cond b (Some (suc i)) (first_late_from tau streams until steps (suc i) (drop (suc i) steps))
 late-split tau streams until steps i b l e =

@@ -24,7 +24,6 @@ pub mod WriterLemmas
 pub mod TraceLemmas
 pub mod CsvLemmas
 pub mod RoundTrip
-pub mod BusLemmas
 pub mod RangeLemmas
 pub mod PeriodExists
 pub mod Grows

@@ -1,13 +1,13 @@
 -- Rings that are found by their identifiers.
 use Rattle.std.proofs.Common.{◌≡◌, ◌≢◌, ℕ, zero, suc, ◌+◌, ◌*◌, ◌<◌, ◌≤◌, inl, inr, List, [], ◌∷◌, ◌++◌, length, slice_get, slice_set, refl, sym, ◌∙◌, ap, subst, arith, false, Result, Ok, Err, OnOk, OnErr}
-use Rattle.std.specs.Prelude.{Option, None, Some, All}
+use Rattle.std.specs.Prelude.{Option, Some, All}
 use Rattle.std.specs.BTreeMap.{BTreeMap, get}
 use Rattle.std.specs.Cmp.{nat_cmp_is}
 use Rattle.std.specs.Ordering.{nat_cmp, is_eq}
 use Rattle.std.specs.declared.cmp.Ordering.TheVariants.{Less, Greater}
 use Rattle.std.proofs.lemmas.Bool.{cases_lt, cases_eq}
 use Rattle.std.proofs.lemmas.List.{length-set}
-use Rattle.std.proofs.lemmas.List.Elements.{All-drop, All-map, All-nil, All-push, All-set}
+use Rattle.std.proofs.lemmas.List.Elements.{All-map, All-nil, All-push, All-set}
 use Rattle.std.proofs.lemmas.Option.{slice_get_within}
 use Rattle.cop_frame.specs.declared.rates.Rate.{Rate}
 use Rattle.cop_frame.specs.Rate.{ticks_of}
@@ -19,7 +19,6 @@ use Rattle.cop_bus.proofs.AtPlace.{set-here, set-other, some-one, there-is, at-p
 use Rattle.cop_bus.specs.Rings.{RingValue, most_of, rings_of}
 use Rattle.cop_bus.specs.Queues.{IsLowest}
 use Rattle.cop_bus.specs.Bus.{Bus, ArePlaced, ArePlacedTo, AreQueuedBy, Starts, without_first}
-use Rattle.cop_bus.specs.declared.bus.Started.{Started}
 
 -- ---- identifiers
 
@@ -145,12 +144,3 @@ queued-more rings after p y (Ok u) low ok err t l h =
     (All-set (λ (r : RingValue). All (λ z. z.at ≤ t) r.waiting) rings p (record { id = w.0.id; waiting = w.0.waiting ++ y ∷ []; most = w.0.most })
     (All-push (λ z. z.at ≤ t) w.0.waiting y (at-place (λ (r : RingValue). All (λ z. z.at ≤ t) r.waiting) rings p w.0 w.1 h) l) h)
 queued-more rings after p y (Err f) low ok err t l h = subst (λ (rs : List RingValue). AreQueuedBy rs t) (sym err) h
-
-pub queued-started : (old : Bus) (now : ℕ) (joiners : List Instance) (new : Bus) (result : Option Started) → Starts old now joiners new result → (t : ℕ) → AreQueuedBy old.rings t → AreQueuedBy new.rings t
-queued-started old now joiners new None s t h = subst (λ (b : Bus). AreQueuedBy b.rings t) (sym s.1) h
-queued-started old now joiners new (Some started) s t h = elim s.1 [
-  | inl w ↦ subst (λ (b : Bus). AreQueuedBy b.rings t) (sym w.after)
-      (All-set (λ (r : RingValue). All (λ z. z.at ≤ t) r.waiting) old.rings w.place (without_first w.ring)
-      (All-drop (λ z. z.at ≤ t) 1 w.ring.waiting (at-place (λ (r : RingValue). All (λ z. z.at ≤ t) r.waiting) old.rings w.place w.ring w.here h)) h)
-  | inr w ↦ subst (λ (b : Bus). AreQueuedBy b.rings t) (sym w.after) h
-]

@@ -3,7 +3,7 @@ use Rattle.std.proofs.Common.{◌≡◌, ◌≢◌, ℕ, zero, suc, ◌+◌, ◌
 use Rattle.std.specs.Prelude.{Option, None, Some, ◌==◌, slice_index}
 use Rattle.std.specs.Option.{ForSome}
 use Rattle.std.proofs.lemmas.Bool.{cases_lt, cases_eq, cases_Bool, ltb-true, lt-ltb, eq-eqb, eqb-true, and_parts, and_from, or_cases}
-use Rattle.std.proofs.lemmas.List.{get_or-set_same, get_or-set_other, get_or_past, get_or_push, get_or_append_left, length-set}
+use Rattle.std.proofs.lemmas.List.{get_or-set_same, get_or-set_other, get_or_past, length-set}
 use Rattle.cop_bus.specs.declared.ranking.Rank.{Rank}
 use Rattle.cop_bus.specs.Ranks.{is_before, leader, rank_at, above, AreNodes, IsApart, IsLed, Leads, AreLedBut, AreSiblings, IsTournament, IsNotAfter, IsFirstOf}
 
@@ -263,9 +263,6 @@ module _ (ranks : List (Option Rank)) (leaders : List ℕ) (place : ℕ) (rank :
   same-count : length (slice_set ranks place rank) ≡ length ranks
   same-count = length-set ranks place rank
 
-  pub changed-nodes : AreNodes (length (slice_set ranks place rank)) 1 leaders
-  changed-nodes = subst (λ n. AreNodes n 1 leaders) (sym same-count) t.nodes
-
   leads-other : (p q : ℕ) → p ≢ place → q ≢ place → Leads ranks p q → Leads (slice_set ranks place rank) p q
   leads-other p q np nq h s e = (let w = h s (sym (get_or-set_other ranks place q rank None nq) ∙ e) in (w.0, get_or-set_other ranks place p rank None np ∙ w.1, w.2))
 
@@ -304,13 +301,6 @@ none-held zero i = refl
 none-held (suc n) zero = refl
 none-held (suc n) (suc i) = none-held n i
 
--- the places that stand last
-pub places-more : (nodes : List ℕ) (places n : ℕ) → length nodes ≡ places + n → ((i : ℕ) → i < n → slice_index nodes (places + i) ≡ i) → (i : ℕ) → i < n + 1 → slice_index (nodes ++ n ∷ []) (places + i) ≡ i
-places-more nodes places n many before i l = elim (cases_eq i n) [
-  | inl e ↦ get_or_push nodes n 0 (places + i) (omega (arith, many, e)) ∙ sym e
-  | inr e ↦ get_or_append_left nodes (n ∷ []) 0 (places + i) (omega (arith, many, l, e)) ∙ before i (omega (arith, l, e))
-]
-
 pub places-nodes : (places : ℕ) (nodes : List ℕ) → length nodes ≡ places + places → ((i : ℕ) → i < places → slice_index nodes (places + i) ≡ i) → AreNodes places places nodes
 places-nodes places nodes many leaves = record {
   many = many;
@@ -328,6 +318,3 @@ nodes-down places node nodes least low t =
     let w = t.over (node + node) (omega (arith, least)) (omega (arith, low)) in
     over-set places (node + 1) node nodes node (slice_index nodes (node + node)) t (λ k l d. omega (arith, l, d)) low (t.within (node + node) (omega (arith, least)) (omega (arith, low)))
     (suc w.0) (above-more w.0 (places + slice_index nodes (node + node)) ∙ ap (λ v. v / 2) w.1 ∙ (let e : (node + node) / 2 ≡ node = omega arith in e))
-
-pub nodes-all : (places node : ℕ) (nodes : List ℕ) → node ≤ 1 → AreNodes places node nodes → AreNodes places 1 nodes
-nodes-all places node nodes low t = record { many = t.many; leaves = t.leaves; within = λ k l m. t.within k (omega (arith, l, low)) m; over = λ k l m. t.over k (omega (arith, l, low)) m }

@@ -259,20 +259,3 @@ pairs_at steps i (x ∷ rest) same R h a q id event frame b q' id' event' frame'
 pub count_to-zero : (p : Step → Bool) (xs : List Step) → count_to p xs 0 ≡ 0
 count_to-zero p [] = refl
 count_to-zero p (x ∷ xs) = refl
-
-pub count_to-bound : (p : Step → Bool) (xs : List Step) (i : ℕ) → count_to p xs i ≤ i
-count_to-bound p [] i = omega arith
-count_to-bound p (x ∷ xs) zero = omega arith
-count_to-bound p (x ∷ xs) (suc i) = go (p x) (count_to-bound p xs i)
-  where
-    go : (b : Bool) → count_to p xs i ≤ i → cond b 1 0 + count_to p xs i ≤ suc i
-    go true h = omega arith
-    go false h = omega arith
-
--- a loop that counts
-pub count_to-step : (p : Step → Bool) (xs : List Step) (i n m : ℕ) (b : Bool) → i < length xs → p (step_at xs i) ≡ b → n ≡ count_to p xs i → m ≡ n + cond b 1 0 → m ≡ count_to p xs (i + 1)
-count_to-step p xs i n m b l h e f =
-    let s = count_to-suc p xs i l in
-    let c : cond {A = ℕ} (p (step_at xs i)) 1 0 ≡ cond b 1 0 = ap (λ v. cond {A = ℕ} v 1 0) h in
-    let j : i + 1 ≡ suc i = omega arith in
-    rw j (omega arith)

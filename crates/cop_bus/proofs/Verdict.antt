@@ -19,14 +19,6 @@ pub drop-all : (steps : List Step) → drop (length steps) steps ≡ []
 drop-all [] = refl
 drop-all (x ∷ xs) = drop-all xs
 
--- The search for the first broken rule, from step i on.
-pub found-here : (tau : ℕ) (streams : List Stream) (until : ℕ) (steps : List Step) (i r : ℕ) → i < length steps →
-    first_broken_from tau streams until steps i (drop i steps) ≡ first_broken tau streams until steps → Some r ≡ broken_by tau streams until steps i (step_at steps i) →
-    first_broken tau streams until steps ≡ Some (i + 1, r)
-found-here tau streams until steps i r l h e =
-    let n : suc i ≡ i + 1 = omega arith in
-    sym h ∙ ap (first_broken_from tau streams until steps i) (drop-at steps i l) ∙ ap (λ o. at_step i o (first_broken_from tau streams until steps (suc i) (drop (suc i) steps))) (sym e) ∙ ap (λ k. Some (k, r)) n
-
 pub not-here : (tau : ℕ) (streams : List Stream) (until : ℕ) (steps : List Step) (i : ℕ) → i < length steps →
     first_broken_from tau streams until steps i (drop i steps) ≡ first_broken tau streams until steps → None ≡ broken_by tau streams until steps i (step_at steps i) →
     first_broken_from tau streams until steps (suc i) (drop (suc i) steps) ≡ first_broken tau streams until steps

@@ -1,12 +1,9 @@
 -- One number of a climbing list.
-use Rattle.std.proofs.Common.{◌≡◌, ◌↔◌, ℕ, ◌+◌, ◌-◌, ◌^◌, ◌<◌, ◌≤◌, min, List, [], ◌∷◌, length, get_or, drop, refl, arith, add-one, drop-cons, drop_of_length-le, All, Option, Some, None, MatchOption, ◌*◌, Fits, w64}
-use Rattle.std.proofs.lemmas.List.{get_or_default}
+use Rattle.std.proofs.Common.{◌≡◌, ◌↔◌, ℕ, ◌+◌, ◌-◌, ◌^◌, ◌<◌, ◌≤◌, min, List, [], ◌∷◌, length, get_or, drop, refl, arith, drop_of_length-le, All, Option, Some, None, MatchOption, ◌*◌, Fits, w64}
+use Rattle.std.proofs.lemmas.List.{get_or_default, drop_more}
 use Rattle.std.proofs.lemmas.List.Elements.{All-head, All-tail}
 use Rattle.cop_rta.specs.Test.{StreamPlace, busy_at, queueing_at, blocking, cost_at}
 use Rattle.cop_cert.specs.Evidence.{Climbs, IsClimb, first_of, last_after, last_of, IsBusyList, IsQueueList}
-
-split_at : (xs : List ℕ) (i : ℕ) → i < length xs → drop i xs ≡ get_or xs i 0 ∷ drop (i + 1) xs
-split_at xs i h = rw add-one (drop-cons xs i 0 h)
 
 module _ (f : ℕ → ℕ) (xs : List ℕ) (i a : ℕ) where
   abbrev pub Next : Type 0
@@ -14,11 +11,11 @@ module _ (f : ℕ → ℕ) (xs : List ℕ) (i a : ℕ) where
 
   pub climb_next : i < length xs → Climbs f a (drop i xs) ↔ Next
   unfolding Climbs
-  climb_next h = rw (split_at xs i h) (λ c. c, λ c. c)
+  climb_next h = rw (drop_more xs i 0 h) (λ c. c, λ c. c)
 
   pub last_next : i < length xs → last_after a (drop i xs) ≡ last_after (get_or xs i 0) (drop (i + 1) xs)
   unfolding last_after
-  last_next h = rw (split_at xs i h) refl
+  last_next h = rw (drop_more xs i 0 h) refl
 
   pub climb_end : length xs ≤ i → Climbs f a (drop i xs)
   unfolding Climbs
@@ -43,11 +40,8 @@ module _ (f : ℕ → ℕ) (cap : ℕ) where
   capped (a ∷ rest) fit = capped_rest a rest (All-tail (λ n. n ≤ cap) a rest fit)
 
 -- numbers of 64 bits
-fits_below : (n : ℕ) → Fits w64 n → n < 2 ^ 64
-fits_below n h = omega (arith, h)
-
 pub all_fit : (numbers : List ℕ) → ((k : ℕ) → Fits w64 (get_or numbers k 0)) → All (λ n. n ≤ 2 ^ 64 - 1) numbers
-all_fit numbers fit k d below = let small : get_or numbers k 0 < 2 ^ 64 = fits_below (get_or numbers k 0) (fit k) in rw (get_or_default numbers k d 0 below) (omega arith)
+all_fit numbers fit k d below = let small : get_or numbers k 0 < 2 ^ 64 = omega (arith, fit k) in rw (get_or_default numbers k d 0 below) (omega arith)
 
 -- what the capped equation says of a list, the equation says
 list_end : (f : ℕ → ℕ) (P : Type 0) (numbers : List ℕ) (r : Option ℕ) → All (λ n. n ≤ 2 ^ 64 - 1) numbers → (P ↔ IsClimb f numbers)

@@ -33,13 +33,11 @@ on_time_or_late : (o : Option ℕ) (a w c x last : ℕ) → last ≤ w → ForSo
 on_time_or_late None a w c x last le h late = late
 on_time_or_late (Some d) a w c x last le h late = let on_time : a + w + c ≤ d + x = h d refl in omega arith
 
-pub evidence_shows : (p : StreamPlace) (e : Evidence) → IsEvidence p e → HasWitnesses p → ⊥
-evidence_shows p (Long busy) e shown = omega (arith, busy_below p busy e.list shown, e.high, shown.within)
-evidence_shows p (Late q busy queue) e shown =
+pub evidence_fails : (p : StreamPlace) (e : Evidence) → IsEvidence p e → Passes p → ⊥
+evidence_fails p (Long busy) e passes = let shown = passes_has_witnesses p passes in omega (arith, busy_below p busy e.list shown, e.high, shown.within)
+evidence_fails p (Late q busy queue) e passes =
+    let shown = passes_has_witnesses p passes in
     let w = shown.each q (omega (arith, e.reached, busy_below p busy e.list shown)) in
     on_time_or_late (deadline_at p) (jitter_at p) w.0 (cost_at p) (q * period_at p) (last_of queue)
     (climb_below (queueing_at p q) (queueing_at-mono p q) w.0 w.1 queue (starts p q (first_of queue) w.0 e.waits.begins w.1) e.waits.climbs)
     w.2 e.late
-
-pub evidence_fails : (p : StreamPlace) (e : Evidence) → IsEvidence p e → Passes p → ⊥
-evidence_fails p e shows passes = evidence_shows p e shows (passes_has_witnesses p passes)

@@ -1,11 +1,12 @@
 -- The equations grow by a frame at least, so no chain is longer than 181,820 numbers.
-use Rattle.std.proofs.Common.{ℕ, zero, suc, ◌+◌, ◌*◌, ◌-◌, ◌<◌, ◌≤◌, ◌≡◌, Bool, true, false, if◌then◌else◌, arith, slice_get, Option, Some, None, List, [], ◌∷◌, length, le_refl, mul-le-mul_right, lit≤, ⊎_elim, refl}
+use Rattle.std.proofs.Common.{ℕ, zero, suc, ◌+◌, ◌*◌, ◌-◌, ◌<◌, ◌≤◌, ◌≡◌, Bool, true, false, if◌then◌else◌, arith, slice_get, Option, Some, None, List, [], ◌∷◌, length, le_refl, mul-le-mul_right, zero-le, ⊎_elim, refl}
+use Rattle.std.proofs.Math.Nat.{zero-mul}
 use Rattle.std.specs.Int.{div_ceil}
 use Rattle.std.specs.Option.{option_map_or}
 use Rattle.std.proofs.lemmas.Bool.{cases_lt}
 use Rattle.cop_frame.specs.declared.rates.Rate.{Rate}
-use Rattle.cop_frame.specs.declared.rates.Rate.TheVariants.{Kbit10, Kbit20, Kbit50, Kbit125, Kbit250, Kbit500, Kbit800, Kbit1000}
 use Rattle.cop_frame.specs.Rate.{ticks_of}
+use Rattle.cop_frame.proofs.RateLemmas.{ticks_least}
 use Rattle.cop_rta.specs.declared.streams.Stream.{Stream}
 use Rattle.cop_rta.specs.CeilLemmas.{div_ceil-mono, div_ceil_above}
 use Rattle.cop_rta.specs.Sums.{sum_where}
@@ -32,21 +33,11 @@ gap_add a b c d h k = record {
       (cases_lt a b);
 }
 
-ticks_four : (rate : Rate) → 4 ≤ ticks_of rate
-ticks_four Kbit10 = lit≤ tt
-ticks_four Kbit20 = lit≤ tt
-ticks_four Kbit50 = lit≤ tt
-ticks_four Kbit125 = lit≤ tt
-ticks_four Kbit250 = lit≤ tt
-ticks_four Kbit500 = lit≤ tt
-ticks_four Kbit800 = lit≤ tt
-ticks_four Kbit1000 = lit≤ tt
-
 long_enough : (bytes ticks : ℕ) → 4 ≤ ticks → 220 ≤ (55 + 10 * bytes) * ticks
 long_enough bytes ticks h = let more : 55 * ticks ≤ (55 + 10 * bytes) * ticks = mul-le-mul_right ticks (omega arith) in omega (arith, more, h)
 
 cost_220 : (rate : Rate) (s : Stream) → 220 ≤ cost_of rate s
-cost_220 rate s = long_enough s.bytes (ticks_of rate) (ticks_four rate)
+cost_220 rate s = long_enough s.bytes (ticks_of rate) (ticks_least rate)
 
 times_gap : (m n c : ℕ) → 220 ≤ c → m ≤ n → HasGap (m * c) (n * c)
 times_gap m n c h le = record {
@@ -108,32 +99,24 @@ module _ (f : ℕ → ℕ) (limit : ℕ) (gaps : (x y : ℕ) → x ≤ y → Has
       count_after a b rest top high c.follows.2 c.follows.1 c.follows.3
 
 -- a load that is not 0 is a frame at least
-some_load : (n c : ℕ) → 220 ≤ c → 0 < n * c → 220 ≤ n * c
-some_load zero c h some = absurd (omega arith)
-some_load (suc n) c h some = let one : 1 * c ≤ suc n * c = mul-le-mul_right c (omega arith) in omega (arith, one, h)
+load_some : (rate : Rate) (x : ℕ) (o : Option Stream) → HasGap 0 (option_map_or (load_of rate x) o 0)
+load_some rate x None = gap_same 0
+load_some rate x (Some s) = rw (zero-mul (cost_of rate s)) at (times_gap 0 (div_ceil (x + s.jitter) s.period) (cost_of rate s) (cost_220 rate s) zero-le)
 
-load_some : (rate : Rate) (x : ℕ) (o : Option Stream) → 0 < option_map_or (load_of rate x) o 0 → 220 ≤ option_map_or (load_of rate x) o 0
-load_some rate x None some = absurd (omega arith)
-load_some rate x (Some s) some = some_load (div_ceil (x + s.jitter) s.period) (cost_of rate s) (cost_220 rate s) some
+choice_some : (b : Bool) (n : ℕ) → HasGap 0 n → HasGap 0 (if b then n else 0)
+choice_some true n h = h
+choice_some false n h = gap_same 0
 
-choice_some : (b : Bool) (n : ℕ) → (0 < n → 220 ≤ n) → 0 < (if b then n else 0) → 220 ≤ (if b then n else 0)
-choice_some true n h some = h some
-choice_some false n h some = absurd (omega arith)
-
-sum_some : (p : ℕ → Bool) (f : ℕ → ℕ) (n : ℕ) → ((k : ℕ) → 0 < f k → 220 ≤ f k) → 0 < sum_where p f n → 220 ≤ sum_where p f n
+sum_some : (p : ℕ → Bool) (f : ℕ → ℕ) (n : ℕ) → ((k : ℕ) → HasGap 0 (f k)) → HasGap 0 (sum_where p f n)
 unfolding sum_where
-sum_some p f zero h some = absurd (omega arith)
-sum_some p f (suc n) h some = ⊎_elim
-    (λ (here : 0 < (if p n then f n else 0)). omega (arith, choice_some (p n) (f n) (h n) here))
-    (λ (none : (if p n then f n else 0) ≤ 0). omega (arith, sum_some p f n h (omega arith)))
-    (cases_lt 0 (if p n then f n else 0))
+sum_some p f zero h = gap_same 0
+sum_some p f (suc n) h = gap_add 0 (sum_where p f n) 0 _ (sum_some p f n h) (choice_some (p n) (f n) (h n))
 
 queue_first : (p : StreamPlace) (q : ℕ) → blocking p + q * cost_at p < queueing_at p q (blocking p + q * cost_at p) → 220 ≤ queueing_at p q (blocking p + q * cost_at p)
 unfolding queueing_at
 queue_first p q up =
     let x : ℕ = blocking p + q * cost_at p + ticks_of p.rate in
-    let some : 0 < interference p x = omega arith in
-    omega (arith, sum_some (is_above p) (of_stream (load_of p.rate x) p.streams) (length p.streams) (λ k. load_some p.rate x (slice_get p.streams k)) some)
+    omega (arith, (sum_some (is_above p) (of_stream (load_of p.rate x) p.streams) (length p.streams) (λ k. load_some p.rate x (slice_get p.streams k))).gap (omega arith))
 
 busy_first : (p : StreamPlace) (s : Stream) → slice_get p.streams p.index ≡ Some s → 220 ≤ busy_at p 1
 unfolding busy_at

@@ -1,48 +1,18 @@
 -- Lists of members: that they rise, one of them, and which are marked.
-use Rattle.std.proofs.Common.{◌≡◌, ◌≢◌, ◌⊎◌, inl, inr, ℕ, zero, suc, ◌+◌, ◌<◌, ◌≤◌, Bool, true, false, ◌||◌, ◌==◌, List, [], ◌∷◌, length, map, not, get_or, slice_get, Some, None, sym, true≢false, drop, All, refl, ap, arith, add-one, drop-cons, drop_of_length-le, ne_eqb, set, ◌∙◌, eq-eqb}
+use Rattle.std.proofs.Common.{◌≡◌, ◌≢◌, ◌⊎◌, inl, inr, ℕ, zero, suc, ◌+◌, ◌<◌, ◌≤◌, Bool, true, false, ◌||◌, ◌==◌, List, [], ◌∷◌, length, map, not, get_or, slice_get, Some, None, sym, true≢false, drop, All, refl, ap, arith, ne_eqb, set, ◌∙◌, eq-eqb}
 use Rattle.cop_rta.specs.Test.{is_flagged}
 use Rattle.cop_rta.specs.Placing.{HasOneAbove}
 use Rattle.std.proofs.lemmas.Option.{slice_get_cases}
 use Rattle.std.proofs.lemmas.Bool.{cases_lt, or_left, or_right}
 use Rattle.cop_rta.specs.declared.streams.Stream.{Stream}
 use Rattle.cop_rta.proofs.FlagLemmas.{flag_set}
-use Rattle.std.proofs.lemmas.List.{length-map}
+use Rattle.std.proofs.lemmas.List.{length-map, drop_more}
 use Rattle.std.proofs.lemmas.List.Elements.{All-head, All-tail}
 use Rattle.cop_cert.specs.declared.refusals.Member.{Member}
 use Rattle.cop_cert.specs.Sets.{is_in_trial}
 use Rattle.cop_cert.specs.Evidence.{is_member, is_listed, pdos_of}
 use Rattle.cop_cert.proofs.AboveLemmas.{trial_of_pdo, trial_of_fixed}
 use Rattle.cop_cert.proofs.RisingLemmas.{at_member}
-
-split_at : (xs : List Member) (i : ℕ) (d : Member) → i < length xs → drop i xs ≡ get_or xs i d ∷ drop (i + 1) xs
-split_at xs i d h = rw add-one (drop-cons xs i d h)
-
-pub member_next : (ms : List Member) (i k : ℕ) (d : Member) → i < length ms → is_member (drop i ms) k ≡ (((get_or ms i d).pdo == k) || is_member (drop (i + 1) ms) k)
-member_next ms i k d h = ap (λ l. is_member l k) (split_at ms i d h)
-
-pub member_end : (ms : List Member) (i k : ℕ) → length ms ≤ i → is_member (drop i ms) k ≡ false
-member_end ms i k h = rw (drop_of_length-le ms h) refl
-
--- a number that no member has
-none_of : (k : ℕ) (ms : List Member) → All (λ m. m.pdo ≢ k) ms → is_member ms k ≡ false
-none_of k [] a = refl
-none_of k (m ∷ ms) a = or_none (ne_eqb m.pdo k (All-head (λ m. m.pdo ≢ k) m ms a)) (none_of k ms (All-tail (λ m. m.pdo ≢ k) m ms a))
-  where
-    or_none : {x y : Bool} → x ≡ false → y ≡ false → (x || y) ≡ false
-    or_none {x} {y} e f = rw (e, f) refl
-
--- what is flagged for the fixed frames and for the members is what is above in the trial
-pub flags : (bound : ℕ) (streams : List Stream) (pdos : ℕ) (ms : List Member) (k : ℕ) → All (λ m. m.pdo < pdos) ms
-    → (is_in_trial bound streams pdos (λ _. false) k || is_member ms k) ≡ is_in_trial bound streams pdos (is_member ms) k
-flags bound streams pdos ms k inside = go (cases_lt k pdos)
-  where
-    or_false : (b : Bool) → (b || false) ≡ b
-    or_false true = refl
-    or_false false = refl
-
-    go : (k < pdos) ⊎ (pdos ≤ k) → (is_in_trial bound streams pdos (λ _. false) k || is_member ms k) ≡ is_in_trial bound streams pdos (is_member ms) k
-    go (inl pdo) = rw (trial_of_pdo streams pdos bound (λ _. false) k pdo, trial_of_pdo streams pdos bound (is_member ms) k pdo) refl
-    go (inr fixed) = rw (trial_of_fixed streams pdos bound (λ _. false) k fixed, trial_of_fixed streams pdos bound (is_member ms) k fixed, none_of k ms (λ i d h e. omega (arith, inside i d h, e))) (or_false _)
 
 swap_or : (a b c : Bool) → ((a || b) || c) ≡ (b || (a || c))
 swap_or true true c = refl
@@ -52,14 +22,15 @@ swap_or false b c = refl
 pub flag_one : (out : List Bool) (ms : List Member) (i k : ℕ) (m : Member) → i < length ms → m ≡ get_or ms i m → m.pdo < length out
     → (is_flagged (set out m.pdo true) k || is_member (drop (i + 1) ms) k) ≡ (is_flagged out k || is_member (drop i ms) k)
 flag_one out ms i k m below is inside =
-    let next : is_member (drop i ms) k ≡ ((m.pdo == k) || is_member (drop (i + 1) ms) k) = member_next ms i k m below ∙ rw (← is) refl in
+    let next : is_member (drop i ms) k ≡ ((m.pdo == k) || is_member (drop (i + 1) ms) k) = ap (λ l. is_member l k) (drop_more ms i m below) ∙ rw (← is) refl in
     rw (flag_set out m.pdo k inside, next) (swap_or (m.pdo == k) (is_flagged out k) (is_member (drop (i + 1) ms) k))
 
--- the same for numbers in place of members
+-- a number that is not listed
 none_listed : (k : ℕ) (ps : List ℕ) → All (λ p. p ≢ k) ps → is_listed ps k ≡ false
 none_listed k [] a = refl
 none_listed k (p ∷ ps) a = rw (ne_eqb p k (All-head (λ p. p ≢ k) p ps a)) (none_listed k ps (All-tail (λ p. p ≢ k) p ps a))
 
+-- what is flagged for the fixed frames and for the members is what is above in the trial
 pub flags_listed : (bound : ℕ) (streams : List Stream) (pdos : ℕ) (ps : List ℕ) (k : ℕ) → All (λ p. p < pdos) ps
     → (is_in_trial bound streams pdos (λ _. false) k || is_listed ps k) ≡ is_in_trial bound streams pdos (is_listed ps) k
 flags_listed bound streams pdos ps k inside = go (cases_lt k pdos)
@@ -72,13 +43,10 @@ flags_listed bound streams pdos ps k inside = go (cases_lt k pdos)
     go (inl pdo) = rw (trial_of_pdo streams pdos bound (λ _. false) k pdo, trial_of_pdo streams pdos bound (is_listed ps) k pdo) refl
     go (inr fixed) = rw (trial_of_fixed streams pdos bound (λ _. false) k fixed, trial_of_fixed streams pdos bound (is_listed ps) k fixed, none_listed k ps (λ i d h e. omega (arith, inside i d h, e))) (or_false _)
 
-drop_next : (ps : List ℕ) (i : ℕ) → i < length ps → drop i ps ≡ get_or ps i 0 ∷ drop (i + 1) ps
-drop_next ps i h = rw add-one (drop-cons ps i 0 h)
-
 pub flag_number : (out : List Bool) (ps : List ℕ) (i k : ℕ) → i < length ps → get_or ps i 0 < length out
     → (is_flagged (set out (get_or ps i 0) true) k || is_listed (drop (i + 1) ps) k) ≡ (is_flagged out k || is_listed (drop i ps) k)
 flag_number out ps i k below inside =
-    let next : is_listed (drop i ps) k ≡ ((get_or ps i 0 == k) || is_listed (drop (i + 1) ps) k) = ap (λ l. is_listed l k) (drop_next ps i below) in
+    let next : is_listed (drop i ps) k ≡ ((get_or ps i 0 == k) || is_listed (drop (i + 1) ps) k) = ap (λ l. is_listed l k) (drop_more ps i 0 below) in
     rw (flag_set out (get_or ps i 0) k inside, next) (swap_or (get_or ps i 0 == k) (is_flagged out k) (is_listed (drop (i + 1) ps) k))
 
 -- those that are listed are above in their trial

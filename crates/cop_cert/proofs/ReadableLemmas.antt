@@ -2,6 +2,7 @@
 use Rattle.std.proofs.Common.{◌≡◌, ℕ, ◌+◌, ◌<◌, ◌≤◌, ◌^◌, ◌==◌, Bool, true, false, not, ◌&&◌, ◌||◌, nat_lt, nat_le, List, [], ◌∷◌, ◌++◌, length, All, AllPairs, Result, Ok, Err, Option, Some, None, IfOk, refl, arith, cond, length-append}
 use Rattle.std.proofs.lemmas.List.Elements.{All-append}
 use Rattle.std.proofs.lemmas.List.Quantifiers.{all_pairs_push}
+use Rattle.std.proofs.lemmas.Bool.{and_parts, not-true, not-false}
 use Rattle.std.proofs.lemmas.Bool.Decides.{nat_tests}
 use Rattle.cop_frame.specs.Rate.{kbits_of}
 use Rattle.cop_table.specs.Reading.{◌>>=◌, Gives}
@@ -127,24 +128,12 @@ number_pushed lists.Queue = queue_pushed
 some_of : (numbers : List ℕ) → (length numbers == 0) ≡ false → IsPart numbers → IsWritableList numbers
 some_of numbers e part = record { some = grind (arith, nat_tests); count = part.count; fit = part.fit }
 
-negated : (b : Bool) → not b ≡ true → b ≡ false
-negated true h = cc
-negated false h = refl
-
-affirmed : (b : Bool) → not b ≡ false → b ≡ true
-affirmed true h = refl
-affirmed false h = cc
-
-both : (a b : Bool) → (a && b) ≡ true → (a ≡ true) × (b ≡ true)
-both true b h = (refl, h)
-both false b h = cc
-
 -- evidence that is complete may stand in a file
 whole : (e : Evidence) → is_complete e ≡ true → IsPartEvidence e → IsWritableEvidence e
-whole (Long busy) h part = some_of busy (negated (length busy == 0) h) part
+whole (Long busy) h part = some_of busy (not-true (length busy == 0) h) part
 whole (Late q busy queue) h part =
-    let h = both (not (length busy == 0)) (not (length queue == 0)) h in
-    (part.0, some_of busy (negated (length busy == 0) h.0) part.1, some_of queue (negated (length queue == 0) h.1) part.2)
+    let h = and_parts (not (length busy == 0)) (not (length queue == 0)) h in
+    (part.0, some_of busy (not-true (length busy == 0) h.0) part.1, some_of queue (not-true (length queue == 0) h.1) part.2)
 
 -- ---- drafts
 
@@ -227,12 +216,7 @@ allowed : {A : Type 0} (rule : Option Rule) (x y : A) → unless_broken rule x �
 allowed None x y h = (refl, cc)
 allowed (Some rule) x y h = cc
 
--- what a record that begins a member keeps
-record Begun (d : Draft) (e : Entry) : Type 0 where
-  rates : nat_lt (kbits_of e.rate) (kbits_of d.rate) ≡ false
-  members : ((kbits_of e.rate == kbits_of d.rate) && nat_le e.pdo d.member.pdo) ≡ false
-  complete : is_complete d.member.evidence ≡ true
-
+-- a record that begins a member is of no lower rate and above the member at hand, which is complete
 not_broken : (a b c : Bool) → cond a (Some rules.Rates) (cond b (Some rules.Members) (cond (not c) (Some rules.Misplaced) None)) ≡ None
     → (a ≡ false) × (b ≡ false) × (c ≡ true)
 not_broken true b c h = cc
@@ -240,26 +224,23 @@ not_broken false true c h = cc
 not_broken false false true h = (refl, refl, refl)
 not_broken false false false h = cc
 
-may_begin : (d : Draft) (e : Entry) → broken_by d e ≡ None → Begun d e
-may_begin d e h =
-    let n = not_broken (nat_lt (kbits_of e.rate) (kbits_of d.rate)) ((kbits_of e.rate == kbits_of d.rate) && nat_le e.pdo d.member.pdo) (is_complete d.member.evidence) h in
-    record { rates = n.0; members = n.1; complete = n.2 }
-
-after_sound : (b : Bool) (d : Draft) (e : Entry) (evidence : Evidence) → (kbits_of e.rate == kbits_of d.rate) ≡ b → IsSound d → Begun d e → IsInRange e → IsPartEvidence evidence → IsSound (after d e evidence)
-after_sound true d e evidence same sound may range part =
+after_sound : (b : Bool) (d : Draft) (e : Entry) (evidence : Evidence) → (kbits_of e.rate == kbits_of d.rate) ≡ b → IsSound d → nat_lt (kbits_of e.rate) (kbits_of d.rate) ≡ false
+    → ((kbits_of e.rate == kbits_of d.rate) && nat_le e.pdo d.member.pdo) ≡ false → is_complete d.member.evidence ≡ true → IsInRange e → IsPartEvidence evidence → IsSound (after d e evidence)
+after_sound true d e evidence same sound rates members complete range part =
     rw same (let equal : kbits_of e.rate ≡ kbits_of d.rate = grind (arith, nat_tests) in
-    let above : d.member.pdo < e.pdo = let m = may.members in grind (arith, nat_tests) in
-    member_sound d e evidence sound equal above may.complete range part)
-after_sound false d e evidence same sound may range part =
-    rw same (let above : kbits_of d.rate < kbits_of e.rate = let r = may.rates in grind (arith, nat_tests) in
-    rate_sound d e evidence sound above may.complete range part)
+    let above : d.member.pdo < e.pdo = grind (arith, nat_tests) in
+    member_sound d e evidence sound equal above complete range part)
+after_sound false d e evidence same sound rates members complete range part =
+    rw same (let above : kbits_of d.rate < kbits_of e.rate = grind (arith, nat_tests) in
+    rate_sound d e evidence sound above complete range part)
 
 begin_sound : (draft : Option Draft) (d : Draft) (e : Entry) (evidence : Evidence) → IsSoundIf draft → IsInRange e → IsPartEvidence evidence → begin draft e evidence ≡ Ok d → IsSound d
 begin_sound None d e evidence sound range part h =
     let is : begun [] [] e evidence ≡ d = cc in rw (← is) (first_sound e evidence range part)
 begin_sound (Some before) d e evidence sound range part h =
     let p = allowed (broken_by before e) (after before e evidence) d h in
-    rw (← p.1) (after_sound (kbits_of e.rate == kbits_of before.rate) before e evidence refl sound (may_begin before e p.0) range part)
+    let may = not_broken (nat_lt (kbits_of e.rate) (kbits_of before.rate)) ((kbits_of e.rate == kbits_of before.rate) && nat_le e.pdo before.member.pdo) (is_complete before.member.evidence) p.0 in
+    rw (← p.1) (after_sound (kbits_of e.rate == kbits_of before.rate) before e evidence refl sound may.0 may.1 may.2 range part)
 
 add_sound : (list : Listed) (draft : Option Draft) (d : Draft) (e : Entry) → IsSoundIf draft → IsInRange e → add list draft e ≡ Ok d → IsSound d
 add_sound list None d e sound range h = cc
@@ -304,7 +285,7 @@ finished_writable None found sound h = let is : [] ≡ found = cc in rw (← is)
 finished_writable (Some d) found sound h =
     let n = not_held (not (is_complete d.member.evidence)) _ found rules.Misplaced h in
     let is : d.done ++ refusal_of d ∷ [] ≡ found = let e = n.1 in cc in
-    rw (← is) (all_writable d sound (affirmed (is_complete d.member.evidence) n.0))
+    rw (← is) (all_writable d sound (not-false (is_complete d.member.evidence) n.0))
 
 -- what a text says can be written
 pub read_is_writable : (text : List ℕ) (found : List Refusal) → refusals_of text ≡ Ok found → AreWritable found

@@ -1,6 +1,7 @@
 -- Numbers that rise, and members whose numbers rise.
-use Rattle.std.proofs.Common.{◌≡◌, ◌↔◌, ℕ, zero, suc, ◌<◌, ◌≤◌, List, [], ◌∷◌, length, get_or, drop, All, AllPairs, refl, arith}
+use Rattle.std.proofs.Common.{◌≡◌, ◌↔◌, ℕ, zero, suc, ◌<◌, ◌≤◌, List, [], ◌∷◌, length, get_or, All, AllPairs, refl, arith}
 use Rattle.std.proofs.lemmas.List.Elements.{All-nil, All-cons, All-head, All-tail}
+use Rattle.std.proofs.lemmas.List.Kept.{AllPairs-cons}
 use Rattle.std.proofs.lemmas.List.{length-map}
 use Rattle.cop_cert.specs.declared.refusals.Member.{Member}
 use Rattle.cop_cert.specs.Evidence.{pdos_of}
@@ -15,15 +16,9 @@ module _ (pdos : ℕ) where
   rise_low low [] r = All-nil (λ p. low ≤ p)
   rise_low low (p ∷ ps) r = All-cons (λ p. low ≤ p) p ps r.0 (λ k d h. omega (arith, rise_low (suc p) ps r.2 k d h, r.0))
 
-  pairs_cons : (p : ℕ) (ps : List ℕ) → All (λ n. p < n) ps → AllPairs (λ a b. a < b) ps → AllPairs (λ a b. a < b) (p ∷ ps)
-  pairs_cons p ps first rest zero zero d lt h = absurd (omega arith)
-  pairs_cons p ps first rest zero (suc j) d lt h = first j d (omega arith)
-  pairs_cons p ps first rest (suc i) zero d lt h = absurd (omega arith)
-  pairs_cons p ps first rest (suc i) (suc j) d lt h = rest i j d (omega arith) (omega arith)
-
   rise_pairs : (low : ℕ) (ps : List ℕ) → RiseFrom low pdos ps → AllPairs (λ a b. a < b) ps
   rise_pairs low [] r = λ i j d lt h. absurd (omega arith)
-  rise_pairs low (p ∷ ps) r = pairs_cons p ps (rise_low (suc p) ps r.2) (rise_pairs (suc p) ps r.2)
+  rise_pairs low (p ∷ ps) r = AllPairs-cons (λ a b. a < b) p ps (rise_low (suc p) ps r.2) (rise_pairs (suc p) ps r.2)
 
   rise_from : (low : ℕ) (ps : List ℕ) → All (λ p. low ≤ p) ps → All (λ p. p < pdos) ps → AllPairs (λ a b. a < b) ps → RiseFrom low pdos ps
   rise_from low [] above inside pairs = tt
@@ -53,9 +48,3 @@ pub rising_members : (ms : List Member) → AllPairs (λ a b. a < b) (pdos_of ms
 rising_members ms h = λ i j d lt below.
     let count : length (pdos_of ms) ≡ length ms = length-map ms (λ m. m.pdo) in
     rw (at_member ms i d (omega arith), at_member ms j d below) (h i j d.pdo lt (omega arith))
-
--- the numbers of members that are left
-pub drop_pdos : (ms : List Member) (i : ℕ) → pdos_of (drop i ms) ≡ drop i (pdos_of ms)
-drop_pdos ms zero = refl
-drop_pdos [] (suc i) = refl
-drop_pdos (m ∷ ms) (suc i) = drop_pdos ms i

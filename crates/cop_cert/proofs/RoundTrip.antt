@@ -133,8 +133,8 @@ same_rate_begins : (d : Draft) (pdo : ℕ) → is_complete d.member.evidence ≡
 same_rate_begins d pdo complete rises word value evidence =
     rw (le-ltb (kbits_of d.rate) (kbits_of d.rate) (omega arith), eq-eqb (kbits_of d.rate) (kbits_of d.rate) refl, lt-leb pdo d.member.pdo rises, complete) refl
 
-rises_on : (m : Member) (rest : List Member) → AllPairs (λ m n. m.pdo < n.pdo) (m ∷ rest) → AllPairs (λ m n. m.pdo < n.pdo) rest
-rises_on m rest h = λ i j d lt below. h (suc i) (suc j) d (omega arith) (omega arith)
+pairs_on : {A : Type 0} (R : A → A → Type 0) (x : A) (rest : List A) → AllPairs R (x ∷ rest) → AllPairs R rest
+pairs_on R x rest h = λ i j d lt below. h (suc i) (suc j) d (omega arith) (omega arith)
 
 members_end : (d : Draft) (rest : List Member) → is_complete d.member.evidence ≡ true → AllPairs (λ m n. m.pdo < n.pdo) (d.member ∷ rest) → All (λ m. m.pdo < 512) rest
     → All (λ m. IsWritableEvidence m.evidence) rest → Ends (Some d) (flat_map (member_rows d.rate) rest) d.done (record { rate = d.rate; members = d.members ++ d.member ∷ rest })
@@ -143,7 +143,7 @@ members_end d (m ∷ rest) complete rise inside fine =
     let rises : d.member.pdo < m.pdo = rise 0 1 m (lit< tt) (omega arith) in
     let whole = All-head (λ m. IsWritableEvidence m.evidence) m rest fine in
     let first = evidence_leads (Some d) d.done d.rate (d.members ++ d.member ∷ []) m.pdo (All-head (λ m. m.pdo < 512) m rest inside) (same_rate_begins d m.pdo complete rises) m.evidence whole in
-    let then = members_end (record { done = d.done; rate = d.rate; members = d.members ++ d.member ∷ []; member = m }) rest (complete_is m.evidence whole) (rises_on d.member (m ∷ rest) rise)
+    let then = members_end (record { done = d.done; rate = d.rate; members = d.members ++ d.member ∷ []; member = m }) rest (complete_is m.evidence whole) (pairs_on (λ m n. m.pdo < n.pdo) d.member (m ∷ rest) rise)
     (All-tail (λ m. m.pdo < 512) m rest inside) (All-tail (λ m. IsWritableEvidence m.evidence) m rest fine) in
     record {
       draft = then.draft;
@@ -182,16 +182,13 @@ record Reaches (a : Option Draft) (rows : List Fields) (found : List Refusal) : 
   complete : is_complete draft.member.evidence ≡ true
   found_is : draft.done ++ refusal_of draft ∷ [] ≡ found
 
-rates_on : (r : Refusal) (rs : List Refusal) → AllPairs (λ r s. kbits_of r.rate < kbits_of s.rate) (r ∷ rs) → AllPairs (λ r s. kbits_of r.rate < kbits_of s.rate) rs
-rates_on r rs h = λ i j d lt below. h (suc i) (suc j) d (omega arith) (omega arith)
-
 refusals_reach : (d : Draft) (rs : List Refusal) → is_complete d.member.evidence ≡ true → AllPairs (λ r s. kbits_of r.rate < kbits_of s.rate) (refusal_of d ∷ rs) → All IsWritableRefusal rs
     → Reaches (Some d) (flat_map refusal_rows rs) (d.done ++ refusal_of d ∷ rs)
 refusals_reach d [] complete rise fine = record { draft = d; leads = leads_none (Some d); complete = complete; found_is = refl }
 refusals_reach d (r ∷ rs) complete rise fine =
     let rises : kbits_of d.rate < kbits_of r.rate = rise 0 1 r (lit< tt) (omega arith) in
     let first = refusal_ends (Some d) (d.done ++ refusal_of d ∷ []) r.rate r.members (All-head IsWritableRefusal r rs fine) (λ pdo. next_rate_begins d r.rate pdo complete rises) in
-    let on = rates_on (refusal_of d) (r ∷ rs) rise in
+    let on = pairs_on (λ r s. kbits_of r.rate < kbits_of s.rate) (refusal_of d) (r ∷ rs) rise in
     let then = refusals_reach first.draft rs first.complete (rw first.refusal_is on) (All-tail IsWritableRefusal r rs fine) in
     let same : first.draft.done ++ refusal_of first.draft ∷ rs ≡ d.done ++ refusal_of d ∷ (r ∷ rs) =
     rw (first.refusal_is, first.done_is, append_assoc d.done (refusal_of d ∷ []) (r ∷ rs)) refl in

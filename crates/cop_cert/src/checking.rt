@@ -164,7 +164,7 @@ fn flag_members(members: &[Member], out: &mut [bool])
 fn flag_trial(streams: &[Stream], pdos: usize, members: &[Member], out: &mut [bool])
     requires size { length out.old ≡ length streams.now }
     requires count { pdos ≤ length streams.now }
-    requires inside { All (λ m. m.pdo < pdos) members.now }
+    requires inside { All (λ m. m < pdos) (pdos_of members.now) }
     ensures { (k : ℕ) → is_flagged out.new k ≡ is_in_trial least_id streams.now pdos (is_member members.now) k }
 {
     flag_fixed(streams, pdos, out);

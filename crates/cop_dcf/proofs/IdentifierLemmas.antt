@@ -1,15 +1,8 @@
 -- The identifiers of the PDOs that use a node's communication records.
-use Rattle.std.proofs.Common.{◌≡◌, ◌≢◌, ◌<◌, ◌≤◌, ℕ, zero, suc, ◌+◌, ◌-◌, Bool, true, false, ◌||◌, ◌==◌, cond, List, [], ◌∷◌, map, length, take, set, get_or, Option, Some, None, All, IfSome, refl, sym, ap, ◌∙◌, arith, add-one, ⊎_elim}
-use Rattle.std.specs.List.{list_any}
+use Rattle.std.proofs.Common.{◌≡◌, ◌≢◌, ◌<◌, ◌≤◌, ℕ, zero, suc, ◌+◌, ◌-◌, Bool, true, false, ◌||◌, ◌==◌, cond, List, [], ◌∷◌, length, take, get_or, Option, Some, None, All, IfSome, refl, sym, ap, ◌∙◌, arith, add-one}
 use Rattle.std.specs.Option.{option_or}
-use Rattle.std.proofs.lemmas.Bool.{cases_eq, ne_eqb}
 use Rattle.std.proofs.lemmas.Bool.Decides.{nat_tests}
-use Rattle.std.proofs.lemmas.List.{get_or-set_same, get_or-set_other, map-append, take_more}
-use Rattle.std.proofs.lemmas.List.Folds.{list_any-append}
-use Rattle.cop_rows.specs.declared.pdo_table.Consumer.{Consumer}
 use Rattle.cop_rows.specs.declared.pdo_table.PdoRow.{PdoRow}
-use Rattle.cop_net.specs.Pdos.{taken_by}
-use Rattle.cop_net.specs.Uses.{is_record}
 use Rattle.cop_dcf.specs.Identifiers.{takes, uses, id_at, IsNoted}
 
 or_none : {A : Type 0} (o : Option A) → option_or o None ≡ o
@@ -19,40 +12,6 @@ or_none (Some x) = refl
 -- nothing is noted
 pub none_noted : (places : List (Option ℕ)) (id : ℕ) → IsNoted places places (λ index. false) id
 none_noted places id = record { each = λ place lt. sym (or_none (get_or places place None)) }
-
--- an identifier is noted at the index of a place that has none
-pub noted_here : (before : List (Option ℕ)) (index id : ℕ) → length before ≡ 1536 → 0x1400 ≤ index → index < 0x1A00 → get_or before (index - 0x1400) None ≡ None
-    → IsNoted (set before (index - 0x1400) (Some id)) before (λ i. index == i) id
-noted_here before index id size low high none = record { each = each }
-  where
-    each : (place : ℕ) → place < 1536 → get_or (set before (index - 0x1400) (Some id)) place None ≡ option_or (get_or before place None) (cond (index == 0x1400 + place) (Some id) None)
-    each place lt = ⊎_elim
-        (λ (e : index ≡ 0x1400 + place).
-        let same : index - 0x1400 ≡ place = omega arith in
-        let here : (index == 0x1400 + place) ≡ true = grind (arith, nat_tests) in
-        let empty : get_or before place None ≡ None = ap (λ k. get_or before k None) (sym same) ∙ none in
-        rw (here, empty, same) (get_or-set_same before place (Some id) None (omega arith)))
-        (λ (other : index ≢ 0x1400 + place).
-        let apart : place ≢ index - 0x1400 = λ e. other (omega arith) in
-        let no : (index == 0x1400 + place) ≡ false = ne_eqb index (0x1400 + place) other in
-        rw no (get_or-set_other before (index - 0x1400) place (Some id) None apart ∙ sym (or_none (get_or before place None))))
-        (cases_eq index (0x1400 + place))
-
--- and is left where the place has one
-pub noted_before : (before : List (Option ℕ)) (index id old : ℕ) → 0x1400 ≤ index → get_or before (index - 0x1400) None ≡ Some old
-    → IsNoted before before (λ i. index == i) id
-noted_before before index id old low some = record { each = each }
-  where
-    each : (place : ℕ) → place < 1536 → get_or before place None ≡ option_or (get_or before place None) (cond (index == 0x1400 + place) (Some id) None)
-    each place lt = ⊎_elim
-        (λ (e : index ≡ 0x1400 + place).
-        let same : index - 0x1400 ≡ place = omega arith in
-        let full : get_or before place None ≡ Some old = ap (λ k. get_or before k None) (sym same) ∙ some in
-        rw full refl)
-        (λ (other : index ≢ 0x1400 + place).
-        let no : (index == 0x1400 + place) ≡ false = ne_eqb index (0x1400 + place) other in
-        rw no (sym (or_none (get_or before place None))))
-        (cases_eq index (0x1400 + place))
 
 either : (p q : Bool) (id : ℕ) (o : Option ℕ) → option_or (option_or o (cond p (Some id) None)) (cond q (Some id) None) ≡ option_or o (cond (p || q) (Some id) None)
 either true q id None = refl
@@ -79,39 +38,6 @@ or_false : (b : Bool) → b || false ≡ b
 or_false true = refl
 or_false false = refl
 
-takes_more : (consumers : List Consumer) (k : ℕ) (d : Consumer) (node index : ℕ) → k < length consumers
-    → takes (take (k + 1) consumers) node index ≡ takes (take k consumers) node index || is_record node index (taken_by (get_or consumers k d))
-takes_more consumers k d node index lt =
-    ap (λ cs. takes cs node index) (take_more consumers k d lt)
-    ∙ ap (list_any (is_record node index)) (map-append taken_by (take k consumers) (get_or consumers k d ∷ []))
-    ∙ list_any-append (is_record node index) (map taken_by (take k consumers)) (taken_by (get_or consumers k d) ∷ [])
-    ∙ ap (λ b. list_any (is_record node index) (map taken_by (take k consumers)) || b) (or_false (is_record node index (taken_by (get_or consumers k d))))
-
--- one consumer more: the node's own
-pub own_consumer : (now between before : List (Option ℕ)) (consumers : List Consumer) (k : ℕ) (d : Consumer) (node id : ℕ) → k < length consumers
-    → IsNoted between before (takes (take k consumers) node) id → (get_or consumers k d).node ≡ node → IsNoted now between (λ i. 0x13FF + (get_or consumers k d).rpdo == i) id
-    → IsNoted now before (takes (take (k + 1) consumers) node) id
-own_consumer now between before consumers k d node id lt first own second =
-    noted_alike now before (λ index. takes (take k consumers) node index || (0x13FF + (get_or consumers k d).rpdo == index)) (takes (take (k + 1) consumers) node) id
-    (λ index. by_own index ∙ sym (takes_more consumers k d node index lt)) (noted_both now between before (takes (take k consumers) node) (λ i. 0x13FF + (get_or consumers k d).rpdo == i) id first second)
-  where
-    by_own : (index : ℕ) → takes (take k consumers) node index || (0x13FF + (get_or consumers k d).rpdo == index)
-        ≡ takes (take k consumers) node index || is_record node index (taken_by (get_or consumers k d))
-    by_own index =
-        let here : ((get_or consumers k d).node == node) ≡ true = grind (arith, nat_tests) in
-        rw here refl
-
--- one that is of another node
-pub other_consumer : (now before : List (Option ℕ)) (consumers : List Consumer) (k : ℕ) (d : Consumer) (node id : ℕ) → k < length consumers
-    → IsNoted now before (takes (take k consumers) node) id → (get_or consumers k d).node ≢ node → IsNoted now before (takes (take (k + 1) consumers) node) id
-other_consumer now before consumers k d node id lt first other =
-    noted_alike now before (takes (take k consumers) node) (takes (take (k + 1) consumers) node) id (λ index. by_other index ∙ sym (takes_more consumers k d node index lt)) first
-  where
-    by_other : (index : ℕ) → takes (take k consumers) node index ≡ takes (take k consumers) node index || is_record node index (taken_by (get_or consumers k d))
-    by_other index =
-        let no : ((get_or consumers k d).node == node) ≡ false = ne_eqb (get_or consumers k d).node node other in
-        rw no (sym (or_false (takes (take k consumers) node index)))
-
 -- the records of a row: the sender's is the node's, or it is another's
 pub own_row : (now between before : List (Option ℕ)) (row : PdoRow) (node id : ℕ) → row.node ≡ node → IsNoted between before (λ i. 0x17FF + row.tpdo == i) id
     → IsNoted now between (takes row.consumers node) id → IsNoted now before (uses row node) id
@@ -123,15 +49,6 @@ own_row now between before row node id own first second =
     by_own index =
         let here : (row.node == node) ≡ true = grind (arith, nat_tests) in
         rw here refl
-
-pub other_row : (now before : List (Option ℕ)) (row : PdoRow) (node id : ℕ) → row.node ≢ node → IsNoted now before (takes row.consumers node) id → IsNoted now before (uses row node) id
-other_row now before row node id other h =
-    noted_alike now before (takes row.consumers node) (uses row node) id by_other h
-  where
-    by_other : (index : ℕ) → takes row.consumers node index ≡ uses row node index
-    by_other index =
-        let no : (row.node == node) ≡ false = ne_eqb row.node node other in
-        rw no refl
 
 -- no row
 pub none_yet : (rows : List PdoRow) (ids : List ℕ) (node index : ℕ) → id_at (take 0 rows) (take 0 ids) node index ≡ None

@@ -3,17 +3,17 @@ use Rattle.std.proofs.Common.{◌≡◌, ◌<◌, ◌≤◌, ℕ, suc, ◌+◌, 
 use Rattle.std.specs.Prelude.{slice_get, slice_range}
 use Rattle.std.specs.List.{list_any}
 use Rattle.std.specs.Option.{option_map, option_map_or}
-use Rattle.std.proofs.lemmas.List.{take_more, drop_more}
+use Rattle.std.proofs.lemmas.List.{take_more}
 use Rattle.cop_eds.specs.declared.line.Kind.{Kind}
 use Rattle.cop_eds.specs.declared.line.Kind.TheVariants.{Other, Header, Pair}
 use Rattle.cop_eds.specs.declared.line.Line.{Line}
 use Rattle.cop_eds.specs.Text.{cut, mark_len}
-use Rattle.cop_eds.specs.Lines.{is_kind, header_count, line_of, lines_from, lines_of}
+use Rattle.cop_eds.specs.Lines.{header_count, line_of, lines_from, lines_of}
 use Rattle.cop_eds.specs.Sections.{section_of}
 use Rattle.cop_eds.specs.Rows.{row_of, rows_of, has_name}
 use Rattle.cop_eds.specs.Edits.{Change, pair_of, change_of, changed, section_count, newline_of}
 use Rattle.cop_eds.proofs.RowLemmas.{section_row}
-use Rattle.cop_dcf.specs.Pieces.{pair_follows, is_wanting, new_lines, has_section, is_extended}
+use Rattle.cop_dcf.specs.Pieces.{is_wanting, new_lines, has_section, is_extended}
 
 -- a line more of keys that are not there yet
 new_lines_append : (text newline : List ℕ) (xs ys : List Change) → new_lines text newline (xs ++ ys) ≡ new_lines text newline xs ++ new_lines text newline ys
@@ -43,23 +43,6 @@ there_more text newline keys k d before now lt there old =
     let more = ap (λ b. new_lines text newline (take k keys) ++ cond b (pair_of (get_or keys k d) ++ newline) []) there in
     old ∙ sym (ap (λ xs. before ++ xs) (new_lines_more text newline keys k d lt ∙ more ∙ append-nil (new_lines text newline (take k keys))))
 
--- pairs that follow, line by line
-pub follows_at : (lines : List Line) (k : ℕ) (d : Line) → k < length lines
-    → pair_follows (drop k lines) ≡ cond (is_kind (get_or lines k d).kind Other) (pair_follows (drop (k + 1) lines)) (is_kind (get_or lines k d).kind Pair)
-follows_at lines k d lt = ap pair_follows (drop_more lines k d lt)
-
-pub follows_other : (lines : List Line) (k : ℕ) (line : Line) → k < length lines → line ≡ get_or lines k line → line.kind ≡ Other → pair_follows (drop (k + 1) lines) ≡ pair_follows (drop k lines)
-follows_other lines k line lt at kind =
-    let here : (get_or lines k line).kind ≡ Other = ap (λ l. l.kind) (sym at) ∙ kind in
-    sym (follows_at lines k line lt ∙ ap (λ v. cond (is_kind v Other) (pair_follows (drop (k + 1) lines)) (is_kind v Pair)) here)
-
-pub follows_kind : (lines : List Line) (k : ℕ) (line : Line) (kind : Kind) → k < length lines → line ≡ get_or lines k line → line.kind ≡ kind → is_kind kind Other ≡ false
-    → pair_follows (drop k lines) ≡ is_kind kind Pair
-follows_kind lines k line kind lt at same other =
-    let here : (get_or lines k line).kind ≡ kind = ap (λ l. l.kind) (sym at) ∙ same in
-    follows_at lines k line lt ∙ ap (λ v. cond (is_kind v Other) (pair_follows (drop (k + 1) lines)) (is_kind v Pair)) here
-    ∙ ap (λ b. cond b (pair_follows (drop (k + 1) lines)) (is_kind kind Pair)) other
-
 -- the section of a name is there
 some_found : {A B : Type 0} (f : A → B) (p : A → Bool) (xs : List A) → is_some (option_map f (find p xs)) ≡ list_any p xs
 some_found f p [] = refl
@@ -79,10 +62,6 @@ newline_first text [] line e = cc
 newline_first text (x ∷ xs) line e =
     let same : x ≡ line = cc in
     ap (λ (l : Line). cond (length (slice_range text l.to l.next) == 0) (10 ∷ []) (slice_range text l.to l.next)) same
-
-pub newline_none : (text : List ℕ) (lines : List Line) → slice_get lines 0 ≡ None → newline_of (map (row_of text) lines) ≡ 10 ∷ []
-newline_none text [] e = refl
-newline_none text (x ∷ xs) e = cc
 
 -- how many sections there are: the last line's
 pub count_last : (text : List ℕ) (lines : List Line) (line : Line) → slice_get lines (length lines - 1) ≡ Some line → section_count (map (row_of text) lines) ≡ line.section

@@ -1,17 +1,16 @@
 -- What is set in each section, in a table.
-use Rattle.std.proofs.Common.{◌≡◌, ◌≢◌, ◌⊎◌, ◌<◌, ◌≤◌, ℕ, zero, suc, ◌+◌, true, false, ◌==◌, cond, List, [], ◌∷◌, ◌++◌, length, take, get_or, set, reverse, filter, find, Option, Some, None, refl, sym, ap, ◌∙◌, arith, append_assoc, append-nil, add-one, ⊎_elim, replicate, length-append, codes, decimal}
+use Rattle.std.proofs.Common.{◌≡◌, ◌≢◌, ◌⊎◌, ◌<◌, ◌≤◌, ℕ, zero, suc, ◌+◌, true, false, ◌==◌, List, [], ◌∷◌, ◌++◌, length, get_or, filter, Option, Some, None, refl, sym, ap, ◌∙◌, arith, append_assoc, append-nil, add-one, ⊎_elim, replicate, length-append, codes, decimal}
 use Rattle.std.specs.List.{cons_option}
 use Rattle.std.specs.Option.{option_map}
 use Rattle.std.proofs.lemmas.Bool.{cases_eq, cases_lt, ne_eqb}
 use Rattle.std.proofs.lemmas.Bool.Decides.{nat_tests}
-use Rattle.std.proofs.lemmas.List.{take_more, reverse-append, length-set, length-replicate, get_or-replicate, get_or-set_same, get_or-set_other, get_or_past, get_or_append_left, get_or_push}
+use Rattle.std.proofs.lemmas.List.{length-replicate, get_or-replicate, get_or_past, get_or_append_left, get_or_push}
 use Rattle.std.proofs.lemmas.List.Elements.{filter-append}
 use Rattle.cop_frame.specs.declared.rates.Rate.{Rate}
 use Rattle.cop_frame.specs.Rate.{kbits_of}
-use Rattle.cop_eds.specs.Objects.{object_section}
 use Rattle.cop_eds.specs.Edits.{Change}
 use Rattle.cop_dcf.specs.declared.setting.Setting.{Setting}
-use Rattle.cop_dcf.specs.Dcf.{is_number, is_of, setting_in, value_set, values_from, device_set}
+use Rattle.cop_dcf.specs.Dcf.{setting_in, value_set, values_from, device_set}
 use Rattle.cop_dcf.specs.Changes.{KnowsSettings, AreBySection, is_in}
 
 -- no setting is known yet
@@ -20,53 +19,6 @@ none_known text count table all = record {
   size = ap length all ∙ length-replicate {A = Option Setting} count None;
   each = λ section lt. ap (λ xs. get_or xs section None) all ∙ get_or-replicate count section None None lt;
 }
-
-last_more : (text : List ℕ) (settings : List Setting) (k : ℕ) (d : Setting) (section : ℕ) → k < length settings
-    → setting_in text (take (k + 1) settings) section ≡ cond (is_of text section (get_or settings k d)) (Some (get_or settings k d)) (setting_in text (take k settings) section)
-last_more text settings k d section lt =
-    ap (λ xs. find (is_of text section) (reverse xs)) (take_more settings k d lt)
-    ∙ ap (find (is_of text section)) (reverse-append (take k settings) (get_or settings k d ∷ []))
-
--- one setting more, in a section that the table has
-pub known_more : (table : List (Option Setting)) (text : List ℕ) (settings : List Setting) (count k : ℕ) (d : Setting) (own : ℕ) → k < length settings → own < count
-    → object_section text (get_or settings k d).index (get_or settings k d).sub ≡ Some own → KnowsSettings table text (take k settings) count
-    → KnowsSettings (set table own (Some (get_or settings k d))) text (take (k + 1) settings) count
-known_more table text settings count k d own lt inside found knows = record {
-  size = length-set table own (Some (get_or settings k d)) ∙ knows.size;
-  each = each;
-}
-  where
-    tests : (section : ℕ) → is_of text section (get_or settings k d) ≡ (own == section)
-    tests section = ap (is_number section) found
-
-    each : (section : ℕ) → section < count → get_or (set table own (Some (get_or settings k d))) section None ≡ setting_in text (take (k + 1) settings) section
-    each section less = ⊎_elim
-        (λ (e : own ≡ section).
-        let here : (own == section) ≡ true = grind (arith, nat_tests) in
-        let within : own < length table = omega (arith, knows.size) in
-        rw (last_more text settings k d section lt, tests section, here, ← e) (get_or-set_same table own (Some (get_or settings k d)) None within))
-        (λ (other : own ≢ section).
-        let no : (own == section) ≡ false = ne_eqb own section other in
-        let apart : section ≢ own = λ e. other (sym e) in
-        rw (last_more text settings k d section lt, tests section, no) (get_or-set_other table own section (Some (get_or settings k d)) None apart ∙ knows.each section less))
-        (cases_eq own section)
-
--- one whose object has no section of the table
-pub known_other : (table : List (Option Setting)) (text : List ℕ) (settings : List Setting) (count k : ℕ) (d : Setting) → k < length settings
-    → ((section : ℕ) → section < count → is_of text section (get_or settings k d) ≡ false) → KnowsSettings table text (take k settings) count → KnowsSettings table text (take (k + 1) settings) count
-known_other table text settings count k d lt none knows = record {
-  size = knows.size;
-  each = λ section less. rw (last_more text settings k d section lt, none section less) (knows.each section less);
-}
-
-pub past_section : (text : List ℕ) (setting : Setting) (own count : ℕ) → object_section text setting.index setting.sub ≡ Some own → count ≤ own
-    → (section : ℕ) → section < count → is_of text section setting ≡ false
-past_section text setting own count found past section less =
-    let other : own ≢ section = λ e. omega arith in
-    ap (is_number section) found ∙ ne_eqb own section other
-
-pub no_section : (text : List ℕ) (setting : Setting) (count : ℕ) → object_section text setting.index setting.sub ≡ None → (section : ℕ) → section < count → is_of text section setting ≡ false
-no_section text setting count found section less = ap (is_number section) found
 
 -- the values of one section more
 values_next : (settings : ℕ → Option Setting) (first count : ℕ)
@@ -146,38 +98,6 @@ by_section_more keys settings count own size are is section =
     there other =
         kept other ∙ are section
         ∙ sym (ap (λ xs. filter (is_in section) (values_from settings 0 count) ++ xs) (other_in section count (settings count) other) ∙ append-nil (filter (is_in section) (values_from settings 0 count)))
-
--- a section in which nothing is set
-pub by_section_empty : (keys : List (List Change)) (changes : List Change) → AreBySection keys changes → AreBySection (keys ++ [] ∷ []) changes
-by_section_empty keys changes are section = ⊎_elim
-    (λ (lt : section < length keys). get_or_append_left keys ([] ∷ []) [] section lt ∙ are section)
-    (λ (le : length keys ≤ section). ends (cases_eq (length keys) section) le ∙ sym (get_or_past keys section [] le) ∙ are section)
-    (cases_lt section (length keys))
-  where
-    ends : (length keys ≡ section) ⊎ (length keys ≢ section) → length keys ≤ section → get_or (keys ++ [] ∷ []) section [] ≡ []
-    ends p le = ⊎_elim
-        (λ (e : length keys ≡ section). get_or_push keys [] [] section e)
-        (λ (other : length keys ≢ section).
-        let more : length (keys ++ [] ∷ []) ≡ length keys + 1 = length-append keys ([] ∷ []) in
-        get_or_past (keys ++ [] ∷ []) section [] (omega arith))
-        p
-
--- one key more, in its section
-pub by_section_key : (keys : List (List Change)) (changes : List Change) (key : Change) → key.section < length keys → AreBySection keys changes
-    → AreBySection (set keys key.section (get_or keys key.section [] ++ key ∷ [])) (changes ++ key ∷ [])
-by_section_key keys changes key inside are section =
-    ⊎_elim here there (cases_eq key.section section) ∙ sym (filter-append (is_in section) changes (key ∷ []))
-  where
-    here : key.section ≡ section → get_or (set keys key.section (get_or keys key.section [] ++ key ∷ [])) section [] ≡ filter (is_in section) changes ++ filter (is_in section) (key ∷ [])
-    here e =
-        let own : (key.section == section) ≡ true = grind (arith, nat_tests) in
-        rw (own, ← e) (get_or-set_same keys key.section (get_or keys key.section [] ++ key ∷ []) [] inside ∙ ap (λ xs. xs ++ key ∷ []) (are key.section))
-
-    there : key.section ≢ section → get_or (set keys key.section (get_or keys key.section [] ++ key ∷ [])) section [] ≡ filter (is_in section) changes ++ filter (is_in section) (key ∷ [])
-    there other =
-        let no : (key.section == section) ≡ false = ne_eqb key.section section other in
-        let apart : section ≢ key.section = λ e. other (sym e) in
-        rw no (get_or-set_other keys key.section section (get_or keys key.section [] ++ key ∷ []) [] apart ∙ are section ∙ sym (append-nil (filter (is_in section) changes)))
 
 pub none_by_section : (keys : List (List Change)) (settings : ℕ → Option Setting) → keys ≡ [] → AreBySection keys (values_from settings 0 0)
 none_by_section keys settings none section = ap (λ ks. get_or ks section []) none ∙ ap (filter (is_in section)) (sym (no_values settings 0))

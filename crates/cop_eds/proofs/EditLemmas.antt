@@ -1,16 +1,16 @@
 -- A text whose keys are set has each other key as it was.
-use Rattle.std.proofs.Common.{◌≡◌, ◌<◌, ◌≤◌, ℕ, zero, suc, ◌+◌, ◌-◌, Bool, true, false, not, cond, ◌&&◌, ◌||◌, ◌==◌, List, [], ◌∷◌, ◌++◌, map, length, find, filter, Option, Some, None, refl, sym, ap, ◌∙◌, subst, arith, append_assoc}
+use Rattle.std.proofs.Common.{◌≡◌, ◌<◌, ◌≤◌, ℕ, ◌+◌, ◌-◌, Bool, true, false, not, cond, ◌&&◌, ◌||◌, ◌==◌, List, [], ◌∷◌, ◌++◌, map, find, filter, Option, Some, None, refl, sym, ap, ◌∙◌, subst, arith}
 use Rattle.std.specs.List.{list_any}
-use Rattle.std.specs.Option.{option_map, option_map_or, option_and_then, option_or}
+use Rattle.std.specs.Option.{option_map_or, option_or}
 use Rattle.std.specs.Str.{str_to_ascii_lowercase, bytes_eq}
-use Rattle.std.proofs.lemmas.Bool.Decides.{nat_tests, when_true}
+use Rattle.std.proofs.lemmas.Bool.Decides.{nat_tests}
 use Rattle.std.proofs.lemmas.Slice.Eq.{bytes_eq-Decides}
 use Rattle.std.proofs.lemmas.List.Folds.{find-append, list_any-append}
 use Rattle.cop_eds.specs.declared.line.Kind.{Kind}
 use Rattle.cop_eds.specs.declared.line.Kind.TheVariants.{Other, Header, Pair}
-use Rattle.cop_eds.specs.Text.{name_of, key_of, value_of, same_name}
+use Rattle.cop_eds.specs.Text.{key_of, same_name}
 use Rattle.cop_eds.specs.Lines.{is_kind}
-use Rattle.cop_eds.specs.Rows.{Row, has_name, has_number, has_key}
+use Rattle.cop_eds.specs.Rows.{Row, has_key}
 use Rattle.cop_eds.specs.Edits.{Change, pair_of, change_of, changed, is_entry, is_last, is_new, new_row, new_rows, rewritten, with_keys, newline_of}
 
 -- the change sets this key of this section
@@ -107,12 +107,6 @@ changed_by P cs row clean same other = by_change (change_of cs row) refl
     by_change : (o : Option Change) → change_of cs row ≡ o → P (option_map_or (λ change. record row { body = pair_of change }) o row)
     by_change None e = same e
     by_change (Some c) e = let found = found_clean (λ change. has_key change.section change.key row) cs c clean e in other c e found.0 found.1
-
--- a key that no change sets is where it was
-key_same : (cs : List Change) (section : ℕ) (key : List ℕ) (row : Row) → AreClean cs → list_any (hits section key) cs ≡ false → has_key section key (changed cs row) ≡ has_key section key row
-key_same cs section key row clean none =
-    changed_by (λ r. has_key section key r ≡ has_key section key row) cs row clean (λ e. refl)
-    (λ c e own at. written_hits section key c row own at ∙ sym (changed_hits section key c row at))
 
 pub new_hits : (newline : List ℕ) (section : ℕ) (key : List ℕ) (change : Change) → IsClean change → has_key section key (new_row newline change) ≡ hits section key change
 new_hits newline section key change clean = ap (λ k. (change.section == section) && same_name k key) clean.key

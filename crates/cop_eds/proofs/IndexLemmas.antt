@@ -12,7 +12,7 @@ use Rattle.std.proofs.lemmas.Map.Text.{is_eq-slice_cmp}
 use Rattle.std.proofs.lemmas.Slice.Eq.{bytes_eq-Decides}
 use Rattle.std.proofs.lemmas.Cmp.{tied_itself}
 use Rattle.std.proofs.lemmas.Option.{slice_get-get_or}
-use Rattle.std.proofs.lemmas.List.Sorted.{sorted_far, searchable_from_sorted, ranks_by, all_adjacent_more}
+use Rattle.std.proofs.lemmas.List.Sorted.{sorted_far, searchable_from_sorted, ranks_by}
 use Rattle.std.proofs.lemmas.List.Elements.{All-append, Contains-append_left, Contains-append_right}
 use Rattle.std.proofs.lemmas.Bool.Decides.{nat_tests}
 use Rattle.cop_eds.specs.declared.fault.Rule.{Rule}
@@ -155,9 +155,6 @@ rank_same : (o : Ordering) → ordering_index o ≡ 1 → is_eq o ≡ true
 rank_same Less e = absurd (omega arith)
 rank_same Equal e = refl
 rank_same Greater e = absurd (omega arith)
-
-rank_is : (o : Ordering) → o ≡ Equal → ordering_index o ≡ 1
-rank_is o e = ap ordering_index e
 
 rises : (key : List ℕ) (xs : List Entry) → IsSorted entry_cmp xs → IsNonDecreasingBy (rank key) xs
 rises key xs h =
@@ -383,16 +380,6 @@ found_at text lines entries key i e d index parts lt same =
 
 abbrev pub Apart : List Entry → Type 0
 Apart entries = AllAdjacentBelow (λ x y. bytes_eq (sort_key x) (sort_key y) ≡ false) entries (length entries)
-
-pub apart_more : (entries : List Entry) (i : ℕ) (e : Entry) → 1 ≤ i → i < length entries
-    → bytes_eq (sort_key (get_or entries (i - 1) e)) (sort_key (get_or entries i e)) ≡ false
-    → AllAdjacentBelow (λ x y. bytes_eq (sort_key x) (sort_key y) ≡ false) entries i
-    → AllAdjacentBelow (λ x y. bytes_eq (sort_key x) (sort_key y) ≡ false) entries (i + 1)
-apart_more entries i e pos lt differ so_far =
-    all_adjacent_more entries (λ x y. bytes_eq (sort_key x) (sort_key y) ≡ false) i pos so_far (λ d.
-    let one : get_or entries (i - 1) d ≡ get_or entries (i - 1) e = get_or_same entries (i - 1) e d (omega arith) in
-    let two : get_or entries i d ≡ get_or entries i e = get_or_same entries i e d lt in
-    rw (one, two) differ)
 
 -- then no two entries have one key
 never_both : (entries : List Entry) (key : List ℕ) (m n : ℕ) → IsSorted entry_cmp entries → Apart entries

@@ -1,10 +1,9 @@
 -- Lines and their ends lie in their text.
-use Rattle.std.proofs.Common.{◌≡◌, ◌<◌, ◌≤◌, ℕ, zero, suc, ◌+◌, ◌-◌, Bool, true, false, ◌&&◌, cond, List, [], ◌∷◌, ◌++◌, length, drop, All, refl, sym, ap, ◌∙◌, arith, length-append, length-drop}
+use Rattle.std.proofs.Common.{◌≡◌, ◌<◌, ◌≤◌, ℕ, ◌+◌, ◌-◌, Bool, true, false, ◌&&◌, cond, List, [], ◌∷◌, ◌++◌, length, drop, All, ap, ◌∙◌, arith, length-append, length-drop}
 use Rattle.std.specs.Prelude.{nat_eq}
 use Rattle.std.specs.List.{concat, starts_with}
 use Rattle.std.proofs.lemmas.List.Elements.{All-cons}
-use Rattle.cop_eds.specs.declared.line.Line.{Line}
-use Rattle.cop_eds.specs.Text.{mark_len, cut, end_len}
+use Rattle.cop_eds.specs.Text.{mark_len, cut}
 use Rattle.cop_eds.specs.Lines.{IsInside, line_of, lines_from, lines_of}
 use Rattle.cop_eds.proofs.LawLemmas.{concat_cut}
 

@@ -1,21 +1,21 @@
 -- What a text whose keys are set keeps of the old one.
 use Rattle.std.specs.Prelude.{slice_index}
-use Rattle.std.proofs.Common.{◌-◌, ◌≡◌, ◌<◌, ◌≤◌, ℕ, zero, suc, ◌+◌, ◌*◌, Bool, true, false, not, cond, ◌&&◌, ◌||◌, ◌==◌, List, [], ◌∷◌, ◌++◌, map, length, find, Option, Some, None, Ok, refl, sym, ap, ◌∙◌, codes, arith, append-nil}
+use Rattle.std.proofs.Common.{◌-◌, ◌≡◌, ◌<◌, ◌≤◌, ℕ, ◌+◌, ◌*◌, Bool, true, false, not, cond, ◌&&◌, ◌||◌, ◌==◌, List, [], ◌∷◌, ◌++◌, length, find, Option, Some, None, Ok, refl, sym, ap, ◌∙◌, codes}
 use Rattle.std.specs.List.{list_any}
 use Rattle.std.specs.Option.{option_map, option_and_then, option_or}
 use Rattle.std.proofs.lemmas.List.Folds.{find-append, list_any-append}
 use Rattle.cop_eds.specs.declared.line.Kind.TheVariants.{Other, Header, Pair}
-use Rattle.cop_eds.specs.Text.{name_of, key_of, value_of, is_comment, same_name}
+use Rattle.cop_eds.specs.Text.{name_of, key_of, same_name}
 use Rattle.cop_eds.specs.Names.{same_section, code_of, has_code}
-use Rattle.cop_eds.specs.Lines.{lines_of, first_refusal, is_kind}
+use Rattle.cop_eds.specs.Lines.{lines_of, first_refusal}
 use Rattle.cop_eds.specs.Sections.{section_of, coded_place, value_in}
 use Rattle.cop_eds.specs.Reading.{reading}
 use Rattle.cop_eds.proofs.LawLemmas.{lawful_lines}
-use Rattle.cop_eds.specs.Rows.{Row, row_of, rows_of, has_name, has_number, has_key}
-use Rattle.cop_eds.specs.Edits.{Change, pair_of, is_entry, header_row, newline_of, section_count, with_section, with_keys, ended, closed}
+use Rattle.cop_eds.specs.Rows.{Row, rows_of, has_name, has_number, has_key}
+use Rattle.cop_eds.specs.Edits.{Change, header_row, newline_of, section_count, with_section, with_keys, ended, closed}
 use Rattle.cop_eds.specs.Kept.{Keeps}
 use Rattle.cop_eds.proofs.RowLemmas.{row_value, value_row, section_row, coded_row, is_lawful_kind, is_lawful, are_lawful, lawful_rows, rows_lawful}
-use Rattle.cop_eds.proofs.EditLemmas.{hits, IsClean, AreClean, AreApart, header_same, other_key_same, set_key_line, kind_is_pair}
+use Rattle.cop_eds.proofs.EditLemmas.{hits, AreClean, AreApart, header_same, other_key_same}
 use Rattle.cop_eds.proofs.LawfulLemmas.{with_keys_lawful, lawful_append, both, false_not}
 use Rattle.cop_eds.specs.declared.line.Kind.{Kind}
 

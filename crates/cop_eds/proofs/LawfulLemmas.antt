@@ -1,18 +1,18 @@
 -- A text whose keys are set is lawful.
-use Rattle.std.proofs.Common.{◌≡◌, ◌⊎◌, inl, inr, ◌<◌, ◌≤◌, ℕ, zero, suc, ◌+◌, Bool, true, false, not, cond, ◌&&◌, ◌||◌, ◌==◌, List, [], ◌∷◌, ◌++◌, map, length, find, filter, Option, Some, None, refl, sym, ap, ◌∙◌, arith, append_assoc, append-nil}
+use Rattle.std.proofs.Common.{◌≡◌, ◌⊎◌, inl, inr, ◌<◌, ◌≤◌, ℕ, ◌+◌, Bool, true, false, not, cond, ◌&&◌, ◌||◌, ◌==◌, List, [], ◌∷◌, ◌++◌, map, filter, refl, sym, ap, ◌∙◌, arith, append_assoc, append-nil}
 use Rattle.std.specs.List.{list_any}
 use Rattle.std.proofs.lemmas.Bool.Decides.{nat_tests}
 use Rattle.std.proofs.lemmas.List.Folds.{list_any-append}
 use Rattle.std.proofs.lemmas.Slice.Eq.{bytes_eq-Decides}
-use Rattle.std.specs.Str.{str_to_ascii_lowercase, bytes_eq}
+use Rattle.std.specs.Str.{str_to_ascii_lowercase}
 use Rattle.cop_eds.specs.declared.line.Kind.{Kind}
 use Rattle.cop_eds.specs.declared.line.Kind.TheVariants.{Other, Header, Pair}
-use Rattle.cop_eds.specs.Text.{name_of, key_of, is_comment, same_name}
+use Rattle.cop_eds.specs.Text.{name_of, key_of, same_name}
 use Rattle.cop_eds.specs.Lines.{is_kind}
 use Rattle.cop_eds.specs.Rows.{Row, has_name, has_key}
-use Rattle.cop_eds.specs.Edits.{Change, pair_of, change_of, changed, is_entry, is_last, is_new, new_row, new_rows, rewritten, with_keys, newline_of}
+use Rattle.cop_eds.specs.Edits.{Change, pair_of, changed, is_entry, is_last, is_new, new_row, new_rows, rewritten, with_keys, newline_of}
 use Rattle.cop_eds.proofs.RowLemmas.{is_lawful_kind, is_lawful, are_lawful}
-use Rattle.cop_eds.proofs.EditLemmas.{hits, IsClean, AreClean, AreApart, changed_by, changed_hits, written_hits, new_hits, and_left, and_right, false_by, sections_equal, has_pair, same_left, same_right, any_same, behind, or_true_right}
+use Rattle.cop_eds.proofs.EditLemmas.{hits, IsClean, AreClean, AreApart, changed_by, changed_hits, written_hits, new_hits, and_left, and_right, false_by, sections_equal, has_pair, same_right, any_same, behind, or_true_right}
 
 own_name : (a : List ℕ) → same_name a a ≡ true
 own_name a = (bytes_eq-Decides (str_to_ascii_lowercase a) (str_to_ascii_lowercase a)).1 refl

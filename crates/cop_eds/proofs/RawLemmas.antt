@@ -1,18 +1,17 @@
 -- A text that is put together of rows has these rows.
 use Rattle.std.specs.Prelude.{slice_range, slice_index}
-use Rattle.std.proofs.Common.{subst, lit≤, ◌≡◌, ◌⊎◌, inl, inr, ◌<◌, ◌≤◌, ℕ, zero, suc, ◌+◌, ◌-◌, Bool, true, false, not, cond, ◌&&◌, ◌||◌, ◌==◌, List, [], ◌∷◌, ◌++◌, map, length, take, drop, Option, Some, None, refl, sym, ap, ◌∙◌, arith, append_assoc, append-nil, length-append, length-drop}
+use Rattle.std.proofs.Common.{subst, lit≤, ◌≡◌, ◌⊎◌, inl, inr, ◌<◌, ◌≤◌, ℕ, zero, suc, ◌+◌, ◌-◌, Bool, true, false, not, cond, ◌&&◌, ◌||◌, ◌==◌, List, [], ◌∷◌, ◌++◌, map, length, take, drop, refl, sym, ap, ◌∙◌, arith, append_assoc, append-nil, length-append, length-drop}
 use Rattle.std.specs.List.{list_any, concat, onto_first}
 use Rattle.std.proofs.lemmas.Bool.Decides.{nat_tests}
-use Rattle.std.proofs.lemmas.List.{take-append-le, drop-append-le, take-append-drop, drop-drop}
-use Rattle.std.proofs.Math.Seq.{drop-append_seam, take-append_seam, take-length}
+use Rattle.std.proofs.lemmas.List.{take-append-le, drop-append-le, drop-drop}
+use Rattle.std.proofs.Math.Seq.{drop-append_seam, take-append_seam}
 use Rattle.std.proofs.Math.Seq.{get_or-append_seam}
 use Rattle.std.proofs.Math.ListN.{get_or-append}
 use Rattle.std.proofs.lemmas.List.{get_or-append-add}
 use Rattle.std.proofs.lemmas.List.Folds.{list_any-append}
 use Rattle.cop_eds.specs.declared.line.Kind.{Kind}
-use Rattle.cop_eds.specs.declared.line.Line.{Line}
 use Rattle.cop_eds.specs.Text.{cut, end_len, mark_len}
-use Rattle.cop_eds.specs.Lines.{lines_of, lines_from, line_of, text_of, kind_of, header_count}
+use Rattle.cop_eds.specs.Lines.{lines_from, line_of, kind_of, header_count}
 use Rattle.cop_eds.proofs.LawLemmas.{concat_cut}
 use Rattle.cop_eds.specs.Rows.{Row, row_of, rows_of}
 use Rattle.cop_eds.specs.Edits.{bytes_of_rows}

@@ -1,5 +1,5 @@
 -- A text that keeps what the rules look at of an accepted text is accepted too, and has its objects.
-use Rattle.std.proofs.Common.{◌≡◌, ◌<◌, ℕ, zero, suc, ◌+◌, Bool, true, false, cond, List, [], ◌∷◌, ◌++◌, length, map, Option, Some, None, Result, Ok, Err, refl, sym, ap, ◌∙◌, codes, decimal, nat_lt, not, ◌==◌}
+use Rattle.std.proofs.Common.{◌≡◌, ◌<◌, ℕ, zero, suc, ◌+◌, Bool, true, false, cond, List, [], ◌∷◌, ◌++◌, length, map, Option, Some, None, Result, Ok, Err, refl, sym, ap, ◌∙◌, codes, decimal, nat_lt, ◌==◌}
 use Rattle.std.specs.Option.{option_map}
 use Rattle.cop_eds.specs.declared.fault.Rule.{Rule}
 use Rattle.cop_eds.specs.declared.fault.Rule.TheVariants.{AmbiguousNumber}
@@ -11,28 +11,27 @@ use Rattle.cop_eds.specs.declared.description.ObjectType.{ObjectType}
 use Rattle.cop_eds.specs.declared.description.ObjectType.TheVariants.{Null, Domain, TypeDefinition, StructDefinition, Var, Array, Record}
 use Rattle.cop_eds.specs.declared.description.Description.{Description}
 use Rattle.cop_eds.specs.Number.{number_of}
-use Rattle.cop_eds.specs.Sections.{entry_of, value_in}
+use Rattle.cop_eds.specs.Sections.{entry_of}
 use Rattle.cop_eds.specs.Steps.{◌>>=◌, standing_at, number_at, number_or}
 use Rattle.cop_eds.specs.Access.{access_of}
 use Rattle.cop_eds.specs.Description.{described, read_type, no_compact_form, read_data_type, default_type, read_access, access_in, known, object_type_of, holds_value}
-use Rattle.std.proofs.Common.{◌≤◌, ◌^◌, ◌&&◌, ◌*◌, drop, arith, append_assoc, length-append}
+use Rattle.std.proofs.Common.{◌≤◌, ◌^◌, ◌&&◌, ◌*◌, drop, arith, length-append}
 use Rattle.std.proofs.lemmas.Bool.Decides.{nat_tests}
 use Rattle.std.specs.List.{flat_map}
 use Rattle.std.proofs.lemmas.List.{map-append}
 use Rattle.cop_frame.specs.declared.rates.Rate.{Rate}
 use Rattle.cop_frame.specs.RateSet.{all_rates}
-use Rattle.cop_eds.specs.declared.description.Object.{Object}
 use Rattle.cop_eds.specs.Names.{object_code, sub_code}
 use Rattle.cop_eds.specs.Number.{number_in, some_number, unambiguous, is_hexadecimal, is_numeral, is_ambiguous}
-use Rattle.cop_eds.specs.Sections.{place_of, section_of, coded_place}
+use Rattle.cop_eds.specs.Sections.{coded_place}
 use Rattle.cop_eds.specs.Steps.{needed, each, items_from}
 use Rattle.cop_eds.specs.Rates.{rate_key, rate_in, support_of, checked_rates}
 use Rattle.cop_eds.specs.Lists.{sub_found, subs_from, subs_of, described_sub, own_place, checked_object, listed_at, listed_from, listed_in, listed}
-use Rattle.cop_eds.specs.Lines.{checked_lines, first_refusal, lines_of, kept_or_refused}
+use Rattle.cop_eds.specs.Lines.{checked_lines, first_refusal, lines_of}
 use Rattle.cop_eds.specs.Reading.{reading, at_most}
 use Rattle.cop_eds.specs.Description.{holds_subs}
-use Rattle.cop_eds.specs.Objects.{with_access, object_in, sub_object, objects_by, objects_from, objects_at, objects_listed, objects_of, rising}
-use Rattle.cop_eds.specs.Kept.{Keeps, Seen, seen}
+use Rattle.cop_eds.specs.Objects.{with_access, object_in, sub_object, objects_by, objects_from, objects_at, objects_of, rising}
+use Rattle.cop_eds.specs.Kept.{Keeps, seen}
 
 pub bind_ok : {A B : Type 0} (r : Result A Refusal) (f : A → Result B Refusal) (x : B) → (r >>= f) ≡ Ok x → (a : A) × (r ≡ Ok a) × (f a ≡ Ok x)
 bind_ok (Ok a) f x e = (a, refl, e)

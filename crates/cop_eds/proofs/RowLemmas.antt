@@ -1,16 +1,15 @@
 -- What a text says, by its rows.
-use Rattle.std.proofs.Common.{◌≡◌, ◌<◌, ◌≤◌, ℕ, zero, suc, ◌+◌, ◌-◌, Bool, true, false, not, cond, ◌&&◌, ◌||◌, ◌==◌, List, [], ◌∷◌, ◌++◌, map, length, take, drop, find, Option, Some, None, Result, Ok, Err, refl, sym, ap, ◌∙◌, arith, append_assoc, length-append}
-use Rattle.std.specs.Prelude.{slice_range}
-use Rattle.std.specs.List.{list_any, concat}
+use Rattle.std.proofs.Common.{◌≡◌, ◌<◌, ◌≤◌, ℕ, ◌+◌, ◌-◌, Bool, true, false, not, cond, ◌&&◌, ◌||◌, ◌==◌, List, [], ◌∷◌, ◌++◌, map, length, find, Option, Some, None, refl, ap, ◌∙◌}
+use Rattle.std.specs.List.{list_any}
 use Rattle.std.specs.Option.{option_map, option_and_then, option_or}
 use Rattle.std.proofs.lemmas.List.{map-append}
 use Rattle.cop_eds.specs.declared.line.Kind.{Kind}
 use Rattle.cop_eds.specs.declared.line.Kind.TheVariants.{Other, Header, Pair}
 use Rattle.cop_eds.specs.declared.line.Line.{Line}
 use Rattle.cop_eds.specs.declared.fault.Rule.{Rule}
-use Rattle.cop_eds.specs.Text.{name_of, key_of, value_of, is_comment, cut, end_len, mark_len}
-use Rattle.cop_eds.specs.Lines.{lines_of, lines_from, line_of, text_of, is_kind, kind_of, header_count, is_named, is_keyed, broken, broken_by_kind, refused_at, first_refusal, first_from}
-use Rattle.cop_eds.specs.Sections.{place_at, place_of, section_of, is_coded, coded_place, keyed_line, some_value, entry_of, value_in}
+use Rattle.cop_eds.specs.Text.{name_of, key_of, value_of, is_comment}
+use Rattle.cop_eds.specs.Lines.{lines_of, text_of, is_named, is_keyed, broken, broken_by_kind, refused_at, first_refusal, first_from}
+use Rattle.cop_eds.specs.Sections.{place_at, section_of, is_coded, coded_place, some_value, value_in}
 use Rattle.cop_eds.specs.Rows.{Row, row_of, rows_of, has_name, has_number, has_key}
 
 -- the value of a row, where it is not empty

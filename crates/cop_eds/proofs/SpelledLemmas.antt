@@ -1,9 +1,9 @@
 -- Rows with keys set and ends added can be written.
-use Rattle.std.proofs.Common.{◌≡◌, ◌⊎◌, inl, inr, ◌<◌, ◌≤◌, ℕ, ◌+◌, ◌-◌, Bool, true, false, not, cond, ◌&&◌, ◌||◌, ◌==◌, List, [], ◌∷◌, ◌++◌, map, length, filter, find, Option, Some, None, refl, sym, ap, ◌∙◌, arith, subst}
+use Rattle.std.proofs.Common.{◌≡◌, ◌⊎◌, inl, inr, ◌<◌, ◌≤◌, ℕ, ◌+◌, ◌-◌, Bool, true, false, cond, ◌&&◌, ◌||◌, ◌==◌, List, [], ◌∷◌, ◌++◌, map, length, filter, find, Some, refl, sym, ap, ◌∙◌, arith, subst}
 use Rattle.std.specs.Prelude.{slice_index}
 use Rattle.std.specs.List.{list_any}
-use Rattle.cop_eds.specs.declared.line.Kind.TheVariants.{Other, Header, Pair}
-use Rattle.cop_eds.specs.Lines.{kind_of, header_count, is_kind}
+use Rattle.cop_eds.specs.declared.line.Kind.TheVariants.{Pair}
+use Rattle.cop_eds.specs.Lines.{kind_of}
 use Rattle.cop_eds.specs.Rows.{Row, has_key}
 use Rattle.cop_eds.specs.Edits.{Change, pair_of, changed, is_last, is_new, new_row, new_rows, rewritten, ended, closed}
 use Rattle.cop_eds.proofs.EditLemmas.{AreClean, changed_by, has_pair, behind, and_left, sections_equal}

@@ -1,11 +1,11 @@
 -- Texts whose keys are set, and to which sections are appended: each other line is as it was.
-use Rattle.std.specs.Prelude.{codes, ℕ, ◌+◌, ◌-◌, Bool, true, false, not, ◌&&◌, List, [], ◌∷◌, ◌++◌, length, map, take, slice_index, ◌==◌, if◌then◌else◌, Option, Some, None, find, filter}
+use Rattle.std.specs.Prelude.{codes, ℕ, ◌+◌, ◌-◌, Bool, not, ◌&&◌, List, [], ◌∷◌, ◌++◌, length, map, take, slice_index, ◌==◌, if◌then◌else◌, Option, find, filter}
 use Rattle.std.specs.List.{list_any}
 use Rattle.std.specs.Option.{option_map_or}
 use Rattle.cop_eds.specs.declared.line.Kind.TheVariants.{Other, Header, Pair}
 use Rattle.cop_eds.specs.Text.{mark_len}
 use Rattle.cop_eds.specs.Lines.{is_kind}
-use Rattle.cop_eds.specs.Rows.{Row, rows_of, has_name, has_key}
+use Rattle.cop_eds.specs.Rows.{Row, has_name, has_key}
 
 -- a key of a section, and the value that it is to have
 pub record Change : Type 0 where

@@ -22,16 +22,6 @@ use Rattle.cop_boot.specs.Settings.{is_short_value}
 use Rattle.cop_boot.specs.Member.{unheard, is_managed, CanManage}
 use Rattle.cop_boot.specs.Node.{Node}
 use Rattle.std.proofs.Common.{Result, Ok, Err, IfOk}
-use Rattle.cop_rows.specs.declared.pdo_table.PdoRow.{PdoRow}
-use Rattle.cop_rows.specs.Nodes.{NodeLists}
-use Rattle.cop_rows.specs.NodeReading.{nodes_of}
-use Rattle.cop_rows.specs.PdoReading.{pdos_of}
-use Rattle.cop_net.specs.declared.faults.Table.TheVariants.{Nodes, Pdos}
-use Rattle.cop_net.specs.Devices.{File}
-use Rattle.cop_net.specs.Network.{accepted, network_of}
-use Rattle.cop_net.specs.Tables.{in_table}
-use Rattle.cop_plan.specs.declared.assigning.Outcome.{Outcome}
-use Rattle.cop_plan.specs.Plans.{IsOutcome}
 use Rattle.cop_boot.specs.declared.turn.Turn.{Turn}
 use Rattle.cop_boot.specs.Manager.{Managing}
 use Rattle.cop_boot.specs.Device.{Attached}
@@ -39,7 +29,7 @@ use Rattle.cop_boot.specs.Bus.{Runs, Made}
 use Rattle.cop_boot.specs.Booted.{CanBoot, ReadyInTime}
 use Rattle.cop_boot.specs.NetworkBoot.{IsPlanOf, HavePlannedPdos}
 use Rattle.cop_engine.specs.Turns.{turns_drawn}
-use Rattle.cop_engine.specs.Boots.{nodes_to, device_nodes, managed, manager_of, dictionary_at, device_at, boot_text, IsBooted, IsBootedBy, IsBootOf}
+use Rattle.cop_engine.specs.Boots.{nodes_to, device_nodes, managed, manager_of, dictionary_at, device_at, boot_text, IsBooted}
 
 heads : {X : Type 0} (x y : X) (xs ys : List X) → x ∷ xs ≡ y ∷ ys → (x ≡ y) × (xs ≡ ys)
 heads x y xs ys h = (cc, cc)
@@ -138,12 +128,6 @@ pub push_behind : (dict items copy : List Entry) (i : ℕ) (object added : Entry
 push_behind dict items copy i object added same sorted lt here is index sub =
     let behind = stands_behind dict copy i object sorted (subst (λ (xs : List Entry). i < length xs) same lt) (here ∙ ap (λ (xs : List Entry). get_or xs i object) same) is in
     rw (index, sub) behind
-
-pub one_copied : (dict copy new : List Entry) (i : ℕ) (object added : Entry) → i < length dict → object ≡ get_or dict i object → copy ≡ initial (take i dict) → added ≡ as_built object
-    → new ≡ copy ++ added ∷ [] → new ≡ initial (take (i + 1) dict)
-one_copied dict copy new i object added lt here so_far is push =
-    push ∙ ap (λ xs. xs ++ added ∷ []) so_far ∙ ap (λ x. initial (take i dict) ++ x ∷ []) (is ∙ ap as_built here)
-    ∙ sym (ap initial (take_more dict i object lt) ∙ map-append as_built (take i dict) (get_or dict i object ∷ []))
 
 abbrev pub Plans : Type 0
 Plans = List (ℕ × Vec Setting)
@@ -247,17 +231,3 @@ booted_so seed net ids nodes shown manager later devices after turns (Ok text) a
     can_now =
         subst (λ m. CanBoot m devices (dictionary_at net)) (sym whole_manager)
         (subst (λ ds. CanBoot (manager_of net ids (device_nodes net)) ds (dictionary_at net)) (sym whole_devices) can)
-
-pub boot_of : (seed : ℕ) (nodes pdos : List ℕ) (files : List File) (text : List ℕ) (n : NodeLists) (rows : List PdoRow) (network : Net) (outcome : Outcome)
-    → in_table Nodes (nodes_of nodes) ≡ Ok n → in_table Pdos (pdos_of pdos) ≡ Ok rows → network_of n rows files ≡ Ok (accepted network) → (network.nodes ≡ n) × (network.rows ≡ rows)
-    → IsNetwork network → IsOutcome network.equipment.rates network.set (length network.rows) outcome → IsBootedBy seed network outcome text → IsBootOf seed nodes pdos files text
-boot_of seed nodes pdos files text n rows network outcome read also made tables is planned booted = record {
-  net = network;
-  network = is;
-  node_table = read ∙ ap Ok (sym tables.0);
-  pdo_table = also ∙ ap Ok (sym tables.1);
-  read = rw (tables.0, tables.1) made;
-  outcome = outcome;
-  planned = planned;
-  booted = booted;
-}

@@ -1,20 +1,16 @@
 -- A judged trace has no late PDO.
-use Rattle.std.proofs.Common.{◌≡◌, ℕ, ◌≤◌, inl, inr, List, length, get_or, slice_get, option_map, Option, Some, None, Ok, Err, Result, IfSome, MatchResult, All, refl, sym, ap, ◌∙◌, subst, arith}
+use Rattle.std.proofs.Common.{◌≡◌, ℕ, ◌≤◌, inl, inr, List, length, get_or, slice_get, option_map, Option, Some, None, Ok, Err, Result, MatchResult, All, refl, sym, ap, ◌∙◌, subst, arith}
 use Rattle.std.proofs.lemmas.Bool.{cases_lt}
 use Rattle.std.proofs.lemmas.Option.{slice_get-map, slice_get-get_or}
 use Rattle.std.specs.Global.{Vec}
-use Rattle.cop_frame.specs.declared.rates.Rate.{Rate}
 use Rattle.cop_frame.specs.Rate.{ticks_of}
 use Rattle.cop_rta.specs.declared.streams.Stream.{Stream}
 use Rattle.cop_rta.specs.Entries.{Entry, entry_of}
 use Rattle.cop_bus.specs.declared.steps.Step.{Step}
-use Rattle.cop_bus.specs.declared.faults.BusFault.{BusFault}
 use Rattle.cop_bus.specs.declared.faults.BusFault.TheVariants as bus
 use Rattle.cop_bus.specs.Run.{IsOnTime}
 use Rattle.cop_bus.specs.Trace.{instances, IsLegalTrace}
-use Rattle.cop_bus.specs.Judge.{first_broken, IsFaultOf}
 use Rattle.cop_bus.specs.Late.{first_late}
-use Rattle.cop_bus.specs.Reading.{Told, trace_of, refused_at}
 use Rattle.cop_bus.proofs.LateLemmas.{none-found}
 use Rattle.cop_rows.specs.declared.pdo_table.PdoRow.{PdoRow}
 use Rattle.cop_rows.specs.Nodes.{NodeLists}
@@ -33,7 +29,7 @@ use Rattle.cop_plan.specs.declared.assigning.Outcome.TheVariants.{Planned, Refus
 use Rattle.cop_sim.proofs.GuaranteeLemmas.{kept}
 use Rattle.cop_engine.specs.declared.faults.Fault.{Fault}
 use Rattle.cop_engine.specs.declared.faults.Fault.TheVariants as faults
-use Rattle.cop_engine.specs.Faults.{fault_of, fault_of_trace}
+use Rattle.cop_engine.specs.Faults.{fault_of}
 use Rattle.cop_engine.specs.Networks.{ExplainsNetwork}
 use Rattle.cop_engine.specs.Judgements.{IsJudged, IsJudgedBy, ExplainsTrace, IsPlannedNetwork, IsJudgement, ExplainsJudgement, SaysOnTime, judged_text, transfers_in}
 use Rattle.cop_engine.proofs.GuaranteeLemmas.{was_there, fine}
@@ -78,15 +74,6 @@ says_on_time nodes pdos eds trace text (Refused refusals) n j = j
 pub of_network : (nodes pdos : List ℕ) (files : List File) (trace : List ℕ) (fault : PlanFault) → ExplainsNetwork nodes pdos files (fault_of fault) → ExplainsJudgement nodes pdos files trace (fault_of fault)
 of_network nodes pdos files trace (plans.Refused r) e = inl e
 of_network nodes pdos files trace plans.Memory e = tt
-
-pub trace_explains : (rate : Rate) (streams : List Stream) (trace : List ℕ) (fault : BusFault) → IfSome (refused_at fault) (λ f. trace_of trace ≡ Err f) → ExplainsTrace rate streams trace (fault_of_trace fault)
-trace_explains rate streams trace (bus.Refused place number) e = inl e
-trace_explains rate streams trace bus.Memory e = tt
-
-pub rule_explains : (rate : Rate) (streams : List Stream) (trace : List ℕ) (told : Told) (fault : BusFault) → trace_of trace ≡ Ok told
-    → IsFaultOf (first_broken (ticks_of rate) streams told.until told.steps) fault → ExplainsTrace rate streams trace (fault_of_trace fault)
-rule_explains rate streams trace told (bus.Refused place number) read e = inr (told, read, e)
-rule_explains rate streams trace told bus.Memory read e = tt
 
 module _ (nodes pdos : List ℕ) (files : List File) (trace : List ℕ) where
   -- the plan of the network that was read

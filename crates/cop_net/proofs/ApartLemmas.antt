@@ -7,13 +7,11 @@ use Rattle.std.proofs.Math.Nat.{mul-add-mod_self_left}
 use Rattle.cop_rows.specs.declared.node_table.FrameRow.{FrameRow}
 use Rattle.cop_rows.specs.declared.node_table.FrameKind.{FrameKind}
 use Rattle.cop_rows.specs.declared.node_table.FrameKind.TheVariants as kinds
-use Rattle.cop_rows.specs.declared.pdo_table.PdoRow.{PdoRow}
 use Rattle.cop_rta.specs.Entries.{Entry}
 use Rattle.cop_net.specs.Sets.{AreOneSet}
 use Rattle.cop_net.specs.Fixed.{IsOwner, IsTimed, base_of, rank_of, key_of, frame_stream, sent, streams_from, fixed_streams}
-use Rattle.cop_net.specs.Pdos.{ArePdos, pdo_stream}
+use Rattle.cop_net.specs.Pdos.{ArePdos}
 use Rattle.cop_net.proofs.FixedLemmas.{IsAt, found_at}
-use Rattle.cop_net.proofs.PdoLemmas.{pdos_more}
 use Rattle.cop_net.proofs.SetLemmas.{AreApart, AllPairs-append, one_set_front}
 
 -- an identifier that no PDO may get
@@ -142,13 +140,6 @@ fixed_few frames h = streams_few frames 0 768 h
 
 pdos_apart : (pdos : List Entry) → ArePdos pdos → AllPairs AreApart pdos
 pdos_apart pdos are i j d lt inside = let first = are i d (omega arith) in let last = are j d inside in λ e. omega (arith, first.0, last.0, e)
-
--- the streams of the PDOs so far and one more are one set
-pub one_set_pdo : (pdos : List Entry) (bytes : ℕ) (row : PdoRow) → ArePdos pdos → length pdos < 512 → AreOneSet (pdos ++ pdo_stream (length pdos) bytes row ∷ [])
-one_set_pdo pdos bytes row are lt = record {
-  apart = pdos_apart (pdos ++ pdo_stream (length pdos) bytes row ∷ []) (pdos_more pdos bytes row are);
-  count = omega (arith, length-append pdos (pdo_stream (length pdos) bytes row ∷ []));
-}
 
 -- the streams of all PDOs and those of the fixed identifiers are one set
 pub one_set_all : (pdos : List Entry) (frames : List FrameRow) → ArePdos pdos → length pdos ≤ 512 → All IsTimed frames → AreOneSet (pdos ++ fixed_streams frames)

@@ -286,16 +286,6 @@ stuck_alone dict e at = by_cob (is_cob_id e) refl
         let one : e.sub ≡ 1 = eqb-true e.sub 1 p.1 in
         by_word (unsigned32_of e) refl (subst (λ (sub : ℕ). entry_at dict e.index sub ≡ Some e) one at) cob
 
--- the index of a PDO that stays on is that of a communication record
-pub stuck_index : (e : Entry) → is_stuck e ≡ true → (0x1400 ≤ e.index) × (e.index < 0x1A00)
-stuck_index e h =
-    let p = both_true (is_cob_id e) (is_stuck_by e.description (unsigned32_of e)) h in
-    let q = both_true (is_communication e.index) (e.sub == 1) p.0 in
-    within e.index q.0
-  where
-    within : (index : ℕ) → is_communication index ≡ true → (0x1400 ≤ index) × (index < 0x1A00)
-    within index c = (grind (arith, nat_tests), grind (arith, nat_tests))
-
 -- a heartbeat's time
 half_word : (d : Description) (bytes : List ℕ) (n : ℕ) → d.data_type ≡ types.Unsigned16 → length bytes ≡ 2 → number bytes ≡ n
     → is_none (first_broken (value_rules d bytes)) ≡ may_hold d n

@@ -37,12 +37,6 @@ stray_not used node dict i e b sorted lt here passes so_far =
     let one : stray_in used node dict (drop i dict) ≡ stray_in used node dict (drop (i + 1) dict) = next_of used node dict i e sorted lt here ∙ rw passes refl in
     sym one ∙ so_far
 
-pub stray_end : (used : List Used) (node : ℕ) (dict : List Entry) (i : ℕ) (b : Bool) → length dict ≤ i → stray_in used node dict (drop i dict) ≡ b → false ≡ b
-stray_end used node dict i b le so_far =
-    let none : drop i dict ≡ [] = drop_all i dict le in
-    let one : stray_in used node dict (drop i dict) ≡ false = rw none refl in
-    sym one ∙ so_far
-
 -- the devices, one after the other
 pub goes_on : (frames : List FrameRow) (used : List Used) (node : ℕ) (devices : List (Option Device)) (total : Result (Unit {0}) Refusal)
     → node < length devices → settable frames used node (get_or devices node None) ≡ Ok tt

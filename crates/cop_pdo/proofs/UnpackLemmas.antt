@@ -18,7 +18,7 @@ use Rattle.cop_dict.specs.Dict.{with_value, valued, FitsAt}
 use Rattle.cop_dict.proofs.Replaced.{found_map}
 use Rattle.cop_dict.proofs.DictLemmas.{valued_kept}
 use Rattle.cop_pdo.specs.Payload.{is_there}
-use Rattle.cop_pdo.specs.Bits.{bits_of_number, number_of_bits, bytes_of_bits, bits_of_bytes, bytes_for, received, unpacked}
+use Rattle.cop_pdo.specs.Bits.{number_of_bits, bytes_of_bits, bits_of_bytes, bytes_for, received, unpacked}
 use Rattle.cop_pdo.proofs.BitLemmas.{low_bytes, bytes_are_low, std_bytes_are_low, number_lowest}
 use Rattle.cop_pdo.proofs.MovingLemmas.{none, rest_of}
 
@@ -110,10 +110,6 @@ eight (suc n) = rw (more n, pow-add 2 8 (8 * n), eight n, pow-succ' 256 n) refl
 
 pub bytes_number : (bytes : List ℕ) → number bytes < 256 ^ length bytes → number_of_bits (bits_of_bytes bytes) ≡ number bytes
 bytes_number bytes h = number_lowest (8 * length bytes) (number bytes) ∙ mod-eq_of_lt (rw (eight (length bytes)) h)
-
--- the lowest bits of a word, as bits
-pub lowest_bits : (n word : ℕ) → number_of_bits (bits_of_number n word) ≡ word % 2 ^ n
-lowest_bits n word = number_lowest n word
 
 -- bits in bytes, rounded up
 pub ceil_is : (bits : ℕ) → div_ceil bits 8 ≡ bytes_for bits

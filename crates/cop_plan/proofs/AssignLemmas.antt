@@ -1,5 +1,5 @@
 -- Refusals of rates, one after the other.
-use Rattle.std.proofs.Common.{◌≡◌, ℕ, ◌+◌, ◌*◌, ◌<◌, ◌≤◌, ◌⊎◌, inl, inr, true, false, List, [], ◌∷◌, ◌++◌, length, get_or, All, Any, Contains, refl, sym, ap, ◌∙◌, subst, arith, le_refl, length-append, mul-le-mul_right}
+use Rattle.std.proofs.Common.{◌≡◌, ℕ, ◌+◌, ◌*◌, ◌<◌, ◌≤◌, ◌⊎◌, inl, inr, true, false, List, [], ◌∷◌, ◌++◌, length, get_or, All, Any, Contains, refl, sym, ap, ◌∙◌, subst, arith, le_refl, length-append}
 use Rattle.std.proofs.lemmas.Bool.{cases_eq}
 use Rattle.std.proofs.lemmas.List.{get_or_append_left, length-map}
 use Rattle.std.proofs.lemmas.List.Elements.{All-push}
@@ -139,10 +139,6 @@ trials_more before after old tried each h sum = let one : (tried + 1) * each ≡
 
 pub busy_more : (before after old tried each : ℕ) → after ≤ before + each → before ≤ old + tried * each → after ≤ old + (tried + 1) * each
 busy_more before after old tried each h sum = let one : (tried + 1) * each ≡ tried * each + each = grind arith in omega (arith, h, sum, one)
-
--- no more than at all rates
-pub busy_in_all : (now old tried each : ℕ) → tried ≤ 8 → now ≤ old + tried * each → now ≤ old + 8 * each
-busy_in_all now old tried each few h = let more : tried * each ≤ 8 * each = mul-le-mul_right each few in omega (arith, h, more)
 
 -- what is planned at the first rate that is not refused
 pub plan_is : (rates : List Rate) (streams : List Stream) (pdos n i : ℕ) (plan : PlanValue) (refusals : List Refusal) → n ≡ pdos → pdos ≤ length streams → pdos ≤ 512 → i < 8

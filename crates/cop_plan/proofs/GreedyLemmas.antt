@@ -1,8 +1,8 @@
 -- Places filled one after the other: what holds on the way.
-use Rattle.std.proofs.Common.{◌≡◌, ◌≢◌, ℕ, zero, suc, ◌+◌, ◌-◌, ◌*◌, mul-le-mul, ◌<◌, ◌≤◌, ◌⊎◌, inl, inr, Bool, true, false, ◌==◌, ◌||◌, ◌&&◌, nat_lt, not, map, if◌then◌else◌, List, [], ◌∷◌, ◌++◌, length, set, refl, sym, ap, ◌∙◌, subst, arith, true≢false, length-append}
+use Rattle.std.proofs.Common.{◌≡◌, ◌≢◌, ℕ, zero, suc, ◌+◌, ◌-◌, ◌*◌, mul-le-mul, ◌<◌, ◌≤◌, ◌⊎◌, inl, inr, Bool, true, false, ◌==◌, ◌||◌, ◌&&◌, nat_lt, if◌then◌else◌, List, [], ◌∷◌, ◌++◌, length, set, refl, sym, ap, ◌∙◌, subst, arith, true≢false, length-append}
 use Rattle.std.proofs.lemmas.Bool.{cases_eq, cases_lt, cases_Bool, eq-eqb, ne_eqb, lt-ltb, ltb-true, le-ltb}
-use Rattle.std.proofs.lemmas.List.{append_assoc, append-nil, length-set, length-map, get_or-set_same, get_or-set_other}
-use Rattle.std.proofs.lemmas.Option.{unwrap_or-slice_get, slice_get_past}
+use Rattle.std.proofs.lemmas.List.{append_assoc, append-nil, length-set, get_or-set_same, get_or-set_other}
+use Rattle.std.proofs.lemmas.Option.{unwrap_or-slice_get}
 use Rattle.cop_frame.specs.declared.rates.Rate.{Rate}
 use Rattle.cop_rta.specs.declared.streams.Stream.{Stream}
 use Rattle.cop_rta.specs.Test.{Passes, flagged_place, is_flagged}
@@ -392,9 +392,6 @@ module _ (first now : Flags) (pdos placed : ℕ) (fill : List ℕ) (few : pdos �
   pub fills_streams : now.streams ≡ first.streams
   fills_streams = ap (λ (v : Flags). v.streams) (f.same some)
 
-  pub fills_rate : now.rate ≡ first.rate
-  fills_rate = ap (λ (v : Flags). v.rate) (f.same some)
-
   fills_flags : now.flags ≡ f.left
   fills_flags = ap (λ (v : Flags). v.flags) (f.same some)
 
@@ -445,29 +442,3 @@ fills_whole first now pdos placed fill f all =
     goes_to_end first.rate first.streams pdos fill (left_of pdos f.left) f.goes (f.placed_are ∙ all)
 
 -- ---- the flags of what is below each PDO
-
-turned_at : (flags : List Bool) (k : ℕ) → k < length flags → is_flagged (map not flags) k ≡ not (is_flagged flags k)
-turned_at [] k h = absurd (omega arith)
-turned_at (b ∷ flags) zero h = refl
-turned_at (b ∷ flags) (suc k) h = turned_at flags k (omega arith)
-
-pub flags_of_trial : (streams : List Stream) (pdos : ℕ) (flags : List Bool) → pdos ≤ length streams → length flags ≡ length streams
-    → ((k : ℕ) → k < length streams → is_flagged flags k ≡ not (is_in_trial least_id streams pdos (λ p. nat_lt p pdos) k))
-    → (k : ℕ) → is_flagged (map not flags) k ≡ is_in_trial least_id streams pdos (λ p. nat_lt p pdos) k
-flags_of_trial streams pdos flags few size each k = go (cases_lt k (length streams))
-  where
-    twice : (b : Bool) → not (not b) ≡ b
-    twice true = refl
-    twice false = refl
-
-    go : (k < length streams) ⊎ (length streams ≤ k) → is_flagged (map not flags) k ≡ is_in_trial least_id streams pdos (λ p. nat_lt p pdos) k
-    go (inl low) = turned_at flags k (omega (arith, low, size)) ∙ rw (each k low) (twice _)
-    go (inr past) =
-        rw (slice_get_past (map not flags) k (omega (arith, past, size, length-map flags not)))
-        (sym (trial_of_fixed streams pdos least_id (λ p. nat_lt p pdos) k (omega (arith, few, past)) ∙ rw (slice_get_past streams k past) refl))
-
--- the first PDO is above
-pub first_is_above : (streams : List Stream) (pdos : ℕ) (flags : List Bool) → 1 ≤ pdos → pdos ≤ length streams → length flags ≡ length streams
-    → ((k : ℕ) → is_flagged flags k ≡ is_in_trial least_id streams pdos (λ p. nat_lt p pdos) k) → HasOneAbove flags
-first_is_above streams pdos flags some few size each =
-    (0, omega (arith, some, few, size), each 0 ∙ trial_of_pdo streams pdos least_id (λ p. nat_lt p pdos) 0 (omega (arith, some)) ∙ lt-ltb 0 pdos (omega (arith, some)))

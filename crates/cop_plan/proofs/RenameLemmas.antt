@@ -12,7 +12,7 @@ use Rattle.cop_rta.proofs.MoreAbove.{passes_under_fewer}
 use Rattle.cop_cert.specs.Assignments.{least_id, greatest_id, AreFixedOutside, id_under, is_lower, place_under, AllPass}
 use Rattle.cop_cert.proofs.AboveLemmas.{more_above}
 use Rattle.cop_plan.specs.Orders.{IsGapless}
-use Rattle.cop_plan.specs.Values.{Timing, timing_of, id_of, HaveIds, HaveDeadlines, AreOnTime}
+use Rattle.cop_plan.specs.Values.{Timing, timing_of, HaveIds, HaveDeadlines, AreOnTime}
 use Rattle.cop_plan.proofs.FillingLemmas.{no_bit}
 use Rattle.cop_plan.proofs.SamePlace.{same_length, same_deadline, passes_same}
 
@@ -138,11 +138,3 @@ module _ (rate : Rate) (streams renamed : List Stream) (pdos : ℕ) (ids : ℕ �
     deadlines = λ p h. let d = deadlines p h in (d.0, same_deadline renamed streams have.timings p ∙ d.1);
     pass = λ p h. passes_renamed p (omega (arith, h, few)) (all p h);
   }
-
--- the identifier of a stream of the set by whether it is a PDO
-pub id_if_pdo : (streams : List Stream) (ids : List ℕ) (k : ℕ) → k < length ids → get_or ids k 0 ≡ id_under streams (length ids) (id_of ids) k
-id_if_pdo streams ids k h = sym (id_of_pdo streams (length ids) (id_of ids) k h)
-
-pub id_if_fixed : (streams : List Stream) (ids : List ℕ) (k : ℕ) (s : Stream) → length ids ≤ k → k < length streams → s ≡ get_or streams k s → s.id ≡ id_under streams (length ids) (id_of ids) k
-id_if_fixed streams ids k s h low here =
-    ap (λ (s : Stream). s.id) here ∙ sym (of_stream_at streams k s low) ∙ sym (id_of_fixed streams (length ids) (id_of ids) k h)

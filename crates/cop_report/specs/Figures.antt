@@ -1,5 +1,5 @@
 -- The numbers of a report.
-use Rattle.std.specs.Prelude.{ℕ, ◌≡◌, List, [], length, map, slice_get, Some, None, All}
+use Rattle.std.specs.Prelude.{◌≡◌, List, [], map, slice_get, Some, None, All}
 use Rattle.cop_rta.specs.Test.{place_by_id}
 use Rattle.cop_rta.specs.Verdict.{PassesBy}
 use Rattle.cop_net.specs.Network.{Net}

@@ -67,16 +67,6 @@ module _ (flags : List Bool) (own : ℕ) (inside : own < length flags) where
         let same : but (is_flagged (set flags own true)) own ≡ is_flagged flags = λ i k. but_here k i in
         sum_but (is_flagged (set flags own true)) f own n set_here within ∙ ap (λ (p : ℕ → Bool). sum_where p f n + f own) same
 
-  pub longest_no_more : (f : ℕ → ℕ) (n : ℕ) → max_where (is_unflagged (set flags own true)) f n ≤ max_where (is_unflagged flags) f n
-  longest_no_more f n = longest_of_fewer (is_unflagged (set flags own true)) (is_unflagged flags) f n fewer
-    where
-      fewer : (k : ℕ) → not (is_flagged (set flags own true) k) ≡ true → not (is_flagged flags k) ≡ true
-      fewer k off = go (cases_eq k own)
-        where
-          go : (k ≡ own) ⊎ (k ≡ own → ⊥) → not (is_flagged flags k) ≡ true
-          go (inl e) = let on : is_flagged (set flags own true) k ≡ true = rw e set_here in absurd (cc)
-          go (inr apart) = rw (← set_apart k apart) off
-
   -- and the greatest of the others is no less but for this one
   pub longest_less : (f : ℕ → ℕ) (n : ℕ) → max_where (is_unflagged flags) f n ≤ max (max_where (is_unflagged (set flags own true)) f n) (f own)
   longest_less f n =

@@ -36,15 +36,6 @@ swept_none rate streams = record {
   judged = λ k lt low. absurd (omega (arith, low));
 }
 
--- each identifier is below the end
-pub swept_all : (rate : Rate) (streams : List Stream) (flags : List Bool) (verdicts : List Verdict) → Swept rate streams flags verdicts 2048
-    → (k : ℕ) → k < length streams → IsJudged (place_by_id streams k rate) (get_or verdicts k Long)
-swept_all rate streams flags verdicts swept k lt = swept.judged k lt (below (slice_get_cases streams k).1)
-  where
-    below : ((s : Stream) × (k < length streams) × (slice_get streams k ≡ Some s) × (get_or streams k s ≡ s)) ⊎ ((length streams ≤ k) × (slice_get streams k ≡ None)) → id_at streams k < 2048
-    below (inl s) = rw s.2 s.0.id_in_range
-    below (inr past) = absurd (omega (arith, past.0, lt))
-
 module _ (rate : Rate) (streams : List Stream) (flags : List Bool) (verdicts : List Verdict) (id : ℕ) (swept : Swept rate streams flags verdicts id) where
   -- no stream has the identifier
   pub swept_past : place_of_id streams id ≡ None → Swept rate streams flags verdicts (id + 1)

@@ -1,12 +1,12 @@
 -- Where the search for a wait begins.
-use Rattle.std.proofs.Common.{ℕ, ◌+◌, ◌-◌, ◌<◌, ◌≤◌, ◌≡◌, ◌^◌, min, arith, slice_get, length, Some, sym, subst, zero-le, le_of_eq, ⊎_elim}
+use Rattle.std.proofs.Common.{ℕ, ◌+◌, ◌-◌, ◌<◌, ◌≤◌, ◌≡◌, ◌^◌, arith, slice_get, length, Some, sym, subst, zero-le, ⊎_elim}
 use Rattle.std.proofs.lemmas.Bool.{cases_lt}
 use Rattle.cop_rta.specs.declared.streams.Stream.{Stream}
 use Rattle.cop_rta.specs.Solutions.{IsLeastSolution}
 use Rattle.cop_rta.specs.Test.{StreamPlace, cost_at, cost_of, busy_at, queueing_at, IsBusyTime, IsQueuedWithin}
 use Rattle.cop_rta.specs.Waits.{IsBelowWait, IsBelowBusy}
 use Rattle.cop_rta.specs.TestLemmas.{busy_at-mono, queueing_at-mono}
-use Rattle.cop_rta.proofs.LeastLemmas.{least_exists, same_least, uncapped}
+use Rattle.cop_rta.proofs.LeastLemmas.{least_exists, same_least}
 use Rattle.cop_rta.proofs.QueueLemmas.{wait_exists_at, busy_at_pos}
 
 pub none_below : (p : StreamPlace) → IsBelowWait p 0 0
@@ -40,16 +40,6 @@ rises p q from below = ⊎_elim
     absurd (omega (arith, lt, below (queueing_at p q from) again)))
     (λ (le : from ≤ queueing_at p q from). le)
     (cases_lt (queueing_at p q from) from)
-
--- what is found from such a number on is the wait
-pub wait_from : (p : StreamPlace) (q from w : ℕ) → IsBelowWait p q from → w < 2 ^ 64 - 1 → IsLeastSolution (λ t. min (queueing_at p q t) (2 ^ 64 - 1)) from w → IsLeastSolution (queueing_at p q) 0 w
-wait_from p q from w b low s =
-    let here : IsLeastSolution (queueing_at p q) from w = uncapped (queueing_at p q) (2 ^ 64 - 1) from w low s in
-    record {
-      within = zero-le;
-      solves = here.solves;
-      least = λ y start e. here.least y (b y (le_of_eq (sym e))) e;
-    }
 
 -- an instance of a busy time has a wait within it
 pub has_wait : (p : StreamPlace) (t q limit : ℕ) → p.index < length p.streams → IsBusyTime p t → t ≤ limit → IsQueuedWithin p t q → ((w : ℕ) → IsLeastSolution (queueing_at p q) 0 w → limit < w) → ⊥

@@ -27,13 +27,6 @@ use Rattle.cop_sim.proofs.Places.{actor-at, stream-at}
 use Rattle.cop_sim.proofs.Queues.{answered}
 
 module _ {B : Type 0} (offer : B → ℕ → Option Offer) (agrees : B → ℕ → ℕ → Bool) (until : ℕ) (streams : List Stream) (bs : List B) where
-  pub none-asked : AreFirst offer agrees until streams bs bs [] 0
-  none-asked = record {
-    long = refl;
-    many = refl;
-    first = λ i k b l e f. absurd (omega arith);
-    rest = λ i l. refl;
-  }
 
   -- one more was asked
   pub first-more : (cs ds : List B) (next : List (Option Offer)) (n : ℕ) (s : Stream) (o : Option Offer) → AreFirst offer agrees until streams bs cs next n → n < length bs → s ≡ get_or streams n s →

@@ -4,7 +4,7 @@ use Rattle.std.specs.Prelude.{Option, None, Some, slice_get}
 use Rattle.cop_bus.specs.declared.steps.Step.{Step}
 use Rattle.cop_bus.specs.declared.steps.Step.TheVariants.{Queue, Start}
 use Rattle.cop_bus.specs.declared.bus.Instance.{Instance}
-use Rattle.cop_bus.specs.Trace.{is_queue, is_start, nth_that, bits_of}
+use Rattle.cop_bus.specs.Trace.{is_queue, is_start, nth_that}
 use Rattle.cop_bus.specs.Judge.{waits_after}
 use Rattle.cop_bus.proofs.Work.{true-lt, lt-true, eq-true}
 use Rattle.cop_bus.proofs.StepLemmas.{nth_that-at, bool_cases}
@@ -126,8 +126,3 @@ held-queued until steps o y a next after ring e1 e2 e3 l h again =
     split [] (suc k) v e = (let z : None ≡ Some v = e in absurd (cc))
     split (u ∷ ys) zero v e = inl e
     split (u ∷ ys) (suc k) v e = elim (split ys k v e) [ inl f ↦ inl f | inr f ↦ inr (ap suc f.0, f.1) ]
-
--- the length of what is sent is that of the first that waits
-pub held-bits : (until : ℕ) (steps : List Step) (a : Actor) (next : Option Offer) (ring : RingValue) (y : Instance) → IsHeld until steps a next ring → slice_get ring.waiting 0 ≡ Some y →
-    bits_of (nth_that (is_queue a.stream.id) (starts a.stream.id steps) steps) ≡ y.frame.bits
-held-bits until steps a next ring y h e = ap bits_of (ap (λ n. nth_that (is_queue a.stream.id) n steps) (let n : starts a.stream.id steps ≡ starts a.stream.id steps + 0 = omega arith in n) ∙ h.each 0 y e)

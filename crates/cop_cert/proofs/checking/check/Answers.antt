@@ -8,7 +8,7 @@ use Rattle.cop_cert.proofs.RisingLemmas.{all_of}
 use Rattle.cop_cert.proofs.checking.check.Goals as goal
 
 pub flag_trial-requires-clause-inside : goal.flag_trial-requires-clause-inside
-flag_trial-requires-clause-inside c = all_of c.args.pdos c.as_slice-members.result.now (c.rise.ensures.0 c.if-not-rise.false).1
+flag_trial-requires-clause-inside c = (c.rise.ensures.0 c.if-not-rise.false).1
 
 pub have_evidence-requires-clause-inside : goal.have_evidence-requires-clause-inside
 have_evidence-requires-clause-inside c k d below =
