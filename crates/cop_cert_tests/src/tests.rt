@@ -350,3 +350,17 @@ fn long_lists_are_refused(rt: HostRuntime) -> Result<(), Fail> {
     }
     Ok(())
 }
+
+#[test]
+fn faults_of_refusal_files_are_printed(rt: HostRuntime) -> Result<(), Fail> {
+    match read(rt.alloc(), b"x") {
+        Ok(_) => assert!(rt; false),
+        Err(fault) => {
+            let text = format!(in rt.alloc(); "{fault}")?;
+            assert_eq!(rt; text.as_str(), "rule 31 is broken at record 0");
+        }
+    }
+    let text = format!(in rt.alloc(); "{}", CertFault::Memory)?;
+    assert_eq!(rt; text.as_str(), "out of memory");
+    Ok(())
+}

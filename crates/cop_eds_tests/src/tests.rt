@@ -326,3 +326,14 @@ fn amounts_are_read(rt: HostRuntime) {
         assert_eq!(rt; amount_of(text), amount);
     }
 }
+
+#[test]
+fn twenty_thousand_lines_are_read(rt: HostRuntime) -> Result<(), Fail> {
+    let mut text = Vec::from_slice(rt.alloc(), UNIT)?;
+    for _ in 0..20_000 {
+        text.extend_from_slice(b";\n")?;
+    }
+    let eds = parse(rt.alloc(), &text)?;
+    assert_eq!(rt; (eds.lines().len(), eds.objects().len()), (20_069, 11));
+    Ok(())
+}

@@ -237,3 +237,17 @@ fn tables_are_read(rt: HostRuntime) -> Result<(), Fail> {
     }
     Ok(())
 }
+
+#[test]
+fn faults_of_tables_are_printed(rt: HostRuntime) -> Result<(), Fail> {
+    match read_streams(rt.alloc(), b"x") {
+        Ok(_) => assert!(rt; false),
+        Err(fault) => {
+            let text = format!(in rt.alloc(); "{fault}")?;
+            assert_eq!(rt; text.as_str(), "refused at record 0");
+        }
+    }
+    let text = format!(in rt.alloc(); "{}", TableFault::Memory)?;
+    assert_eq!(rt; text.as_str(), "out of memory");
+    Ok(())
+}
