@@ -1,10 +1,15 @@
 //! What the columns of the tables want.
 
+ghost use Rattle.std.specs.Prelude.{◌≡◌};
+ghost use Rattle.cop_words.specs.Headers.{header_of};
+
 use cop_net::Table;
 use cop_rows::Column;
 
-/// The header of a table.
-pub fn header(table: Table) -> &'static str {
+/// The header of a table, by which it is read.
+pub fn header(table: Table) -> &'static str
+    ensures { result.now ≡ header_of table }
+{
     match table {
         Table::Nodes => "row,node,name,eds,period,jitter",
         Table::Pdos => "node,tpdo,period,jitter,deadline,consumers",
