@@ -1,5 +1,5 @@
 -- Where the files of a plan are put.
-use Rattle.std.specs.Prelude.{◌≡◌, ℕ, ◌<◌, List, [], ◌∷◌, Bool, false, codes, length, take}
+use Rattle.std.specs.Prelude.{◌≡◌, ℕ, List, [], ◌∷◌, Bool, false, codes, Some, slice_get, take}
 use Rattle.cop_net.specs.Devices.{File}
 use Rattle.cop_engine.specs.declared.plans.Files.{Files}
 
@@ -16,6 +16,7 @@ abbrev pub WerePut : {O : Type 0} → (O → File → O → Type 0) → O → Li
 WerePut puts o [] p = o ≡ p
 WerePut {O} puts o (file ∷ files) p = (m : O) × puts o file m × WerePut puts m files p
 
--- puts of the first so many files, in order, and not of all, lead to the outlet as the next put, which failed, met it
-abbrev pub WereCut : {O : Type 0} → (O → File → O → Type 0) → (O → Bool) → O → List File → ℕ → Type 0
-WereCut {O} puts has_failed o files k = (k < length files) × ((m : O) × WerePut puts o (take k files) m × (has_failed m ≡ false))
+-- puts of the first so many files, in order, lead to the outlet as the put of the next one met it, and that put failed
+abbrev pub WereCut : {O : Type 0} → (O → File → O → Type 0) → (O → File → O → Type 0) → (O → Bool) → O → List File → ℕ → O → Type 0
+WereCut {O} puts cuts has_failed o files k p =
+    (file : File) × (slice_get files k ≡ Some file) × ((m : O) × WerePut puts o (take k files) m × (has_failed m ≡ false) × cuts m file p)

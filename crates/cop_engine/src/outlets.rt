@@ -14,6 +14,9 @@ pub trait Outlet {
     /// A put of a file leads from one state to another.
     ghost puts: { Self → File → Self → Type 0 };
 
+    /// A put of a file that fails leads from one state to another.
+    ghost cuts: { Self → File → Self → Type 0 } = { λ _ _ _. Unit {0} };
+
     ghost has_failed: { Self → Bool };
 
     /// Puts a file, by its name and its bytes; `false` where it fails.
@@ -21,6 +24,7 @@ pub trait Outlet {
         requires { has_failed self.old ≡ false }
         ensures taken { result ≡ true → puts self.old (record { name = name.now; text = bytes.now }) self.new }
         ensures works { result ≡ true → has_failed self.new ≡ false }
+        ensures cut { result ≡ false → cuts self.old (record { name = name.now; text = bytes.now }) self.new }
         ensures fails { result ≡ false → has_failed self.new ≡ true };
 
     /// Whether it has failed.
@@ -33,7 +37,7 @@ fn put_dcfs<O: Outlet>(files: &[DcfFile], outlet: &mut O) -> Result<(), usize>
     requires { O.has_failed outlet.old ≡ false }
     ensures all { OnOk result (WerePut O.puts outlet.old files.now outlet.new) }
     ensures works { OnOk result (O.has_failed outlet.new ≡ false) }
-    ensures cut { IfErr result (λ k. WereCut O.puts O.has_failed outlet.old files.now k) }
+    ensures cut { IfErr result (λ k. WereCut O.puts O.cuts O.has_failed outlet.old files.now k outlet.new) }
     ensures fails { IfErr result (λ k. O.has_failed outlet.new ≡ true) }
 {
     match files {
@@ -55,7 +59,7 @@ fn put_refusals<O: Outlet>(refusals: &[u8], dcf: &[DcfFile], outlet: &mut O) -> 
     requires { O.has_failed outlet.old ≡ false }
     ensures all { OnOk result (WerePut O.puts outlet.old (with_refusals refusals.now dcf.now) outlet.new) }
     ensures works { OnOk result (O.has_failed outlet.new ≡ false) }
-    ensures cut { IfErr result (λ k. WereCut O.puts O.has_failed outlet.old (with_refusals refusals.now dcf.now) k) }
+    ensures cut { IfErr result (λ k. WereCut O.puts O.cuts O.has_failed outlet.old (with_refusals refusals.now dcf.now) k outlet.new) }
     ensures fails { IfErr result (λ k. O.has_failed outlet.new ≡ true) }
 {
     if !outlet.put("refusals.csv", refusals) {
@@ -73,7 +77,7 @@ pub fn deliver<O: Outlet>(files: &Files, outlet: &mut O) -> Result<(), usize>
     requires { O.has_failed outlet.old ≡ false }
     ensures all { OnOk result (WerePut O.puts outlet.old (files_in files.now) outlet.new) }
     ensures works { OnOk result (O.has_failed outlet.new ≡ false) }
-    ensures cut { IfErr result (λ k. WereCut O.puts O.has_failed outlet.old (files_in files.now) k) }
+    ensures cut { IfErr result (λ k. WereCut O.puts O.cuts O.has_failed outlet.old (files_in files.now) k outlet.new) }
     ensures fails { IfErr result (λ k. O.has_failed outlet.new ≡ true) }
 {
     let dcf = files.dcf.as_slice();

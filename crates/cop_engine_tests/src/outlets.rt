@@ -20,6 +20,8 @@ impl Outlet for Shelf {
 
     ghost puts = { λ s f t. t.names.items ≡ s.names.items ++ f.name };
 
+    ghost cuts = { λ s f t. t.names.items ≡ s.names.items };
+
     ghost has_failed = { λ s. s.failed };
 
     fn put(&mut self, name: &str, _bytes: &[u8]) -> bool {

@@ -108,6 +108,13 @@ fn large_inputs_are_file_faults(rt: HostRuntime) {
     }
 }
 
+#[test]
+fn inputs_are_read_whole(rt: HostRuntime) -> Result<(), Fail> {
+    let table = b"id,bytes,period,jitter,deadline\n".as_slice();
+    assert_eq!(rt; read_all(rt.alloc(), table)?.as_slice(), table);
+    Ok(())
+}
+
 // The sample device.
 pub(crate) const UNIT: &[u8] = b"[FileInfo]
 FileName=unit.eds
