@@ -1,11 +1,15 @@
 #!/usr/bin/env python3
 """Draws the report of each example in a browser, at the width of a desk and of a phone, light and dark, to be looked at.
 
-usage: tools/look_at_reports.py FOLDER [PAGE..]    the pages and their pictures go into FOLDER, as valve-390-dark.png; where
-                                                   pages are given, these are drawn in place of the examples' reports
+usage: tools/look_at_reports.py [--trace] FOLDER [PAGE..]    the pages and their pictures go into FOLDER, as valve-390-dark.png;
+                                                             where pages are given, these are drawn in place of the examples'
+                                                             reports; with --trace these show the examples' runs, too
+
+A page that is wider than its window is told.
 
 It needs headless Chromium (Debian's package `chromium`), which CHROMIUM names where it is none of the usual names.
 """
+import html
 import os
 import re
 import shutil
@@ -18,7 +22,12 @@ PROGRAM = f"{HERE}/bin/canplan"
 NAMES = ("chromium", "chromium-browser", "google-chrome")
 WIDTHS = (1280, 390)
 SCHEMES = {"dark": 0, "light": 1}
-MEASURE = "<script>document.title = 'height ' + document.documentElement.scrollHeight</script>"
+# A window has a least width, a frame in it has none.
+FRAMED = """<iframe id="it" style="width: {width}px; height: 800px; border: 0" srcdoc="{text}"></iframe>
+<script>it.onload = () => {{
+  const size = it.contentDocument.documentElement;
+  document.title = `size ${{size.scrollWidth}} ${{size.scrollHeight}}`;
+}}</script>"""
 
 
 def browser():
@@ -35,24 +44,26 @@ def opened(page, width, height, *words):
     return subprocess.run([browser(), *flags, *words, f"file://{page}"], capture_output=True, timeout=120).stdout
 
 
-def height_of(page, width):
-    """How high a page is at a width. A copy with a script tells it."""
-    copy = f"{page}.measured.html"
+def size_of(page, width):
+    """How wide and high a page is at a width."""
+    framed = f"{page}.framed.html"
     with open(page, encoding="utf-8") as it:
         text = it.read()
-    with open(copy, "w", encoding="utf-8") as it:
-        it.write(text + MEASURE)
-    said = opened(copy, width, 800, "--dump-dom").decode(errors="replace")
-    os.remove(copy)
-    found = re.search(r"<title>height (\d+)", said)
-    return int(found.group(1)) if found else 4000
+    with open(framed, "w", encoding="utf-8") as it:
+        it.write(FRAMED.format(width=width, text=html.escape(text)))
+    said = opened(framed, 1280, 800, "--dump-dom").decode(errors="replace")
+    os.remove(framed)
+    found = re.search(r"<title>size (\d+) (\d+)", said)
+    return (int(found.group(1)), int(found.group(2))) if found else (width, 4000)
 
 
 def draw(page, folder):
     """The pictures of a page."""
     name = os.path.splitext(os.path.basename(page))[0]
     for width in WIDTHS:
-        height = height_of(page, width)
+        wide, height = size_of(page, width)
+        if wide > width:
+            print(f"too wide: {page} takes {wide} at {width}")
         for scheme, number in SCHEMES.items():
             picture = f"{folder}/{name}-{width}-{scheme}.png"
             opened(page, width, height, f"--blink-settings=preferredColorScheme={number}", f"--screenshot={picture}")
@@ -64,20 +75,22 @@ def networks():
     return sorted(it for it in os.listdir(EXAMPLES) if os.path.exists(f"{EXAMPLES}/{it}/nodes.csv"))
 
 
-def reports(folder):
+def reports(folder, with_trace):
     """The reports of the examples, made anew."""
     for name in networks():
-        page = f"{folder}/{name}.html"
-        subprocess.run([PROGRAM, "report", f"{EXAMPLES}/{name}/nodes.csv", f"{EXAMPLES}/{name}/pdos.csv", page], check=True)
+        example, page = f"{EXAMPLES}/{name}", f"{folder}/{name}.html"
+        trace = ["--trace", f"{example}/run.csv"] if with_trace else []
+        subprocess.run([PROGRAM, "report", *trace, f"{example}/nodes.csv", f"{example}/pdos.csv", page], check=True)
         yield page
 
 
 def main():
-    if len(sys.argv) < 2:
+    words = [it for it in sys.argv[1:] if it != "--trace"]
+    if not words:
         sys.exit(__doc__)
-    folder = os.path.realpath(sys.argv[1])
+    folder = os.path.realpath(words[0])
     os.makedirs(folder, exist_ok=True)
-    pages = [os.path.realpath(it) for it in sys.argv[2:]] or reports(folder)
+    pages = [os.path.realpath(it) for it in words[1:]] or reports(folder, "--trace" in sys.argv)
     for page in pages:
         draw(page, folder)
 

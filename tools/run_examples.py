@@ -3,8 +3,10 @@
 
     python3 tools/run_examples.py
 
-Each plan also has to stand in examples/README.md, each stored refusal has to hold, and one that is altered to fail. Each
-network is booted by two seeds. A run by a seed has to give the stored trace, and the judgement of it what the run said.
+Each plan also has to stand in examples/README.md, each stored refusal has to hold, and one that is altered to fail. Of a plan
+that is refused it has to be said where its folder has the files of another. Each network is booted by two seeds. A run by a
+seed has to give the stored trace, and the judgement of it what the run said; its report has to show each transfer, and one of
+a trace that is refused has to end as the judgement, with no page.
 """
 import os
 import subprocess
@@ -26,6 +28,11 @@ def run(*words):
     return it.returncode, it.stdout
 
 
+def fault_of(*words):
+    """What the program says on standard error, as lines."""
+    return subprocess.run([PROGRAM, *words], capture_output=True, cwd="/").stderr.decode().splitlines()
+
+
 def indented(text):
     """The text as it stands in a page."""
     return b"".join(b"    " + line + b"\n" for line in text.splitlines())
@@ -42,6 +49,35 @@ def altered(refusals):
     return begin + b",%d\n" % (int(last) + 1)
 
 
+def faults_of_report(tables, trace, out):
+    """What is wrong with the report of a run, and with that of the run without its header."""
+    page, headless = f"{out}/report.html", f"{out}/headless.csv"
+    if run("report", *tables, page) != (0, b"") or b"<script" in bytes_of(page):
+        yield "the report"
+    os.remove(page)
+    ends = sum(line.startswith(b"end,") for line in bytes_of(trace).splitlines())
+    if run("report", "--trace", trace, *tables, page) != (0, b"") or bytes_of(page).count(b'class="sends"') != ends:
+        yield "the report of the seeded run"
+    os.remove(page)
+    with open(headless, "wb") as it:
+        it.write(bytes_of(trace).partition(b"\n")[2])
+    if run("report", "--trace", headless, *tables, page) != run("judge", *tables, headless) or os.path.exists(page):
+        yield "the report of a trace that is refused"
+
+
+def faults_of_refused_plan(tables, out):
+    """What is wrong with what is said of a plan that is refused, where its folder has the files of another."""
+    wrong = ["plan", tables[1], tables[0], out]
+    if fault_of(*wrong) != ["canplan: refused 40 0"]:
+        yield "the line of a refused plan"
+    said = fault_of("plan", "--explain", *wrong[1:])
+    if said[0] != "canplan: refused 40 0" or said[-1] != f"the files in {out} are of an earlier run":
+        yield "what is said of the files of an earlier plan"
+    with tempfile.TemporaryDirectory() as empty:
+        if any("earlier run" in line for line in fault_of("plan", "--explain", *wrong[1:3], empty)):
+            yield "what is said of an empty folder"
+
+
 def faults_of(name):
     """What differs in an example network."""
     folder, page = f"{EXAMPLES}/{name}", bytes_of(f"{EXAMPLES}/README.md")
@@ -54,6 +90,7 @@ def faults_of(name):
             yield "the files that plan writes"
         if not dcf_files(folder) or dcf_files(out) != dcf_files(folder):
             yield "the DCF files that plan writes"
+        yield from faults_of_refused_plan(tables, out)
         with open(f"{out}/altered.csv", "wb") as it:
             it.write(altered(refusals))
         status, said = run("check", *tables, f"{out}/altered.csv")
@@ -74,6 +111,7 @@ def faults_of(name):
             yield "the seeded run"
         if run("judge", *tables, f"{out}/run.csv") != (0, said):
             yield "the judgement of the seeded run"
+        yield from faults_of_report(tables, f"{out}/run.csv", out)
     if indented(plan) not in page:
         yield "the plan in examples/README.md"
 

@@ -2,11 +2,12 @@
 
 use crate::commands::MOST_UNTIL;
 use crate::files::{Folder, file_fault, print, read_eds_files, read_file, read_input, read_tables};
+use crate::judging::judge;
 use crate::orders::{NetworkFiles, Order, Request};
 use crate::reporting::write_report;
 use cop_engine::{
-    Fault, RunFault, boot_bytes, check_bytes, check_status, deliver, judge_bytes, none_passes,
-    outcome_of, plan_bytes, plan_status, run_plan, test_bytes, text_status,
+    Fault, RunFault, boot_bytes, check_bytes, check_status, deliver, none_passes, outcome_of,
+    plan_bytes, plan_status, run_plan, test_bytes, text_status,
 };
 use cop_frame::Rate;
 use cop_plan::{Outcome, Plan};
@@ -64,16 +65,6 @@ fn boot(rt: &HostRuntime, seed: u64, network: NetworkFiles<'_>) -> Result<u8, Fa
     let tables = read_tables(rt, network)?;
     let eds_files = read_eds_files(rt, network, &tables)?;
     let text = boot_bytes(rt.alloc(), seed, &tables.nodes, &tables.pdos, &eds_files)?;
-    print(rt, &text)?;
-    Ok(text_status(&text))
-}
-
-/// The judgement of a trace by the plan of a network.
-fn judge(rt: &HostRuntime, network: NetworkFiles<'_>, trace: &str) -> Result<u8, Fault> {
-    let tables = read_tables(rt, network)?;
-    let trace = read_file(rt, trace)?;
-    let eds_files = read_eds_files(rt, network, &tables)?;
-    let text = judge_bytes(rt.alloc(), &tables.nodes, &tables.pdos, &eds_files, &trace)?;
     print(rt, &text)?;
     Ok(text_status(&text))
 }
@@ -139,7 +130,11 @@ pub fn carry_out(rt: &HostRuntime, request: Request<'_>) -> Result<u8, Fault> {
             network,
             trace,
         } => run(rt, (seed, until), network, trace),
-        Order::Report { network, out } => write_report(rt, network, out),
+        Order::Report {
+            network,
+            trace,
+            out,
+        } => write_report(rt, network, trace, out),
         Order::Explain { number } => explain(rt, number),
     }
 }

@@ -139,13 +139,19 @@ fn judge_command<'a>(alloc: Global) -> Result<Command<'a>, AllocError> {
 fn report_command<'a>(alloc: Global) -> Result<Command<'a>, AllocError> {
     let about =
         "Writes a page that shows the plan: why no slower rate, the load, the PDOs and the settings";
+    let trace = Arg::new(alloc, "trace")
+        .long("trace")
+        .value_name("TRACE")
+        .action(ArgAction::Set)
+        .help("A trace of the bus, as judge takes it: the page shows the bus over time, too");
     network_command(alloc, "report", about)?
         .after_help("Example: canplan report nodes.csv pdos.csv report.html")
         .arg(operand(
             alloc,
             "OUT",
             "The file that the page is written to, in HTML",
-        ))
+        ))?
+        .arg(trace)
 }
 
 fn explain_command<'a>(alloc: Global) -> Result<Command<'a>, AllocError> {

@@ -5,7 +5,7 @@ use crate::orders::{NetworkFiles, Order};
 use cop_engine::Fault;
 use cop_net::read_nodes;
 use cop_words::{Network, Source, network_words, record_words, rule_words};
-use std::str;
+use std::{fs, str};
 
 /// The files of the network of an order.
 fn network_of<'a>(order: Order<'a>) -> Option<NetworkFiles<'a>> {
@@ -26,6 +26,7 @@ fn file_of<'a>(order: Order<'a>, number: u8) -> Option<&'a str> {
         Order::Test { file, .. } if file != "-" => Some(file),
         Order::Check { refusals, .. } if number < 40 => Some(refusals),
         Order::Judge { trace, .. } if number >= 60 => Some(trace),
+        Order::Report { trace, .. } if number >= 60 => trace,
         _ => None,
     }
 }
@@ -103,10 +104,28 @@ fn failed_file(rt: &HostRuntime, order: Order<'_>, name: &str) -> Result<Vec<u8>
     Ok(words)
 }
 
+/// Adds that the files in the folder of a plan that is refused are of an earlier run, where there are any.
+fn push_earlier(rt: &HostRuntime, order: Order<'_>, words: &mut Vec<u8>) -> Result<(), Fault> {
+    let Order::Plan { out, .. } = order else {
+        return Ok(());
+    };
+    // The first of the files that a plan writes.
+    let plan = format!(in rt.alloc(); "{out}/plan.txt")?;
+    if let Ok(true) = fs::exists(rt, plan.as_str()) {
+        let line = format!(in rt.alloc(); "the files in {out} are of an earlier run\n")?;
+        words.extend_from_slice(line.as_bytes())?;
+    }
+    Ok(())
+}
+
 /// What is said of a fault in words.
 pub fn explain(rt: &HostRuntime, order: Order<'_>, fault: &Fault) -> Result<Vec<u8>, Fault> {
     match fault {
-        Fault::Refused { number, place } => refused(rt, order, *number, *place),
+        Fault::Refused { number, place } => {
+            let mut words = refused(rt, order, *number, *place)?;
+            push_earlier(rt, order, &mut words)?;
+            Ok(words)
+        }
         Fault::File(name) => failed_file(rt, order, name),
         Fault::Simulation => Ok(Vec::from_slice(
             rt.alloc(),

@@ -1,2 +1,3 @@
 pub mod ReasonLemmas
 pub mod LoadLemmas
+pub mod TimelineLemmas

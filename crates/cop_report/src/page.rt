@@ -1,8 +1,9 @@
-//! The page of a report: one file of HTML with its style and its pictures, and no script.
+//! The page of a report: one file of HTML with its style and its pictures. It has a script only where it shows a trace.
 
 ghost use Rattle.std.specs.Prelude.{length};
 ghost use Rattle.cop_plan.specs.Plans.{IsOutcome};
 
+use crate::bus::push_bus;
 use crate::devices::sent_by;
 use crate::figures::Figures;
 use crate::nodes::push_nodes;
@@ -10,6 +11,7 @@ use crate::pdos::{push_pdos, tightest};
 use crate::premises::{push_inputs, push_premises};
 use crate::rates::{push_loads, push_rates};
 use crate::style::STYLE;
+use crate::timelines::Timeline;
 use crate::units::{Count, Micros, Percent};
 use cop_net::Network;
 use cop_plan::Outcome;
@@ -22,12 +24,14 @@ pub struct Input<'a> {
     pub size: usize,
 }
 
-/// What a page is made of: a network, what the planner answers for it, the numbers of that, and the files that were read.
+/// What a page is made of: a network, what the planner answers for it, the numbers of that, what a trace tells of the bus under
+/// the plan if one is to be shown, and the files that were read.
 #[derive(Clone, Copy)]
 pub struct Report<'a, 'n> {
     pub network: &'a Network<'n>,
     pub outcome: &'a Outcome,
     pub figures: &'a Figures,
+    pub timeline: Option<&'a Timeline>,
     pub inputs: &'a [Input<'a>],
 }
 
@@ -129,6 +133,9 @@ fn push_plan(page: &mut String, alloc: Global, report: Report<'_, '_>) -> Result
 {
     if let Outcome::Planned(plan) = report.outcome {
         push_pdos(page, report.network, report.figures)?;
+        if let Some(timeline) = report.timeline {
+            push_bus(page, report.network, plan, timeline)?;
+        }
         push_nodes(page, alloc, report.network, plan)?;
         push_premises(page)?;
     }

@@ -8,7 +8,7 @@ pub(crate) const STYLE: &str = "
   --line: #2c3541; --track: #2a323d; --pdo: #6ea4ff; --fixed: #69798c; --tight: #ff9f4a; --mark: #33261a; --good: #62c995;
   --bad: #ff8a80; } }
 * { box-sizing: border-box; }
-body { margin: 0; background: var(--back); color: var(--text); font: 16px/1.5 system-ui, sans-serif; }
+body { margin: 0; background: var(--back); color: var(--text); font: 16px/1.5 system-ui, sans-serif; overflow-wrap: break-word; }
 main { max-width: 80rem; margin: 0 auto; padding: 1.5rem 1rem 3rem; }
 h1 { font-size: 1.7rem; line-height: 1.2; margin: 0 0 .3rem; }
 h2 { font-size: 1.2rem; margin: 0 0 .6rem; }
@@ -21,7 +21,7 @@ section { background: var(--card); border: 1px solid var(--line); border-radius:
 .tiles div { background: var(--card); border: 1px solid var(--line); border-radius: 10px; padding: .7rem 1rem; }
 .tiles b { display: block; font-size: 1.5rem; line-height: 1.3; }
 .good { color: var(--good); } .bad { color: var(--bad); }
-.cards { display: grid; grid-template-columns: repeat(auto-fill, minmax(17rem, 1fr)); gap: .4rem 1.4rem; }
+.cards { display: grid; grid-template-columns: repeat(auto-fill, minmax(min(17rem, 100%), 1fr)); gap: .4rem 1.4rem; }
 .scroll { overflow-x: auto; }
 .taken { white-space: normal; min-width: 13rem; }
 table { border-collapse: collapse; width: 100%; font-size: .92rem; }
@@ -36,6 +36,17 @@ tr:first-child th { color: var(--soft); font-weight: 600; }
 .tightest td, .tightest th, .chosen td, .chosen th { background: var(--mark); }
 .tightest em { color: var(--tight); font-style: normal; font-weight: 600; }
 .key { display: inline-block; width: .8rem; height: .8rem; border-radius: 3px; margin-left: .8rem; }
+.lane { display: grid; grid-template-columns: 18rem minmax(0, 1fr); column-gap: .8rem; align-items: center; font-size: .92rem; }
+.lane svg { display: block; width: 100%; height: 20px; background: linear-gradient(to right, var(--line) 1px, transparent 1px) 0 0 / 25% 100%;
+  border-right: 1px solid var(--line); border-bottom: 1px solid var(--line); }
+.waits, .sends { stroke-width: 1; vector-effect: non-scaling-stroke; }
+.waits { fill: var(--fixed); stroke: var(--fixed); } .sends { fill: var(--pdo); stroke: var(--pdo); }
+.axis { position: sticky; top: 0; background: var(--card); color: var(--soft); text-align: right; padding: .2rem 0; }
+.marks { display: flex; justify-content: space-between; font-variant-numeric: tabular-nums; }
+#window { max-width: none; flex-wrap: wrap; gap: .4rem .6rem; align-items: center; } #window:not([hidden]) { display: flex; }
+#window input { width: 8rem; font: inherit; } #window button { font: inherit; }
+@media (max-width: 45rem) { .lane { grid-template-columns: minmax(0, 1fr); margin-top: .3rem; } .axis div:first-child { display: none; }
+  .marks span:nth-child(even) { display: none; } }
 details { margin-bottom: .6rem; } summary { cursor: pointer; color: var(--soft); }
 footer { color: var(--soft); font-size: .88rem; margin-top: 1.2rem; }
 ";

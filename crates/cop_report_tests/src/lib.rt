@@ -3,4 +3,8 @@
 #![tactic(auto)]
 
 #[cfg(test)]
+mod networks;
+#[cfg(test)]
 mod tests;
+#[cfg(test)]
+mod timelines;

@@ -1,115 +1,8 @@
+use crate::networks::{PDOS, STRICT, report};
 use cop_frame::Rate;
-use cop_net::{network, read_nodes, read_pdos};
-use cop_plan::plan;
-use cop_report::{
-    Escaped, Figures, Identifier, Input, Micros, Percent, Report, figures_of, page_of,
-};
+use cop_report::{Escaped, Identifier, Micros, Percent};
 use cop_rta::Verdict;
-use std::alloc::Global;
 use std::test::Fail;
-
-/// A device that sends one PDO of 64 bits and has another that no row uses.
-const UNIT: &str = "[DeviceInfo]
-BaudRate_250=1
-BaudRate_500=1
-[OptionalObjects]
-SupportedObjects=4
-1=0x1017
-2=0x1800
-3=0x1801
-4=0x1A00
-[ManufacturerObjects]
-SupportedObjects=2
-1=0x2000
-2=0x2001
-[1017]
-DataType=0x0006
-AccessType=rw
-[1800]
-ObjectType=9
-[1800sub1]
-DataType=7
-AccessType=rw
-DefaultValue=$NODEID+0x40000180
-[1800sub2]
-DataType=5
-AccessType=rw
-DefaultValue=255
-[1801]
-ObjectType=9
-[1801sub1]
-DataType=7
-AccessType=rw
-DefaultValue=$NODEID+0x40000280
-[1A00]
-ObjectType=9
-[1A00sub0]
-DataType=5
-AccessType=rw
-DefaultValue=2
-[1A00sub1]
-DataType=7
-AccessType=rw
-DefaultValue=0x20000020
-[1A00sub2]
-DataType=7
-AccessType=rw
-DefaultValue=0x20010020
-[2000]
-DataType=7
-AccessType=rw
-PDOMapping=1
-[2001]
-DataType=7
-AccessType=rw
-PDOMapping=1
-";
-
-const NODES: &str = "row,node,name,eds,period,jitter
-device,5,Valve,unit.eds,0,0
-emcy,5,,,100000,0
-heartbeat,5,,,100000,0
-";
-
-/// A deadline of 670 us needs 500 kbit/s.
-const PDOS: &str = "node,tpdo,period,jitter,deadline,consumers\n5,1,10000,0,670,\n";
-
-/// No rate of the device is fast enough for a deadline of 400 us.
-const STRICT: &str = "node,tpdo,period,jitter,deadline,consumers\n5,1,10000,0,400,\n";
-
-/// The EDS files of the network.
-fn eds_files(alloc: Global) -> Result<Vec<(String, Vec<u8>)>, Fail> {
-    let mut files = Vec::new(alloc);
-    files.push((
-        String::from_str(alloc, "unit.eds")?,
-        Vec::from_slice(alloc, UNIT.as_bytes())?,
-    ))?;
-    Ok(files)
-}
-
-/// The numbers of the network and its page.
-fn report(alloc: Global, pdos: &str) -> Result<(Figures, String), Fail> {
-    let nodes = read_nodes(alloc, NODES.as_bytes())?;
-    let pdos = read_pdos(alloc, pdos.as_bytes())?;
-    let files = eds_files(alloc)?;
-    let network = network(alloc, &nodes, &pdos, &files)?;
-    let outcome = plan(alloc, &network)?;
-    let figures = figures_of(alloc, &network, &outcome)?;
-    let inputs = [Input {
-        name: "a<b>&\"c\".csv",
-        size: 117,
-    }];
-    let page = page_of(
-        alloc,
-        Report {
-            network: &network,
-            outcome: &outcome,
-            figures: &figures,
-            inputs: &inputs,
-        },
-    )?;
-    Ok((figures, page))
-}
 
 /// Texts, and how they stand in a page.
 const ESCAPED: &[(&str, &str)] = &[
@@ -172,7 +65,7 @@ fn numbers_are_shown(rt: HostRuntime) -> Result<(), Fail> {
 /// of 8 ticks are 2,680 ticks, its deadline.
 #[test]
 fn the_numbers_are_the_plans(rt: HostRuntime) -> Result<(), Fail> {
-    let (figures, _page) = report(rt.alloc(), PDOS)?;
+    let (figures, _page) = report(rt.alloc(), PDOS, None)?;
     assert_eq!(rt; figures.rate, Some(Rate::Kbit500));
     for times in figures.pdos.iter() {
         assert_eq!(rt;
@@ -203,7 +96,7 @@ const LOADS: &[(Rate, u64, u64)] = &[
 
 #[test]
 fn the_loads_are_those_of_the_tables(rt: HostRuntime) -> Result<(), Fail> {
-    let (figures, _page) = report(rt.alloc(), PDOS)?;
+    let (figures, _page) = report(rt.alloc(), PDOS, None)?;
     assert_eq!(rt; figures.loads.len(), LOADS.len());
     for (load, wanted) in figures.loads.iter().zip(LOADS) {
         assert_eq!(rt; (load.rate, load.pdos, load.fixed), *wanted);
@@ -224,7 +117,7 @@ const SAID: &[&str] = &[
 
 #[test]
 fn the_page_says_the_plan(rt: HostRuntime) -> Result<(), Fail> {
-    let (_figures, page) = report(rt.alloc(), PDOS)?;
+    let (_figures, page) = report(rt.alloc(), PDOS, None)?;
     for said in SAID {
         assert!(rt; page.contains(*said), "{said}");
     }
@@ -235,7 +128,7 @@ fn the_page_says_the_plan(rt: HostRuntime) -> Result<(), Fail> {
 
 #[test]
 fn the_page_says_that_no_rate_passes(rt: HostRuntime) -> Result<(), Fail> {
-    let (figures, page) = report(rt.alloc(), STRICT)?;
+    let (figures, page) = report(rt.alloc(), STRICT, None)?;
     assert_eq!(rt;
         (figures.rate, figures.pdos.len(), figures.refused.len()),
         (None, 0, 2)

@@ -1,0 +1,192 @@
+//! The section of a page on the bus over time, as inline SVG: a lane for each identifier, one unit wide for each tick.
+
+use crate::script::SCRIPT;
+use crate::senders::sender_of;
+use crate::timelines::{Lane, Timeline};
+use crate::units::{Count, Identifier, Micros};
+use cop_bus::Transfer;
+use cop_net::Network;
+use cop_plan::Plan;
+use std::alloc::AllocError;
+
+/// How many parts the axis has.
+const PARTS: u64 = 4;
+
+/// The part of a trace that is drawn: the moment at which it begins and how long it is, in ticks.
+#[derive(Clone, Copy, Debug)]
+struct Window {
+    begin: u64,
+    span: u64,
+}
+
+/// How many transfers are drawn.
+fn drawn(lanes: &[Lane]) -> usize {
+    let mut drawn: usize = 0;
+    for lane in lanes {
+        drawn = drawn.saturating_add(lane.transfers.as_slice().len());
+    }
+    drawn
+}
+
+/// From the first moment at which a frame waits on: to the end of the trace, or of what is drawn of it.
+fn window_of(timeline: &Timeline) -> Window {
+    let mut begin = timeline.until;
+    let mut end = 0;
+    for lane in timeline.lanes.iter() {
+        if let Some(first) = lane.transfers.as_slice().first() {
+            begin = begin.min(first.queued).min(first.started);
+        }
+        if let Some(last) = lane.transfers.as_slice().last() {
+            end = last.ended.max(end);
+        }
+    }
+    if drawn(&timeline.lanes) == timeline.ended {
+        end = timeline.until;
+    }
+    Window {
+        begin,
+        span: end.saturating_sub(begin),
+    }
+}
+
+/// Adds a transfer: a thin bar while its frame waits, and a thick one while it is on the bus.
+fn push_transfer(page: &mut String, window: Window, transfer: &Transfer) -> Result<(), AllocError> {
+    let Transfer {
+        queued,
+        started,
+        ended,
+        ..
+    } = *transfer;
+    let (queue, start, end) = (Micros(queued), Micros(started), Micros(ended));
+    write!(
+        page,
+        "<g><title>queued at {queue} µs, on the bus from {start} µs to {end} µs</title>"
+    )?;
+    if queued < started {
+        let (place, width) = (
+            queued.saturating_sub(window.begin),
+            started.saturating_sub(queued),
+        );
+        write!(
+            page,
+            "<rect class=\"waits\" x=\"{place}\" y=\"8\" width=\"{width}\" height=\"4\"/>"
+        )?;
+    }
+    let (place, width) = (
+        started.saturating_sub(window.begin),
+        ended.saturating_sub(started),
+    );
+    write!(
+        page,
+        "<rect class=\"sends\" x=\"{place}\" y=\"3\" width=\"{width}\" height=\"14\"/></g>\n"
+    )
+}
+
+/// Adds the lane of an identifier.
+fn push_lane(
+    page: &mut String,
+    network: &Network<'_>,
+    plan: &Plan,
+    window: Window,
+    lane: &Lane,
+) -> Result<(), AllocError> {
+    let transfers = lane.transfers.as_slice();
+    let id = Identifier(lane.id);
+    let sender = sender_of(network, plan, lane.id);
+    let count = Count {
+        number: transfers.len(),
+        thing: "transfer",
+    };
+    let span = window.span;
+    write!(
+        page,
+        "<div class=\"lane\"><div><b>{id}</b> {sender}</div>\
+<svg viewBox=\"0 0 {span} 20\" preserveAspectRatio=\"none\" role=\"img\" aria-label=\"{id}, {sender}: {count}\">\n"
+    )?;
+    for transfer in transfers {
+        push_transfer(page, window, transfer)?;
+    }
+    page.push_str("</svg></div>\n")
+}
+
+/// Adds the axis.
+fn push_axis(page: &mut String, window: Window) -> Result<(), AllocError> {
+    page.push_str("<div class=\"lane axis\"><div>µs</div><div class=\"marks\">")?;
+    for part in 0..PARTS + 1 {
+        let offset = window.span.saturating_mul(part) / PARTS;
+        let moment = Micros(window.begin.saturating_add(offset));
+        write!(page, "<span>{moment}</span>")?;
+    }
+    page.push_str("</div></div>\n")
+}
+
+/// Adds what is drawn, and of how many transfers.
+fn push_words(page: &mut String, timeline: &Timeline) -> Result<(), AllocError> {
+    let until = Micros(timeline.until);
+    let ended = Count {
+        number: timeline.ended,
+        thing: "transfer",
+    };
+    write!(
+        page,
+        "<p>The trace goes up to {until} µs. In it {ended} came to an end. "
+    )?;
+    match timeline.late {
+        None => page.push_str("Each PDO is on time.</p>\n")?,
+        Some(step) => write!(page, "What step {step} queues is late.</p>\n")?,
+    }
+    let drawn = drawn(&timeline.lanes);
+    if drawn < timeline.ended {
+        write!(
+            page,
+            "<p>Only the first {drawn} transfers are drawn, in the order in which their frames were queued.</p>\n"
+        )?;
+    }
+    Ok(())
+}
+
+/// Adds the lanes, with what shows another part of them.
+fn push_lanes(
+    page: &mut String,
+    network: &Network<'_>,
+    plan: &Plan,
+    timeline: &Timeline,
+) -> Result<(), AllocError> {
+    page.push_str(
+        "<p>A lane for each identifier that sends. <span class=\"key fixed\"></span> The frame waits. \
+<span class=\"key pdo\"></span> The frame is on the bus.</p>\n\
+<p id=\"window\" hidden>\
+<label>from <input id=\"from\" type=\"number\" step=\"any\"> µs</label> <label>to <input id=\"to\" type=\"number\" step=\"any\"> µs</label> \
+<button type=\"button\" id=\"in\">Zoom in</button> <button type=\"button\" id=\"out\">Zoom out</button> \
+<button type=\"button\" id=\"left\">Earlier</button> <button type=\"button\" id=\"right\">Later</button> \
+<button type=\"button\" id=\"whole\">All</button></p>\n",
+    )?;
+    let window = window_of(timeline);
+    let (begin, span) = (window.begin, window.span);
+    write!(
+        page,
+        "<div id=\"lanes\" data-begin=\"{begin}\" data-span=\"{span}\">\n"
+    )?;
+    push_axis(page, window)?;
+    for lane in timeline.lanes.iter() {
+        push_lane(page, network, plan, window, lane)?;
+    }
+    page.push_str("</div>\n<script>")?;
+    page.push_str(SCRIPT)?;
+    page.push_str("</script>\n")
+}
+
+/// Adds the bus over time.
+pub(crate) fn push_bus(
+    page: &mut String,
+    network: &Network<'_>,
+    plan: &Plan,
+    timeline: &Timeline,
+) -> Result<(), AllocError> {
+    page.push_str("<section>\n<h2>The bus over time</h2>\n")?;
+    push_words(page, timeline)?;
+    if !timeline.lanes.is_empty() {
+        push_lanes(page, network, plan, timeline)?;
+    }
+    page.push_str("</section>\n")
+}

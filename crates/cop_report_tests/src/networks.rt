@@ -1,0 +1,129 @@
+//! A network, and its report.
+
+use cop_net::{network, read_nodes, read_pdos};
+use cop_plan::{Outcome, Plan, plan};
+use cop_report::{Figures, Input, Report, figures_of, page_of, timeline_of};
+use std::alloc::Global;
+use std::test::Fail;
+
+/// A device that sends one PDO of 64 bits and has another that no row uses.
+const UNIT: &str = "[DeviceInfo]
+BaudRate_250=1
+BaudRate_500=1
+[OptionalObjects]
+SupportedObjects=4
+1=0x1017
+2=0x1800
+3=0x1801
+4=0x1A00
+[ManufacturerObjects]
+SupportedObjects=2
+1=0x2000
+2=0x2001
+[1017]
+DataType=0x0006
+AccessType=rw
+[1800]
+ObjectType=9
+[1800sub1]
+DataType=7
+AccessType=rw
+DefaultValue=$NODEID+0x40000180
+[1800sub2]
+DataType=5
+AccessType=rw
+DefaultValue=255
+[1801]
+ObjectType=9
+[1801sub1]
+DataType=7
+AccessType=rw
+DefaultValue=$NODEID+0x40000280
+[1A00]
+ObjectType=9
+[1A00sub0]
+DataType=5
+AccessType=rw
+DefaultValue=2
+[1A00sub1]
+DataType=7
+AccessType=rw
+DefaultValue=0x20000020
+[1A00sub2]
+DataType=7
+AccessType=rw
+DefaultValue=0x20010020
+[2000]
+DataType=7
+AccessType=rw
+PDOMapping=1
+[2001]
+DataType=7
+AccessType=rw
+PDOMapping=1
+";
+
+const NODES: &str = "row,node,name,eds,period,jitter
+device,5,Valve,unit.eds,0,0
+emcy,5,,,100000,0
+heartbeat,5,,,100000,0
+";
+
+/// A deadline of 670 us needs 500 kbit/s.
+pub const PDOS: &str = "node,tpdo,period,jitter,deadline,consumers\n5,1,10000,0,670,\n";
+
+/// No rate of the device is fast enough for a deadline of 400 us.
+pub const STRICT: &str = "node,tpdo,period,jitter,deadline,consumers\n5,1,10000,0,400,\n";
+
+/// The EDS files of the network.
+fn eds_files(alloc: Global) -> Result<Vec<(String, Vec<u8>)>, Fail> {
+    let mut files = Vec::new(alloc);
+    files.push((
+        String::from_str(alloc, "unit.eds")?,
+        Vec::from_slice(alloc, UNIT.as_bytes())?,
+    ))?;
+    Ok(files)
+}
+
+/// The numbers of the network and its page, with the bus over time where there is a trace.
+pub fn report(alloc: Global, pdos: &str, trace: Option<&str>) -> Result<(Figures, String), Fail> {
+    let nodes = read_nodes(alloc, NODES.as_bytes())?;
+    let pdos = read_pdos(alloc, pdos.as_bytes())?;
+    let files = eds_files(alloc)?;
+    let network = network(alloc, &nodes, &pdos, &files)?;
+    let outcome = plan(alloc, &network)?;
+    let figures = figures_of(alloc, &network, &outcome)?;
+    let timeline = match (&outcome, trace) {
+        (Outcome::Planned(plan), Some(trace)) => {
+            Some(timeline_of(alloc, plan, trace.as_bytes())?)
+        }
+        _ => None,
+    };
+    let inputs = [Input {
+        name: "a<b>&\"c\".csv",
+        size: 117,
+    }];
+    let page = page_of(
+        alloc,
+        Report {
+            network: &network,
+            outcome: &outcome,
+            figures: &figures,
+            timeline: timeline.as_ref(),
+            inputs: &inputs,
+        },
+    )?;
+    Ok((figures, page))
+}
+
+/// The plan of the network.
+pub fn planned(alloc: Global) -> Result<Plan, Fail> {
+    let nodes = read_nodes(alloc, NODES.as_bytes())?;
+    let pdos = read_pdos(alloc, PDOS.as_bytes())?;
+    let files = eds_files(alloc)?;
+    let network = network(alloc, &nodes, &pdos, &files)?;
+    match plan(alloc, &network)? {
+        Outcome::Planned(plan) => Ok(plan),
+        Outcome::Refused(_) => Err(Fail::from("no rate passes")),
+    }
+}
