@@ -27,7 +27,6 @@ use Rattle.cop_sim.proofs.Places.{actor-at, stream-at}
 use Rattle.cop_sim.proofs.Queues.{answered}
 
 module _ {B : Type 0} (offer : B → ℕ → Option Offer) (agrees : B → ℕ → ℕ → Bool) (until : ℕ) (streams : List Stream) (bs : List B) where
-
   -- one more was asked
   pub first-more : (cs ds : List B) (next : List (Option Offer)) (n : ℕ) (s : Stream) (o : Option Offer) → AreFirst offer agrees until streams bs cs next n → n < length bs → s ≡ get_or streams n s →
       ((b : B) → slice_get cs n ≡ Some b → (c : B) × (ds ≡ slice_set cs n c) × IsAsked offer agrees b c) → ((b : B) → slice_get cs n ≡ Some b → o ≡ answer_of offer until b) → ForSome o (λ o. obeys s None o ≡ true) →
