@@ -14,7 +14,7 @@ use Rattle.cop_boot.specs.declared.bus.Bus.{Bus}
 use Rattle.cop_boot.specs.Device.{Attached, Responded, MayRespond}
 use Rattle.cop_boot.specs.Booted.{device_of}
 use Rattle.cop_boot.specs.Schedule.{Line, is_for, DeliveredBy}
-use Rattle.cop_boot.specs.Bus.{to_of, line_at}
+use Rattle.cop_boot.specs.Bus.{to_of, from_of, line_at}
 
 module _ {X : Type 0} (p : X → Bool) where
   -- what passes from a place on
@@ -132,6 +132,10 @@ set_other xs k n other x e apart = ap (λ k. get_or (set xs k x) other 0) e ∙ 
 line_same : (n : ℕ) (to to' from from' : List Message) (device device' : Option Attached) → to ≡ to' → from ≡ from' → device ≡ device'
     → (let l : Line = record { number = n; to = to; from = from; device = device } in l) ≡ record { number = n; to = to'; from = from'; device = device' }
 line_same n to to' from from' device device' a b c = rw (a, b, c) refl
+
+-- a line whose channels are the same
+pub line_from : (new old : Bus) (devices : List Attached) (n : ℕ) → new.sent ≡ old.sent → new.delivered ≡ old.delivered → from_of new n ≡ from_of old n → line_at new devices n ≡ line_at old devices n
+line_from new old devices n sent delivered from = line_same n _ _ _ _ _ _ (rw (sent, delivered) refl) from refl
 
 module _ (bus : Bus) (devices : List Attached) (n k place front : ℕ) (same : k ≡ n) (size : length bus.delivered ≡ 256) (low : n < 256) (device new : Attached)
     (first : IsFirstAt (λ d. d.number == n) devices place) (is : device ≡ get_or devices place device) (number : new.number ≡ n) where

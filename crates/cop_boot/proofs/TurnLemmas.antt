@@ -44,6 +44,11 @@ pub lines_so : (new old : ℕ → Line) (f : Line → Line) → ((k : ℕ) → n
 lines_so new old f same [] = refl
 lines_so new old f same (x ∷ nodes) = rw (same x.number) (ap (λ l. f (old x.number) ∷ l) (lines_so new old f same nodes))
 
+-- lines that are the same, one by one
+pub lines_alike : (new old : ℕ → Line) → ((k : ℕ) → new k ≡ old k) → (nodes : List Node) → lines_by new nodes ≡ lines_by old nodes
+lines_alike new old same [] = refl
+lines_alike new old same (x ∷ nodes) = rw (same x.number) (ap (λ l. old x.number ∷ l) (lines_alike new old same nodes))
+
 -- the lines of nodes with the same numbers
 pub lines_named : (at : ℕ → Line) (a b : List Node) → names a ≡ names b → lines_by at a ≡ lines_by at b
 lines_named at a b h = sym (twice a) ∙ ap (map at) h ∙ twice b
@@ -75,15 +80,11 @@ module _ (m : Managing) (old new : ℕ → Line) (sold : (n : ℕ) → (old n).n
       by_test k false e = others k e ∙ sym (ap (λ b. cond b line (old k)) (ap (λ i. i == line.number) (sold k) ∙ ap (λ j. k == j) number ∙ e))
 
   same_lines : new n ≡ old n → ((k : ℕ) → (k == n) ≡ false → new k ≡ old k) → lines_by new m.nodes ≡ lines_by old m.nodes
-  same_lines is others = all m.nodes
+  same_lines is others = lines_alike new old (λ k. by_test k (k == n) refl) m.nodes
     where
       by_test : (k : ℕ) (b : Bool) → (k == n) ≡ b → new k ≡ old k
       by_test k true e = ap new (eqb-true k n e) ∙ is ∙ ap old (sym (eqb-true k n e))
       by_test k false e = others k e
-
-      all : (nodes : List Node) → lines_by new nodes ≡ lines_by old nodes
-      all [] = refl
-      all (x ∷ nodes) = rw (by_test x.number (x.number == n) refl) (ap (λ l. old x.number ∷ l) (all nodes))
 
   -- a delivery to the node
   pub takes_to : DeliveredBy (old n) (old n).device (old n).to (new n) → ((k : ℕ) → (k == n) ≡ false → new k ≡ old k)

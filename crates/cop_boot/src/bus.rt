@@ -45,6 +45,7 @@ fn next_to(sent: &[Frame], from: usize, node: u8) -> Option<usize>
     requires { from ≤ length sent.now }
     ensures some { IfSome result (λ place. (place < length sent.now) × ((d : Frame)
         → filter (λ frame. is_for node (message_of frame)) (drop from sent.now) ≡ get_or sent.now place d ∷ filter (λ frame. is_for node (message_of frame)) (drop (place + 1) sent.now))) }
+    ensures reached { IfSome result (λ place. filter (λ frame. is_for node (message_of frame)) (drop place sent.now) ≡ filter (λ frame. is_for node (message_of frame)) (drop from sent.now)) }
     ensures none { result ≡ None → filter (λ frame. is_for node (message_of frame)) (drop from sent.now) ≡ [] }
 {
     for place in from..sent.len() {
@@ -60,6 +61,7 @@ fn next_from(answers: &[Answer], from: usize, node: u8) -> Option<usize>
     requires { from ≤ length answers.now }
     ensures some { IfSome result (λ place. (place < length answers.now) × ((d : Answer)
         → filter (λ answer. answer.node == node) (drop from answers.now) ≡ get_or answers.now place d ∷ filter (λ answer. answer.node == node) (drop (place + 1) answers.now))) }
+    ensures reached { IfSome result (λ place. filter (λ answer. answer.node == node) (drop place answers.now) ≡ filter (λ answer. answer.node == node) (drop from answers.now)) }
     ensures none { result ≡ None → filter (λ answer. answer.node == node) (drop from answers.now) ≡ [] }
 {
     for place in from..answers.len() {
@@ -92,8 +94,38 @@ impl Bus {
     }
 }
 
+// Passes over the frames in front that do not go to a node, so that no turn looks at them again.
+fn pass_to(bus: &mut Bus, node: u8)
+    requires { IsBus bus.old }
+    ensures bus { IsBus bus.new }
+    ensures to { (n : ℕ) → to_of bus.new n ≡ to_of bus.old n }
+    ensures kept { (bus.new.sent ≡ bus.old.sent) × (bus.new.answers ≡ bus.old.answers) × (bus.new.heard ≡ bus.old.heard) }
+{
+    let from = bus.delivered[usize::from(node)];
+    let front = match next_to(&bus.sent, from, node) {
+        Some(front) => front,
+        None => bus.sent.len(),
+    };
+    bus.delivered[usize::from(node)] = front;
+}
+
+// Passes over the frames in front that do not come from a node.
+fn pass_from(bus: &mut Bus, node: u8)
+    requires { IsBus bus.old }
+    ensures bus { IsBus bus.new }
+    ensures from { (n : ℕ) → from_of bus.new n ≡ from_of bus.old n }
+    ensures kept { (bus.new.sent ≡ bus.old.sent) × (bus.new.answers ≡ bus.old.answers) × (bus.new.delivered ≡ bus.old.delivered) }
+{
+    let from = bus.heard[usize::from(node)];
+    let front = match next_from(&bus.answers, from, node) {
+        Some(front) => front,
+        None => bus.answers.len(),
+    };
+    bus.heard[usize::from(node)] = front;
+}
+
 // The front frame to a node is delivered to its device, where there is one, and its answer is sent.
-pub fn deliver(bus: &mut Bus, devices: &mut [Device], node: u8)
+fn deliver_front(bus: &mut Bus, devices: &mut [Device], node: u8)
     requires bus { IsBus bus.old }
     requires room { vec_len bus.old.answers < vec_capacity bus.old.answers }
     ensures bus { IsBus bus.new }
@@ -122,6 +154,20 @@ pub fn deliver(bus: &mut Bus, devices: &mut [Device], node: u8)
     }
 }
 
+/// The front frame to a node is delivered to its device, where there is one, and its answer is sent.
+pub fn deliver(bus: &mut Bus, devices: &mut [Device], node: u8)
+    requires bus { IsBus bus.old }
+    requires room { vec_len bus.old.answers < vec_capacity bus.old.answers }
+    ensures bus { IsBus bus.new }
+    ensures line { DeliveredBy (line_at bus.old devices.old node) (device_of devices.old node) (to_of bus.old node) (line_at bus.new devices.new node) }
+    ensures others { (other : ℕ) → (other == node) ≡ false → line_at bus.new devices.new other ≡ line_at bus.old devices.old other }
+    ensures room { (vec_len bus.new.sent ≡ vec_len bus.old.sent) × (vec_capacity bus.old.sent ≤ vec_capacity bus.new.sent)
+        × (vec_len bus.new.answers ≤ vec_len bus.old.answers + 1) × (vec_capacity bus.old.answers ≤ vec_capacity bus.new.answers) }
+{
+    pass_to(bus, node);
+    deliver_front(bus, devices, node);
+}
+
 // The front frame from a node is taken.
 fn take_from(bus: &mut Bus, node: u8) -> Option<Frame>
     requires { IsBus bus.old }
@@ -138,7 +184,7 @@ fn take_from(bus: &mut Bus, node: u8) -> Option<Frame>
 }
 
 // The front frame from a node is heard by the manager.
-pub fn hear(bus: &mut Bus, manager: &mut Manager, node: u8)
+fn hear_front(bus: &mut Bus, manager: &mut Manager, node: u8)
     requires bus { IsBus bus.old }
     requires room { vec_len bus.old.sent < vec_capacity bus.old.sent }
     requires has { IsSome (node_of manager.old.nodes node) }
@@ -156,4 +202,19 @@ pub fn hear(bus: &mut Bus, manager: &mut Manager, node: u8)
         Some(sent) => bus.sent.push(sent).unwrap(),
         None => {}
     }
+}
+
+/// The front frame from a node is heard by the manager.
+pub fn hear(bus: &mut Bus, manager: &mut Manager, node: u8)
+    requires bus { IsBus bus.old }
+    requires room { vec_len bus.old.sent < vec_capacity bus.old.sent }
+    requires has { IsSome (node_of manager.old.nodes node) }
+    ensures bus { IsBus bus.new }
+    ensures takes { (devices : List Attached) → Takes (world_at manager.old bus.old devices) (FromNode node) (world_at manager.new bus.new devices) }
+    ensures room { (vec_len bus.new.sent + open_nodes manager.new.nodes ≤ vec_len bus.old.sent + 1 + open_nodes manager.old.nodes) × (vec_capacity bus.old.sent ≤ vec_capacity bus.new.sent)
+        × (bus.new.answers ≡ bus.old.answers) }
+    ensures names { map (λ n. n.number) manager.new.nodes ≡ map (λ n. n.number) manager.old.nodes }
+{
+    pass_from(bus, node);
+    hear_front(bus, manager, node);
 }

@@ -8,7 +8,7 @@ use Rattle.cop_boot.specs.Booted.{device_of}
 use Rattle.cop_boot.specs.Schedule.{Line, is_for, DeliveredBy}
 use Rattle.cop_boot.specs.Bus.{to_of, line_at}
 use Rattle.cop_boot.proofs.BusLemmas.{position_some, position_none, device_absent, line_after, line_served, line_kept, comes_here, comes_elsewhere, not_delivered}
-use Rattle.cop_boot.proofs.bus.deliver.Goals as goal
+use Rattle.cop_boot.proofs.bus.deliver_front.Goals as goal
 
 pub returns-in_default-clause-line : goal.returns-in_default-clause-line
 returns-in_default-clause-line c =
