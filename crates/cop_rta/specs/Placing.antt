@@ -2,11 +2,13 @@
 use Rattle.std.specs.Prelude.{ℕ, ◌≡◌, ◌+◌, ◌<◌, ◌≤◌, true, not, Bool, List, length, Option, IfSome, IfNone}
 use Rattle.cop_frame.specs.declared.rates.Rate.{Rate}
 use Rattle.cop_rta.specs.declared.streams.Stream.{Stream}
+use Rattle.cop_rta.specs.declared.paces.Pace.{Pace}
 use Rattle.cop_rta.specs.declared.sweeps.Last.{Last}
 use Rattle.cop_rta.specs.Sums.{sum_where, max_where}
 use Rattle.cop_rta.specs.Solutions.{IsLeastSolution}
 use Rattle.cop_rta.specs.Test.{StreamPlace, flagged_place, is_flagged, of_stream, cost_of, cost_at, load_of, horizon}
 use Rattle.cop_rta.specs.Waits.{IsBelowWait}
+use Rattle.cop_rta.specs.Paces.{IsRow}
 
 -- flagged streams at a rate
 pub record Flags : Type 0 where
@@ -44,12 +46,13 @@ pub record IsSharedTime (v : Flags) (time : Option ℕ) : Type 0 where
 abbrev pub HasOneAbove : List Bool → Type 0
 HasOneAbove flags = (k : ℕ) × (k < length flags) × (is_flagged flags k ≡ true)
 
-pub record IsPlaced (v : Flags) (from_below costs : ℕ) (time : Option ℕ) : Type 0 where
+pub record IsPlaced (v : Flags) (from_below costs : ℕ) (row : List Pace) (time : Option ℕ) : Type 0 where
   pub size : length v.flags ≡ length v.streams
   pub blocking : from_below ≡ longest_of v
   pub most : from_below ≤ 54000
   pub costs_are : costs ≡ once_each v
   pub costs_most : costs ≤ 59400000
+  pub is_row : IsRow v.streams v.flags row
   pub shared : IsSharedTime v time
 
 -- what is known of one of the flagged streams, of which it was judged last

@@ -20,6 +20,17 @@ pub(crate) struct Pace {
     ghost inverse_most: { inverse ≤ 2 ^ 56 },
 }
 
+impl Default for Pace {
+    /// That of no frame.
+    fn default() -> Pace {
+        Pace {
+            bits: 0,
+            ahead: 0,
+            inverse: 0,
+        }
+    }
+}
+
 impl Pace {
     ghost use Rattle.cop_rta.specs.Paces.{last_time, counted_in, bits_in, IsPaceOf};
 

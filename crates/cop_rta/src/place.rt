@@ -5,12 +5,14 @@ ghost use Rattle.cop_rta.specs.Test.{Passes, is_flagged, of_stream, cost_of};
 ghost use Rattle.cop_rta.specs.Sums.{sum_where};
 ghost use Rattle.cop_rta.specs.Verdict.{IsJudged, IsPass};
 ghost use Rattle.cop_rta.specs.Waits.{IsBelowWait};
-ghost use Rattle.cop_rta.specs.Paces.{flags_above};
+ghost use Rattle.cop_rta.specs.Paces.{flags_above, IsRow};
 ghost use Rattle.cop_rta.specs.Placing.{Flags, place_in, longest_of, once_each, HasOneAbove, IsSharedTime};
 
 use crate::above::Above;
 use crate::demands::{Busy, cost, longest_below};
 use crate::judging::{is_on_time, judged};
+use crate::paces::Pace;
+use crate::rows::{Row, row_of};
 use crate::sets::StreamSet;
 use crate::verdicts::Verdict;
 use cop_frame::Rate;
@@ -56,6 +58,7 @@ fn shared_time(
     rate: Rate,
     from_below: u64,
     costs: u64,
+    row: &[Pace],
 ) -> Option<u64>
     requires size { length below.now ≡ length set.now }
     requires some { HasOneAbove (flags_above true below.now) }
@@ -63,18 +66,21 @@ fn shared_time(
     requires most { from_below ≤ 54000 }
     requires costs { costs ≡ once_each (record { streams = set.now; flags = flags_above true below.now; rate = rate }) }
     requires costs_most { costs ≤ 59400000 }
+    requires few { length row.now ≤ 2048 }
+    requires row { IsRow set.now (flags_above true below.now) row.now }
     ensures { IsSharedTime (record { streams = set.now; flags = flags_above true below.now; rate = rate }) result }
 {
     let above = Above::unflagged(below);
     let index = first_above(&above, set.len());
-    let busy = Busy::with(set, above, index, rate, from_below);
+    let busy = Busy::with(set, above, index, rate, from_below).in_row(row);
     busy.time_from(from_below + costs)
 }
 
-// Flags one more stream, and gives the busy time of those that are then not flagged.
+// Flags one more stream, and gives the busy time of those that are then not flagged, whose paces stand in the row then.
 fn time_after(
     streams: &StreamSet,
     below: &mut [bool],
+    row: &mut Row,
     index: usize,
     rate: Rate,
     from_below: u64,
@@ -88,15 +94,17 @@ fn time_after(
     requires costs { costs ≡ once_each (record { streams = streams.now; flags = flags_above true (set below.old index true); rate = rate }) }
     requires costs_most { costs ≤ 59400000 }
     ensures below { below.new ≡ set below.old index true }
+    ensures row { IsRow streams.now (flags_above true (set below.old index true)) row.new.items }
     ensures time { IsSharedTime (record { streams = streams.now; flags = flags_above true (set below.old index true); rate = rate }) result }
 {
     below[index] = true;
-    shared_time(streams, below, rate, from_below, costs)
+    *row = row_of(streams, &Above::unflagged(below));
+    shared_time(streams, below, rate, from_below, costs, row.as_slice())
 }
 
 /// A place at a rate, with some streams below it. Each of the others is judged there with the rest of them above it. What
 /// their equations have in common is kept: the longest transfer from below, the sum of one transfer of each of the
-/// others, and their busy time. No memory is taken. Contracts see the streams, flags of those that are not below, and the
+/// others, their busy time, and their paces in a row. No memory is taken. Contracts see the streams, flags of those that are not below, and the
 /// rate.
 #[derive(Drop)]
 pub struct Place<'a, 'b> {
@@ -105,6 +113,8 @@ pub struct Place<'a, 'b> {
     rate: Rate,
     from_below: u64,
     costs: u64,
+    // The paces of the others.
+    row: Row,
     // The busy time of each of the others, if it is within the horizon.
     busy: Option<u64>,
 }
@@ -118,7 +128,7 @@ impl<'a, 'b> Model for Place<'a, 'b> {
 
     ghost view = { λ p. record { streams = p.set.now; flags = flags_above true p.below.now; rate = p.rate } };
 
-    ghost invariant = { λ p. IsPlaced (record { streams = p.set.now; flags = flags_above true p.below.now; rate = p.rate }) p.from_below p.costs p.busy };
+    ghost invariant = { λ p. IsPlaced (record { streams = p.set.now; flags = flags_above true p.below.now; rate = p.rate }) p.from_below p.costs p.row.items p.busy };
 }
 
 impl<'a, 'b> Place<'a, 'b> {
@@ -132,13 +142,15 @@ impl<'a, 'b> Place<'a, 'b> {
         let index = first_above(&above, set.len());
         let from_below = longest_below(set.streams(), &above, index, rate);
         let costs = costs_above(set, &above, rate);
-        let busy = shared_time(set, below, rate, from_below, costs);
+        let row = row_of(set, &above);
+        let busy = shared_time(set, below, rate, from_below, costs, row.as_slice());
         Place {
             set,
             below,
             rate,
             from_below,
             costs,
+            row,
             busy,
         }
     }
@@ -159,7 +171,7 @@ impl<'a, 'b> Place<'a, 'b> {
         ensures { result ≡ record { streams = self.now.streams; flags = self.now.flags; index = index; rate = self.now.rate } }
     {
         let above = Above::unflagged(&*self.below);
-        Busy::with(self.set, above, index, self.rate, self.from_below)
+        Busy::with(self.set, above, index, self.rate, self.from_below).in_row(self.row.as_slice())
     }
 
     // A number that the wait of the first instance of a stream that is not below is no less than: the longest transfer
@@ -208,7 +220,15 @@ impl<'a, 'b> Place<'a, 'b> {
         let rate = self.rate;
         let from_below = self.from_below.max(own);
         let costs = self.costs - own;
-        let busy = time_after(set, self.below, index, rate, from_below, costs);
+        let busy = time_after(
+            set,
+            self.below,
+            &mut self.row,
+            index,
+            rate,
+            from_below,
+            costs,
+        );
         self.from_below = from_below;
         self.costs = costs;
         self.busy = busy;

@@ -1,9 +1,29 @@
 //! The paces of some streams in a row.
 
 ghost use Rattle.std.specs.Prelude.{◌≡◌, ◌*◌, ◌^◌, ◌≤◌, length, sum_by};
-ghost use Rattle.cop_rta.specs.Paces.{last_time, bits_in};
+ghost use Rattle.cop_rta.specs.Paces.{last_time, bits_in, IsRow};
 
+use crate::above::Above;
 use crate::paces::Pace;
+use crate::sets::StreamSet;
+use arrayvec::ArrayVec;
+
+/// Room for the paces of a set, which takes no memory.
+pub(crate) type Row = ArrayVec<Pace, { StreamSet::MOST }>;
+
+/// The paces of the streams that are above.
+pub(crate) fn row_of(set: &StreamSet, above: &Above<'_>) -> Row
+    requires { length above.now ≡ length set.now }
+    ensures { IsRow set.now above.now result.items }
+{
+    let mut row = ArrayVec::new();
+    for (k, pace) in set.paces().iter().enumerate() {
+        if above.has(k) {
+            row.push(*pace);
+        }
+    }
+    row
+}
 
 /// How many bits all of some streams send within a time at most.
 pub(crate) fn total(row: &[Pace], time: u64) -> u64

@@ -53,6 +53,7 @@ invariant_of-self c =
       most = omega (arith, longest at, c.max-from_below.ensures, c.self.invariant.most, c.cost-own.ensures.most);
       costs_are = costs at;
       costs_most = omega (arith, c.self.invariant.costs_most);
+      is_row = c.time_after-busy.ensures.row;
       shared = c.time_after-busy.ensures.time;
     })
 
