@@ -235,24 +235,29 @@ moment_so m later bus new devices now sent call delivered heard answers is bound
     (λ k. posted_line bus new devices (passed m now).frames k delivered heard answers (is ∙ ap (λ o. o.frames) call) (bound k))
 
 -- nodes of the same numbers
-pub absent_named : (a b : List Node) (n : ℕ) → names a ≡ names b → node_of b n ≡ None → node_of a n ≡ None
-absent_named a b n same none = by_found a (sym (found_name a) ∙ ap (find (λ k. k == n)) same ∙ found_name b ∙ ap (option_map (λ node. node.number)) none)
+found_name : (nodes : List Node) (n : ℕ) → find (λ k. k == n) (names nodes) ≡ option_map (λ node. node.number) (node_of nodes n)
+found_name [] n = refl
+found_name (x ∷ nodes) n = by_test (x.number == n) (found_name nodes n)
   where
-    found_name : (nodes : List Node) → find (λ k. k == n) (names nodes) ≡ option_map (λ node. node.number) (node_of nodes n)
-    found_name [] = refl
-    found_name (x ∷ nodes) = by_test (x.number == n) (found_name nodes)
-      where
-        by_test : (b : Bool) → find (λ k. k == n) (names nodes) ≡ option_map (λ node. node.number) (node_of nodes n)
-            → cond b (Some x.number) (find (λ k. k == n) (names nodes)) ≡ option_map (λ node. node.number) (cond b (Some x) (node_of nodes n))
-        by_test true h = refl
-        by_test false h = h
+    by_test : (b : Bool) → find (λ k. k == n) (names nodes) ≡ option_map (λ node. node.number) (node_of nodes n)
+        → cond b (Some x.number) (find (λ k. k == n) (names nodes)) ≡ option_map (λ node. node.number) (cond b (Some x) (node_of nodes n))
+    by_test true h = refl
+    by_test false h = h
 
-    none_so : (o : Option Node) → option_map (λ node. node.number) o ≡ None → o ≡ None
+pub known_named : (a b : List Node) (n : ℕ) → names a ≡ names b → is_some (node_of a n) ≡ is_some (node_of b n)
+known_named a b n same =
+    sym (some_so (node_of a n)) ∙ ap is_some (sym (found_name a n) ∙ ap (find (λ k. k == n)) same ∙ found_name b n) ∙ some_so (node_of b n)
+  where
+    some_so : (o : Option Node) → is_some (option_map (λ node. node.number) o) ≡ is_some o
+    some_so None = refl
+    some_so (Some node) = refl
+
+pub absent_named : (a b : List Node) (n : ℕ) → names a ≡ names b → node_of b n ≡ None → node_of a n ≡ None
+absent_named a b n same none = none_so (node_of a n) (known_named a b n same ∙ ap is_some none)
+  where
+    none_so : (o : Option Node) → is_some o ≡ false → o ≡ None
     none_so None h = refl
     none_so (Some node) h = cc
-
-    by_found : (nodes : List Node) → option_map (λ node. node.number) (node_of nodes n) ≡ None → node_of nodes n ≡ None
-    by_found nodes h = none_so (node_of nodes n) h
 
 -- the beginning
 

@@ -1,5 +1,5 @@
 -- The channels of a boot as its frames are kept: all in the order in which they were sent, and how many are behind each channel.
-use Rattle.std.specs.Prelude.{◌≡◌, ◌==◌, ◌≤◌, ℕ, List, map, filter, drop, get_or, length, vec_len, Some, None, ◌⊎◌}
+use Rattle.std.specs.Prelude.{◌≡◌, ◌==◌, ◌<◌, ◌≤◌, ℕ, Bool, false, is_some, List, map, filter, drop, get_or, length, vec_len, Some, None, ◌⊎◌}
 use Rattle.cop_sdo.specs.Message.{Message, message_of}
 use Rattle.cop_boot.specs.declared.bus.Bus.{Bus}
 use Rattle.cop_boot.specs.declared.turn.Turn.{Turn}
@@ -33,6 +33,10 @@ pub record IsBus (bus : Bus) : Type 0 where
   pub others : length bus.heard ≡ 256
   pub delivered : (n : ℕ) → get_or bus.delivered n 0 ≤ vec_len bus.sent
   pub heard : (n : ℕ) → get_or bus.heard n 0 ≤ vec_len bus.answers
+
+-- a table tells which numbers are those of nodes
+abbrev pub KnowsNodes : List Node → List Bool → Type 0
+KnowsNodes nodes known = (n : ℕ) → n < 256 → get_or known n false ≡ is_some (node_of nodes n)
 
 -- devices of other nodes than the manager's are as they were
 abbrev pub KeepsOthers : Managing → List Attached → List Attached → Type 0

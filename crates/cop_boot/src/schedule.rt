@@ -1,13 +1,14 @@
 //! Boots by turns.
 
-ghost use Rattle.std.specs.Prelude.{◌≡◌, ◌+◌, ◌≤◌, false, ℕ, List, map, vec_len, vec_capacity, OnOk, OnErr};
+ghost use Rattle.std.specs.Prelude.{◌≡◌, ◌+◌, ◌≤◌, false, ℕ, List, map, is_some, vec_len, vec_capacity, OnOk, OnErr};
 ghost use Rattle.cop_dict.specs.Find.{Entry};
-ghost use Rattle.cop_boot.specs.Manager.{open_nodes};
+ghost use Rattle.cop_boot.specs.Manager.{node_of, open_nodes};
 ghost use Rattle.cop_boot.specs.Booted.{CanBoot, ReadyInTime};
 ghost use Rattle.cop_net.specs.Network.{Net};
 ghost use Rattle.cop_boot.specs.NetworkBoot.{IsPlanOf, HavePlannedPdos};
 ghost use Rattle.cop_boot.specs.Schedule.{Takes};
-ghost use Rattle.cop_boot.specs.Bus.{IsBus, KeepsOthers, Runs, Made, world_at};
+ghost use Rattle.cop_boot.specs.Node.{Node};
+ghost use Rattle.cop_boot.specs.Bus.{IsBus, KeepsOthers, KnowsNodes, Runs, Made, world_at};
 
 use crate::bus::{Bus, deliver, hear};
 use crate::device::Device;
@@ -15,9 +16,49 @@ use crate::driving::pass;
 use crate::manager::Manager;
 use crate::turn::Turn;
 use std::alloc::{AllocError, Global};
+use std::marker::Model;
+
+// Which numbers are nodes of a manager, by number: each turn asks for one.
+#[derive(Drop)]
+struct Numbers {
+    known: [bool; 256],
+}
+
+impl Model for Numbers {
+    ghost use Rattle.std.specs.Prelude.{List, Bool};
+
+    ghost Value = { List Bool };
+
+    ghost view = { λ numbers. numbers.known };
+}
+
+impl Numbers {
+    fn of(manager: &Manager) -> Numbers
+        ensures { KnowsNodes manager.now.nodes result }
+    {
+        let mut known = [false; 256];
+        for number in 0..256 {
+            known[number] = manager.has(number as u8);
+        }
+        Numbers { known }
+    }
+
+    fn has(&self, node: u8) -> bool
+        ensures { (nodes : List Node) → KnowsNodes nodes self.now → result ≡ is_some (node_of nodes node) }
+    {
+        self.known[usize::from(node)]
+    }
+}
 
 // One turn: a front frame is delivered, or a moment is reached.
-fn take_turn(bus: &mut Bus, manager: &mut Manager, devices: &mut [Device], turn: Turn)
+fn take_turn(
+    bus: &mut Bus,
+    manager: &mut Manager,
+    numbers: &Numbers,
+    devices: &mut [Device],
+    turn: Turn,
+)
+    requires numbers { KnowsNodes manager.old.nodes numbers.now }
     requires bus { IsBus bus.old }
     requires sent { vec_len bus.old.sent + 1 + open_nodes manager.old.nodes ≤ vec_capacity bus.old.sent }
     requires answers { vec_len bus.old.answers + 1 ≤ vec_capacity bus.old.answers }
@@ -30,12 +71,12 @@ fn take_turn(bus: &mut Bus, manager: &mut Manager, devices: &mut [Device], turn:
 {
     match turn {
         Turn::ToNode(node) => {
-            if manager.has(node) {
+            if numbers.has(node) {
                 deliver(bus, devices, node);
             }
         }
         Turn::FromNode(node) => {
-            if manager.has(node) {
+            if numbers.has(node) {
                 hear(bus, manager, node);
             }
         }
@@ -70,8 +111,9 @@ pub fn run_schedule(
 {
     let mut bus = Bus::new(alloc, 1 + turns.len() + manager.count(), turns.len())?;
     bus.sent.push(manager.begin(0)).unwrap();
+    let numbers = Numbers::of(manager);
     for turn in turns {
-        take_turn(&mut bus, manager, devices, *turn);
+        take_turn(&mut bus, manager, &numbers, devices, *turn);
     }
     Ok(())
 }

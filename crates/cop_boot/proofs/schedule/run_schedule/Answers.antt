@@ -1,9 +1,9 @@
-use Rattle.std.proofs.Common.{◌≡◌, ◌++◌, ◌∷◌, [], length, ap, refl, subst, ◌∙◌, arith}
+use Rattle.std.proofs.Common.{◌≡◌, ◌++◌, ◌∷◌, [], length, ap, refl, sym, subst, ◌∙◌, arith}
 use Rattle.cop_boot.specs.declared.bus.Bus.{Bus}
 use Rattle.cop_boot.specs.Schedule.{TakesAll}
 use Rattle.cop_boot.specs.Bus.{Runs, line_at, world_at}
 use Rattle.cop_boot.proofs.SentLemmas.{few_open, begun_count}
-use Rattle.cop_boot.proofs.TurnLemmas.{begins_as, one_turn, no_turn, line_there, absent_named, made_so, begun_names, fresh_bus}
+use Rattle.cop_boot.proofs.TurnLemmas.{begins_as, one_turn, no_turn, line_there, absent_named, known_named, made_so, begun_names, fresh_bus}
 use Rattle.cop_boot.proofs.CommandLemmas.{boot_commands}
 use Rattle.cop_boot.proofs.PdoLemmas.{pdos_so}
 use Rattle.cop_boot.proofs.ReadyLemmas.{ready_so}
@@ -26,6 +26,10 @@ loop-turn-init c =
       names = begun_names c.args.manager.now c.begin.new.self _ c.begin.ensures;
       others = λ n none. refl;
     }
+
+pub take_turn-requires-clause-numbers : goal.take_turn-requires-clause-numbers
+take_turn-requires-clause-numbers c n low =
+    c.of-numbers.ensures n low ∙ known_named c.begin.new.self.nodes c.loop-turn.manager.nodes n (begun_names c.args.manager.now c.begin.new.self _ c.begin.ensures ∙ sym c.loop-turn.invariant.names)
 
 pub loop-turn-preserved : goal.loop-turn-preserved
 loop-turn-preserved c =

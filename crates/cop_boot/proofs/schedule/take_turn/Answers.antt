@@ -16,13 +16,13 @@ pass-requires c =
 pub returns-then-has-clause-takes : goal.returns-then-has-clause-takes
 returns-then-has-clause-takes c =
     subst (λ turn. Takes (world_at c.args.manager.now c.args.bus.now c.args.devices.now) turn (world_at c.args.manager.now c.deliver.new.bus c.deliver.new.devices)) (sym c.in-ToNode.is)
-    (takes_to c.args.manager.now (line_at c.args.bus.now c.args.devices.now) (line_at c.deliver.new.bus c.deliver.new.devices) (λ n. refl) c.in-ToNode.node (sym c.if-has.ensures) c.deliver.ensures.line c.deliver.ensures.others)
+    (takes_to c.args.manager.now (line_at c.args.bus.now c.args.devices.now) (line_at c.deliver.new.bus c.deliver.new.devices) (λ n. refl) c.in-ToNode.node (sym (c.if-has.ensures c.args.manager.now.nodes c.requires.numbers)) c.deliver.ensures.line c.deliver.ensures.others)
 
 pub returns-else-has-clause-takes : goal.returns-else-has-clause-takes
-returns-else-has-clause-takes c = subst (λ turn. Takes (world_at c.args.manager.now c.args.bus.now c.args.devices.now) turn (world_at c.args.manager.now c.args.bus.now c.args.devices.now)) (sym c.in-ToNode.is) (absent_to c.args.manager.now (line_at c.args.bus.now c.args.devices.now) c.in-ToNode.node (λ n. refl) c.if-has.ensures)
+returns-else-has-clause-takes c = subst (λ turn. Takes (world_at c.args.manager.now c.args.bus.now c.args.devices.now) turn (world_at c.args.manager.now c.args.bus.now c.args.devices.now)) (sym c.in-ToNode.is) (absent_to c.args.manager.now (line_at c.args.bus.now c.args.devices.now) c.in-ToNode.node (λ n. refl) (c.if-has.ensures c.args.manager.now.nodes c.requires.numbers))
 
 pub returns-else-has-2-clause-takes : goal.returns-else-has-2-clause-takes
-returns-else-has-2-clause-takes c = subst (λ turn. Takes (world_at c.args.manager.now c.args.bus.now c.args.devices.now) turn (world_at c.args.manager.now c.args.bus.now c.args.devices.now)) (sym c.in-FromNode.is) (absent_from c.args.manager.now (line_at c.args.bus.now c.args.devices.now) c.in-FromNode.node (λ n. refl) c.if-has-2.ensures)
+returns-else-has-2-clause-takes c = subst (λ turn. Takes (world_at c.args.manager.now c.args.bus.now c.args.devices.now) turn (world_at c.args.manager.now c.args.bus.now c.args.devices.now)) (sym c.in-FromNode.is) (absent_from c.args.manager.now (line_at c.args.bus.now c.args.devices.now) c.in-FromNode.node (λ n. refl) (c.if-has-2.ensures c.args.manager.now.nodes c.requires.numbers))
 
 pub returns-in-Moment-clause-takes : goal.returns-in-Moment-clause-takes
 returns-in-Moment-clause-takes c =
