@@ -15,6 +15,7 @@ use Rattle.cop_dict.specs.Types.{type_numbered}
 use Rattle.cop_dict.specs.Find.{Entry, IsSorted}
 use Rattle.cop_dict.specs.Build.{initial_of, limit_of, value_entry, entry_of_type, entry_built, collected, built}
 use Rattle.cop_dict.proofs.OrderLemmas.{Rises, place_of_object, place_of_entry, code, objects_rise, rises_sorted}
+use Rattle.cop_dict.proofs.AgreeLemmas.{entry_made}
 
 -- those before, and what is still to come
 abbrev pub with_before : {B : Type 0} → List B → Result (List B) Refusal → Result (List B) Refusal
@@ -61,25 +62,12 @@ kept_address text node o t e h =
     (limit_of t node (entry_of text o.place.section (codes "HighLimit"))) h
   where
     by_initial : (initial : Result (List ℕ) Refusal) (low high : Result (Option ℤ) Refusal)
-        → (initial >>= λ initial. low >>= λ low. high >>= λ high. Ok (record {
-          index = o.index;
-          sub = o.sub;
-          description = record { data_type = t; access = o.access; is_mappable = o.is_mappable; low = low; high = high };
-          initial = initial;
-          value = initial;
-        })) ≡ Ok e → (e.index ≡ o.index) × (e.sub ≡ o.sub)
+        → (initial >>= λ initial. low >>= λ low. high >>= λ high. Ok (entry_made o t initial low high)) ≡ Ok e → (e.index ≡ o.index) × (e.sub ≡ o.sub)
     by_initial (Err r) low high h = cc
     by_initial (Ok initial) (Err r) high h = cc
     by_initial (Ok initial) (Ok low) (Err r) h = cc
     by_initial (Ok initial) (Ok low) (Ok high) h =
-        let made : Entry = record {
-          index = o.index;
-          sub = o.sub;
-          description = record { data_type = t; access = o.access; is_mappable = o.is_mappable; low = low; high = high };
-          initial = initial;
-          value = initial;
-        } in
-        let same : made ≡ e = cc in
+        let same : entry_made o t initial low high ≡ e = cc in
         (sym (ap (λ (x : Entry). x.index) same), sym (ap (λ (x : Entry). x.sub) same))
 
 collected_rises : (text : List ℕ) (node low : ℕ) (objects : List Object) (entries : List Entry) → collected (entry_built text node) objects ≡ Ok entries

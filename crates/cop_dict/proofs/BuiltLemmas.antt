@@ -11,6 +11,7 @@ use Rattle.cop_dict.specs.Find.{Entry}
 use Rattle.cop_dict.specs.Mapping.{is_between}
 use Rattle.cop_dict.specs.Dict.{as_built, initial, initial_communication, reset_communication}
 use Rattle.cop_dict.specs.Build.{initial_of, limit_of, value_entry, entry_of_type, entry_built, collected, built}
+use Rattle.cop_dict.proofs.AgreeLemmas.{entry_made}
 
 built_entry : (text : List ℕ) (node : ℕ) (o : Object) (t : DataType) (e : Entry) → entry_of_type text node o t ≡ Ok e → as_built e ≡ e
 unfolding entry_of_type
@@ -19,25 +20,12 @@ built_entry text node o t e h =
     (limit_of t node (entry_of text o.place.section (codes "HighLimit"))) h
   where
     by_initial : (initial : Result (List ℕ) Refusal) (low high : Result (Option ℤ) Refusal)
-        → (initial >>= λ initial. low >>= λ low. high >>= λ high. Ok (record {
-          index = o.index;
-          sub = o.sub;
-          description = record { data_type = t; access = o.access; is_mappable = o.is_mappable; low = low; high = high };
-          initial = initial;
-          value = initial;
-        })) ≡ Ok e → as_built e ≡ e
+        → (initial >>= λ initial. low >>= λ low. high >>= λ high. Ok (entry_made o t initial low high)) ≡ Ok e → as_built e ≡ e
     by_initial (Err r) low high h = cc
     by_initial (Ok initial) (Err r) high h = cc
     by_initial (Ok initial) (Ok low) (Err r) h = cc
     by_initial (Ok initial) (Ok low) (Ok high) h =
-        let made : Entry = record {
-          index = o.index;
-          sub = o.sub;
-          description = record { data_type = t; access = o.access; is_mappable = o.is_mappable; low = low; high = high };
-          initial = initial;
-          value = initial;
-        } in
-        let same : made ≡ e = cc in
+        let same : entry_made o t initial low high ≡ e = cc in
         subst (λ e. as_built e ≡ e) same refl
 
 reset_entry : (e : Entry) → as_built e ≡ e → reset_communication e ≡ e

@@ -35,6 +35,7 @@ use Rattle.cop_dict.specs.Fitting.{FitsType, IsFitting, HasFittingValues}
 use Rattle.cop_dict.proofs.LawLemmas.{others}
 use Rattle.cop_dict.proofs.PatternLemmas.{own_number}
 use Rattle.cop_dict.proofs.Replaced.{accepts, unbroken, value_replaced, pointwise}
+use Rattle.cop_dict.proofs.AgreeLemmas.{entry_made}
 
 -- ---- the numbers of bytes
 
@@ -274,25 +275,12 @@ entry_fits text node o t e h =
     (limit_of t node (entry_of text o.place.section (codes "HighLimit"))) h
   where
     by_initial : (initial : Result (List ℕ) Refusal) → initial_of t node (value_entry text o.place.section) ≡ initial → (low high : Result (Option ℤ) Refusal)
-        → (initial >>= λ initial. low >>= λ low. high >>= λ high. Ok (record {
-          index = o.index;
-          sub = o.sub;
-          description = record { data_type = t; access = o.access; is_mappable = o.is_mappable; low = low; high = high };
-          initial = initial;
-          value = initial;
-        })) ≡ Ok e → IsFitting e
+        → (initial >>= λ initial. low >>= λ low. high >>= λ high. Ok (entry_made o t initial low high)) ≡ Ok e → IsFitting e
     by_initial (Err r) is low high h = cc
     by_initial (Ok initial) is (Err r) high h = cc
     by_initial (Ok initial) is (Ok low) (Err r) h = cc
     by_initial (Ok initial) is (Ok low) (Ok high) h =
-        let made : Entry = record {
-          index = o.index;
-          sub = o.sub;
-          description = record { data_type = t; access = o.access; is_mappable = o.is_mappable; low = low; high = high };
-          initial = initial;
-          value = initial;
-        } in
-        let same : made ≡ e = cc in
+        let same : entry_made o t initial low high ≡ e = cc in
         let fit = initial_fits t node (value_entry text o.place.section) initial is in
         subst IsFitting same (record { value = fit; initial = fit })
 
