@@ -2,78 +2,18 @@
 use Rattle.std.proofs.Common.{◌≡◌, ◌≢◌, ℕ, zero, suc, ◌+◌, ◌-◌, ◌/◌, ◌≤◌, ◌<◌, ◌⊎◌, inl, inr, List, ◌∷◌, [], ◌++◌, length, slice_set, replicate, refl, sym, ◌∙◌, ap, subst, arith, Bool, true, false, cond, nat_lt, ◌&&◌, ◌||◌}
 use Rattle.std.specs.Prelude.{Option, None, Some, ◌==◌, slice_index}
 use Rattle.std.specs.Option.{ForSome}
-use Rattle.std.proofs.lemmas.Bool.{cases_lt, cases_eq, cases_Bool, ltb-true, lt-ltb, eq-eqb, eqb-true, and_parts, and_from, or_cases}
-use Rattle.std.proofs.lemmas.List.{get_or-set_same, get_or-set_other, get_or_past, length-set}
+use Rattle.std.proofs.lemmas.Bool.{cases_lt, cases_eq, lt-ltb, le-ltb}
+use Rattle.std.proofs.lemmas.List.{get_or-set_same, get_or-set_other, get_or_past, length-set, length-replicate}
 use Rattle.cop_bus.specs.declared.ranking.Rank.{Rank}
-use Rattle.cop_bus.specs.Ranks.{is_before, leader, rank_at, above, AreNodes, IsApart, IsLed, Leads, AreLedBut, AreSiblings, IsTournament, IsNotAfter, IsFirstOf}
+use Rattle.cop_bus.specs.declared.ranking.Entrant.{Entrant}
+use Rattle.cop_bus.specs.Ranks.{leader, rank_at, above, AreNodes, IsApart, IsKeyOf, IsLed, Leads, AreLedBut, AreKeyed, AreSiblings, IsRanking, IsTournament, IsNotAfter, IsFirstOf}
 
--- ---- two ranks
+-- ---- two entrants
 
-some-one : (r s : Rank) → Some r ≡ Some s → r ≡ s
-some-one r s e = cc
-
-after-same : (r : Rank) → IsNotAfter r r
-after-same r = inr (refl, omega arith)
-
-after-more : (r s t : Rank) → IsNotAfter r s → IsNotAfter s t → IsNotAfter r t
-after-more r s t (inl a) (inl b) = inl (omega (arith, a, b))
-after-more r s t (inl a) (inr b) = (let e = b.0 in inl (omega (arith, a, e)))
-after-more r s t (inr a) (inl b) = (let e = a.0 in inl (omega (arith, b, e)))
-after-more r s t (inr a) (inr b) = (let e = a.0 in let f = b.0 in let l = a.1 in let m = b.1 in inr (omega (arith, e, f), omega (arith, l, m)))
-
-before-true : (s r : Rank) → is_before s r ≡ true → IsNotAfter s r
-before-true s r t = elim (or_cases (nat_lt s.at r.at) ((s.at == r.at) && nat_lt s.id r.id) t) [
-  | inl a ↦ inl (ltb-true s.at r.at a)
-  | inr a ↦ (let p = and_parts (s.at == r.at) (nat_lt s.id r.id) a in let l = ltb-true s.id r.id p.1 in inr (eqb-true s.at r.at p.0, omega (arith, l)))
-]
-
-before-false : (s r : Rank) → is_before s r ≡ false → IsNotAfter r s
-before-false s r f = elim (cases_lt r.at s.at) [
-  | inl l ↦ inl l
-  | inr l ↦ elim (cases_lt s.at r.at) [
-    | inl m ↦ (let z : true ≡ false = sym (ap (λ b. b || ((s.at == r.at) && nat_lt s.id r.id)) (lt-ltb s.at r.at m)) ∙ f in absurd (cc))
-    | inr m ↦ elim (cases_lt s.id r.id) [
-      | inr n ↦ inr (omega (arith, l, m), n)
-      | inl n ↦ (let w = and_from (s.at == r.at) (nat_lt s.id r.id) (eq-eqb s.at r.at (omega (arith, l, m))) (lt-ltb s.id r.id n) in
-          let z : true ≡ false = sym (or-last (nat_lt s.at r.at) ((s.at == r.at) && nat_lt s.id r.id) w) ∙ f in absurd (cc))
-    ]
-  ]
-]
-  where
-    or-last : (b c : Bool) → c ≡ true → (b || c) ≡ true
-    or-last true c e = refl
-    or-last false c e = e
-
--- ---- two places
-
-pub leads-itself : (ranks : List (Option Rank)) (p : ℕ) → Leads ranks p p
-leads-itself ranks p s e = (s, e, after-same s)
-
-leads-more : (ranks : List (Option Rank)) (p q i : ℕ) → Leads ranks p q → Leads ranks q i → Leads ranks p i
-leads-more ranks p q i a b s e = (let w = b s e in let v = a w.0 w.1 in (v.0, v.1, after-more v.0 w.0 s v.2 w.2))
-
--- the leader of two leads both, and is one of them
-pub leader-leads : (ranks : List (Option Rank)) (p q : ℕ) → Leads ranks (leader p (rank_at ranks p) q (rank_at ranks q)) p × Leads ranks (leader p (rank_at ranks p) q (rank_at ranks q)) q
-leader-leads ranks p q = go (rank_at ranks p) (rank_at ranks q) refl refl
-  where
-    go : (x y : Option Rank) → rank_at ranks p ≡ x → rank_at ranks q ≡ y → Leads ranks (leader p x q y) p × Leads ranks (leader p x q y) q
-    go None None e f = (leads-itself ranks p, λ s g. absurd (cc))
-    go (Some r) None e f = (leads-itself ranks p, λ s g. absurd (cc))
-    go None (Some t) e f = ((λ s g. absurd (cc)), leads-itself ranks q)
-    go (Some r) (Some t) e f = elim (cases_Bool (is_before t r)) [
-      | inl b ↦ subst (λ v. Leads ranks v p × Leads ranks v q) (sym (ap (λ v. cond v q p) b))
-          ((λ s g. (let z = some-one r s (sym e ∙ g) in (t, f, subst (λ v. IsNotAfter t v) z (before-true t r b)))), leads-itself ranks q)
-      | inr b ↦ subst (λ v. Leads ranks v p × Leads ranks v q) (sym (ap (λ v. cond v q p) b))
-          (leads-itself ranks p, (λ s g. (let z = some-one t s (sym f ∙ g) in (r, e, subst (λ v. IsNotAfter r v) z (before-false t r b)))))
-    ]
-
-pub leader-one : (p q : ℕ) (x y : Option Rank) → (leader p x q y ≡ p) ⊎ (leader p x q y ≡ q)
-leader-one p q None None = inl refl
-leader-one p q (Some r) None = inl refl
-leader-one p q None (Some t) = inr refl
-leader-one p q (Some r) (Some t) = elim (cases_Bool (is_before t r)) [
-  | inl b ↦ inr (ap (λ v. cond v q p) b)
-  | inr b ↦ inl (ap (λ v. cond v q p) b)
+pub leader-is : (e o : Entrant) → ((leader e o ≡ o) × (o.key < e.key)) ⊎ ((leader e o ≡ e) × (e.key ≤ o.key))
+leader-is e o = elim (cases_lt o.key e.key) [
+  | inl l ↦ inl (ap (λ b. cond b o e) (lt-ltb o.key e.key l), l)
+  | inr l ↦ inr (ap (λ b. cond b o e) (le-ltb o.key e.key l), l)
 ]
 
 -- ---- the nodes above one another
@@ -106,52 +46,76 @@ apart-more k n d a (suc j) e = a j e
 
 -- ---- the root
 
-module _ (leaders : List ℕ) (ranks : List (Option Rank)) (led : (k : ℕ) → 1 ≤ k → k < length ranks → IsLed ranks leaders k) where
+module _ (leaders keys : List ℕ) (led : (k : ℕ) → 1 ≤ k → k < length keys → IsLed keys leaders k) where
   -- the root leads each node
-  up : (n j : ℕ) → j ≤ n → 1 ≤ j → j < length ranks + length ranks → Leads ranks (slice_index leaders 1) (slice_index leaders j)
+  up : (n j : ℕ) → j ≤ n → 1 ≤ j → j < length keys + length keys → Leads keys (slice_index leaders 1) (slice_index leaders j)
   up zero j l m u = absurd (omega (arith, l, m))
   up (suc n) j l m u = elim (cases_eq j 1) [
-    | inl e ↦ subst (λ i. Leads ranks (slice_index leaders 1) (slice_index leaders i)) (sym e) (leads-itself ranks (slice_index leaders 1))
+    | inl e ↦ subst (λ i. Leads keys (slice_index leaders 1) (slice_index leaders i)) (sym e) (omega arith)
     | inr e ↦ (let w = half j in elim w.1 [
       | inl d ↦ (let k = w.0 in
           let a : 1 ≤ k = omega (arith, d, m) in
-          let b : k < length ranks = omega (arith, d, u) in
-          subst (λ i. Leads ranks (slice_index leaders 1) (slice_index leaders i)) (sym d)
-          (leads-more ranks (slice_index leaders 1) (slice_index leaders k) (slice_index leaders (k + k)) (up n k (omega (arith, d, l, a)) a (omega (arith, b))) (led k a b).0))
+          let b : k < length keys = omega (arith, d, u) in
+          let x = up n k (omega (arith, d, l, a)) a (omega (arith, b)) in
+          let y = (led k a b).0 in
+          subst (λ i. Leads keys (slice_index leaders 1) (slice_index leaders i)) (sym d) (omega (arith, x, y)))
       | inr d ↦ (let k = w.0 in
           let a : 1 ≤ k = elim (cases_lt 0 k) [ inl g ↦ g | inr g ↦ absurd (e (omega (arith, d, g))) ] in
-          let b : k < length ranks = omega (arith, d, u) in
-          subst (λ i. Leads ranks (slice_index leaders 1) (slice_index leaders i)) (sym d)
-          (leads-more ranks (slice_index leaders 1) (slice_index leaders k) (slice_index leaders (k + k + 1)) (up n k (omega (arith, d, l, a)) a (omega (arith, b))) (led k a b).1))
+          let b : k < length keys = omega (arith, d, u) in
+          let x = up n k (omega (arith, d, l, a)) a (omega (arith, b)) in
+          let y = (led k a b).1 in
+          subst (λ i. Leads keys (slice_index leaders 1) (slice_index leaders i)) (sym d) (omega (arith, x, y)))
     ])
   ]
 
-pub root-first : (leaders : List ℕ) (ranks : List (Option Rank)) → IsTournament leaders ranks → 1 ≤ length ranks → IsFirstOf ranks (rank_at ranks (slice_index leaders 1))
-root-first leaders ranks t m = go (rank_at ranks (slice_index leaders 1)) refl
+none-last : (x : Option Rank) (a b : ℕ) → IsKeyOf None a → IsKeyOf x b → a ≤ b → x ≡ None
+none-last None a b e f l = refl
+none-last (Some s) a b e f l = (let g = f.0 in let h = f.1 in let i = f.2 in absurd (omega (arith, e, g, h, i, l)))
+
+lower-first : (r s : Rank) (a b : ℕ) → IsKeyOf (Some r) a → IsKeyOf (Some s) b → a ≤ b → IsNotAfter r s
+lower-first r s a b e f l =
+    let e0 = e.0 in
+    let e2 = e.2 in
+    let f0 = f.0 in
+    let f2 = f.2 in
+    elim (cases_lt r.at s.at) [
+      | inl m ↦ inl m
+      | inr m ↦ elim (cases_lt s.at r.at) [
+        | inl n ↦ absurd (omega (arith, e0, e2, f0, f2, l, n))
+        | inr n ↦ (let q : r.at ≡ s.at = omega (arith, m, n) in inr (q, omega (arith, e0, f0, l, q)))
+      ]
+    ]
+
+pub root-first : (ranks : List (Option Rank)) (keys leaders : List ℕ) → IsRanking ranks keys leaders → 1 ≤ length ranks → IsFirstOf ranks (rank_at ranks (slice_index leaders 1))
+root-first ranks keys leaders t m = go (rank_at ranks root) refl
   where
     root : ℕ
     root = slice_index leaders 1
 
-    leads : (i : ℕ) → i < length ranks → Leads ranks (slice_index leaders 1) i
-    leads i l = subst (Leads ranks (slice_index leaders 1)) (t.nodes.leaves i l) (up leaders ranks t.led (length ranks + i) (length ranks + i) (omega arith) (omega (arith, m)) (omega (arith, l)))
+    low : slice_index leaders 1 < length ranks
+    low = (let n = t.keyed.many in let w = t.tournament.nodes.within 1 (omega arith) (omega (arith, m, n)) in omega (arith, w, n))
 
-    none : (i : ℕ) (x : Option Rank) → rank_at ranks (slice_index leaders 1) ≡ None → rank_at ranks i ≡ x → rank_at ranks i ≡ None
-    none i None e f = f
-    none i (Some s) e f = elim (cases_lt i (length ranks)) [
-      | inl l ↦ (let w = leads i l s f in let z : None ≡ Some w.0 = sym e ∙ w.1 in absurd (cc))
-      | inr l ↦ get_or_past ranks i None l
-    ]
+    leads : (i : ℕ) → i < length ranks → Leads keys (slice_index leaders 1) i
+    leads i l =
+        let n = t.keyed.many in
+        let node : slice_index leaders (length keys + i) ≡ i = t.tournament.nodes.leaves i (omega (arith, l, n)) in
+        subst (Leads keys (slice_index leaders 1)) node (up leaders keys t.tournament.led (length keys + i) (length keys + i) (omega arith) (omega (arith, m, n)) (omega (arith, l, n)))
+
+    keyed : (i : ℕ) (x : Option Rank) → i < length ranks → rank_at ranks i ≡ x → IsKeyOf x (slice_index keys i)
+    keyed i x l e = subst (λ v. IsKeyOf v (slice_index keys i)) e (t.keyed.each i l)
 
     go : (x : Option Rank) → rank_at ranks (slice_index leaders 1) ≡ x → IsFirstOf ranks x
-    go None e = λ i. none i (rank_at ranks i) e refl
+    go None e = λ i. elim (cases_lt i (length ranks)) [
+      | inl l ↦ none-last (rank_at ranks i) (slice_index keys (slice_index leaders 1)) (slice_index keys i) (keyed (slice_index leaders 1) None low e) (t.keyed.each i l) (leads i l)
+      | inr l ↦ get_or_past ranks i None l
+    ]
     go (Some r) e =
-        let own : r.place ≡ slice_index leaders 1 = t.own (slice_index leaders 1) r e in
-        let low = t.nodes.within 1 (omega arith) (omega (arith, m)) in
+        let own : r.place ≡ slice_index leaders 1 = t.keyed.own (slice_index leaders 1) r e in
         record {
-          within = omega (arith, own, low);
+          within = subst (λ p. p < length ranks) (sym own) low;
           here = ap (rank_at ranks) own ∙ e;
           first = λ i s f. elim (cases_lt i (length ranks)) [
-            | inl l ↦ (let v = leads i l s f in let q = some-one v.0 r (sym v.1 ∙ e) in subst (λ x. IsNotAfter x s) q v.2)
+            | inl l ↦ lower-first r s (slice_index keys (slice_index leaders 1)) (slice_index keys i) (keyed (slice_index leaders 1) (Some r) low e) (keyed i (Some s) l f) (leads i l)
             | inr l ↦ (let z : None ≡ Some s = sym (get_or_past ranks i None l) ∙ f in absurd (cc))
           ];
         }
@@ -180,16 +144,17 @@ over-set places from till leaders node first t wider low f j o = record {
     same : (j : ℕ) → j ≡ node → slice_index (slice_set leaders node first) j ≡ first
     same j e = ap (slice_index (slice_set leaders node first)) e ∙ get_or-set_same leaders node first 0 (let n = t.many in omega (arith, n, low))
 
-leads-is : (ranks : List (Option Rank)) (p q p' q' : ℕ) → p' ≡ p → q' ≡ q → Leads ranks p q → Leads ranks p' q'
-leads-is ranks p q p' q' e f h = subst (λ v. Leads ranks v q') (sym e) (subst (Leads ranks p) (sym f) h)
+leads-is : (keys : List ℕ) (p q p' q' : ℕ) → p' ≡ p → q' ≡ q → Leads keys p q → Leads keys p' q'
+leads-is keys p q p' q' e f h = subst (λ v. Leads keys v q') (sym e) (subst (Leads keys p) (sym f) h)
 
 -- the node above one names the leader of that and its sibling
-module _ (ranks : List (Option Rank)) (leaders : List ℕ) (node other first next : ℕ) (nodes : AreNodes (length ranks) 1 leaders) (least : 1 < node) (most : node < length ranks + length ranks)
-    (named : slice_index leaders node ≡ first) (beside : AreSiblings node other) (is : next ≡ leader first (rank_at ranks first) (slice_index leaders other) (rank_at ranks (slice_index leaders other))) where
+module _ (keys leaders : List ℕ) (node other : ℕ) (first : Entrant) (nodes : AreNodes (length keys) 1 leaders) (least : 1 < node) (most : node < length keys + length keys)
+    (named : slice_index leaders node ≡ first.place) (key : first.key ≡ slice_index keys first.place) (beside : AreSiblings node other) (next : Entrant)
+    (is : next ≡ leader first (record { place = slice_index leaders other; key = slice_index keys (slice_index leaders other) })) where
   pub other-least : 1 ≤ other
   other-least = elim beside [ inl d ↦ (let a = d.1 in omega (arith, a)) | inr d ↦ (let a = d.1 in omega (arith, a, least)) ]
 
-  pub other-most : other < length ranks + length ranks
+  pub other-most : other < length keys + length keys
   other-most = elim beside [ inl d ↦ (let a = d.0 in let b = d.1 in omega (arith, a, b, most)) | inr d ↦ (let a = d.0 in let b = d.1 in omega (arith, a, b, most)) ]
 
   other-half : other / 2 ≡ node / 2
@@ -198,38 +163,47 @@ module _ (ranks : List (Option Rank)) (leaders : List ℕ) (node other first nex
   up-least : 1 ≤ node / 2
   up-least = omega (arith, least)
 
-  up-most : node / 2 < length ranks
+  up-most : node / 2 < length keys
   up-most = omega (arith, most)
 
-  one : (next ≡ slice_index leaders node) ⊎ (next ≡ slice_index leaders other)
-  one = elim (leader-one first (slice_index leaders other) (rank_at ranks first) (rank_at ranks (slice_index leaders other))) [
-    | inl e ↦ inl (is ∙ e ∙ sym named)
-    | inr e ↦ inr (is ∙ e)
+  abbrev beats : Entrant
+  beats = record { place = slice_index leaders other; key = slice_index keys (slice_index leaders other) }
+
+  one : (next.place ≡ slice_index leaders node) ⊎ (next.place ≡ slice_index leaders other)
+  one = elim (leader-is first beats) [
+    | inl e ↦ inr (ap (λ v. v.place) (is ∙ e.0))
+    | inr e ↦ inl (ap (λ v. v.place) (is ∙ e.0) ∙ sym named)
   ]
 
-  pub settled-nodes : AreNodes (length ranks) 1 (slice_set leaders (node / 2) next)
+  pub next-key : next.key ≡ slice_index keys next.place
+  next-key = elim (leader-is first beats) [
+    | inl e ↦ subst (λ v. v.key ≡ slice_index keys v.place) (sym (is ∙ e.0)) refl
+    | inr e ↦ subst (λ v. v.key ≡ slice_index keys v.place) (sym (is ∙ e.0)) key
+  ]
+
+  pub settled-nodes : AreNodes (length keys) 1 (slice_set leaders (node / 2) next.place)
   settled-nodes = elim one [
     | inl e ↦ (let w = nodes.over node (omega (arith, least)) most in
-        over-set (length ranks) 1 1 leaders (node / 2) next nodes (λ k l d. l) up-most (subst (λ v. v < length ranks) (sym e) (nodes.within node (omega (arith, least)) most))
-        (suc w.0) (above-more w.0 (length ranks + next) ∙ ap (λ v. v / 2) (ap (λ v. above w.0 (length ranks + v)) e ∙ w.1)))
+        over-set (length keys) 1 1 leaders (node / 2) next.place nodes (λ k l d. l) up-most (subst (λ v. v < length keys) (sym e) (nodes.within node (omega (arith, least)) most))
+        (suc w.0) (above-more w.0 (length keys + next.place) ∙ ap (λ v. v / 2) (ap (λ v. above w.0 (length keys + v)) e ∙ w.1)))
     | inr e ↦ (let w = nodes.over other other-least other-most in
-        over-set (length ranks) 1 1 leaders (node / 2) next nodes (λ k l d. l) up-most (subst (λ v. v < length ranks) (sym e) (nodes.within other other-least other-most))
-        (suc w.0) (above-more w.0 (length ranks + next) ∙ ap (λ v. v / 2) (ap (λ v. above w.0 (length ranks + v)) e ∙ w.1) ∙ other-half))
+        over-set (length keys) 1 1 leaders (node / 2) next.place nodes (λ k l d. l) up-most (subst (λ v. v < length keys) (sym e) (nodes.within other other-least other-most))
+        (suc w.0) (above-more w.0 (length keys + next.place) ∙ ap (λ v. v / 2) (ap (λ v. above w.0 (length keys + v)) e ∙ w.1) ∙ other-half))
   ]
 
-  kept : (j : ℕ) → j ≢ node / 2 → slice_index (slice_set leaders (node / 2) next) j ≡ slice_index leaders j
-  kept j d = get_or-set_other leaders (node / 2) j next 0 d
+  kept : (j : ℕ) → j ≢ node / 2 → slice_index (slice_set leaders (node / 2) next.place) j ≡ slice_index leaders j
+  kept j d = get_or-set_other leaders (node / 2) j next.place 0 d
 
-  pub settled-named : slice_index (slice_set leaders (node / 2) next) (node / 2) ≡ next
-  settled-named = get_or-set_same leaders (node / 2) next 0 (let n = nodes.many in let l = up-most in omega (arith, n, l))
+  pub settled-named : slice_index (slice_set leaders (node / 2) next.place) (node / 2) ≡ next.place
+  settled-named = get_or-set_same leaders (node / 2) next.place 0 (let n = nodes.many in let l = up-most in omega (arith, n, l))
 
-  lead : Leads ranks next (slice_index leaders node) × Leads ranks next (slice_index leaders other)
-  lead = (let w = leader-leads ranks first (slice_index leaders other) in (
-    leads-is ranks (leader first (rank_at ranks first) (slice_index leaders other) (rank_at ranks (slice_index leaders other))) first next (slice_index leaders node) is named w.0,
-    leads-is ranks (leader first (rank_at ranks first) (slice_index leaders other) (rank_at ranks (slice_index leaders other))) (slice_index leaders other) next (slice_index leaders other) is refl w.1,
-  ))
+  lead : Leads keys next.place (slice_index leaders node) × Leads keys next.place (slice_index leaders other)
+  lead = elim (leader-is first beats) [
+    | inl e ↦ (let p = ap (λ v. v.place) (is ∙ e.0) in let l = e.1 in let o = ap (slice_index keys) p in let n = ap (slice_index keys) named in (omega (arith, l, key, o, n), omega (arith, o)))
+    | inr e ↦ (let p = ap (λ v. v.place) (is ∙ e.0) in let l = e.1 in let o = ap (slice_index keys) p in let n = ap (slice_index keys) named in (omega (arith, o, n), omega (arith, l, key, o)))
+  ]
 
-  led-here : IsLed ranks (slice_set leaders (node / 2) next) (node / 2)
+  led-here : IsLed keys (slice_set leaders (node / 2) next.place) (node / 2)
   led-here =
       let p : ℕ = node / 2 in
       let l = up-least in
@@ -237,36 +211,36 @@ module _ (ranks : List (Option Rank)) (leaders : List ℕ) (node other first nex
       let b = kept (p + p + 1) (λ e. absurd (omega (arith, e, l))) in
       elim beside [
         | inl d ↦ (
-          leads-is ranks next (slice_index leaders node) (slice_index (slice_set leaders p next) p) (slice_index (slice_set leaders p next) (p + p)) settled-named (a ∙ ap (slice_index leaders) (sym d.0)) lead.0,
-          leads-is ranks next (slice_index leaders other) (slice_index (slice_set leaders p next) p) (slice_index (slice_set leaders p next) (p + p + 1)) settled-named (b ∙ ap (slice_index leaders) (sym d.1)) lead.1,
+          leads-is keys next.place (slice_index leaders node) (slice_index (slice_set leaders p next.place) p) (slice_index (slice_set leaders p next.place) (p + p)) settled-named (a ∙ ap (slice_index leaders) (sym d.0)) lead.0,
+          leads-is keys next.place (slice_index leaders other) (slice_index (slice_set leaders p next.place) p) (slice_index (slice_set leaders p next.place) (p + p + 1)) settled-named (b ∙ ap (slice_index leaders) (sym d.1)) lead.1,
         )
         | inr d ↦ (
-          leads-is ranks next (slice_index leaders other) (slice_index (slice_set leaders p next) p) (slice_index (slice_set leaders p next) (p + p)) settled-named (a ∙ ap (slice_index leaders) (sym d.1)) lead.1,
-          leads-is ranks next (slice_index leaders node) (slice_index (slice_set leaders p next) p) (slice_index (slice_set leaders p next) (p + p + 1)) settled-named (b ∙ ap (slice_index leaders) (sym d.0)) lead.0,
+          leads-is keys next.place (slice_index leaders other) (slice_index (slice_set leaders p next.place) p) (slice_index (slice_set leaders p next.place) (p + p)) settled-named (a ∙ ap (slice_index leaders) (sym d.1)) lead.1,
+          leads-is keys next.place (slice_index leaders node) (slice_index (slice_set leaders p next.place) p) (slice_index (slice_set leaders p next.place) (p + p + 1)) settled-named (b ∙ ap (slice_index leaders) (sym d.0)) lead.0,
         )
       ]
 
-  pub settled-led : AreLedBut ranks leaders node → AreLedBut ranks (slice_set leaders (node / 2) next) (node / 2)
+  pub settled-led : AreLedBut keys leaders node → AreLedBut keys (slice_set leaders (node / 2) next.place) (node / 2)
   settled-led led k l m a = elim (cases_eq k (node / 2)) [
-    | inl e ↦ subst (IsLed ranks (slice_set leaders (node / 2) next)) (sym e) led-here
+    | inl e ↦ subst (IsLed keys (slice_set leaders (node / 2) next.place)) (sym e) led-here
     | inr e ↦ (let w = led k l m (apart-more k node (λ z. e (sym z)) a) in (
-      leads-is ranks (slice_index leaders k) (slice_index leaders (k + k)) (slice_index (slice_set leaders (node / 2) next) k) (slice_index (slice_set leaders (node / 2) next) (k + k)) (kept k e) (kept (k + k) (λ f. a 0 (omega (arith, f)))) w.0,
-      leads-is ranks (slice_index leaders k) (slice_index leaders (k + k + 1)) (slice_index (slice_set leaders (node / 2) next) k) (slice_index (slice_set leaders (node / 2) next) (k + k + 1)) (kept k e) (kept (k + k + 1) (λ f. a 0 (omega (arith, f)))) w.1,
+      leads-is keys (slice_index leaders k) (slice_index leaders (k + k)) (slice_index (slice_set leaders (node / 2) next.place) k) (slice_index (slice_set leaders (node / 2) next.place) (k + k)) (kept k e) (kept (k + k) (λ f. a 0 (omega (arith, f)))) w.0,
+      leads-is keys (slice_index leaders k) (slice_index leaders (k + k + 1)) (slice_index (slice_set leaders (node / 2) next.place) k) (slice_index (slice_set leaders (node / 2) next.place) (k + k + 1)) (kept k e) (kept (k + k + 1) (λ f. a 0 (omega (arith, f)))) w.1,
     ))
   ]
 
-pub all-led : (ranks : List (Option Rank)) (leaders : List ℕ) (node : ℕ) → node ≤ 1 → AreLedBut ranks leaders node → (k : ℕ) → 1 ≤ k → k < length ranks → IsLed ranks leaders k
-all-led ranks leaders node low led k l m = led k l m (root-apart k node l low)
+pub all-led : (keys leaders : List ℕ) (node : ℕ) → node ≤ 1 → AreLedBut keys leaders node → (k : ℕ) → 1 ≤ k → k < length keys → IsLed keys leaders k
+all-led keys leaders node low led k l m = led k l m (root-apart k node l low)
 
--- a place's rank changes: the nodes that don't stand above it name other places
-module _ (ranks : List (Option Rank)) (leaders : List ℕ) (place : ℕ) (rank : Option Rank) (t : IsTournament leaders ranks) (low : place < length ranks) where
-  same-count : length (slice_set ranks place rank) ≡ length ranks
-  same-count = length-set ranks place rank
+-- a place's key changes: the nodes that don't stand above it name other places
+module _ (keys leaders : List ℕ) (place key : ℕ) (t : IsTournament leaders keys) (low : place < length keys) where
+  same-count : length (slice_set keys place key) ≡ length keys
+  same-count = length-set keys place key
 
-  leads-other : (p q : ℕ) → p ≢ place → q ≢ place → Leads ranks p q → Leads (slice_set ranks place rank) p q
-  leads-other p q np nq h s e = (let w = h s (sym (get_or-set_other ranks place q rank None nq) ∙ e) in (w.0, get_or-set_other ranks place p rank None np ∙ w.1, w.2))
+  leads-other : (p q : ℕ) → p ≢ place → q ≢ place → Leads keys p q → Leads (slice_set keys place key) p q
+  leads-other p q np nq h = (let a = get_or-set_other keys place p key 0 np in let b = get_or-set_other keys place q key 0 nq in omega (arith, a, b, h))
 
-  pub changed-led : AreLedBut (slice_set ranks place rank) leaders (length (slice_set ranks place rank) + place)
+  pub changed-led : AreLedBut (slice_set keys place key) leaders (length (slice_set keys place key) + place)
   changed-led k l m a =
       let n = same-count in
       let w = t.led k l (omega (arith, n, m)) in (
@@ -274,18 +248,18 @@ module _ (ranks : List (Option Rank)) (leaders : List ℕ) (place : ℕ) (rank :
         leads-other (slice_index leaders k) (slice_index leaders (k + k + 1)) here (below (k + k + 1) (omega (arith, l)) (omega (arith, n, m)) (omega arith)) w.1,
       )
     where
-      apart : (j : ℕ) → above (suc j) (length ranks + place) ≢ k
+      apart : (j : ℕ) → above (suc j) (length keys + place) ≢ k
       apart j e = a j (ap (λ v. above (suc j) (v + place)) same-count ∙ e)
 
-      below : (c : ℕ) → 1 ≤ c → c < length ranks + length ranks → c / 2 ≡ k → slice_index leaders c ≢ place
-      below c x y h e = (let v = t.nodes.over c x y in apart v.0 (above-more v.0 (length ranks + place) ∙ ap (λ u. u / 2) (sym (ap (λ u. above v.0 (length ranks + u)) e) ∙ v.1) ∙ h))
+      below : (c : ℕ) → 1 ≤ c → c < length keys + length keys → c / 2 ≡ k → slice_index leaders c ≢ place
+      below c x y h e = (let v = t.nodes.over c x y in apart v.0 (above-more v.0 (length keys + place) ∙ ap (λ u. u / 2) (sym (ap (λ u. above v.0 (length keys + u)) e) ∙ v.1) ∙ h))
 
-      own-node : (j : ℕ) → above j (length ranks + place) ≢ k
+      own-node : (j : ℕ) → above j (length keys + place) ≢ k
       own-node zero f = (let n = same-count in absurd (omega (arith, n, m, f)))
       own-node (suc j) f = apart j f
 
       here : slice_index leaders k ≢ place
-      here e = (let n = same-count in let v = t.nodes.over k l (omega (arith, n, m)) in own-node v.0 (sym (ap (λ u. above v.0 (length ranks + u)) e) ∙ v.1))
+      here e = (let n = same-count in let v = t.nodes.over k l (omega (arith, n, m)) in own-node v.0 (sym (ap (λ u. above v.0 (length keys + u)) e) ∙ v.1))
 
 pub own-place : (ranks : List (Option Rank)) (place : ℕ) (rank : Option Rank) → ((i : ℕ) (r : Rank) → rank_at ranks i ≡ Some r → r.place ≡ i) → place < length ranks → ForSome rank (λ r. r.place ≡ place) →
     (i : ℕ) (r : Rank) → rank_at (slice_set ranks place rank) i ≡ Some r → r.place ≡ i
@@ -294,12 +268,55 @@ own-place ranks place rank own low its i r e = elim (cases_eq i place) [
   | inr f ↦ own i r (sym (get_or-set_other ranks place i rank None f) ∙ e)
 ]
 
+-- a place takes another rank and its key
+pub keyed-set : (ranks : List (Option Rank)) (keys : List ℕ) (place : ℕ) (rank : Option Rank) (key : ℕ) → AreKeyed ranks keys → place < length ranks → ForSome rank (λ r. r.place ≡ place) → IsKeyOf rank key →
+    AreKeyed (slice_set ranks place rank) (slice_set keys place key)
+keyed-set ranks keys place rank key t low its is = record {
+  many = length-set keys place key ∙ t.many ∙ sym (length-set ranks place rank);
+  each = λ i l. elim (cases_eq i place) [
+    | inl f ↦ subst (λ j. IsKeyOf (rank_at (slice_set ranks place rank) j) (slice_index (slice_set keys place key) j)) (sym f)
+        (subst (λ v. IsKeyOf v (slice_index (slice_set keys place key) place)) (sym (get_or-set_same ranks place rank None low))
+        (subst (IsKeyOf rank) (sym (get_or-set_same keys place key 0 (let n = t.many in omega (arith, n, low)))) is))
+    | inr f ↦ subst (λ v. IsKeyOf v (slice_index (slice_set keys place key) i)) (sym (get_or-set_other ranks place i rank None f))
+        (subst (IsKeyOf (rank_at ranks i)) (sym (get_or-set_other keys place i key 0 f)) (t.each i (let n = length-set ranks place rank in omega (arith, l, n))))
+  ];
+  own = own-place ranks place rank t.own low its;
+}
+
 -- ---- no rank yet
 
 pub none-held : (n : ℕ) (i : ℕ) → rank_at (replicate n None) i ≡ None
 none-held zero i = refl
 none-held (suc n) zero = refl
 none-held (suc n) (suc i) = none-held n i
+
+same-held : (n key i : ℕ) → i < n → slice_index (replicate n key) i ≡ key
+same-held zero key i l = absurd (omega (arith, l))
+same-held (suc n) key zero l = refl
+same-held (suc n) key (suc i) l = same-held n key i (omega (arith, l))
+
+pub none-keyed : (n key : ℕ) → IsKeyOf None key → AreKeyed (replicate n None) (replicate n key)
+none-keyed n key is = record {
+  many = length-replicate n key ∙ sym (length-replicate n None);
+  each = λ i l. subst (λ v. IsKeyOf v (slice_index (replicate n key) i)) (sym (none-held n i))
+      (subst (IsKeyOf None) (sym (same-held n key i (subst (λ v. i < v) (length-replicate n None) l))) is);
+  own = λ i r e. (let z : None ≡ Some r = sym (none-held n i) ∙ e in absurd (cc));
+}
+
+-- where all keys are the same, each place leads each
+pub same-tournament : (n key : ℕ) (leaders : List ℕ) → AreNodes n 1 leaders → IsTournament leaders (replicate n key)
+same-tournament n key leaders nodes =
+    let m = length-replicate n key in
+    record {
+      nodes = subst (λ v. AreNodes v 1 leaders) (sym m) nodes;
+      led = λ k l u. (let w : k < n = omega (arith, u, m) in (leads k (k + k) w (omega (arith, w)) l (omega (arith, l)), leads k (k + k + 1) w (omega (arith, w)) l (omega (arith, l))));
+    }
+  where
+    held : (k : ℕ) → 1 ≤ k → k < n + n → slice_index (replicate n key) (slice_index leaders k) ≡ key
+    held k l u = same-held n key (slice_index leaders k) (nodes.within k l u)
+
+    leads : (j k : ℕ) → j < n → k < n + n → 1 ≤ j → 1 ≤ k → Leads (replicate n key) (slice_index leaders j) (slice_index leaders k)
+    leads j k a b c d = (let x = held j c (omega (arith, a)) in let y = held k d b in omega (arith, x, y))
 
 pub places-nodes : (places : ℕ) (nodes : List ℕ) → length nodes ≡ places + places → ((i : ℕ) → i < places → slice_index nodes (places + i) ≡ i) → AreNodes places places nodes
 places-nodes places nodes many leaves = record {

@@ -1,10 +1,7 @@
 -- The first of many places by rank.
-use Rattle.std.specs.Prelude.{◌≡◌, ◌≢◌, ℕ, zero, suc, ◌+◌, ◌/◌, ◌≤◌, ◌<◌, ◌⊎◌, List, Option, None, Some, length, slice_index, slice_index_or, nat_lt, ◌==◌, ◌&&◌, ◌||◌, Bool, if◌then◌else◌}
+use Rattle.std.specs.Prelude.{◌≡◌, ◌≢◌, ℕ, zero, suc, ◌+◌, ◌*◌, ◌/◌, ◌≤◌, ◌<◌, ◌⊎◌, List, Option, None, Some, length, slice_index, slice_index_or, nat_lt, ◌==◌, ◌&&◌, ◌||◌, Bool, if◌then◌else◌}
 use Rattle.cop_bus.specs.declared.ranking.Rank.{Rank}
-
--- an earlier moment comes first, at one moment a lower identifier
-abbrev pub is_before : Rank → Rank → Bool
-is_before r s = nat_lt r.at s.at || ((r.at == s.at) && nat_lt r.id s.id)
+use Rattle.cop_bus.specs.declared.ranking.Entrant.{Entrant}
 
 abbrev pub rank_at : List (Option Rank) → ℕ → Option Rank
 rank_at ranks i = slice_index_or ranks i None
@@ -13,20 +10,22 @@ rank_at ranks i = slice_index_or ranks i None
 abbrev pub IsNotAfter : Rank → Rank → Type 0
 IsNotAfter r s = (r.at < s.at) ⊎ ((r.at ≡ s.at) × (r.id ≤ s.id))
 
--- of two places with their ranks the one with the earlier rank
-abbrev pub leader : ℕ → Option Rank → ℕ → Option Rank → ℕ
-leader p None q None = p
-leader p (Some r) q None = p
-leader p None q (Some s) = q
-leader p (Some r) q (Some s) = if is_before s r then q else p
+-- the key of a rank: the moment before the identifier, and none after all
+abbrev pub IsKeyOf : Option Rank → ℕ → Type 0
+IsKeyOf None key = key ≡ 281474976710656
+IsKeyOf (Some r) key = (key ≡ r.at * 65536 + r.id) × (r.at < 4294967296) × (r.id < 65536)
 
--- the rank of p does not come after that of q, where q has one
-abbrev pub Leads : List (Option Rank) → ℕ → ℕ → Type 0
-Leads ranks p q = (s : Rank) → rank_at ranks q ≡ Some s → (r : Rank) × (rank_at ranks p ≡ Some r) × IsNotAfter r s
+-- of two entrants the one with the lower key
+abbrev pub leader : Entrant → Entrant → Entrant
+leader e o = if nat_lt o.key e.key then o else e
+
+-- the key of p is not above that of q
+abbrev pub Leads : List ℕ → ℕ → ℕ → Type 0
+Leads keys p q = slice_index keys p ≤ slice_index keys q
 
 -- a node names a place that leads those which the two nodes below it name
-abbrev pub IsLed : List (Option Rank) → List ℕ → ℕ → Type 0
-IsLed ranks leaders k = Leads ranks (slice_index leaders k) (slice_index leaders (k + k)) × Leads ranks (slice_index leaders k) (slice_index leaders (k + k + 1))
+abbrev pub IsLed : List ℕ → List ℕ → ℕ → Type 0
+IsLed keys leaders k = Leads keys (slice_index leaders k) (slice_index leaders (k + k)) × Leads keys (slice_index leaders k) (slice_index leaders (k + k + 1))
 
 -- the node that stands so many nodes above another
 abbrev pub above : ℕ → ℕ → ℕ
@@ -38,8 +37,8 @@ abbrev pub IsApart : ℕ → ℕ → Type 0
 IsApart k n = (j : ℕ) → above (suc j) n ≢ k
 
 -- the nodes that do not stand above a node are led
-abbrev pub AreLedBut : List (Option Rank) → List ℕ → ℕ → Type 0
-AreLedBut ranks leaders n = (k : ℕ) → 1 ≤ k → k < length ranks → IsApart k n → IsLed ranks leaders k
+abbrev pub AreLedBut : List ℕ → List ℕ → ℕ → Type 0
+AreLedBut keys leaders n = (k : ℕ) → 1 ≤ k → k < length keys → IsApart k n → IsLed keys leaders k
 
 -- two nodes with the same one above them
 abbrev pub AreSiblings : ℕ → ℕ → Type 0
@@ -56,11 +55,21 @@ pub record AreNodes (places from : ℕ) (leaders : List ℕ) : Type 0 where
   pub within : (k : ℕ) → from ≤ k → k < places + places → slice_index leaders k < places
   pub over : (k : ℕ) → from ≤ k → k < places + places → IsOver places leaders k
 
--- a tournament: the root names the first place
-pub record IsTournament (leaders : List ℕ) (ranks : List (Option Rank)) : Type 0 where
-  pub nodes : AreNodes (length ranks) 1 leaders
-  pub led : (k : ℕ) → 1 ≤ k → k < length ranks → IsLed ranks leaders k
+-- a tournament: the root names a place with the lowest key
+pub record IsTournament (leaders keys : List ℕ) : Type 0 where
+  pub nodes : AreNodes (length keys) 1 leaders
+  pub led : (k : ℕ) → 1 ≤ k → k < length keys → IsLed keys leaders k
+
+-- each rank is that of its place, and has its key
+pub record AreKeyed (ranks : List (Option Rank)) (keys : List ℕ) : Type 0 where
+  pub many : length keys ≡ length ranks
+  pub each : (i : ℕ) → i < length ranks → IsKeyOf (rank_at ranks i) (slice_index keys i)
   pub own : (i : ℕ) (r : Rank) → rank_at ranks i ≡ Some r → r.place ≡ i
+
+-- ranks with a tournament over their keys
+pub record IsRanking (ranks : List (Option Rank)) (keys leaders : List ℕ) : Type 0 where
+  pub keyed : AreKeyed ranks keys
+  pub tournament : IsTournament leaders keys
 
 -- a rank of a place that comes after none
 pub record IsFirst (ranks : List (Option Rank)) (r : Rank) : Type 0 where

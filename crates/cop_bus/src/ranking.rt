@@ -2,7 +2,7 @@
 
 ghost use Rattle.std.specs.Prelude.{◌≡◌, ℕ, ◌+◌, ◌≤◌, ◌<◌, ◌^◌, None, IfOk, length, replicate, slice_index, slice_set};
 ghost use Rattle.std.specs.Option.{ForSome};
-ghost use Rattle.cop_bus.specs.Ranks.{is_before, leader, rank_at, AreNodes, AreLedBut, AreSiblings, IsLed, IsFirstOf};
+ghost use Rattle.cop_bus.specs.Ranks.{leader, AreNodes, AreLedBut, AreSiblings, IsKeyOf, IsLed, IsFirstOf};
 
 use std::alloc::{AllocError, Global};
 use std::marker::Model;
@@ -10,47 +10,58 @@ use std::marker::Model;
 /// When a place has its turn: at a moment, and at one moment the lower identifier first.
 #[derive(Clone, Copy)]
 pub struct Rank {
-    pub at: u128,
+    pub at: u32,
     pub id: u16,
     pub place: usize,
 }
 
-/// The ranks of places, of which some have none, and a tournament over them: node k names the place with the earlier
-/// rank of those that the nodes 2k and 2k + 1 name, from 1 on, and behind those stand the places themselves.
+// A place in the tournament, with the key of its rank.
+#[derive(Clone, Copy)]
+struct Entrant {
+    place: usize,
+    key: u64,
+}
+
+/// The ranks of places, of which some have none, with a key for each, and a tournament over the keys: node k names the
+/// place with the lower key of those that the nodes 2k and 2k + 1 name, from 1 on, and behind those stand the places
+/// themselves. A key is one word, so that an entrant that wins or loses costs no jump.
 #[derive(Drop)]
 pub struct Ranking {
     ranks: Vec<Option<Rank>>,
+    keys: Vec<u64>,
     leaders: Vec<usize>,
 }
 
 impl Model for Ranking {
     ghost use Rattle.std.specs.Prelude.{List, Option};
     ghost use Rattle.cop_bus.specs.declared.ranking.Rank.{Rank};
-    ghost use Rattle.cop_bus.specs.Ranks.{IsTournament};
+    ghost use Rattle.cop_bus.specs.Ranks.{IsRanking};
 
     ghost Value = { List (Option Rank) };
 
     ghost view = { λ r. r.ranks.items };
 
-    ghost invariant = { λ r. IsTournament r.leaders.items r.ranks.items };
+    ghost invariant = { λ r. IsRanking r.ranks.items r.keys.items r.leaders.items };
 }
 
-fn is_before(rank: &Rank, other: &Rank) -> bool
-    ensures { result ≡ is_before rank.now other.now }
+// The key by which a rank is compared: that of an earlier one is lower, and none comes last.
+fn key_of(rank: Option<Rank>) -> u64
+    ensures { IsKeyOf rank result }
 {
-    rank.at < other.at || (rank.at == other.at && rank.id < other.id)
+    match rank {
+        Some(rank) => u64::from(rank.at) * 65_536 + u64::from(rank.id),
+        None => 281_474_976_710_656,
+    }
 }
 
-// Of two places the one with the earlier rank.
-fn leader(ranks: &[Option<Rank>], place: usize, other: usize) -> usize
-    requires place { place < length ranks.now }
-    requires other { other < length ranks.now }
-    ensures { result ≡ leader place (rank_at ranks.now place) other (rank_at ranks.now other) }
+// Of two entrants the one with the lower key.
+fn leader(entrant: Entrant, other: Entrant) -> Entrant
+    ensures { result ≡ leader entrant other }
 {
-    match (&ranks[place], &ranks[other]) {
-        (_, None) => place,
-        (None, Some(_)) => other,
-        (Some(rank), Some(next)) => { if is_before(next, rank) { other } else { place } }
+    if other.key < entrant.key {
+        other
+    } else {
+        entrant
     }
 }
 
@@ -62,20 +73,28 @@ fn sibling(node: usize) -> usize
     if node % 2 == 0 { node + 1 } else { node - 1 }
 }
 
-// Lets the nodes above a place whose rank has changed name the leading ones again.
-fn settle(leaders: &mut Vec<usize>, ranks: &[Option<Rank>], changed: usize)
-    requires nodes { AreNodes (length ranks.now) 1 leaders.old.items }
-    requires within { changed < length ranks.now }
-    requires led { AreLedBut ranks.now leaders.old.items (length ranks.now + changed) }
-    ensures nodes { AreNodes (length ranks.now) 1 leaders.new.items }
-    ensures led { (k : ℕ) → 1 ≤ k → k < length ranks.now → IsLed ranks.now leaders.new.items k }
+// Lets the nodes above a place whose key has changed name the leading ones again.
+fn settle(leaders: &mut Vec<usize>, keys: &[u64], changed: usize)
+    requires nodes { AreNodes (length keys.now) 1 leaders.old.items }
+    requires within { changed < length keys.now }
+    requires led { AreLedBut keys.now leaders.old.items (length keys.now + changed) }
+    ensures nodes { AreNodes (length keys.now) 1 leaders.new.items }
+    ensures led { (k : ℕ) → 1 ≤ k → k < length keys.now → IsLed keys.now leaders.new.items k }
 {
-    let mut node = ranks.len() + changed;
-    let mut first = changed;
+    let mut node = keys.len() + changed;
+    let mut first = Entrant {
+        place: changed,
+        key: keys[changed],
+    };
     while node > 1 {
-        first = leader(ranks, first, leaders[sibling(node)]);
+        let place = leaders[sibling(node)];
+        let other = Entrant {
+            place,
+            key: keys[place],
+        };
+        first = leader(first, other);
         node /= 2;
-        leaders[node] = first;
+        leaders[node] = first.place;
     }
 }
 
@@ -111,6 +130,7 @@ impl Ranking {
     {
         Ok(Ranking {
             ranks: vec![in alloc; None; places]?,
+            keys: vec![in alloc; key_of(None); places]?,
             leaders: nodes_over(alloc, places)?,
         })
     }
@@ -130,6 +150,7 @@ impl Ranking {
         ensures { self.new ≡ slice_set self.old place rank }
     {
         self.ranks[place] = rank;
-        settle(&mut self.leaders, &self.ranks, place);
+        self.keys[place] = key_of(rank);
+        settle(&mut self.leaders, &self.keys, place);
     }
 }

@@ -11,6 +11,7 @@ pub mod Competing
 pub mod Actors
 pub mod Chosen
 pub mod HandLemmas
+pub mod EarlyLemmas
 pub mod Taken
 pub mod TurnLemmas
 pub mod Places

@@ -1,5 +1,6 @@
 -- What is at hand of each stream, and the ranks by which the first is found.
-use Rattle.std.specs.Prelude.{◌≡◌, ℕ, List, Option, None, Some, length, get_or, slice_get}
+use Rattle.std.specs.Prelude.{◌≡◌, ℕ, ◌<◌, List, Option, None, Some, length, get_or, slice_get}
+use Rattle.std.specs.Option.{ForSome}
 use Rattle.cop_rta.specs.declared.streams.Stream.{Stream}
 use Rattle.cop_bus.specs.Rings.{RingValue}
 use Rattle.cop_sim.specs.declared.behaviours.Offer.{Offer}
@@ -12,6 +13,10 @@ use Rattle.cop_sim.specs.Seats.{next_at}
 pub record OffersValue : Type 0 where
   pub ids : List ℕ
   pub next : List (Option Offer)
+
+-- the moment at which an offer, if there is one, is queued fits into 32 bits
+abbrev pub IsEarly : Option Offer → Type 0
+IsEarly offer = ForSome offer (λ o. queued_at o < 4294967296)
 
 -- an offer has the rank of the moment at which it is queued
 abbrev pub offer_rank : List ℕ → ℕ → Option Offer → Option Rank

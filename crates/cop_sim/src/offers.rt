@@ -2,7 +2,7 @@
 
 ghost use Rattle.std.specs.Prelude.{◌≡◌, ℕ, ◌<◌, List, None, IfOk, IfSome, length, map, replicate, slice_set};
 ghost use Rattle.cop_rta.specs.declared.streams.Stream.{Stream};
-ghost use Rattle.cop_sim.specs.Hands.{offer_rank};
+ghost use Rattle.cop_sim.specs.Hands.{offer_rank, IsEarly};
 ghost use Rattle.cop_sim.specs.Seats.{next_at, IsDueSoFar};
 
 use crate::behaviours::Offer;
@@ -33,12 +33,13 @@ impl Model for Offers {
 
 // The rank of an offer of the stream at a place.
 fn rank_of(ids: &[u16], place: usize, offer: Option<Offer>) -> Option<Rank>
-    requires { place < length ids.now }
+    requires place { place < length ids.now }
+    requires early { IsEarly offer }
     ensures { result ≡ offer_rank ids.now place offer }
 {
     match offer {
         Some(offer) => Some(Rank {
-            at: queued_at(&offer),
+            at: queued_at(&offer) as u32,
             id: ids[place],
             place,
         }),
@@ -83,6 +84,7 @@ impl Offers {
     pub(crate) fn set(&mut self, place: usize, offer: Option<Offer>)
         requires ids { place < length self.old.ids }
         requires next { place < length self.old.next }
+        requires early { IsEarly offer }
         ensures { self.new ≡ record self.old { next = slice_set self.old.next place offer } }
     {
         self.next[place] = offer;
@@ -106,7 +108,8 @@ pub(crate) fn offers_of(
     streams: &[Stream],
     next: &[Option<Offer>],
 ) -> Result<Offers, AllocError>
-    requires { length next.now ≡ length streams.now }
+    requires count { length next.now ≡ length streams.now }
+    requires early { (i : ℕ) → IsEarly (next_at next.now i) }
     ensures { IfOk result (λ o. o ≡ record { ids = map (λ k. k.id) streams.now; next = next.now }) }
 {
     let mut offers = Offers::new(alloc, streams)?;

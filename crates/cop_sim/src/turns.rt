@@ -100,6 +100,7 @@ pub(crate) fn queue_offer<B: Behaviour, S: Sink>(
     requires sized { AreSized (length streams.now) (at_hand stage.old) }
     requires behaviours { length behaviours.old.items ≡ length streams.now }
     requires place { due.place < length streams.now }
+    requires until { until ≤ 4000000000 }
     requires works { S.has_failed sink.old ≡ false }
     ensures queued { OnOk result (IsQueued B.offer B.agrees until due (at_hand stage.old) (at_hand stage.new) behaviours.old.items behaviours.new.items) }
     ensures obeys { OnOk result ((o : Offer) (k : Stream) → next_at stage.new.offers.next due.place ≡ Some o → slice_get streams.now due.place ≡ Some k → obeys k (Some due.offer) o ≡ true) }
@@ -186,6 +187,7 @@ pub(crate) fn turn<B: Behaviour, S: Sink>(
 ) -> Result<bool, SimFault>
     requires sized { AreSized (length plan.now.streams) (at_hand stage.old) }
     requires behaviours { length behaviours.old.items ≡ length plan.now.streams }
+    requires until { until ≤ 4000000000 }
     requires early { stage.old.now ≤ 4000000000 }
     requires works { S.has_failed sink.old ≡ false }
     ensures works { OnOk result (S.has_failed sink.new ≡ false) }

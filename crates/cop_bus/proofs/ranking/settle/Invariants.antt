@@ -5,12 +5,13 @@ use Rattle.cop_bus.proofs.ranking.settle.Given as goal
 
 abbrev pub invariant-loop-node : goal.invariant-loop-node
 invariant-loop-node l = record {
-  nodes : AreNodes (length l.ranks) 1 l.leaders.items;
+  nodes : AreNodes (length l.keys) 1 l.leaders.items;
   least : 0 < l.node;
-  most : l.node < length l.ranks + length l.ranks;
-  named : slice_index l.leaders.items l.node ≡ l.first;
-  within : l.first < length l.ranks;
-  led : AreLedBut l.ranks l.leaders.items l.node;
+  most : l.node < length l.keys + length l.keys;
+  named : slice_index l.leaders.items l.node ≡ l.first.place;
+  key : l.first.key ≡ slice_index l.keys l.first.place;
+  within : l.first.place < length l.keys;
+  led : AreLedBut l.keys l.leaders.items l.node;
 }
 
 abbrev pub decreases-loop-node : goal.decreases-loop-node

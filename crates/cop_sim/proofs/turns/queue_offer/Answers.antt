@@ -8,7 +8,11 @@ use Rattle.cop_sim.specs.Play.{obeys}
 use Rattle.cop_sim.specs.Hands.{OffersValue}
 use Rattle.cop_sim.specs.Seats.{next_at}
 use Rattle.cop_sim.proofs.TurnLemmas.{next_obeys, same_stream}
+use Rattle.cop_sim.proofs.EarlyLemmas.{answer-early-at}
 use Rattle.cop_sim.proofs.turns.queue_offer.Goals as goal
+
+pub set-requires-clause-early : goal.set-requires-clause-early
+set-requires-clause-early g c = answer-early-at g.B.Behaviour.offer c.args.until c.args.due.place c.args.behaviours.now.items c.in-Ok.offer c.requires.until (let n = c.requires.behaviours in let l = c.requires.place in omega (arith, n, l)) c.in-Ok.ensures.answer
 
 pub returns-in-Ok-clause-obeys : goal.returns-in-Ok-clause-obeys
 returns-in-Ok-clause-obeys g c o k e there =
