@@ -1,5 +1,5 @@
 -- The first of many places by rank.
-use Rattle.std.specs.Prelude.{◌≡◌, ◌≢◌, ℕ, zero, suc, ◌+◌, ◌*◌, ◌/◌, ◌≤◌, ◌<◌, ◌⊎◌, List, Option, None, Some, length, slice_index, slice_index_or, nat_lt, ◌==◌, ◌&&◌, ◌||◌, Bool, if◌then◌else◌}
+use Rattle.std.specs.Prelude.{◌≡◌, ◌≢◌, ℕ, zero, suc, ◌+◌, ◌*◌, ◌/◌, ◌≤◌, ◌<◌, ◌⊎◌, List, Option, None, Some, length, slice_index, slice_index_or, nat_lt, if◌then◌else◌}
 use Rattle.cop_bus.specs.declared.ranking.Rank.{Rank}
 use Rattle.cop_bus.specs.declared.ranking.Entrant.{Entrant}
 

@@ -310,22 +310,39 @@ fn wait(bus: &mut Bus, instance: Instance) -> Result<Result<(), Full>, Fail>
     Ok(bus.queue(instance))
 }
 
-// A deadline of 8,000 ticks begins two periods of 4,000; without one there are 64 places.
+// A deadline of 8,000 ticks begins two periods of 4,000.
 #[test]
-fn rings_hold_what_may_wait(rt: HostRuntime) -> Result<(), Fail> {
+fn ring_holds_what_may_wait(rt: HostRuntime) -> Result<(), Fail> {
     let streams = two_streams(rt.alloc(), 8000)?;
     let mut bus = Bus::with_rings(rt.alloc(), &streams, Rate::Kbit1000)?;
-    assert!(rt; !bus.has_stream(0x183));
     for _place in 0..2 {
         assert_eq!(rt; wait(&mut bus, instance(100, 0x182, 135))?, Ok(()));
     }
     assert_eq!(rt; wait(&mut bus, instance(100, 0x182, 135))?, Err(Full {}));
+    let lengths = bus.rings().get(1).map(|ring| ring.len());
+    assert_eq!(rt; lengths, Some(2));
+    Ok(())
+}
+
+// A ring without a deadline has 64 places.
+#[test]
+fn ring_without_deadline_holds_64(rt: HostRuntime) -> Result<(), Fail> {
+    let streams = two_streams(rt.alloc(), 8000)?;
+    let mut bus = Bus::with_rings(rt.alloc(), &streams, Rate::Kbit1000)?;
     for _place in 0..64 {
         assert_eq!(rt; wait(&mut bus, instance(100, 0x181, 135))?, Ok(()));
     }
     assert_eq!(rt; wait(&mut bus, instance(100, 0x181, 135))?, Err(Full {}));
-    let lengths = bus.rings().get(1).map(|ring| ring.len());
-    assert_eq!(rt; lengths, Some(2));
+    Ok(())
+}
+
+// A bus on which nothing was started runs nothing, though an instance waits.
+#[test]
+fn bus_at_rest_runs_nothing(rt: HostRuntime) -> Result<(), Fail> {
+    let streams = two_streams(rt.alloc(), 8000)?;
+    let mut bus = Bus::with_rings(rt.alloc(), &streams, Rate::Kbit1000)?;
+    assert!(rt; !bus.has_stream(0x183));
+    assert_eq!(rt; wait(&mut bus, instance(100, 0x182, 135))?, Ok(()));
     assert_eq!(rt; bus.running(), None);
     assert_eq!(rt; bus.end(), None);
     Ok(())

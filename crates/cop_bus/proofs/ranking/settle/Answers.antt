@@ -2,7 +2,6 @@ use Rattle.std.proofs.Common.{◌≡◌, ◌/◌, ◌<◌, ◌∙◌, length, ap
 use Rattle.std.specs.Prelude.{slice_index}
 use Rattle.std.proofs.lemmas.List.{get_or_read}
 use Rattle.cop_bus.specs.Ranks.{leader}
-use Rattle.cop_bus.specs.declared.ranking.Entrant.{Entrant}
 use Rattle.cop_bus.proofs.RankLemmas.{settled-nodes, settled-named, settled-led, next-key, all-led}
 use Rattle.cop_bus.proofs.ranking.settle.Goals as goal
 

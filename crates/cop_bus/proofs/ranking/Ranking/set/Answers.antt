@@ -1,4 +1,4 @@
-use Rattle.std.proofs.Common.{◌≡◌, ℕ, ◌+◌, ◌<◌, arith, sym, subst, length}
+use Rattle.std.proofs.Common.{◌+◌, ◌<◌, arith, sym, subst, length}
 use Rattle.cop_bus.specs.Ranks.{AreLedBut, IsTournament}
 use Rattle.cop_bus.proofs.RankLemmas.{changed-led, keyed-set}
 use Rattle.cop_bus.proofs.ranking.Ranking.set.Goals as goal
