@@ -1,4 +1,4 @@
-ghost use Rattle.std.specs.Prelude.{◌≤◌, ◌≡◌, ℕ, None, IfOk};
+ghost use Rattle.std.specs.Prelude.{◌≤◌, ◌<◌, ◌^◌, ◌≡◌, ℕ, None, IfOk};
 ghost use Rattle.cop_bus.specs.Bus.{AreQueuedBy};
 
 use cop_bus::{
@@ -377,16 +377,25 @@ fn lowest_identifier_is_sent(rt: HostRuntime) -> Result<(), Fail> {
     Ok(())
 }
 
+// Starts what waits, and ends it.
+fn sent(bus: &mut Bus, now: u64) -> Option<(u64, u16)>
+    requires idle { bus.old.running ≡ None }
+    requires early { now < 2 ^ 63 }
+    requires queued { AreQueuedBy bus.old.rings now }
+    ensures idle { bus.new.running ≡ None }
+    ensures queued { (later : ℕ) → AreQueuedBy bus.old.rings later → AreQueuedBy bus.new.rings later }
+{
+    let _started = bus.start(now, &[]);
+    bus.end()
+}
+
 // Of two instances of one stream that which waits longest is sent first.
 #[test]
 fn first_of_a_ring_is_sent(rt: HostRuntime) -> Result<(), Fail> {
     let mut bus = bus_with_three(rt.alloc())?;
-    let _one = bus.start(102, &[]);
-    let first = bus.end();
-    let _two = bus.start(602, &[]);
-    let second = bus.end();
-    let _three = bus.start(1142, &[]);
-    let third = bus.end();
+    let first = sent(&mut bus, 102);
+    let second = sent(&mut bus, 602);
+    let third = sent(&mut bus, 1142);
     for (ended, wanted) in [
         (first, (602, 0x181)),
         (second, (1142, 0x182)),
