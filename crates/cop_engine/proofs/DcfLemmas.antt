@@ -1,5 +1,5 @@
 -- The DCF files of a plan, one more; and the texts of the devices of a network.
-use Rattle.std.proofs.Common.{◌≡◌, ℕ, ◌+◌, Bool, true, false, cond, ◌==◌, List, [], ◌∷◌, ◌++◌, find, Option, Some, None, Result, Ok, Err, All, add-one, refl, sym, ap, ◌∙◌, subst}
+use Rattle.std.proofs.Common.{◌≡◌, ℕ, ◌+◌, Bool, true, false, cond, ◌==◌, List, [], ◌∷◌, ◌++◌, find, option_map, Option, Some, None, Result, Ok, Err, All, add-one, refl, sym, ap, ◌∙◌, subst}
 use Rattle.std.proofs.lemmas.List.{append-nil}
 use Rattle.std.proofs.lemmas.List.Elements.{All-nil, All-cons, All-head, All-tail}
 use Rattle.std.specs.Option.{option_to_list}
@@ -66,10 +66,10 @@ found_row (x ∷ xs) p P row all e = by_test (p x) e (found_row xs p P row (All-
     by_test false k later = later k
 
 -- and so has that of a node
-pub text_accepted : (files : List File) (rows : List DeviceRow) (node : ℕ) (row : DeviceRow) → HaveTexts files rows → device_row rows node ≡ Some row → reading (eds_text files row) ≡ Ok (eds_text files row)
+pub text_accepted : (files : List File) (rows : List DeviceRow) (node : ℕ) (row : DeviceRow) → HaveTexts files rows → device_row rows node ≡ Some row → option_map reading (text_of files row.eds) ≡ Some (Ok (eds_text files row))
 text_accepted files rows node row all found =
     let own : HasText files row = found_row rows (λ r. r.node == node) (HasText files) row all found in
-    rw own.1 own.2
+    rw own.1 (ap Some own.2)
 
 -- a node without a device has no file
 pub none_here : (eds : List File) (net : Net) (plan : PlanValue) (node : ℕ) (before : List File) → device_row net.nodes.devices node ≡ None → before ≡ before ++ option_to_list (dcf_at eds net plan node)

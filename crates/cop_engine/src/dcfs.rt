@@ -1,7 +1,7 @@
 //! The DCF files of a plan.
 
-ghost use Rattle.std.specs.Prelude.{◌≡◌, ◌++◌, length, map, Ok, OnOk, IfOk};
-ghost use Rattle.std.specs.Option.{option_copied, option_to_list};
+ghost use Rattle.std.specs.Prelude.{◌≡◌, ◌++◌, length, Ok, Some, OnOk, IfOk};
+ghost use Rattle.std.specs.Option.{option_copied, option_map, option_to_list};
 ghost use Rattle.std.specs.String.{string_bytes};
 ghost use Rattle.cop_eds.specs.Reading.{reading};
 ghost use Rattle.cop_net.specs.Devices.{text_of};
@@ -12,8 +12,8 @@ ghost use Rattle.cop_engine.specs.Dcfs.{dcf_name, eds_text, dcf_file, device_row
 
 use cop_cert::Items;
 use cop_dcf::{settings, write};
-use cop_eds::{Eds, EdsFault, parse};
-use cop_net::{DeviceRow, Network};
+use cop_eds::Eds;
+use cop_net::{DeviceRow, EdsFiles, Network};
 use cop_plan::Plan;
 use std::alloc::{AllocError, Global};
 use std::marker::Model;
@@ -58,22 +58,6 @@ fn dcf_name(alloc: Global, node: u8) -> Result<String, AllocError>
     format!(in alloc; "node-{hundreds}{tens}{ones}.dcf")
 }
 
-/// The text of the first file of a name.
-fn text_named<'a>(files: &'a [(String, Vec<u8>)], name: &[u8]) -> Option<&'a [u8]>
-    ensures { option_copied result ≡ text_of (map (λ f. record { name = string_bytes f.0; text = f.1.items }) files.now) name.now }
-{
-    match files {
-        [] => None,
-        [file, rest @ ..] => {
-            if file.0.as_bytes() == name {
-                Some(file.1.as_slice())
-            } else {
-                text_named(rest, name)
-            }
-        }
-    }
-}
-
 /// The row of a node's device.
 fn device_row(rows: &[DeviceRow], node: u8) -> Option<&DeviceRow>
     ensures { option_copied result ≡ device_row rows.now node }
@@ -90,52 +74,31 @@ fn device_row(rows: &[DeviceRow], node: u8) -> Option<&DeviceRow>
     }
 }
 
-/// Reads a text that is known to be accepted.
-fn read_again<'a>(alloc: Global, text: &'a [u8]) -> Result<Eds<'a>, AllocError>
-    requires { reading text.now ≡ Ok text.now }
-    ensures { IfOk result (λ eds. eds ≡ text.now) }
+/// The EDS of a device.
+fn eds_of<'b, 'a>(eds_files: &'b EdsFiles<'a>, row: &DeviceRow) -> &'b Eds<'a>
+    requires { option_map reading (text_of eds_files.now row.now.eds) ≡ Some (Ok (eds_text eds_files.now row.now)) }
+    ensures { result.now ≡ eds_text eds_files.now row.now }
 {
-    match parse(alloc, text) {
-        Ok(eds) => Ok(eds),
-        Err(EdsFault::Memory) => Err(AllocError),
-        Err(EdsFault::Refused(_)) => unreachable!(),
+    match eds_files.read(row.eds.as_bytes()) {
+        Some(Ok(eds)) => eds,
+        _ => unreachable!(),
     }
 }
 
-/// The text of the DCF of a device's node, by its EDS text.
+/// The text of the DCF of a device's node, by its EDS.
 fn dcf_text(
     alloc: Global,
     network: &Network<'_>,
     plan: &Plan,
     row: &DeviceRow,
-    text: &[u8],
+    eds: &Eds<'_>,
 ) -> Result<Vec<u8>, AllocError>
     requires plan { IsPlan network.now.equipment.rates network.now.set (length network.now.rows) plan.now }
-    requires accepted { reading text.now ≡ Ok text.now }
-    ensures { IfOk result (λ v. v.items ≡ dcf_of text.now (node_settings network.now plan.now.ids row.now.node) row.now.node row.now.name plan.now.rate row.now.eds) }
+    ensures { IfOk result (λ v. v.items ≡ dcf_of eds.now (node_settings network.now plan.now.ids row.now.node) row.now.node row.now.name plan.now.rate row.now.eds) }
 {
-    let eds = read_again(alloc, text)?;
     let settings = settings(alloc, plan, network, row.node)?;
     let (name, eds_name) = (row.name.as_bytes(), row.eds.as_bytes());
-    write(
-        alloc,
-        &eds,
-        &settings,
-        row.node,
-        name,
-        plan.rate(),
-        eds_name,
-    )
-}
-
-/// The text of a device's EDS file.
-fn eds_text<'a>(files: &'a [(String, Vec<u8>)], row: &DeviceRow) -> &'a [u8]
-    ensures { result.now ≡ eds_text (map (λ f. record { name = string_bytes f.0; text = f.1.items }) files.now) row.now }
-{
-    match text_named(files, row.eds.as_bytes()) {
-        Some(text) => text,
-        None => &[],
-    }
+    write(alloc, eds, &settings, row.node, name, plan.rate(), eds_name)
 }
 
 /// The DCF file of a device's node.
@@ -143,14 +106,14 @@ fn dcf_file(
     alloc: Global,
     network: &Network<'_>,
     plan: &Plan,
-    eds_files: &[(String, Vec<u8>)],
+    eds_files: &EdsFiles<'_>,
     row: &DeviceRow,
 ) -> Result<DcfFile, AllocError>
     requires plan { IsPlan network.now.equipment.rates network.now.set (length network.now.rows) plan.now }
-    requires accepted { reading (eds_text (map (λ f. record { name = string_bytes f.0; text = f.1.items }) eds_files.now) row.now) ≡ Ok (eds_text (map (λ f. record { name = string_bytes f.0; text = f.1.items }) eds_files.now) row.now) }
-    ensures { IfOk result (λ file. file ≡ dcf_file (map (λ f. record { name = string_bytes f.0; text = f.1.items }) eds_files.now) network.now plan.now row.now) }
+    requires accepted { option_map reading (text_of eds_files.now row.now.eds) ≡ Some (Ok (eds_text eds_files.now row.now)) }
+    ensures { IfOk result (λ file. file ≡ dcf_file eds_files.now network.now plan.now row.now) }
 {
-    let text = dcf_text(alloc, network, plan, row, eds_text(eds_files, row))?;
+    let text = dcf_text(alloc, network, plan, row, eds_of(eds_files, row))?;
     Ok(DcfFile {
         name: dcf_name(alloc, row.node)?,
         text,
@@ -164,12 +127,12 @@ fn push_dcf(
     alloc: Global,
     network: &Network<'_>,
     plan: &Plan,
-    eds_files: &[(String, Vec<u8>)],
+    eds_files: &EdsFiles<'_>,
     node: u8,
 ) -> Result<(), AllocError>
     requires plan { IsPlan network.now.equipment.rates network.now.set (length network.now.rows) plan.now }
-    requires texts { HaveTexts (map (λ f. record { name = string_bytes f.0; text = f.1.items }) eds_files.now) network.now.nodes.devices }
-    ensures { OnOk result (files.new ≡ files.old ++ option_to_list (dcf_at (map (λ f. record { name = string_bytes f.0; text = f.1.items }) eds_files.now) network.now plan.now node)) }
+    requires texts { HaveTexts eds_files.now network.now.nodes.devices }
+    ensures { OnOk result (files.new ≡ files.old ++ option_to_list (dcf_at eds_files.now network.now plan.now node)) }
 {
     let Some(row) = device_row(network.devices(), node) else {
         return Ok(());
@@ -183,11 +146,11 @@ pub(crate) fn dcf_files(
     alloc: Global,
     network: &Network<'_>,
     plan: &Plan,
-    eds_files: &[(String, Vec<u8>)],
+    eds_files: &EdsFiles<'_>,
 ) -> Result<Items<DcfFile>, AllocError>
     requires plan { IsPlan network.now.equipment.rates network.now.set (length network.now.rows) plan.now }
-    requires texts { HaveTexts (map (λ f. record { name = string_bytes f.0; text = f.1.items }) eds_files.now) network.now.nodes.devices }
-    ensures { IfOk result (λ files. files ≡ dcfs_below (map (λ f. record { name = string_bytes f.0; text = f.1.items }) eds_files.now) network.now plan.now 128) }
+    requires texts { HaveTexts eds_files.now network.now.nodes.devices }
+    ensures { IfOk result (λ files. files ≡ dcfs_below eds_files.now network.now plan.now 128) }
 {
     let mut files = Items::new(alloc);
     for node in 0..128 {

@@ -12,7 +12,7 @@ use crate::faults::Fault;
 use crate::plan_texts::{planned_text, refused_text};
 use crate::tests_of_streams::judge_first;
 use cop_cert::{Items, write};
-use cop_net::{Network, network, read_nodes, read_pdos};
+use cop_net::{EdsFiles, Network, network_of_files, read_nodes, read_pdos};
 use cop_plan::{Outcome, plan};
 use std::alloc::{AllocError, Global};
 
@@ -31,10 +31,10 @@ pub struct Files {
 fn files_of(
     alloc: Global,
     network: &Network<'_>,
-    eds_files: &[(String, Vec<u8>)],
+    eds_files: &EdsFiles<'_>,
 ) -> Result<Files, AllocError>
-    requires { HaveTexts (map (λ f. record { name = string_bytes f.0; text = f.1.items }) eds_files.now) network.now.nodes.devices }
-    ensures { IfOk result (AreFilesFor (map (λ f. record { name = string_bytes f.0; text = f.1.items }) eds_files.now) network.now) }
+    requires { HaveTexts eds_files.now network.now.nodes.devices }
+    ensures { IfOk result (AreFilesFor eds_files.now network.now) }
 {
     match plan(alloc, network)? {
         Outcome::Planned(plan) => {
@@ -70,6 +70,7 @@ pub fn plan_bytes(
 {
     let nodes = read_nodes(alloc, nodes)?;
     let pdos = read_pdos(alloc, pdos)?;
-    let network = network(alloc, &nodes, &pdos, eds_files)?;
-    Ok(files_of(alloc, &network, eds_files)?)
+    let eds_files = EdsFiles::new(alloc, eds_files)?;
+    let network = network_of_files(alloc, &nodes, &pdos, &eds_files)?;
+    Ok(files_of(alloc, &network, &eds_files)?)
 }

@@ -33,15 +33,6 @@ ends next xs i found total le so_far =
     let one : folded next found (drop i xs) ≡ Ok found = rw none refl in
     sym so_far ∙ one
 
-same_next : {A B F : Type 0} (r : Result A F) (f g : A → Result B F) → ((a : A) → f a ≡ g a) → (r >>= f) ≡ (r >>= g)
-same_next (Ok a) f g h = h a
-same_next (Err e) f g h = refl
-
-pub same_steps : {A X F : Type 0} (f g : A → X → Result A F) (found : A) (xs : List X) → ((a : A) (x : X) → f a x ≡ g a x) → folded f found xs ≡ folded g found xs
-unfolding folded
-same_steps f g found [] h = refl
-same_steps f g found (x ∷ xs) h = rw h (same_next (g found x) (λ a. folded f a xs) (λ a. folded g a xs) (λ a. same_steps f g a xs h))
-
 -- the same of an element that is known as itself
 pub goes_on_at : {A X F : Type 0} (next : A → X → Result A F) (xs : List X) (i : ℕ) (x : X) (found more : A) (total : Result A F)
     → i < length xs → x ≡ get_or xs i x → next found x ≡ Ok more → folded next found (drop i xs) ≡ total → folded next more (drop (i + 1) xs) ≡ total

@@ -7,13 +7,15 @@ ghost use Rattle.cop_net.specs.Rates.{is_some_rate};
 ghost use Rattle.std.specs.Option.{option_copied};
 ghost use Rattle.cop_table.specs.Reading.{Gives};
 ghost use Rattle.cop_net.specs.Faults.{refusal};
-ghost use Rattle.cop_net.specs.Devices.{no_device, described};
+ghost use Rattle.cop_net.specs.declared.faults.Table.TheVariants.{Nodes};
+ghost use Rattle.cop_net.specs.declared.faults.Rule.TheVariants as rules;
+ghost use Rattle.cop_net.specs.declared.faults.PlanFault.TheVariants.{Refused};
+ghost use Rattle.cop_net.specs.Devices.{no_device, described, entries_of};
 
-use crate::eds_files::dictionary_of;
-use crate::faults::PlanFault;
+use crate::faults::{PlanFault, Refusal, Rule, Table};
 use crate::rates::{all_rates, supported};
-use cop_dict::Dictionary;
-use cop_eds::Eds;
+use cop_dict::{Dictionary, build};
+use cop_eds::{Eds, EdsFault};
 use cop_frame::RateSet;
 use cop_rows::DeviceRow;
 use std::alloc::Global;
@@ -44,6 +46,28 @@ impl Model for Devices {
     ghost view = { λ d. record { devices = d.devices.items; rates = in_order d.rates } };
 
     ghost invariant = { λ d. length d.devices.items ≡ 128 };
+}
+
+/// The refusal of a device's EDS file.
+pub fn refused(place: u64, refusal: Option<cop_eds::Refusal>) -> PlanFault
+    ensures { result ≡ Refused (record { table = Nodes; rule = rules.Eds refusal; place = place }) }
+{
+    PlanFault::Refused(Refusal {
+        table: Table::Nodes,
+        rule: Rule::Eds(refusal),
+        place,
+    })
+}
+
+/// The dictionary of a device that an accepted text describes.
+fn dictionary_of(alloc: Global, eds: &Eds<'_>, row: &DeviceRow) -> Result<Dictionary, PlanFault>
+    ensures { Gives (λ d. d) refusal result (entries_of row.now.place row.now.node eds.now) }
+{
+    match build(alloc, eds, row.node) {
+        Ok(dictionary) => Ok(dictionary),
+        Err(EdsFault::Refused(refusal)) => Err(refused(row.place, Some(refusal))),
+        Err(EdsFault::Memory) => Err(PlanFault::Memory),
+    }
 }
 
 impl Devices {

@@ -1,49 +1,93 @@
-//! What the EDS file of a device says.
+//! The EDS files of a network, by their names.
 
-ghost use Rattle.std.specs.Prelude.{◌≡◌};
-ghost use Rattle.cop_table.specs.Reading.{Gives};
+ghost use Rattle.std.specs.Prelude.{◌≡◌, ◌++◌, ◌∷◌, [], List, IfOk, OnOk, map};
+ghost use Rattle.std.specs.Option.{option_copied, option_map};
+ghost use Rattle.std.specs.String.{string_bytes};
 ghost use Rattle.cop_eds.specs.Reading.{reading};
-ghost use Rattle.cop_net.specs.declared.faults.Table.TheVariants.{Nodes};
-ghost use Rattle.cop_net.specs.declared.faults.Rule.TheVariants as rules;
-ghost use Rattle.cop_net.specs.declared.faults.PlanFault.TheVariants.{Refused};
-ghost use Rattle.cop_net.specs.Faults.{refusal};
-ghost use Rattle.cop_net.specs.Devices.{entries_of, refused_at};
+ghost use Rattle.cop_net.specs.Devices.{File, text_of};
+ghost use Rattle.cop_net.specs.Texts.{KnowsReadings};
 
-use crate::faults::{PlanFault, Refusal, Rule, Table};
-use cop_dict::{Dictionary, build};
-use cop_eds::{Eds, EdsFault, parse};
-use cop_rows::DeviceRow;
-use std::alloc::Global;
+use cop_eds::{Eds, EdsFault, Refusal, parse};
+use std::alloc::{AllocError, Global};
+use std::collections::BTreeMap;
+use std::marker::Model;
 
-/// The refusal of a device's EDS file.
-pub fn refused(place: u64, refusal: Option<cop_eds::Refusal>) -> PlanFault
-    ensures { result ≡ Refused (record { table = Nodes; rule = rules.Eds refusal; place = place }) }
-{
-    PlanFault::Refused(Refusal {
-        table: Table::Nodes,
-        rule: Rule::Eds(refusal),
-        place,
-    })
+/// What was read of each text, by the names.
+type Readings<'a> = BTreeMap<&'a [u8], Result<Eds<'a>, Refusal>>;
+
+/// EDS files, which have names and texts, each read once: of two files with one name the first counts.
+#[derive(Drop)]
+pub struct EdsFiles<'a> {
+    files: &'a [(String, Vec<u8>)],
+    readings: Readings<'a>,
 }
 
-/// The dictionary of a device that an accepted text describes.
-pub fn dictionary_of(alloc: Global, eds: &Eds<'_>, row: &DeviceRow) -> Result<Dictionary, PlanFault>
-    ensures { Gives (λ d. d) refusal result (entries_of row.now.place row.now.node eds.now) }
+impl<'a> Model for EdsFiles<'a> {
+    ghost use Rattle.std.specs.Prelude.{List, map};
+    ghost use Rattle.std.specs.String.{string_bytes};
+    ghost use Rattle.cop_net.specs.Devices.{File};
+    ghost use Rattle.cop_net.specs.Texts.{KnowsReadings};
+
+    ghost Value = { List File };
+
+    ghost view = { λ e. map (λ f. record { name = string_bytes f.0; text = f.1.items }) e.files.now };
+
+    ghost invariant = { λ e. KnowsReadings (map (λ f. record { name = string_bytes f.0; text = f.1.items }) e.files.now) e.readings };
+}
+
+/// Reads a text: what it says, or why it is refused.
+fn read_text<'a>(alloc: Global, text: &'a [u8]) -> Result<Result<Eds<'a>, Refusal>, AllocError>
+    ensures { IfOk result (λ r. r ≡ reading text.now) }
 {
-    match build(alloc, eds, row.node) {
-        Ok(dictionary) => Ok(dictionary),
-        Err(EdsFault::Refused(refusal)) => Err(refused(row.place, Some(refusal))),
-        Err(EdsFault::Memory) => Err(PlanFault::Memory),
+    match parse(alloc, text) {
+        Ok(eds) => Ok(Ok(eds)),
+        Err(EdsFault::Refused(refusal)) => Ok(Err(refusal)),
+        Err(EdsFault::Memory) => Err(AllocError),
     }
 }
 
-/// Reads a text.
-pub fn read_text<'a>(alloc: Global, place: u64, text: &'a [u8]) -> Result<Eds<'a>, PlanFault>
-    ensures { Gives (λ eds. eds) refusal result (refused_at place (reading text.now)) }
+/// Reads a text, unless one of its name was read.
+fn add_text<'a>(
+    alloc: Global,
+    readings: &mut Readings<'a>,
+    name: &'a [u8],
+    text: &'a [u8],
+) -> Result<(), AllocError>
+    ensures { OnOk result ((files : List File) → KnowsReadings files readings.old → KnowsReadings (files ++ record { name = name.now; text = text.now } ∷ []) readings.new) }
 {
-    match parse(alloc, text) {
-        Ok(eds) => Ok(eds),
-        Err(EdsFault::Refused(refusal)) => Err(refused(place, Some(refusal))),
-        Err(EdsFault::Memory) => Err(PlanFault::Memory),
+    if !readings.contains_key(name) {
+        readings.insert(name, read_text(alloc, text)?)?;
+    }
+    Ok(())
+}
+
+/// What the texts of the files say, by the names.
+fn readings_of<'a>(
+    alloc: Global,
+    files: &'a [(String, Vec<u8>)],
+) -> Result<Readings<'a>, AllocError>
+    ensures { IfOk result (λ m. KnowsReadings (map (λ f. record { name = string_bytes f.0; text = f.1.items }) files.now) m) }
+{
+    let mut readings = BTreeMap::new(alloc);
+    for file in files {
+        add_text(alloc, &mut readings, file.0.as_bytes(), file.1.as_slice())?;
+    }
+    Ok(readings)
+}
+
+impl<'a> EdsFiles<'a> {
+    /// Reads files: those that are refused too, which is told where a device has such a file.
+    pub fn new(alloc: Global, files: &'a [(String, Vec<u8>)]) -> Result<EdsFiles<'a>, AllocError>
+        ensures { IfOk result (λ e. e ≡ map (λ f. record { name = string_bytes f.0; text = f.1.items }) files.now) }
+    {
+        let readings = readings_of(alloc, files)?;
+        Ok(EdsFiles { files, readings })
+    }
+
+    /// What the file of a name says, or why its text is refused, where there is one.
+    pub fn read(&self, name: &[u8]) -> Option<&Result<Eds<'a>, Refusal>>
+        ensures { option_copied result ≡ option_map reading (text_of self.now name.now) }
+    {
+        self.readings.get(name)
     }
 }

@@ -4,6 +4,7 @@
 
 mod devices;
 mod eds_files;
+mod equipping;
 mod faults;
 mod fixed;
 mod heartbeats;
@@ -14,13 +15,13 @@ mod rates;
 mod settings;
 mod strays;
 mod tables;
-mod texts;
 mod uses;
 
 pub use cop_rows::{
     Consumer, Consumers, DeviceRow, FrameKind, FrameRow, Name, NodeTable, PdoRow, PdoTable,
 };
+pub use eds_files::EdsFiles;
 pub use faults::{PlanFault, Refusal, Rule, Table};
-pub use making::network;
+pub use making::{network, network_of_files};
 pub use networks::Network;
 pub use tables::{read_nodes, read_pdos};

@@ -5,20 +5,21 @@ ghost use Rattle.std.specs.String.{string_bytes};
 ghost use Rattle.cop_table.specs.Reading.{Gives};
 ghost use Rattle.cop_rta.specs.Entries.{entry_of};
 ghost use Rattle.cop_rows.specs.Nodes.{IsNodeTable};
-ghost use Rattle.cop_rows.specs.Pdos.{IsPdoRow};
+ghost use Rattle.cop_rows.specs.Pdos.{IsPdoRow, IsPdoTable};
 ghost use Rattle.cop_net.specs.Faults.{refusal};
 ghost use Rattle.cop_net.specs.Sets.{AreOneSet};
 ghost use Rattle.cop_net.specs.Fixed.{IsTimed};
 ghost use Rattle.cop_net.specs.Network.{accepted, streams_of, network_of};
 
 use crate::devices::Devices;
+use crate::eds_files::EdsFiles;
+use crate::equipping::equip;
 use crate::faults::{PlanFault, Rule};
 use crate::fixed::put_fixed;
 use crate::heartbeats::Heartbeats;
 use crate::networks::Network;
 use crate::pdos::find_pdos;
 use crate::strays::{check_devices, refused};
-use crate::texts::equip;
 use cop_rows::{DeviceRow, FrameRow, NodeTable, PdoRow, PdoTable};
 use cop_rta::StreamSet;
 use std::alloc::Global;
@@ -66,22 +67,21 @@ fn streams_of(
 }
 
 #[tactic(auto, using(crate::proofs::NetworkLemmas::accepted_one_set), unfolding(crate::specs::Network::network_of))]
-/// The network of the tables and of the EDS files, which have names and texts; of two files with one name the first counts.
-/// Otherwise the first rule that is broken: of the devices by record (43); then of the PDOs by record (45, the TPDO's 46,
-/// 47, and of each consumer in turn 48 and 46); then of the devices by node (51, 50); then 52. The streams of a network that
-/// breaks no rule are apart and few enough for one set, which so refuses none of them.
-pub fn network<'a>(
+/// The network of the tables, by the rows that are in them.
+fn network_of_rows<'a>(
     alloc: Global,
     nodes: &'a NodeTable,
     pdos: &'a PdoTable,
-    files: &[(String, Vec<u8>)],
+    frames: &'a [FrameRow],
+    rows: &[PdoRow],
+    files: &EdsFiles<'_>,
 ) -> Result<Network<'a>, PlanFault>
-    ensures exact { Gives accepted refusal result (network_of nodes.now pdos.now (map (λ f. record { name = string_bytes f.0; text = f.1.items }) files.now)) }
-    ensures one_set { IfOk (network_of nodes.now pdos.now (map (λ f. record { name = string_bytes f.0; text = f.1.items }) files.now)) (λ made. AreOneSet made.streams) }
+    requires frames { (frames.now ≡ nodes.now.frames) × IsNodeTable nodes.now × All IsTimed frames.now }
+    requires rows { (rows.now ≡ pdos.now) × IsPdoTable pdos.now }
+    ensures exact { Gives accepted refusal result (network_of nodes.now pdos.now files.now) }
+    ensures one_set { IfOk (network_of nodes.now pdos.now files.now) (λ made. AreOneSet made.streams) }
     ensures tables { IfOk result (λ n. (n.nodes ≡ nodes.now) × (n.rows ≡ pdos.now)) }
 {
-    let frames = frame_rows(nodes);
-    let rows = pdos.rows();
     let devices = equip(alloc, device_rows(nodes), files)?;
     let heartbeats = Heartbeats::new(frames);
     let set = streams_of(alloc, frames, &heartbeats, rows, &devices)?;
@@ -92,4 +92,39 @@ pub fn network<'a>(
         devices,
         set,
     })
+}
+
+/// The network of the tables and of EDS files that are read. Otherwise the first rule that is broken: of the devices by
+/// record (43); then of the PDOs by record (45, the TPDO's 46, 47, and of each consumer in turn 48 and 46); then of the
+/// devices by node (51, 50); then 52. The streams of a network that breaks no rule are apart and few enough for one set,
+/// which so refuses none of them.
+pub fn network_of_files<'a>(
+    alloc: Global,
+    nodes: &'a NodeTable,
+    pdos: &'a PdoTable,
+    files: &EdsFiles<'_>,
+) -> Result<Network<'a>, PlanFault>
+    ensures exact { Gives accepted refusal result (network_of nodes.now pdos.now files.now) }
+    ensures one_set { IfOk (network_of nodes.now pdos.now files.now) (λ made. AreOneSet made.streams) }
+    ensures tables { IfOk result (λ n. (n.nodes ≡ nodes.now) × (n.rows ≡ pdos.now)) }
+{
+    network_of_rows(alloc, nodes, pdos, frame_rows(nodes), pdos.rows(), files)
+}
+
+#[tactic(auto, using(crate::proofs::NetworkLemmas::accepted_one_set))]
+/// The network of the tables and of the EDS files, which have names and texts; of two files with one name the first counts.
+/// It is [`network_of_files`] of those that are read.
+pub fn network<'a>(
+    alloc: Global,
+    nodes: &'a NodeTable,
+    pdos: &'a PdoTable,
+    files: &[(String, Vec<u8>)],
+) -> Result<Network<'a>, PlanFault>
+    ensures exact { Gives accepted refusal result (network_of nodes.now pdos.now (map (λ f. record { name = string_bytes f.0; text = f.1.items }) files.now)) }
+    ensures one_set { IfOk (network_of nodes.now pdos.now (map (λ f. record { name = string_bytes f.0; text = f.1.items }) files.now)) (λ made. AreOneSet made.streams) }
+    ensures tables { IfOk result (λ n. (n.nodes ≡ nodes.now) × (n.rows ≡ pdos.now)) }
+{
+    let (frames, rows) = (frame_rows(nodes), pdos.rows());
+    let files = EdsFiles::new(alloc, files)?;
+    network_of_rows(alloc, nodes, pdos, frames, rows, &files)
 }

@@ -2,7 +2,8 @@ use cop_dict::{MappingFault, build};
 use cop_eds::parse;
 use cop_frame::Rate;
 use cop_net::{
-    Network, NodeTable, PdoTable, PlanFault, Rule, Table, network, read_nodes, read_pdos,
+    EdsFiles, Network, NodeTable, PdoTable, PlanFault, Rule, Table, network, network_of_files,
+    read_nodes, read_pdos,
 };
 use cop_pdo::{Direction, payload};
 use std::alloc::Global;
@@ -189,6 +190,41 @@ fn the_streams_of_the_valve(rt: HostRuntime) -> Result<(), Fail> {
         );
         assert_eq!(rt; (stream.jitter, stream.deadline), (0, deadline));
     }
+    Ok(())
+}
+
+/// Whether the file of a name is accepted, where there is one.
+fn is_accepted(files: &EdsFiles<'_>, name: &str) -> Option<bool> {
+    match files.read(name.as_bytes()) {
+        Some(Ok(_)) => Some(true),
+        Some(Err(_)) => Some(false),
+        None => None,
+    }
+}
+
+#[test]
+fn a_file_is_read_by_its_name(rt: HostRuntime) -> Result<(), Fail> {
+    let (nodes, pdos, files) = valve(rt.alloc())?;
+    let [usual] = files;
+    let other = file(
+        rt.alloc(),
+        "other.eds",
+        Vec::from_slice(rt.alloc(), b"[1000")?,
+    )?;
+    let again = file(
+        rt.alloc(),
+        "unit.eds",
+        Vec::from_slice(rt.alloc(), b"[1000")?,
+    )?;
+    let files = [usual, other, again];
+    let read = EdsFiles::new(rt.alloc(), &files)?;
+    assert_eq!(rt; is_accepted(&read, "unit.eds"), Some(true));
+    assert_eq!(rt; is_accepted(&read, "other.eds"), Some(false));
+    assert_eq!(rt; is_accepted(&read, "none.eds"), None);
+    assert_eq!(rt;
+        network_of_files(rt.alloc(), &nodes, &pdos, &read)?.pdos(),
+        1
+    );
     Ok(())
 }
 

@@ -23,10 +23,11 @@ returns-in_err-pdos c =
 pub returns-in_err-network : goal.returns-in_err-network
 returns-in_err-network c =
     err_is c.from_residual-in_err-network.result _ _ (fault_of c.in_err-network.field-0.0) c.from_residual-in_err-network.ensures.1
-    (network_explains c.args.nodes.now c.args.pdos.now _ c.in_ok-nodes.nodes c.in_ok-pdos.pdos c.in_err-network.field-0.0 c.in_ok-nodes.ensures c.in_ok-pdos.ensures c.in_err-network.ensures.exact)
+    (network_explains c.args.nodes.now c.args.pdos.now _ c.in_ok-nodes.nodes c.in_ok-pdos.pdos c.in_err-network.field-0.0 c.in_ok-nodes.ensures c.in_ok-pdos.ensures (rw c.in_ok-eds_files.ensures at c.in_err-network.ensures.exact))
 
 pub returns : goal.returns
 returns c =
     let f = files_are c.args.nodes.now c.args.pdos.now _ c.in_ok-nodes.nodes c.in_ok-pdos.pdos c.in_ok-network.network c.in_ok-files_of.field-0
-    c.in_ok-nodes.ensures c.in_ok-pdos.ensures c.in_ok-network.ensures.exact c.in_ok-network.ensures.tables.0 c.in_ok-network.ensures.tables.1 (subst IsNetwork c.network-2.view_is c.network-2.invariant.0) c.in_ok-files_of.ensures in
+    c.in_ok-nodes.ensures c.in_ok-pdos.ensures (rw c.in_ok-eds_files.ensures at c.in_ok-network.ensures.exact) c.in_ok-network.ensures.tables.0 c.in_ok-network.ensures.tables.1
+    (subst IsNetwork c.network.view_is c.network.invariant.0) (rw c.in_ok-eds_files.ensures at c.in_ok-files_of.ensures) in
     record { exact = f; guaranteed = guaranteed c.args.nodes.now c.args.pdos.now _ f.found f.read f.streams f.streams_are f.begins f.planned.outcome f.planned.planned }
