@@ -204,27 +204,27 @@ fn is_accepted(files: &EdsFiles<'_>, name: &str) -> Option<bool> {
 
 #[test]
 fn a_file_is_read_by_its_name(rt: HostRuntime) -> Result<(), Fail> {
-    let (nodes, pdos, files) = valve(rt.alloc())?;
-    let [usual] = files;
-    let other = file(
-        rt.alloc(),
-        "other.eds",
-        Vec::from_slice(rt.alloc(), b"[1000")?,
-    )?;
-    let again = file(
-        rt.alloc(),
-        "unit.eds",
-        Vec::from_slice(rt.alloc(), b"[1000")?,
-    )?;
-    let files = [usual, other, again];
+    let files = [
+        file(rt.alloc(), "unit.eds", text_of(rt.alloc(), USUAL)?)?,
+        file(
+            rt.alloc(),
+            "other.eds",
+            Vec::from_slice(rt.alloc(), b"[1000")?,
+        )?,
+        file(
+            rt.alloc(),
+            "unit.eds",
+            Vec::from_slice(rt.alloc(), b"[1000")?,
+        )?,
+    ];
     let read = EdsFiles::new(rt.alloc(), &files)?;
     assert_eq!(rt; is_accepted(&read, "unit.eds"), Some(true));
     assert_eq!(rt; is_accepted(&read, "other.eds"), Some(false));
     assert_eq!(rt; is_accepted(&read, "none.eds"), None);
-    assert_eq!(rt;
-        network_of_files(rt.alloc(), &nodes, &pdos, &read)?.pdos(),
-        1
-    );
+    let nodes = nodes_of(rt.alloc(), VALVE)?;
+    let pdos = pdos_of(rt.alloc(), "5,1,10000,0,670,\n")?;
+    let valve = network_of_files(rt.alloc(), &nodes, &pdos, &read)?;
+    assert_eq!(rt; valve.pdos(), 1);
     Ok(())
 }
 
