@@ -80,12 +80,14 @@ fn timeline(
     outcome: &Outcome,
     trace: &Option<(&str, Vec<u8>)>,
 ) -> Result<Option<Timeline>, Fault> {
-    match (outcome, trace) {
-        (Outcome::Planned(plan), Some((_, bytes))) => {
-            Ok(Some(timeline_of(rt.alloc(), plan, bytes)?))
-        }
-        _ => Ok(None),
-    }
+    let Outcome::Planned(plan) = outcome else {
+        return Ok(None);
+    };
+    let Some((_, bytes)) = trace else {
+        return Ok(None);
+    };
+    let timeline = timeline_of(rt.alloc(), plan, bytes)?;
+    Ok(Some(timeline))
 }
 
 /// The page of the plan of a network.
