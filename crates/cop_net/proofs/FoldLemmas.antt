@@ -1,7 +1,6 @@
 -- Loops that add one element after the other to what was found.
 use Rattle.std.proofs.Common.{◌≡◌, ℕ, ◌+◌, ◌<◌, ◌≤◌, List, [], ◌∷◌, Result, Ok, Err, Option, Some, None, IfSome, length, drop, get_or, drop-cons, add-one, refl, sym, ap, ◌∙◌}
 use Rattle.std.proofs.lemmas.List.{drop_all}
-use Rattle.cop_table.specs.Reading.{◌>>=◌}
 use Rattle.cop_net.specs.Steps.{folded}
 
 pub goes_on : {A X F : Type 0} (next : A → X → Result A F) (xs : List X) (i : ℕ) (d : X) (found more : A) (total : Result A F)
