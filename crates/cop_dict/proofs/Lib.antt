@@ -7,6 +7,7 @@ pub mod Admitted
 pub mod Replaced
 pub mod OrderLemmas
 pub mod BuildLemmas
+pub mod KeyLemmas
 pub mod AgreeLemmas
 pub mod PatternLemmas
 pub mod RuleLemmas

@@ -8,4 +8,5 @@ pub mod Dict
 pub mod Codes
 pub mod Patterns
 pub mod Build
+pub mod Keys
 pub mod Fitting

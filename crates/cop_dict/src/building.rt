@@ -1,15 +1,16 @@
-//! The dictionary of a device, as its EDS text describes it.
+//! The entries of a dictionary, as an EDS text describes them.
 
 ghost use Rattle.std.specs.Prelude.{◌≡◌, ◌≤◌, IfOk, List, ℕ, length};
 ghost use Rattle.std.specs.Option.{option_map, ForSome};
 ghost use Rattle.cop_eds.specs.Lines.{Gives, Sees};
 ghost use Rattle.cop_dict.specs.Types.{width_of, greatest_of};
 ghost use Rattle.cop_dict.specs.Find.{IsSorted};
-ghost use Rattle.cop_dict.specs.Build.{zeros, initial_number, initial_of, limit_number, limit_of, value_entry, entry_of_type, entry_built, collected, built};
+ghost use Rattle.cop_dict.specs.Build.{zeros, initial_number, initial_of, limit_number, limit_of, entry_of_type, entry_built, built};
+ghost use Rattle.cop_dict.specs.Keys.{said, keys_of, AreKeys};
 
+use crate::blueprint::Keys;
 use crate::data_type::DataType;
 use crate::description::Description;
-use crate::dictionary::Dictionary;
 use crate::object::Object;
 use crate::pattern::pattern_at;
 use cop_eds::{Eds, EdsFault, Refusal};
@@ -77,33 +78,22 @@ fn limit_of(
     Ok(Some(data_type.value_of(pattern)))
 }
 
-/// The line and the text of an object's value.
-fn value_entry<'a>(eds: &Eds<'a>, section: usize) -> Option<(usize, &'a [u8])>
-    ensures { option_map (λ e. (e.0, e.1.now)) result ≡ value_entry eds.now section }
-{
-    match eds.entry(section, b"ParameterValue") {
-        Some(entry) => Some(entry),
-        None => eds.entry(section, b"DefaultValue"),
-    }
-}
-
 #[tactic(auto, unfolding(crate::specs::Build::entry_of_type))]
 /// The entry of an object whose values have a type.
 fn entry_of_type(
     alloc: Global,
-    eds: &Eds<'_>,
     node: u8,
     object: &cop_eds::Object,
+    keys: &Keys<'_>,
     data_type: DataType,
 ) -> Result<Object, EdsFault>
     requires index { object.now.index ≤ 65535 }
     requires sub { object.now.sub ≤ 255 }
-    ensures { Gives (λ o. o) result (entry_of_type eds.now node object.now data_type) }
+    ensures { (text : List ℕ) → said keys.now ≡ keys_of text object.now → Gives (λ o. o) result (entry_of_type text node object.now data_type) }
 {
-    let section = object.place.section;
-    let initial = initial_of(alloc, data_type, node, value_entry(eds, section))?;
-    let low = limit_of(data_type, node, eds.entry(section, b"LowLimit"))?;
-    let high = limit_of(data_type, node, eds.entry(section, b"HighLimit"))?;
+    let initial = initial_of(alloc, data_type, node, keys.value)?;
+    let low = limit_of(data_type, node, keys.low)?;
+    let high = limit_of(data_type, node, keys.high)?;
     let description = Description {
         data_type,
         access: object.access,
@@ -119,35 +109,32 @@ fn entry_of_type(
 /// The entry of an object.
 fn entry_built(
     alloc: Global,
-    eds: &Eds<'_>,
     node: u8,
     object: &cop_eds::Object,
+    keys: &Keys<'_>,
 ) -> Result<Object, EdsFault>
     requires index { object.now.index ≤ 65535 }
     requires sub { object.now.sub ≤ 255 }
-    ensures { Gives (λ o. o) result (entry_built eds.now node object.now) }
+    ensures { (text : List ℕ) → said keys.now ≡ keys_of text object.now → Gives (λ o. o) result (entry_built text node object.now) }
 {
     let data_type = DataType::numbered(object.data_type);
-    entry_of_type(alloc, eds, node, object, data_type)
+    entry_of_type(alloc, node, object, keys, data_type)
 }
 
 /// The entries of all objects, by rising index and sub.
-fn entries(alloc: Global, eds: &Eds<'_>, node: u8) -> Result<Vec<Object>, EdsFault>
+pub(crate) fn entries(
+    alloc: Global,
+    eds: &Eds<'_>,
+    keys: &[Keys<'_>],
+    node: u8,
+) -> Result<Vec<Object>, EdsFault>
+    requires { AreKeys eds.now keys.now }
     ensures value { Gives (λ v. v.items) result (built eds.now node) }
     ensures sorted { IfOk result (λ v. IsSorted v.items) }
 {
     let mut entries = Vec::with_capacity(alloc, eds.objects().len())?;
-    for object in eds.objects() {
-        entries.push(entry_built(alloc, eds, node, object)?)?;
+    for (i, object) in eds.objects().iter().enumerate() {
+        entries.push(entry_built(alloc, node, object, &keys[i])?)?;
     }
     Ok(entries)
-}
-
-/// The dictionary of a device that is the node of this number, with its initial values. A refusal
-/// is the first by rising index and sub, and of one object its value's before its low limit's and
-/// its high limit's; it stands at the key's line.
-pub fn build(alloc: Global, eds: &Eds<'_>, node: u8) -> Result<Dictionary, EdsFault>
-    ensures { Gives (λ dict. dict) result (built eds.now node) }
-{
-    Ok(Dictionary::from_entries(entries(alloc, eds, node)?))
 }

@@ -2,6 +2,7 @@
 #![tactic(auto)]
 
 mod abort;
+mod blueprint;
 mod building;
 mod data_type;
 mod description;
@@ -16,7 +17,7 @@ mod search;
 mod writing;
 
 pub use abort::Abort;
-pub use building::build;
+pub use blueprint::{Blueprint, build};
 pub use cop_eds::Access;
 pub use data_type::DataType;
 pub use description::Description;

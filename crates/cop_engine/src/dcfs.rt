@@ -80,7 +80,7 @@ fn eds_of<'b, 'a>(eds_files: &'b EdsFiles<'a>, row: &DeviceRow) -> &'b Eds<'a>
     ensures { result.now ≡ eds_text eds_files.now row.now }
 {
     match eds_files.read(row.eds.as_bytes()) {
-        Some(Ok(eds)) => eds,
+        Some(Ok(blueprint)) => blueprint.eds(),
         _ => unreachable!(),
     }
 }

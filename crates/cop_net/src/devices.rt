@@ -14,8 +14,8 @@ ghost use Rattle.cop_net.specs.Devices.{no_device, described, entries_of};
 
 use crate::faults::{PlanFault, Refusal, Rule, Table};
 use crate::rates::{all_rates, supported};
-use cop_dict::{Dictionary, build};
-use cop_eds::{Eds, EdsFault};
+use cop_dict::{Blueprint, Dictionary};
+use cop_eds::EdsFault;
 use cop_frame::RateSet;
 use cop_rows::DeviceRow;
 use std::alloc::Global;
@@ -60,10 +60,14 @@ pub fn refused(place: u64, refusal: Option<cop_eds::Refusal>) -> PlanFault
 }
 
 /// The dictionary of a device that an accepted text describes.
-fn dictionary_of(alloc: Global, eds: &Eds<'_>, row: &DeviceRow) -> Result<Dictionary, PlanFault>
-    ensures { Gives (λ d. d) refusal result (entries_of row.now.place row.now.node eds.now) }
+fn dictionary_of(
+    alloc: Global,
+    blueprint: &Blueprint<'_>,
+    row: &DeviceRow,
+) -> Result<Dictionary, PlanFault>
+    ensures { Gives (λ d. d) refusal result (entries_of row.now.place row.now.node blueprint.now) }
 {
-    match build(alloc, eds, row.node) {
+    match blueprint.dictionary(alloc, row.node) {
         Ok(dictionary) => Ok(dictionary),
         Err(EdsFault::Refused(refusal)) => Err(refused(row.place, Some(refusal))),
         Err(EdsFault::Memory) => Err(PlanFault::Memory),
@@ -86,16 +90,21 @@ impl Devices {
     }
 
     /// Adds the device of a row, which an accepted text describes.
-    pub fn add(&mut self, alloc: Global, row: &DeviceRow, eds: &Eds<'_>) -> Result<(), PlanFault>
+    pub fn add(
+        &mut self,
+        alloc: Global,
+        row: &DeviceRow,
+        blueprint: &Blueprint<'_>,
+    ) -> Result<(), PlanFault>
         requires { row.now.node ≤ 127 }
-        ensures { Gives (λ _. self.new) refusal result (described self.old row.now eds.now) }
+        ensures { Gives (λ _. self.new) refusal result (described self.old row.now blueprint.now) }
     {
-        let dictionary = dictionary_of(alloc, eds, row)?;
+        let dictionary = dictionary_of(alloc, blueprint, row)?;
         self.devices[usize::from(row.node)] = Some(Device {
             place: row.place,
             dictionary,
         });
-        self.rates = supported(&self.rates, eds);
+        self.rates = supported(&self.rates, blueprint.eds());
         Ok(())
     }
 

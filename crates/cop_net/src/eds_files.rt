@@ -7,13 +7,14 @@ ghost use Rattle.cop_eds.specs.Reading.{reading};
 ghost use Rattle.cop_net.specs.Devices.{File, text_of};
 ghost use Rattle.cop_net.specs.Texts.{KnowsReadings};
 
-use cop_eds::{Eds, EdsFault, Refusal, parse};
+use cop_dict::Blueprint;
+use cop_eds::{EdsFault, Refusal, parse};
 use std::alloc::{AllocError, Global};
 use std::collections::BTreeMap;
 use std::marker::Model;
 
 /// What was read of each text, by the names.
-type Readings<'a> = BTreeMap<&'a [u8], Result<Eds<'a>, Refusal>>;
+type Readings<'a> = BTreeMap<&'a [u8], Result<Blueprint<'a>, Refusal>>;
 
 /// EDS files, which have names and texts, each read once: of two files with one name the first counts.
 #[derive(Drop)]
@@ -36,11 +37,14 @@ impl<'a> Model for EdsFiles<'a> {
 }
 
 /// Reads a text: what it says, or why it is refused.
-fn read_text<'a>(alloc: Global, text: &'a [u8]) -> Result<Result<Eds<'a>, Refusal>, AllocError>
+fn read_text<'a>(
+    alloc: Global,
+    text: &'a [u8],
+) -> Result<Result<Blueprint<'a>, Refusal>, AllocError>
     ensures { IfOk result (λ r. r ≡ reading text.now) }
 {
     match parse(alloc, text) {
-        Ok(eds) => Ok(Ok(eds)),
+        Ok(eds) => Ok(Ok(Blueprint::new(alloc, eds)?)),
         Err(EdsFault::Refused(refusal)) => Ok(Err(refusal)),
         Err(EdsFault::Memory) => Err(AllocError),
     }
@@ -85,7 +89,7 @@ impl<'a> EdsFiles<'a> {
     }
 
     /// What the file of a name says, or why its text is refused, where there is one.
-    pub fn read(&self, name: &[u8]) -> Option<&Result<Eds<'a>, Refusal>>
+    pub fn read(&self, name: &[u8]) -> Option<&Result<Blueprint<'a>, Refusal>>
         ensures { option_copied result ≡ option_map reading (text_of self.now name.now) }
     {
         self.readings.get(name)

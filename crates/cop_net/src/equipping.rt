@@ -22,7 +22,7 @@ fn add_row(
     ensures { Gives (λ _. devices.new) refusal result (device_added (text_of files.now) devices.old row.now) }
 {
     match files.read(row.eds.as_bytes()) {
-        Some(Ok(eds)) => devices.add(alloc, row, eds),
+        Some(Ok(blueprint)) => devices.add(alloc, row, blueprint),
         Some(Err(refusal)) => Err(refused(row.place, Some(*refusal))),
         None => Err(refused(row.place, None)),
     }
