@@ -134,10 +134,10 @@ fn deliver_front(bus: &mut Bus, devices: &mut [Device], node: u8)
     ensures room { (vec_len bus.new.sent ≡ vec_len bus.old.sent) × (vec_capacity bus.old.sent ≤ vec_capacity bus.new.sent)
         × (vec_len bus.new.answers ≤ vec_len bus.old.answers + 1) × (vec_capacity bus.old.answers ≤ vec_capacity bus.new.answers) }
 {
-    let Some(place) = device_place(devices, node) else {
+    let Some(front) = next_to(&bus.sent, bus.delivered[usize::from(node)], node) else {
         return;
     };
-    let Some(front) = next_to(&bus.sent, bus.delivered[usize::from(node)], node) else {
+    let Some(place) = device_place(devices, node) else {
         return;
     };
     bus.delivered[usize::from(node)] = front + 1;

@@ -69,7 +69,8 @@ fn values_by_section(
     ensures size { IfOk result (λ v. length v.items ≡ length table.now) }
     ensures keys { IfOk result (λ v. AreBySection v.items (values_from (λ section. get_or table.now section None) 0 (length table.now))) }
 {
-    let mut keys = Vec::new(alloc);
+    // Two more sections may be added.
+    let mut keys = Vec::with_capacity(alloc, table.len().saturating_add(2))?;
     for (section, setting) in table.iter().enumerate() {
         keys.push(value_keys(alloc, section, *setting)?)?;
     }

@@ -1,10 +1,11 @@
 //! The DCF text of a node.
 
-ghost use Rattle.std.specs.Prelude.{◌≡◌, ◌++◌, ◌||◌, ◌==◌, not, [], length, get_or, if◌then◌else◌, IfOk, OnOk};
+ghost use Rattle.std.specs.Prelude.{◌≡◌, ◌++◌, ◌||◌, ◌==◌, not, [], length, take, get_or, if◌then◌else◌, IfOk, OnOk};
 ghost use Rattle.std.specs.List.{list_any};
 ghost use Rattle.std.specs.Option.{option_copied};
 ghost use Rattle.cop_eds.specs.Lines.{IsInside, lines_of};
 ghost use Rattle.cop_eds.specs.Rows.{row_of, rows_of};
+ghost use Rattle.cop_eds.specs.Text.{mark_len};
 ghost use Rattle.cop_eds.specs.Edits.{change_of, changed, newline_of};
 ghost use Rattle.cop_dcf.specs.Dcf.{dcf_of};
 ghost use Rattle.cop_dcf.specs.Pieces.{pair_follows, ends_entries, is_wanting, new_lines, whole_line, has_section, is_extended, adds_keys, piece_of, pieces_of, section_of};
@@ -15,6 +16,30 @@ use crate::setting::Setting;
 use cop_eds::{Eds, Kind, Line};
 use cop_frame::Rate;
 use std::alloc::{AllocError, Global};
+
+/// About how many bytes a key takes that is set.
+const BYTES_OF_KEY: usize = 32;
+
+/// About how many bytes the sections take that each DCF has.
+const BYTES_OF_SECTIONS: usize = 1024;
+
+/// Room for about as many bytes as a DCF has.
+fn room_for(eds: &Eds<'_>, settings: &[Setting]) -> usize {
+    let keys = settings.len().saturating_mul(BYTES_OF_KEY);
+    eds.source()
+        .len()
+        .saturating_add(keys)
+        .saturating_add(BYTES_OF_SECTIONS)
+}
+
+/// The mark of the text, with room for the lines of a DCF.
+fn begun(alloc: Global, eds: &Eds<'_>, settings: &[Setting]) -> Result<Vec<u8>, AllocError>
+    ensures { IfOk result (λ text. text.items ≡ take (mark_len eds.now) eds.now) }
+{
+    let mut text = Vec::with_capacity(alloc, room_for(eds, settings))?;
+    text.extend_from_slice(eds.mark())?;
+    Ok(text)
+}
 
 /// The end of a text's first line; LF where it has none.
 fn newline<'a>(eds: &Eds<'a>) -> &'a [u8]
@@ -243,7 +268,7 @@ pub fn write(
     ensures { IfOk result (λ v. v.items ≡ dcf_of eds.now settings.now node name.now rate eds_name.now) }
 {
     let table = section_keys(alloc, eds, settings, node, name, rate, eds_name)?;
-    let mut text = Vec::from_slice(alloc, eds.mark())?;
+    let mut text = begun(alloc, eds, settings)?;
     put_lines(&mut text, eds, &table)?;
     let (file, device) = named_sections(eds);
     put_absent(&mut text, eds, keys_in(&table, file), b"FileInfo")?;

@@ -11,16 +11,16 @@ ghost use Rattle.cop_dict.specs.Keys.{said, keys_of, AreKeys};
 use crate::blueprint::Keys;
 use crate::data_type::DataType;
 use crate::description::Description;
-use crate::object::Object;
+use crate::object::{Bytes, Object};
 use crate::pattern::pattern_at;
 use cop_eds::{Eds, EdsFault, Refusal};
 use std::alloc::{AllocError, Global};
 
 /// The value of an object without one.
-fn zeros(alloc: Global, data_type: DataType) -> Result<Vec<u8>, AllocError>
+fn zeros(alloc: Global, data_type: DataType) -> Result<Bytes, AllocError>
     ensures { IfOk result (λ v. v.items ≡ zeros data_type) }
 {
-    Vec::from_slice(alloc, &[0; 8][..data_type.width().unwrap_or(0)])
+    Bytes::from_slice(alloc, &[0; 8][..data_type.width().unwrap_or(0)])
 }
 
 /// The initial value of a type that is no text.
@@ -30,7 +30,7 @@ fn initial_number(
     node: u8,
     line: usize,
     text: &[u8],
-) -> Result<Vec<u8>, EdsFault>
+) -> Result<Bytes, EdsFault>
     ensures value { Gives (λ v. v.items) result (initial_number data_type (greatest_of data_type) node (line, text.now)) }
     ensures sized { IfOk result (λ v. ForSome (width_of data_type) (λ width. length v.items ≡ width)) }
 {
@@ -40,7 +40,7 @@ fn initial_number(
     let pattern = pattern_at(data_type, greatest, node, line, text)?;
     let bytes = pattern.to_le_bytes();
     let width = data_type.width().unwrap_or(0);
-    Ok(Vec::from_slice(alloc, &bytes[..width])?)
+    Ok(Bytes::from_slice(alloc, &bytes[..width])?)
 }
 
 /// The initial value.
@@ -49,13 +49,13 @@ fn initial_of(
     data_type: DataType,
     node: u8,
     entry: Option<(usize, &[u8])>,
-) -> Result<Vec<u8>, EdsFault>
+) -> Result<Bytes, EdsFault>
     ensures value { Gives (λ v. v.items) result (initial_of data_type node (option_map (λ e. (e.0, e.1.now)) entry.entry)) }
     ensures sized { IfOk result (λ v. ForSome (width_of data_type) (λ width. length v.items ≡ width)) }
 {
     match entry {
         None => Ok(zeros(alloc, data_type)?),
-        Some((_, text)) if data_type.is_text() => Ok(Vec::from_slice(alloc, text)?),
+        Some((_, text)) if data_type.is_text() => Ok(Bytes::from_slice(alloc, text)?),
         Some((line, text)) => initial_number(alloc, data_type, node, line, text),
     }
 }

@@ -11,8 +11,12 @@ use crate::abort::Abort;
 use crate::data_type::DataType;
 use crate::description::Description;
 use crate::numbers::number;
+use smallvec::SmallVec;
 use std::alloc::{AllocError, Global};
 use std::marker::Model;
+
+/// The bytes of a value. Those of a number lie in the object itself.
+pub(crate) type Bytes = SmallVec<u8, 8>;
 
 /// What stands at an index and a sub. Its value has room for the initial value, so that a reset
 /// takes no memory.
@@ -21,12 +25,13 @@ pub struct Object {
     index: u16,
     sub: u8,
     description: Description,
-    initial: Vec<u8>,
-    value: Vec<u8>,
+    initial: Bytes,
+    value: Bytes,
 }
 
 impl Model for Object {
-    ghost use Rattle.std.specs.Prelude.{◌≡◌, ◌≤◌, vec_len, vec_capacity};
+    ghost use Rattle.std.specs.Prelude.{◌≡◌, ◌≤◌};
+    ghost use Rattle.smallvec.specs.SmallVec.{small_vec_len};
     ghost use Rattle.std.specs.Option.{ForSome};
     ghost use Rattle.cop_dict.specs.Types.{width_of};
     ghost use Rattle.cop_dict.specs.Find.{Entry};
@@ -41,8 +46,8 @@ impl Model for Object {
       value = o.value.items;
     } };
 
-    ghost invariant = { λ o. (vec_len o.initial ≤ vec_capacity o.value)
-        × ForSome (width_of o.description.data_type) (λ width. (vec_len o.initial ≡ width) × (vec_len o.value ≡ width)) };
+    ghost invariant = { λ o. (small_vec_len o.initial ≤ o.value.capacity)
+        × ForSome (width_of o.description.data_type) (λ width. (small_vec_len o.initial ≡ width) × (small_vec_len o.value ≡ width)) };
 }
 
 impl Object {
@@ -68,7 +73,7 @@ impl Object {
             index,
             sub,
             description,
-            Vec::from_slice(alloc, initial)?,
+            Bytes::from_slice(alloc, initial)?,
         )
     }
 
@@ -78,7 +83,7 @@ impl Object {
         index: u16,
         sub: u8,
         description: Description,
-        initial: Vec<u8>,
+        initial: Bytes,
     ) -> Result<Object, AllocError>
         requires { ForSome (width_of description.data_type) (λ width. length initial.items ≡ width) }
         ensures { IfOk result (λ o. o ≡ record {
@@ -89,7 +94,7 @@ impl Object {
           value = initial.items;
         }) }
     {
-        let value = Vec::from_slice(alloc, &initial)?;
+        let value = Bytes::from_slice(alloc, &initial)?;
         Ok(Object {
             index,
             sub,
@@ -122,7 +127,7 @@ impl Object {
         ensures value { result.now ≡ self.now.value }
         ensures sized { IsSized self.now }
     {
-        &self.value
+        self.value.as_slice()
     }
 
     /// The value that a reset gives.
@@ -130,7 +135,7 @@ impl Object {
         ensures value { result.now ≡ self.now.initial }
         ensures sized { IsSized self.now }
     {
-        &self.initial
+        self.initial.as_slice()
     }
 
     /// The number that the value stands for, in a type that has numbers.
@@ -139,7 +144,7 @@ impl Object {
     {
         let data_type = self.description.data_type;
         match data_type.greatest() {
-            Some(_) => Some(data_type.value_of(number(&self.value))),
+            Some(_) => Some(data_type.value_of(number(self.value.as_slice()))),
             None => None,
         }
     }
@@ -150,7 +155,7 @@ impl Object {
         ensures bound { IfSome result (λ n. n < 2 ^ 32) }
     {
         match self.description.data_type {
-            DataType::Unsigned32 => Some(number(&self.value)),
+            DataType::Unsigned32 => Some(number(self.value.as_slice())),
             _ => None,
         }
     }
@@ -207,7 +212,7 @@ impl Object {
             self.value.extend_from_slice(bytes).unwrap();
             return Ok(());
         }
-        match Vec::from_slice(*self.value.allocator(), bytes) {
+        match Bytes::from_slice(*self.value.allocator(), bytes) {
             Ok(value) => {
                 self.value = value;
                 Ok(())

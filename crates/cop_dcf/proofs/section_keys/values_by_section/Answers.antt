@@ -4,8 +4,8 @@ use Rattle.cop_dcf.proofs.section_keys.values_by_section.Goals as goal
 
 pub loop-section-init : goal.loop-section-init
 loop-section-init c = record {
-  size = ap length c.new-keys.ensures.items;
-  keys = none_by_section c.new-keys.result.items (λ section. get_or c.args.table.now section None) c.new-keys.ensures.items;
+  size = ap length c.in_ok-keys.ensures.items;
+  keys = none_by_section c.in_ok-keys.keys.items (λ section. get_or c.args.table.now section None) c.in_ok-keys.ensures.items;
 }
 
 pub loop-section-preserved : goal.loop-section-preserved
