@@ -571,20 +571,28 @@ fn a_sink_fails_at_each_step(rt: HostRuntime) -> Result<(), Fail> {
     Ok(())
 }
 
+/// The trace of the valve's steps.
+fn valve_trace(alloc: Global) -> Result<Vec<u8>, Fail> {
+    let mut steps = Vec::new(alloc);
+    steps.extend_from_slice(VALVE_STEPS)?;
+    Ok(write_trace(alloc, &Trace { until: 4000, steps })?)
+}
+
+/// What a trace's sink wrote of the valve's run.
+fn written_trace(alloc: Global) -> Result<Vec<u8>, Fail> {
+    let plan = valve(alloc)?;
+    let behaviours = valve_behaviours(alloc)?;
+    let mut sink = TraceSink::new(Vec::new(alloc));
+    if sink.failed() {
+        return Err(Fail::from("failed at once"));
+    }
+    simulate_over(alloc, &plan, behaviours, 4000, &mut sink)?;
+    Ok(sink.finish(4000).ok_or("not written")?)
+}
+
 #[test]
 fn a_trace_is_written_as_it_goes(rt: HostRuntime) -> Result<(), Fail> {
-    let plan = valve(rt.alloc())?;
-    let mut sink = TraceSink::new(Vec::new(rt.alloc()));
-    assert!(rt; !sink.failed());
-    let behaviours = valve_behaviours(rt.alloc())?;
-    simulate_over(rt.alloc(), &plan, behaviours, 4000, &mut sink)?;
-    let Some(text) = sink.finish(4000) else {
-        return Err(Fail::from("not written"));
-    };
-    let mut steps = Vec::new(rt.alloc());
-    steps.extend_from_slice(VALVE_STEPS)?;
-    let wanted = write_trace(rt.alloc(), &Trace { until: 4000, steps })?;
-    assert_eq!(rt; text, wanted);
+    assert_eq!(rt; written_trace(rt.alloc())?, valve_trace(rt.alloc())?);
     Ok(())
 }
 
@@ -726,27 +734,33 @@ const THREE_SCRIPTS: &[Script] = &[
     ),
 ];
 
+/// When the transfers of a run start, and of which identifiers.
+fn starts_of(alloc: Global, steps: &[Step]) -> Result<Vec<(u64, u16)>, Fail> {
+    let mut starts = Vec::new(alloc);
+    for step in steps {
+        if let Step::Start { at, id } = step {
+            starts.push((*at, *id))?;
+        }
+    }
+    Ok(starts)
+}
+
+const STARTS: &[(u64, u16)] = &[
+    (0, 0x181),
+    (4000, 0x182),
+    (8000, 0x183),
+    (12000, 0x181),
+    (16000, 0x182),
+    (20000, 0x181),
+    (24000, 0x183),
+];
+
 // The second instance of the third PDO, of 14,000, ends at 28,000: its longest response.
 #[test]
 fn the_longest_response_is_reached(rt: HostRuntime) -> Result<(), Fail> {
     let plan = plan_of(rt.alloc(), THREE, 3, &[Rate::Kbit125])?;
     let steps = steps_of(rt.alloc(), &plan, THREE_SCRIPTS, 28000)?;
-    let mut starts = Vec::new(rt.alloc());
-    for step in &steps {
-        if let Step::Start { at, id } = step {
-            starts.push((*at, *id))?;
-        }
-    }
-    let wanted: &[(u64, u16)] = &[
-        (0, 0x181),
-        (4000, 0x182),
-        (8000, 0x183),
-        (12000, 0x181),
-        (16000, 0x182),
-        (20000, 0x181),
-        (24000, 0x183),
-    ];
-    assert_eq!(rt; starts.as_slice(), wanted);
+    assert_eq!(rt; starts_of(rt.alloc(), &steps)?.as_slice(), STARTS);
     assert_eq!(rt;
         steps.last(),
         Some(&Step::End {
