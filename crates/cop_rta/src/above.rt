@@ -44,16 +44,6 @@ impl<'a> Above<'a> {
         }
     }
 
-    /// The same streams.
-    pub(crate) fn same(&self) -> Above<'a>
-        ensures { result ≡ self.now }
-    {
-        Above {
-            flags: self.flags,
-            turned: self.turned,
-        }
-    }
-
     /// Whether a stream is above.
     pub(crate) fn has(&self, k: usize) -> bool
         requires { k < length self.now }

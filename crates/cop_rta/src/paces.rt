@@ -38,14 +38,9 @@ impl Pace {
     pub(crate) fn new(stream: &Stream) -> Pace
         ensures { IsPaceOf stream.now result }
     {
-        let Stream {
-            bytes,
-            period,
-            jitter,
-            ..
-        } = *stream;
+        let Stream { period, jitter, .. } = *stream;
         Pace {
-            bits: u64::from(worst_bits(bytes)),
+            bits: u64::from(worst_bits(stream.bytes)),
             ahead: jitter + (period - 1),
             inverse: u64::MAX / period + 1,
         }

@@ -72,34 +72,8 @@ fn shared_time(
 {
     let above = Above::unflagged(below);
     let index = first_above(&above, set.len());
-    let busy = Busy::with(set, above, index, rate, from_below).in_row(row);
+    let busy = Busy::in_row(set, above, row, index, rate, from_below);
     busy.time_from(from_below + costs)
-}
-
-// Flags one more stream, and gives the busy time of those that are then not flagged, whose paces stand in the row then.
-fn time_after(
-    streams: &StreamSet,
-    below: &mut [bool],
-    row: &mut Row,
-    index: usize,
-    rate: Rate,
-    from_below: u64,
-    costs: u64,
-) -> Option<u64>
-    requires size { length below.old ≡ length streams.now }
-    requires index { index < length streams.now }
-    requires some { HasOneAbove (flags_above true (set below.old index true)) }
-    requires blocking { from_below ≡ longest_of (record { streams = streams.now; flags = flags_above true (set below.old index true); rate = rate }) }
-    requires most { from_below ≤ 54000 }
-    requires costs { costs ≡ once_each (record { streams = streams.now; flags = flags_above true (set below.old index true); rate = rate }) }
-    requires costs_most { costs ≤ 59400000 }
-    ensures below { below.new ≡ set below.old index true }
-    ensures row { IsRow streams.now (flags_above true (set below.old index true)) row.new.items }
-    ensures time { IsSharedTime (record { streams = streams.now; flags = flags_above true (set below.old index true); rate = rate }) result }
-{
-    below[index] = true;
-    *row = row_of(streams, &Above::unflagged(below));
-    shared_time(streams, below, rate, from_below, costs, row.as_slice())
 }
 
 /// A place at a rate, with some streams below it. Each of the others is judged there with the rest of them above it. What
@@ -171,7 +145,8 @@ impl<'a, 'b> Place<'a, 'b> {
         ensures { result ≡ record { streams = self.now.streams; flags = self.now.flags; index = index; rate = self.now.rate } }
     {
         let above = Above::unflagged(&*self.below);
-        Busy::with(self.set, above, index, self.rate, self.from_below).in_row(self.row.as_slice())
+        let row = self.row.as_slice();
+        Busy::in_row(self.set, above, row, index, self.rate, self.from_below)
     }
 
     // A number that the wait of the first instance of a stream that is not below is no less than: the longest transfer
@@ -220,17 +195,13 @@ impl<'a, 'b> Place<'a, 'b> {
         let rate = self.rate;
         let from_below = self.from_below.max(own);
         let costs = self.costs - own;
-        let busy = time_after(
-            set,
-            self.below,
-            &mut self.row,
-            index,
-            rate,
-            from_below,
-            costs,
-        );
+        let below = &mut *self.below;
+        below[index] = true;
+        let row = row_of(set, &Above::unflagged(below));
+        let busy = shared_time(set, below, rate, from_below, costs, row.as_slice());
         self.from_below = from_below;
         self.costs = costs;
+        self.row = row;
         self.busy = busy;
     }
 }

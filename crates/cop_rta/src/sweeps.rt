@@ -88,7 +88,7 @@ fn judge_next(
     above[index] = true;
     let flagged = Above::flagged(above);
     let from_below = longest_below(streams.streams(), &flagged, index, rate);
-    let busy = Busy::with(streams, flagged, index, rate, from_below).in_row(row);
+    let busy = Busy::in_row(streams, flagged, row, index, rate, from_below);
     let from = wait_after(last, from_below);
     let time = time_after(&busy, last);
     let judged = judged(&busy, time, from);

@@ -178,7 +178,8 @@ fn steps_of_a_search(rt: HostRuntime) -> Result<(), Fail> {
         b"id,bytes,period,jitter,deadline\n0x181,7,2500,0,2500\n0x182,7,3500,0,3250\n0x183,7,3500,0,3250\n";
     let three = read_streams(rt.alloc(), table)?;
     assert_eq!(rt; three.len(), 3);
-    let queueing = Busy::new(&three, &[true, true, false], 2, Rate::Kbit125).queueing(1);
+    let busy = Busy::new(&three, &[true, true, false], 2, Rate::Kbit125);
+    let queueing = busy.queueing(1);
     // from 0 by 12,000, 16,000 and 20,000
     for (limit, solution) in [(HORIZON, Some(24_000)), (23_999, None)] {
         assert_eq!(rt;

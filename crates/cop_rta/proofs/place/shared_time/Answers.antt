@@ -23,10 +23,10 @@ time_from-requires-clause-started c =
 pub time_from-requires-clause-from : goal.time_from-requires-clause-from
 time_from-requires-clause-from c =
     let at = (goal.at.time_from-requires-clause-from c).After-first_above-index in
-    rw (c.in_row-busy.ensures, c.with.ensures, c.unflagged-above.ensures, c.requires.blocking, c.requires.costs) (busy_from (here at) c.first_above-index.result (inside at) (above at))
+    rw (c.in_row-busy.ensures, c.unflagged-above.ensures, c.requires.blocking, c.requires.costs) (busy_from (here at) c.first_above-index.result (inside at) (above at))
 
 pub returns : goal.returns
 returns c =
     let at = (goal.at.returns c).After-first_above-index in
     shared_of (here at) c.first_above-index.result (inside at) (above at) c.time_from.result
-    (rw (c.in_row-busy.ensures, c.with.ensures, c.unflagged-above.ensures) at c.time_from.ensures.found) c.time_from.ensures.within (rw (c.in_row-busy.ensures, c.with.ensures, c.unflagged-above.ensures) at c.time_from.ensures.none)
+    (rw (c.in_row-busy.ensures, c.unflagged-above.ensures) at c.time_from.ensures.found) c.time_from.ensures.within (rw (c.in_row-busy.ensures, c.unflagged-above.ensures) at c.time_from.ensures.none)

@@ -13,17 +13,17 @@ wait_after-from-requires-clause-last c =
 
 pub time_after-time-requires-clause-from : goal.time_after-time-requires-clause-from
 time_after-time-requires-clause-from c =
-    rw (c.in_row-busy.ensures, c.with.ensures, c.flagged-flagged.ensures) (time_starts (record { streams = c.args.streams.now; flags = c.args.above.now; rate = c.args.rate }) c.requires.size c.args.index c.requires.index c.requires.unflagged c.args.last c.requires.last)
+    rw (c.in_row-busy.ensures, c.flagged-flagged.ensures) (time_starts (record { streams = c.args.streams.now; flags = c.args.above.now; rate = c.args.rate }) c.requires.size c.args.index c.requires.index c.requires.unflagged c.args.last c.requires.last)
 
 pub time_after-time-requires-clause-long : goal.time_after-time-requires-clause-long
 time_after-time-requires-clause-long c =
-    rw (c.in_row-busy.ensures, c.with.ensures, c.flagged-flagged.ensures) (time_ends (record { streams = c.args.streams.now; flags = c.args.above.now; rate = c.args.rate }) c.requires.size c.args.index c.requires.index c.requires.unflagged c.args.last c.requires.last)
+    rw (c.in_row-busy.ensures, c.flagged-flagged.ensures) (time_ends (record { streams = c.args.streams.now; flags = c.args.above.now; rate = c.args.rate }) c.requires.size c.args.index c.requires.index c.requires.unflagged c.args.last c.requires.last)
 
 pub judged-judged-requires-clause-from : goal.judged-judged-requires-clause-from
 judged-judged-requires-clause-from c =
     let below : c.longest_below-from_below.result ≡ blocking (place_in (record { streams = c.args.streams.now; flags = set c.args.above.now c.args.index true; rate = c.args.rate }) c.args.index) =
     rw (c.streams.ensures.items, c.flagged-flagged.ensures) at c.longest_below-from_below.ensures.value in
-    rw (c.in_row-busy.ensures, c.with.ensures, c.flagged-flagged.ensures)
+    rw (c.in_row-busy.ensures, c.flagged-flagged.ensures)
     (wait_starts (record { streams = c.args.streams.now; flags = c.args.above.now; rate = c.args.rate }) c.requires.size c.args.index c.requires.index c.requires.unflagged c.args.last c.requires.last
     c.longest_below-from_below.result c.wait_after-from.result below c.wait_after-from.ensures.room c.wait_after-from.ensures.none c.wait_after-from.ensures.first)
 
@@ -36,11 +36,11 @@ returns-clause-last c =
       index = c.args.index;
       inside = c.requires.index;
       flagged = flag;
-      cost = rw (c.in_row-busy.ensures, c.with.ensures) at c.cost.ensures.value;
+      cost = rw (c.in_row-busy.ensures) at c.cost.ensures.value;
       cost_most = c.cost.ensures.most;
       longest = below ∙ blocking_is v c.args.index c.requires.index flag;
       shared = shared_of v c.args.index c.requires.index flag c.time_after-time.result
-          (rw (c.in_row-busy.ensures, c.with.ensures, c.flagged-flagged.ensures) at c.time_after-time.ensures.found) c.time_after-time.ensures.within (rw (c.in_row-busy.ensures, c.with.ensures, c.flagged-flagged.ensures) at c.time_after-time.ensures.none);
-      wait = rw (c.in_row-busy.ensures, c.with.ensures, c.flagged-flagged.ensures) at c.judged-judged.ensures.wait;
+          (rw (c.in_row-busy.ensures, c.flagged-flagged.ensures) at c.time_after-time.ensures.found) c.time_after-time.ensures.within (rw (c.in_row-busy.ensures, c.flagged-flagged.ensures) at c.time_after-time.ensures.none);
+      wait = rw (c.in_row-busy.ensures, c.flagged-flagged.ensures) at c.judged-judged.ensures.wait;
       within = c.judged-judged.ensures.within;
     }

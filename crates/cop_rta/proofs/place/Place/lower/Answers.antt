@@ -35,28 +35,27 @@ costs c =
 pub overflow_sub-costs : goal.overflow_sub-costs
 overflow_sub-costs c = omega (arith, own_is c, c.self.invariant.costs_are, others_once (before c) c.args.index (inside c) (flag c))
 
-pub time_after-busy-requires-clause-some : goal.time_after-busy-requires-clause-some
-time_after-busy-requires-clause-some c = rw (turned c.self.inside.below.now c.args.index) (rw (← c.self.view_is) at c.requires.some)
+pub shared_time-busy-requires-clause-some : goal.shared_time-busy-requires-clause-some
+shared_time-busy-requires-clause-some c = rw (turned c.self.inside.below.now c.args.index) (rw (← c.self.view_is) at c.requires.some)
 
-pub time_after-busy-requires-clause-blocking : goal.time_after-busy-requires-clause-blocking
-time_after-busy-requires-clause-blocking c = longest (goal.at.time_after-busy-requires-clause-blocking c).After-max-from_below
+pub shared_time-busy-requires-clause-blocking : goal.shared_time-busy-requires-clause-blocking
+shared_time-busy-requires-clause-blocking c = longest (goal.at.shared_time-busy-requires-clause-blocking c).After-max-from_below
 
-pub time_after-busy-requires-clause-costs : goal.time_after-busy-requires-clause-costs
-time_after-busy-requires-clause-costs c = costs (goal.at.time_after-busy-requires-clause-costs c).After-max-from_below
+pub shared_time-busy-requires-clause-costs : goal.shared_time-busy-requires-clause-costs
+shared_time-busy-requires-clause-costs c = costs (goal.at.shared_time-busy-requires-clause-costs c).After-max-from_below
 
 pub invariant_of-self : goal.invariant_of-self
 invariant_of-self c =
     let at = (goal.at.invariant_of-self c).After-max-from_below in
-    rw c.time_after-busy.ensures.below (record {
+    record {
       size = length-map (set c.self.inside.below.now c.args.index true) not ∙ length-set c.self.inside.below.now c.args.index true ∙ (rw length-map at c.self.invariant.size);
       blocking = longest at;
       most = omega (arith, longest at, c.max-from_below.ensures, c.self.invariant.most, c.cost-own.ensures.most);
       costs_are = costs at;
       costs_most = omega (arith, c.self.invariant.costs_most);
-      is_row = c.time_after-busy.ensures.row;
-      shared = c.time_after-busy.ensures.time;
-    })
+      is_row = rw c.unflagged.ensures at c.row_of-row.ensures;
+      shared = c.shared_time-busy.ensures;
+    }
 
 pub returns : goal.returns
-returns c =
-    rw (← c.self.view_is) (ap (λ (flags : List Bool). record { streams = c.self.inside.set.now; flags = flags; rate = c.self.inside.rate }) (ap (λ (flags : List Bool). map not flags) c.time_after-busy.ensures.below ∙ turned c.self.inside.below.now c.args.index))
+returns c = rw (← c.self.view_is) (ap (λ (flags : List Bool). record { streams = c.self.inside.set.now; flags = flags; rate = c.self.inside.rate }) (turned c.self.inside.below.now c.args.index))
