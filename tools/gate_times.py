@@ -1,8 +1,8 @@
 #!/usr/bin/env python3
-"""Runs `rt ci` and tells where its processor time goes: by crate, for its library, its tests and its must-fail edits.
+"""Runs `rt ci --anew` and tells where its processor time goes: by crate, for its library, its tests and its must-fail edits.
 
-usage: tools/gate_times.py [LOG]    at the top of a clean clone, with nothing else running on the machine; what `rt ci`
-                                    says goes to LOG (gate.log where none is given)
+usage: tools/gate_times.py [LOG]    at the top of a clean clone, with nothing else running on the machine; what the
+                                    gate says goes to LOG (gate.log where none is given)
 
 The tests of a crate NAME are those inside it and those of the crate NAME_tests. Times are user and system time in
 seconds, read of each checker while it runs; the last line is that of the whole run as the system counts it.
@@ -53,7 +53,7 @@ def main():
     log = sys.argv[1] if len(sys.argv) > 1 else "gate.log"
     begun, found = time.monotonic(), {}
     with open(log, "wb") as out:
-        gate = subprocess.Popen(["rt", "ci"], stdout=out, stderr=subprocess.STDOUT)
+        gate = subprocess.Popen(["rt", "ci", "--anew"], stdout=out, stderr=subprocess.STDOUT)
         while gate.poll() is None:
             for pid in filter(str.isdigit, os.listdir("/proc")):
                 what = checker(pid)

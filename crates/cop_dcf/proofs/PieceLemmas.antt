@@ -1,19 +1,24 @@
 -- What stands in a DCF for each line, and for each section that is appended.
 use Rattle.std.proofs.Common.{◌≡◌, ◌<◌, ◌≤◌, ℕ, suc, ◌+◌, ◌-◌, Bool, true, false, not, cond, ◌&&◌, ◌||◌, ◌==◌, List, [], ◌∷◌, ◌++◌, codes, map, length, take, drop, get_or, find, Option, Some, None, is_some, refl, sym, ap, ◌∙◌, arith, append_assoc, append-nil}
-use Rattle.std.specs.Prelude.{slice_get, slice_range}
+use Rattle.std.proofs.Common.{length-drop}
+use Rattle.std.specs.Prelude.{slice_get, slice_index, slice_range}
 use Rattle.std.specs.List.{list_any}
 use Rattle.std.specs.Option.{option_map, option_map_or}
-use Rattle.std.proofs.lemmas.List.{take_more}
+use Rattle.std.proofs.Math.Bool.{and-false}
+use Rattle.std.proofs.Math.Seq.{take-append-add}
+use Rattle.std.proofs.lemmas.Bool.Decides.{nat_tests}
+use Rattle.std.proofs.lemmas.List.{take_more, length-take-le}
+use Rattle.std.proofs.lemmas.List.Folds.{drop_split}
 use Rattle.cop_eds.specs.declared.line.Kind.{Kind}
 use Rattle.cop_eds.specs.declared.line.Kind.TheVariants.{Other, Header, Pair}
 use Rattle.cop_eds.specs.declared.line.Line.{Line}
 use Rattle.cop_eds.specs.Text.{cut, mark_len}
-use Rattle.cop_eds.specs.Lines.{header_count, line_of, lines_from, lines_of}
+use Rattle.cop_eds.specs.Lines.{header_count, line_of, lines_from, lines_of, text_of, IsInside}
 use Rattle.cop_eds.specs.Sections.{section_of}
 use Rattle.cop_eds.specs.Rows.{row_of, rows_of, has_name}
 use Rattle.cop_eds.specs.Edits.{Change, pair_of, change_of, changed, section_count, newline_of}
 use Rattle.cop_eds.proofs.RowLemmas.{section_row}
-use Rattle.cop_dcf.specs.Pieces.{is_wanting, new_lines, has_section, is_extended}
+use Rattle.cop_dcf.specs.Pieces.{is_wanting, new_lines, has_section, is_extended, ends_entries, piece_of, whole_line}
 
 -- a line more of keys that are not there yet
 new_lines_append : (text newline : List ℕ) (xs ys : List Change) → new_lines text newline (xs ++ ys) ≡ new_lines text newline xs ++ new_lines text newline ys
@@ -133,3 +138,34 @@ put_not text name more n e = ap (λ b. cond b [] more) (sym (has_section_is text
 
 pub put_so : (text name more : List ℕ) → section_of text name ≡ None → cond (has_section text name) [] more ≡ more
 put_so text name more e = ap (λ b. cond b [] more) (sym (has_section_is text name) ∙ ap is_some e)
+
+-- the bytes of a line and of its end are those from its begin on
+slices_join : (text : List ℕ) (from to next : ℕ) → from ≤ to → to ≤ next → to ≤ length text → slice_range text from to ++ slice_range text to next ≡ slice_range text from next
+slices_join text from to next ft tn tl =
+    let size : length (slice_range text from to) ≡ to - from = length-take-le (to - from) (drop from text) (simp length-drop (omega arith)) in
+    let sum : next - from ≡ length (slice_range text from to) + (next - to) = omega (arith, size) in
+    sym (ap (λ n. take n (drop from text)) sum
+    ∙ ap (λ xs. take (length (slice_range text from to) + (next - to)) xs) (drop_split text from to ft)
+    ∙ take-append-add (slice_range text from to) (drop to text) (next - to))
+
+has_some : {A : Type 0} (xs : List A) → 0 < length xs → (length xs == 0) ≡ false
+has_some xs h = grind (arith, nat_tests)
+
+-- a line that has an end keeps it, whatever follows
+end_kept : (newline body ending : List ℕ) (followed : Bool) → (length ending == 0) ≡ false → whole_line newline body ending followed ≡ body ++ ending
+end_kept newline body ending true some = ap (λ b. body ++ cond b (cond (slice_index body (length body - 1) == 13) (13 ∷ 10 ∷ []) newline) ending) some
+end_kept newline body ending false some = refl
+
+-- where no key is set, a line that has an end stands as it is
+pub line_kept : (text newline : List ℕ) (changes : List Change) (line : Line) (later : List Line) → (length changes == 0) ≡ true → IsInside (length text) line → line.to < line.next
+    → slice_range text line.from line.next ≡ piece_of text newline changes line later
+line_kept text newline [] line later none inside ended =
+    let size : length (slice_range text line.to line.next) ≡ line.next - line.to = length-take-le (line.next - line.to) (drop line.to text) (simp length-drop (omega (arith, inside.all))) in
+    let some : (length (slice_range text line.to line.next) == 0) ≡ false = has_some (slice_range text line.to line.next) (omega (arith, size)) in
+    sym (ap (λ b. whole_line newline (text_of text line) (slice_range text line.to line.next) ((b || not (length later == 0)) || is_extended text) ++ cond b [] []) (and-false (ends_entries line later))
+    ∙ append-nil (whole_line newline (text_of text line) (slice_range text line.to line.next) ((false || not (length later == 0)) || is_extended text))
+    ∙ end_kept newline (text_of text line) (slice_range text line.to line.next) ((false || not (length later == 0)) || is_extended text) some
+    ∙ slices_join text line.from line.to line.next inside.bytes inside.ending (omega (arith, inside.ending, inside.all)))
+line_kept text newline (change ∷ changes) line later none inside ended =
+    let some : (length (change ∷ changes) == 0) ≡ false = has_some (change ∷ changes) (omega arith) in
+    cc

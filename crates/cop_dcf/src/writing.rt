@@ -177,7 +177,8 @@ fn is_followed(eds: &Eds<'_>, adds: bool, later: &[Line]) -> bool
     (adds || !later.is_empty()) || is_extended(eds)
 }
 
-/// Adds what a line becomes, and the new keys behind it.
+/// Adds what a line becomes, and the new keys behind it. Where no key of its section is set, a line with an end stands as
+/// it is.
 fn put_line(
     text: &mut Vec<u8>,
     eds: &Eds<'_>,
@@ -188,6 +189,10 @@ fn put_line(
     requires { IsInside (length eds.now) line.now }
     ensures { OnOk result (text.new.items ≡ text.old.items ++ piece_of eds.now (newline_of (rows_of eds.now)) keys.now line.now later.now) }
 {
+    if keys.is_empty() && line.to < line.next {
+        text.extend_from_slice(&eds.source()[line.from..line.next])?;
+        return Ok(());
+    }
     let newline = newline(eds);
     let adds = adds_keys(eds, keys, line, later);
     let body = body_of(eds, line, keys);
