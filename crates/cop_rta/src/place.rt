@@ -12,7 +12,7 @@ use crate::above::Above;
 use crate::demands::{Busy, cost, longest_below};
 use crate::judging::{is_on_time, judged};
 use crate::paces::Pace;
-use crate::rows::{Row, row_of};
+use crate::rows::{Row, fill};
 use crate::sets::StreamSet;
 use crate::verdicts::Verdict;
 use cop_frame::Rate;
@@ -116,7 +116,8 @@ impl<'a, 'b> Place<'a, 'b> {
         let index = first_above(&above, set.len());
         let from_below = longest_below(set.streams(), &above, index, rate);
         let costs = costs_above(set, &above, rate);
-        let row = row_of(set, &above);
+        let mut row = Row::new();
+        fill(&mut row, set, &above);
         let busy = shared_time(set, below, rate, from_below, costs, row.as_slice());
         Place {
             set,
@@ -197,11 +198,11 @@ impl<'a, 'b> Place<'a, 'b> {
         let costs = self.costs - own;
         let below = &mut *self.below;
         below[index] = true;
-        let row = row_of(set, &Above::unflagged(below));
-        let busy = shared_time(set, below, rate, from_below, costs, row.as_slice());
+        fill(&mut self.row, set, &Above::unflagged(below));
+        let row = self.row.as_slice();
+        let busy = shared_time(set, below, rate, from_below, costs, row);
         self.from_below = from_below;
         self.costs = costs;
-        self.row = row;
         self.busy = busy;
     }
 }

@@ -11,18 +11,17 @@ use arrayvec::ArrayVec;
 /// Room for the paces of a set, which takes no memory.
 pub(crate) type Row = ArrayVec<Pace, { StreamSet::MOST }>;
 
-/// The paces of the streams that are above.
-pub(crate) fn row_of(set: &StreamSet, above: &Above<'_>) -> Row
+/// Fills a row with the paces of the streams that are above.
+pub(crate) fn fill(row: &mut Row, set: &StreamSet, above: &Above<'_>)
     requires { length above.now ≡ length set.now }
-    ensures { IsRow set.now above.now result.items }
+    ensures { IsRow set.now above.now row.new.items }
 {
-    let mut row = ArrayVec::new();
+    row.clear();
     for (k, pace) in set.paces().iter().enumerate() {
         if above.has(k) {
             row.push(*pace);
         }
     }
-    row
 }
 
 /// How many bits all of some streams send within a time at most.

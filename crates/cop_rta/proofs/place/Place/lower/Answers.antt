@@ -53,7 +53,7 @@ invariant_of-self c =
       most = omega (arith, longest at, c.max-from_below.ensures, c.self.invariant.most, c.cost-own.ensures.most);
       costs_are = costs at;
       costs_most = omega (arith, c.self.invariant.costs_most);
-      is_row = rw c.unflagged.ensures at c.row_of-row.ensures;
+      is_row = rw c.unflagged.ensures at c.fill.ensures;
       shared = c.shared_time-busy.ensures;
     }
 

@@ -4,11 +4,11 @@ use Rattle.cop_rta.specs.SumsLemmas.{sum_where-none, sum_where-more_yes, sum_whe
 use Rattle.cop_rta.specs.Test.{is_flagged, of_stream, load_of}
 use Rattle.cop_rta.specs.Paces.{bits_in}
 use Rattle.cop_rta.proofs.PaceLemmas.{bits_more}
-use Rattle.cop_rta.proofs.rows.row_of.Goals as goal
-use Rattle.cop_rta.proofs.rows.row_of.Goals.{then-has, else-has}
+use Rattle.cop_rta.proofs.rows.fill.Goals as goal
+use Rattle.cop_rta.proofs.rows.fill.Goals.{then-has, else-has}
 
 pub loop-k-init : goal.loop-k-init
-loop-k-init c = rw c.new-row.ensures (record {
+loop-k-init c = rw c.clear.ensures (record {
   sums = λ rate time early. omega (arith, sum_where-none (is_flagged c.args.above.now) (of_stream (load_of rate time) c.args.set.now));
   few = omega arith;
 })

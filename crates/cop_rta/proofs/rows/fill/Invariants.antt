@@ -4,7 +4,7 @@ use Rattle.cop_frame.specs.Rate.{ticks_of}
 use Rattle.cop_rta.specs.Paces.{last_time, bits_in}
 use Rattle.cop_rta.specs.Sums.{sum_where}
 use Rattle.cop_rta.specs.Test.{is_flagged, of_stream, load_of}
-use Rattle.cop_rta.proofs.rows.row_of.Given as goal
+use Rattle.cop_rta.proofs.rows.fill.Given as goal
 
 abbrev pub invariant-loop-k : goal.invariant-loop-k
 invariant-loop-k l = record {
