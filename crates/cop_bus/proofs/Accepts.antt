@@ -121,18 +121,18 @@ pub at-none : (i : ℕ) (o : Option ℕ) (next : Option (ℕ × ℕ)) → at_ste
 at-none i None next h = (refl, h)
 at-none i (Some r) next h = absurd (cc)
 
-pub fits-start : (at id : ℕ) (r : Option (ℕ × ℕ)) → fits_transfer r (Start at id) ≡ true → r ≡ None
+pub fits-start : (at id : ℕ) (r : Option (ℕ × ℕ)) → fits_transfer r (Start id at) ≡ true → r ≡ None
 fits-start at id None h = refl
 fits-start at id (Some r) h = absurd (cc)
 
-pub fits-end : (at id : ℕ) (r : Option (ℕ × ℕ)) → fits_transfer r (End at id) ≡ true → r ≡ Some (id, at)
+pub fits-end : (at id : ℕ) (r : Option (ℕ × ℕ)) → fits_transfer r (End id at) ≡ true → r ≡ Some (id, at)
 fits-end at id None h = absurd (cc)
 fits-end at id (Some r) h = ap (λ v. Some (v, r.1)) (true-eq r.0 id (and-left (r.0 == id) (r.1 == at) h)) ∙ ap (λ v. Some (id, v)) (true-eq r.1 at (and-right (r.0 == id) (r.1 == at) h))
 
-pub fits-running : (id at : ℕ) (x : Step) → fits_transfer (Some (id, at)) x ≡ true → (at_of x < at) ⊎ (x ≡ End at id)
-fits-running id at (Queue at' id' event frame) h = inl (true-lt at' at h)
-fits-running id at (Start at' id') h = absurd (cc)
-fits-running id at (End at' id') h = inr (sym (ap (λ v. End v id) (true-eq at at' (and-right (id == id') (at == at') h)) ∙ ap (λ v. End at' v) (true-eq id id' (and-left (id == id') (at == at') h))))
+pub fits-running : (id at : ℕ) (x : Step) → fits_transfer (Some (id, at)) x ≡ true → (at_of x < at) ⊎ (x ≡ End id at)
+fits-running id at (Queue id' at' event frame) h = inl (true-lt at' at h)
+fits-running id at (Start id' at') h = absurd (cc)
+fits-running id at (End id' at') h = inr (sym (ap (λ v. End id v) (true-eq at at' (and-right (id == id') (at == at') h)) ∙ ap (λ v. End v at') (true-eq id id' (and-left (id == id') (at == at') h))))
 
 -- A trace in which no broken rule is found breaks none.
 module _ (tau : ℕ) (streams : List Stream) (until : ℕ) (steps : List Step) (distinct : AreDistinct streams) (h : first_broken tau streams until steps ≡ None) where
@@ -177,12 +177,12 @@ module _ (tau : ℕ) (streams : List Stream) (until : ℕ) (steps : List Step) (
   by-end zero l = true-le (at_of (step_at steps 0)) until (kept zero l).order
   by-end (suc i) l = true-le (at_of (step_at steps (suc i))) until (and-left (nat_le (at_of (step_at steps (suc i))) until) (not_before (step_at steps i) (step_at steps (suc i))) (kept (suc i) l).order)
 
-  pub known : (i at id event : ℕ) (frame : Content) → i < length steps → step_at steps i ≡ Queue at id event frame → IsWhole streams (instance steps i at id event frame)
+  pub known : (i at id event : ℕ) (frame : Content) → i < length steps → step_at steps i ≡ Queue id at event frame → IsWhole streams (instance steps i at id event frame)
   known i at id event frame l e =
-      let k = kept-as i (Queue at id event frame) l e in
+      let k = kept-as i (Queue id at event frame) l e in
       let s = some_stream (stream_of streams id) k.known in
-      let q : (nat_le event at && nat_le at (event + s.0.jitter)) ≡ true = sym (ap (λ o. is_queued_in_time o (Queue at id event frame)) s.1) ∙ k.in_time in
-      let b : (nat_le (least_bits s.0.bytes) frame.bits && nat_le frame.bits (worst_bits s.0.bytes) && (frame.len == s.0.bytes)) ≡ true = sym (ap (λ o. is_of_length o (Queue at id event frame)) s.1) ∙ k.of_length in
+      let q : (nat_le event at && nat_le at (event + s.0.jitter)) ≡ true = sym (ap (λ o. is_queued_in_time o (Queue id at event frame)) s.1) ∙ k.in_time in
+      let b : (nat_le (least_bits s.0.bytes) frame.bits && nat_le frame.bits (worst_bits s.0.bytes) && (frame.len == s.0.bytes)) ≡ true = sym (ap (λ o. is_of_length o (Queue id at event frame)) s.1) ∙ k.of_length in
       record {
         some_stream = (stream-found streams id s.0 s.1).0;
         obeys = of-found streams id s.0 (λ s. IsInstanceOf s (instance steps i at id event frame)) distinct s.1 (record {
@@ -195,35 +195,35 @@ module _ (tau : ℕ) (streams : List Stream) (until : ℕ) (steps : List Step) (
       }
 
   -- an event is a period or more after the last one
-  pub period-later : (j at id event : ℕ) (frame : Content) → j < length steps → step_at steps j ≡ Queue at id event frame → (e : ℕ) → last_event id steps j ≡ Some e →
+  pub period-later : (j at id event : ℕ) (frame : Content) → j < length steps → step_at steps j ≡ Queue id at event frame → (e : ℕ) → last_event id steps j ≡ Some e →
       (k : Stream) × (stream_of streams id ≡ Some k) × (e + k.period ≤ event)
   period-later j at id event frame l s e f =
-      let k = kept-as j (Queue at id event frame) l s in
+      let k = kept-as j (Queue id at event frame) l s in
       let o = some_stream (stream_of streams id) k.known in
-      let p : nat_le (e + o.0.period) event ≡ true = sym (ap (λ v. is_period_later v (last_event id steps j) (Queue at id event frame)) o.1 ∙ ap (λ v. is_period_later (Some o.0) v (Queue at id event frame)) f) ∙ k.period in
+      let p : nat_le (e + o.0.period) event ≡ true = sym (ap (λ v. is_period_later v (last_event id steps j) (Queue id at event frame)) o.1 ∙ ap (λ v. is_period_later (Some o.0) v (Queue id at event frame)) f) ∙ k.period in
       (o.0, o.1, true-le _ _ p)
 
   -- the last event is not less than one before it
-  pub last-upto : (i at id event : ℕ) (frame : Content) → step_at steps i ≡ Queue at id event frame → (j : ℕ) → i < j → j ≤ length steps → (e : ℕ) × (last_event id steps j ≡ Some e) × (event ≤ e)
+  pub last-upto : (i at id event : ℕ) (frame : Content) → step_at steps i ≡ Queue id at event frame → (j : ℕ) → i < j → j ≤ length steps → (e : ℕ) × (last_event id steps j ≡ Some e) × (event ≤ e)
   last-upto i at id event frame q zero l m = absurd (omega arith)
   last-upto i at id event frame q (suc j) l m = elim (cases_lt i j) [
     | inr k ↦ (let e : i ≡ j = omega arith in
-        let s : step_at steps j ≡ Queue at id event frame = sym (ap (step_at steps) e) ∙ q in
+        let s : step_at steps j ≡ Queue id at event frame = sym (ap (step_at steps) e) ∙ q in
         (event, ap (λ x. event_or id x (last_event id steps j)) s ∙ ap (λ b. cond b (Some event) (last_event id steps j)) (eq-true id id refl), omega arith))
     | inl k ↦ go (step_at steps j) refl (last-upto i at id event frame q j k (omega arith))
   ]
     where
       go : (x : Step) → step_at steps j ≡ x → ((e : ℕ) × (last_event id steps j ≡ Some e) × (event ≤ e)) → (e : ℕ) × (last_event id steps (suc j) ≡ Some e) × (event ≤ e)
-      go (Start at' id') s r = (r.0, ap (λ x. event_or id x (last_event id steps j)) s ∙ r.1, r.2)
-      go (End at' id') s r = (r.0, ap (λ x. event_or id x (last_event id steps j)) s ∙ r.1, r.2)
-      go (Queue at' id' event' frame') s r = elim (bool_cases (id' == id)) [
+      go (Start id' at') s r = (r.0, ap (λ x. event_or id x (last_event id steps j)) s ∙ r.1, r.2)
+      go (End id' at') s r = (r.0, ap (λ x. event_or id x (last_event id steps j)) s ∙ r.1, r.2)
+      go (Queue id' at' event' frame') s r = elim (bool_cases (id' == id)) [
         | inr f ↦ (r.0, ap (λ x. event_or id x (last_event id steps j)) s ∙ ap (λ b. cond b (Some event') (last_event id steps j)) f ∙ r.1, r.2)
         | inl t ↦ (let e : id' ≡ id = true-eq id' id t in
             let p = period-later j at' id' event' frame' (omega arith) s r.0 (ap (λ n. last_event n steps j) e ∙ r.1) in
             (event', ap (λ x. event_or id x (last_event id steps j)) s ∙ ap (λ b. cond b (Some event') (last_event id steps j)) t, omega (arith, p.2, r.2)))
       ]
 
-  pub period-apart : (i j at at' id event event' : ℕ) (frame : Content) (frame' : Content) → i < j → j < length steps → step_at steps i ≡ Queue at id event frame → step_at steps j ≡ Queue at' id event' frame' →
+  pub period-apart : (i j at at' id event event' : ℕ) (frame : Content) (frame' : Content) → i < j → j < length steps → step_at steps i ≡ Queue id at event frame → step_at steps j ≡ Queue id at' event' frame' →
       All (λ k. k.id ≡ id → event + k.period ≤ event') streams
   period-apart i j at at' id event event' frame frame' l m e f =
       let u = last-upto i at id event frame e j l (omega arith) in
@@ -243,19 +243,19 @@ module _ (tau : ℕ) (streams : List Stream) (until : ℕ) (steps : List Step) (
       let a = waits-known i k w in
       All-contains (λ s. WaitsAfter steps i s.id → ⊥) streams a.1 (All-from_recursion (λ s. WaitsAfter steps i s.id → ⊥) streams (any-none steps i streams f)) (a.0, a.2, a.3) (subst (λ n. WaitsAfter steps i n) (sym a.4) w)
 
-  pub start-has-one : (i at id : ℕ) → i < length steps → step_at steps i ≡ Start at id →
-      (q event : ℕ) × (frame : Content) × (nth_that (is_queue id) (count_to (is_start id) steps i) steps ≡ Some (Queue q id event frame)) × (q < at + tau)
+  pub start-has-one : (i at id : ℕ) → i < length steps → step_at steps i ≡ Start id at →
+      (q event : ℕ) × (frame : Content) × (nth_that (is_queue id) (count_to (is_start id) steps i) steps ≡ Some (Queue id q event frame)) × (q < at + tau)
   start-has-one i at id l e =
-      let k = kept-as i (Start at id) l e in
+      let k = kept-as i (Start id at) l e in
       let s = soon-some tau at (nth_that (is_queue id) (count_to (is_start id) steps i) steps) (and-right (any_waits steps i streams) _ k.to_send) in
       let n = nth_that-some (is_queue id) (count_to (is_start id) steps i) steps s.0 s.1 in
       let q = queue_shape id s.0 n.3 in
       (q.0, q.1, q.2, s.1 ∙ ap Some q.3, subst (λ y. at_of y < at + tau) q.3 s.2)
 
-  pub start-is-lowest : (i at id : ℕ) → i < length steps → step_at steps i ≡ Start at id → (k : ℕ) → WaitsAfter steps i k → id ≤ k
+  pub start-is-lowest : (i at id : ℕ) → i < length steps → step_at steps i ≡ Start id at → (k : ℕ) → WaitsAfter steps i k → id ≤ k
   start-is-lowest i at id l e k w = elim (cases_lt k id) [
     | inr g ↦ g
-    | inl g ↦ (let f = not-true (lower_waits steps i id streams) (kept-as i (Start at id) l e).lowest in
+    | inl g ↦ (let f = not-true (lower_waits steps i id streams) (kept-as i (Start id at) l e).lowest in
         let a = waits-known i k w in
         absurd (All-contains (λ s. s.id < id → WaitsAfter steps i s.id → ⊥) streams a.1 (All-from_recursion (λ s. s.id < id → WaitsAfter steps i s.id → ⊥) streams (lower-none steps i id streams f)) (a.0, a.2, a.3)
         (omega (arith, g, a.4)) (subst (λ n. WaitsAfter steps i n) (sym a.4) w)))
@@ -275,11 +275,11 @@ module _ (tau : ℕ) (streams : List Stream) (until : ℕ) (steps : List Step) (
     by_end = by-end;
     known = known;
     period_apart = period-apart;
-    start_free = λ i at id l e. fits-start at id (running tau steps i) (kept-as i (Start at id) l e).transfer;
-    end_due = λ i at id l e. fits-end at id (running tau steps i) (kept-as i (End at id) l e).transfer;
+    start_free = λ i at id l e. fits-start at id (running tau steps i) (kept-as i (Start id at) l e).transfer;
+    end_due = λ i at id l e. fits-end at id (running tau steps i) (kept-as i (End id at) l e).transfer;
     none_missing = λ i id at l r. fits-running id at (step_at steps i) (sym (ap (λ o. fits_transfer o (step_at steps i)) r) ∙ (kept i l).transfer);
     last_missing = λ id at r. true-lt until at (sym (ap (is_unfinished until) r) ∙ ends.0);
-    start_asked = λ i at id l e. any-some steps i streams (and-left (any_waits steps i streams) _ (kept-as i (Start at id) l e).to_send);
+    start_asked = λ i at id l e. any-some steps i streams (and-left (any_waits steps i streams) _ (kept-as i (Start id at) l e).to_send);
     start_has = start-has-one;
     start_lowest = start-is-lowest;
     not_idle = λ i k l r w. idle-test i k (at_of (step_at steps (suc i))) (kept (suc i) l).not_idle r w;

@@ -22,11 +22,11 @@ module _ (tau : ℕ) (streams : List Stream) (until : ℕ) (steps : List Step) (
   abbrev pub starts : ℕ → ℕ → ℕ
   starts id i = count_to (is_start id) steps i
 
-  pub here : (a q id event : ℕ) (frame : Content) → a < length steps → step_at steps a ≡ Queue q id event frame → Contains (instances steps) (instance steps a q id event frame)
+  pub here : (a q id event : ℕ) (frame : Content) → a < length steps → step_at steps a ≡ Queue id q event frame → Contains (instances steps) (instance steps a q id event frame)
   here a q id event frame l h = instance_in steps 0 steps (in-steps steps) a q id event frame (omega arith) (omega arith) h
 
   -- a fact of each instance
-  pub of_each : (P : Instance → Type 0) → ((a q id event : ℕ) (frame : Content) → a < length steps → step_at steps a ≡ Queue q id event frame → P (instance steps a q id event frame)) → All P (instances steps)
+  pub of_each : (P : Instance → Type 0) → ((a q id event : ℕ) (frame : Content) → a < length steps → step_at steps a ≡ Queue id q event frame → P (instance steps a q id event frame)) → All P (instances steps)
   of_each P h = All-from_recursion P (instances steps) (each_instance steps 0 steps (in-steps steps) P (λ a q id event frame l k e. h a q id event frame (omega arith) e))
 
   pub later : (i j : ℕ) → i ≤ j → j < length steps → at_of (step_at steps i) ≤ at_of (step_at steps j)
@@ -46,12 +46,12 @@ module _ (tau : ℕ) (streams : List Stream) (until : ℕ) (steps : List Step) (
   pub sooner : (i j : ℕ) → i < length steps → j < length steps → at_of (step_at steps i) < at_of (step_at steps j) → i < j
   sooner i j l k o = elim (cases_lt i j) [ inl v ↦ v | inr v ↦ absurd (let z = later j i v l in omega arith) ]
 
-  pub takes : (a q id event : ℕ) (frame : Content) → a < length steps → step_at steps a ≡ Queue q id event frame → 1 ≤ frame.bits * tau
+  pub takes : (a q id event : ℕ) (frame : Content) → a < length steps → step_at steps a ≡ Queue id q event frame → 1 ≤ frame.bits * tau
   takes a q id event frame l h = takes-time tau streams (instance steps a q id event frame) tick (All-contains (IsWhole streams) (instances steps) (instance steps a q id event frame) ok.legal.known (here a q id event frame l h))
 
   -- a start is of an instance
-  pub paired : (b at id : ℕ) → b < length steps → step_at steps b ≡ Start at id →
-      (a : ℕ) × (q : ℕ) × (event : ℕ) × (frame : Content) × (a < length steps) × (step_at steps a ≡ Queue q id event frame) × (queues id a ≡ starts id b) × (end_at tau steps b at id ≡ at + frame.bits * tau) × ((instance steps a q id event frame).start ≡ Some at)
+  pub paired : (b at id : ℕ) → b < length steps → step_at steps b ≡ Start id at →
+      (a : ℕ) × (q : ℕ) × (event : ℕ) × (frame : Content) × (a < length steps) × (step_at steps a ≡ Queue id q event frame) × (queues id a ≡ starts id b) × (end_at tau steps b at id ≡ at + frame.bits * tau) × ((instance steps a q id event frame).start ≡ Some at)
   paired b at id l h =
       let c = count_to-past (is_start id) steps b (length steps) l l (is_start-of id (step_at steps b) at h) in
       let m = ok.no_more_starts id in
@@ -60,7 +60,7 @@ module _ (tau : ℕ) (streams : List Stream) (until : ℕ) (steps : List Step) (
       (n.0, s.0, s.1, s.2, n.2, s.3, n.4, end_there tau steps n.0 b s.0 id s.1 s.2 at n.2 s.3 n.4, starts-there steps n.0 b s.0 at id s.1 s.2 l h n.4)
 
   -- two instances never run at one tick
-  pub apart : (a q id event : ℕ) (frame : Content) (b q' id' event' : ℕ) (frame' : Content) (x : ℕ) → a < length steps → b < length steps → step_at steps a ≡ Queue q id event frame → step_at steps b ≡ Queue q' id' event' frame' →
+  pub apart : (a q id event : ℕ) (frame : Content) (b q' id' event' : ℕ) (frame' : Content) (x : ℕ) → a < length steps → b < length steps → step_at steps a ≡ Queue id q event frame → step_at steps b ≡ Queue id' q' event' frame' →
       Runs tau (instance steps a q id event frame) x → Runs tau (instance steps b q' id' event' frame') x → a ≡ b
   apart a q id event frame b q' id' event' frame' x l k h g r s = elim (cases_order a b) [
     | inl v ↦ v
@@ -69,7 +69,7 @@ module _ (tau : ℕ) (streams : List Stream) (until : ℕ) (steps : List Step) (
   ]
 
   -- of two starts the later comes after the earlier one's end
-  pub starts_apart : (b c at at' id id' : ℕ) → b < c → c < length steps → step_at steps b ≡ Start at id → step_at steps c ≡ Start at' id' → (end_at tau steps b at id ≤ at') × (at < at')
+  pub starts_apart : (b c at at' id id' : ℕ) → b < c → c < length steps → step_at steps b ≡ Start id at → step_at steps c ≡ Start id' at' → (end_at tau steps b at id ≤ at') × (at < at')
   starts_apart b c at at' id id' l k h g =
       let p = paired b at id (omega arith) h in
       let r = paired c at' id' k g in
@@ -81,7 +81,7 @@ module _ (tau : ℕ) (streams : List Stream) (until : ℕ) (steps : List Step) (
       let w : end_at tau steps b at id ≤ at' = elim (cases_lt at' (end_at tau steps b at id)) [
         | inr v ↦ v
         | inl v ↦ absurd (let e = apart p.0 p.1 id p.2 p.3 r.0 r.1 id' r.2 r.3 at' p.4 r.4 p.5 r.5 (at, p.8, omega arith, omega (arith, p.7)) (at', r.8, omega arith, omega arith) in
-            let z : Queue p.1 id p.2 p.3 ≡ Queue r.1 id' r.2 r.3 = sym p.5 ∙ ap (step_at steps) e ∙ r.5 in
+            let z : Queue id p.1 p.2 p.3 ≡ Queue id' r.1 r.2 r.3 = sym p.5 ∙ ap (step_at steps) e ∙ r.5 in
             let i : id ≡ id' = cc in
             let m : starts id b ≡ starts id' c = sym p.6 ∙ ap (λ n. queues id n) e ∙ ap (λ n. queues n r.0) i ∙ r.6 in
             let n : starts id c ≡ starts id' c = ap (λ n. starts n c) i in
@@ -91,36 +91,36 @@ module _ (tau : ℕ) (streams : List Stream) (until : ℕ) (steps : List Step) (
       (w, omega (arith, p.7))
 
   -- an end is that of a start before it
-  pub end_start : (i at id : ℕ) → i < length steps → step_at steps i ≡ End at id → (b : ℕ) × (s : ℕ) × (b < i) × (step_at steps b ≡ Start s id) × (end_at tau steps b s id ≡ at)
+  pub end_start : (i at id : ℕ) → i < length steps → step_at steps i ≡ End id at → (b : ℕ) × (s : ℕ) × (b < i) × (step_at steps b ≡ Start id s) × (end_at tau steps b s id ≡ at)
   end_start i at id l h =
       let e = ok.ends_are i at id l h in
-      All-contains (λ y. y.id ≡ id → (s : ℕ) × (y.start ≡ Some s) × (s + y.bits * tau ≡ at) → (b : ℕ) × (s : ℕ) × (b < i) × (step_at steps b ≡ Start s id) × (end_at tau steps b s id ≡ at)) (instances steps) e.1
-      (of_each (λ y. y.id ≡ id → (s : ℕ) × (y.start ≡ Some s) × (s + y.bits * tau ≡ at) → (b : ℕ) × (s : ℕ) × (b < i) × (step_at steps b ≡ Start s id) × (end_at tau steps b s id ≡ at)) one)
+      All-contains (λ y. y.id ≡ id → (s : ℕ) × (y.start ≡ Some s) × (s + y.bits * tau ≡ at) → (b : ℕ) × (s : ℕ) × (b < i) × (step_at steps b ≡ Start id s) × (end_at tau steps b s id ≡ at)) (instances steps) e.1
+      (of_each (λ y. y.id ≡ id → (s : ℕ) × (y.start ≡ Some s) × (s + y.bits * tau ≡ at) → (b : ℕ) × (s : ℕ) × (b < i) × (step_at steps b ≡ Start id s) × (end_at tau steps b s id ≡ at)) one)
       (e.0, e.2, e.3) e.4.0 e.4.1
     where
-      one : (a q k event : ℕ) (frame : Content) → a < length steps → step_at steps a ≡ Queue q k event frame → k ≡ id →
-          (s : ℕ) × ((instance steps a q k event frame).start ≡ Some s) × (s + frame.bits * tau ≡ at) → (b : ℕ) × (s : ℕ) × (b < i) × (step_at steps b ≡ Start s id) × (end_at tau steps b s id ≡ at)
+      one : (a q k event : ℕ) (frame : Content) → a < length steps → step_at steps a ≡ Queue k q event frame → k ≡ id →
+          (s : ℕ) × ((instance steps a q k event frame).start ≡ Some s) × (s + frame.bits * tau ≡ at) → (b : ℕ) × (s : ℕ) × (b < i) × (step_at steps b ≡ Start id s) × (end_at tau steps b s id ≡ at)
       one a q k event frame m g f w =
           let v = started-at steps a q k event frame w.0 w.1 in
           let z = end_there tau steps a v.0 q k event frame w.0 m g (sym v.3) in
           let t = takes a q k event frame m g in
           let x : at_of (step_at steps v.0) ≡ w.0 = ap at_of v.2 in
           let y : at_of (step_at steps i) ≡ at = ap at_of h in
-          (v.0, w.0, sooner v.0 i v.1 l (omega (arith, w.2)), v.2 ∙ ap (λ n. Start w.0 n) f, sym (ap (λ n. end_at tau steps v.0 w.0 n) f) ∙ z ∙ w.2)
+          (v.0, w.0, sooner v.0 i v.1 l (omega (arith, w.2)), v.2 ∙ ap (λ n. Start n w.0) f, sym (ap (λ n. end_at tau steps v.0 w.0 n) f) ∙ z ∙ w.2)
 
   -- while a transfer runs, instances are queued alone
-  pub quiet_between : (b c at id : ℕ) → b < c → c < length steps → step_at steps b ≡ Start at id → at_of (step_at steps c) < end_at tau steps b at id → rank_of (step_at steps c) ≡ 1
+  pub quiet_between : (b c at id : ℕ) → b < c → c < length steps → step_at steps b ≡ Start id at → at_of (step_at steps c) < end_at tau steps b at id → rank_of (step_at steps c) ≡ 1
   quiet_between b c at id l k h v = go (step_at steps c) refl
     where
       go : (x : Step) → step_at steps c ≡ x → rank_of (step_at steps c) ≡ 1
-      go (Queue at' n event frame) q = ap rank_of q
-      go (Start at' n) q = absurd (let w = starts_apart b c at at' id n l k h q in let y : at_of (step_at steps c) ≡ at' = ap at_of q in omega (arith, w.0))
-      go (End at' n) q = absurd (
+      go (Queue n at' event frame) q = ap rank_of q
+      go (Start n at') q = absurd (let w = starts_apart b c at at' id n l k h q in let y : at_of (step_at steps c) ≡ at' = ap at_of q in omega (arith, w.0))
+      go (End n at') q = absurd (
           let e = end_start c at' n k q in
           let y : at_of (step_at steps c) ≡ at' = ap at_of q in
           let x : at_of (step_at steps b) ≡ at = ap at_of h in
           elim (cases_order e.0 b) [
-            | inl g ↦ (let z : Start e.1 n ≡ Start at id = sym e.3 ∙ ap (step_at steps) g ∙ h in
+            | inl g ↦ (let z : Start n e.1 ≡ Start id at = sym e.3 ∙ ap (step_at steps) g ∙ h in
                 let i : n ≡ id = cc in let j : e.1 ≡ at = cc in
                 let m : end_at tau steps e.0 e.1 n ≡ end_at tau steps b at id = ap (λ d. end_at tau steps d e.1 n) g ∙ ap (λ d. end_at tau steps b d n) j ∙ ap (λ d. end_at tau steps b at d) i in
                 omega (arith, e.4))
@@ -133,7 +133,7 @@ module _ (tau : ℕ) (streams : List Stream) (until : ℕ) (steps : List Step) (
           ])
 
   -- a transfer that was started runs as long as instances are queued alone
-  pub still_runs : (b at id : ℕ) → step_at steps b ≡ Start at id → (d : ℕ) → ((c : ℕ) → b < c → c < suc b + d → rank_of (step_at steps c) ≡ 1) → running tau steps (suc b + d) ≡ Some (id, end_at tau steps b at id)
+  pub still_runs : (b at id : ℕ) → step_at steps b ≡ Start id at → (d : ℕ) → ((c : ℕ) → b < c → c < suc b + d → rank_of (step_at steps c) ≡ 1) → running tau steps (suc b + d) ≡ Some (id, end_at tau steps b at id)
   still_runs b at id h zero q = let e : suc b + 0 ≡ suc b = omega arith in
       subst (λ n. running tau steps n ≡ Some (id, end_at tau steps b at id)) (sym e) (ap (λ x. after tau steps b x (running tau steps b)) h)
   still_runs b at id h (suc d) q =
@@ -143,28 +143,28 @@ module _ (tau : ℕ) (streams : List Stream) (until : ℕ) (steps : List Step) (
     where
       go : (x : Step) → step_at steps (suc b + d) ≡ x → rank_of (step_at steps (suc b + d)) ≡ 1 → running tau steps (suc b + d) ≡ Some (id, end_at tau steps b at id) →
           after tau steps (suc b + d) (step_at steps (suc b + d)) (running tau steps (suc b + d)) ≡ Some (id, end_at tau steps b at id)
-      go (Queue at' k event frame) f r i = ap (λ x. after tau steps (suc b + d) x (running tau steps (suc b + d))) f ∙ i
-      go (Start at' k) f r i = absurd (let z : rank_of (step_at steps (suc b + d)) ≡ 2 = ap rank_of f in omega arith)
-      go (End at' k) f r i = absurd (let z : rank_of (step_at steps (suc b + d)) ≡ 0 = ap rank_of f in omega arith)
+      go (Queue k at' event frame) f r i = ap (λ x. after tau steps (suc b + d) x (running tau steps (suc b + d))) f ∙ i
+      go (Start k at') f r i = absurd (let z : rank_of (step_at steps (suc b + d)) ≡ 2 = ap rank_of f in omega arith)
+      go (End k at') f r i = absurd (let z : rank_of (step_at steps (suc b + d)) ≡ 0 = ap rank_of f in omega arith)
 
-  pub runs_to : (b i at id : ℕ) → step_at steps b ≡ Start at id → b < i → ((c : ℕ) → b < c → c < i → rank_of (step_at steps c) ≡ 1) → running tau steps i ≡ Some (id, end_at tau steps b at id)
+  pub runs_to : (b i at id : ℕ) → step_at steps b ≡ Start id at → b < i → ((c : ℕ) → b < c → c < i → rank_of (step_at steps c) ≡ 1) → running tau steps i ≡ Some (id, end_at tau steps b at id)
   runs_to b i at id h l q =
       let e : suc b + (i - suc b) ≡ i = omega arith in
       subst (λ n. running tau steps n ≡ Some (id, end_at tau steps b at id)) e (still_runs b at id h (i - suc b) (λ c m k. q c m (omega arith)))
 
   -- each end that falls by the last moment is there, after its start
-  pub end_there' : (b at id : ℕ) → b < length steps → step_at steps b ≡ Start at id → end_at tau steps b at id ≤ until →
-      (i : ℕ) × (i < length steps) × (step_at steps i ≡ End (end_at tau steps b at id) id) × (b < i)
+  pub end_there' : (b at id : ℕ) → b < length steps → step_at steps b ≡ Start id at → end_at tau steps b at id ≤ until →
+      (i : ℕ) × (i < length steps) × (step_at steps i ≡ End id (end_at tau steps b at id)) × (b < i)
   end_there' b at id l h u =
       let p = paired b at id l h in
       let t = takes p.0 p.1 id p.2 p.3 p.4 p.5 in
-      let e = All-contains (λ y. ForSome y.start (λ s. s + y.bits * tau ≤ until → (i : ℕ) × (i < length steps) × (step_at steps i ≡ End (s + y.bits * tau) y.id))) (instances steps) (instance steps p.0 p.1 id p.2 p.3) ok.each_end (here p.0 p.1 id p.2 p.3 p.4 p.5) at p.8 (omega (arith, p.7)) in
-      let g : step_at steps e.0 ≡ End (end_at tau steps b at id) id = e.2 ∙ ap (λ n. End n id) (sym p.7) in
+      let e = All-contains (λ y. ForSome y.start (λ s. s + y.bits * tau ≤ until → (i : ℕ) × (i < length steps) × (step_at steps i ≡ End y.id (s + y.bits * tau)))) (instances steps) (instance steps p.0 p.1 id p.2 p.3) ok.each_end (here p.0 p.1 id p.2 p.3 p.4 p.5) at p.8 (omega (arith, p.7)) in
+      let g : step_at steps e.0 ≡ End id (end_at tau steps b at id) = e.2 ∙ ap (λ n. End id n) (sym p.7) in
       let x : at_of (step_at steps b) ≡ at = ap at_of h in
       let y : at_of (step_at steps e.0) ≡ end_at tau steps b at id = ap at_of g in
       (e.0, e.1, g, sooner b e.0 l e.1 (omega (arith, p.7)))
 
-  pub end_due : (i at id : ℕ) → i < length steps → step_at steps i ≡ End at id → running tau steps i ≡ Some (id, at)
+  pub end_due : (i at id : ℕ) → i < length steps → step_at steps i ≡ End id at → running tau steps i ≡ Some (id, at)
   end_due i at id l h =
       let e = end_start i at id l h in
       let x : at_of (step_at steps i) ≡ at = ap at_of h in
@@ -180,11 +180,11 @@ module _ (tau : ℕ) (streams : List Stream) (until : ℕ) (steps : List Step) (
       ∙ ap (λ n. Some (id, n)) e.4
     where
       ended : (c : ℕ) → c < i → at_of (step_at steps c) ≡ at → (x : Step) → step_at steps c ≡ x → rank_of (step_at steps c) ≤ 0 → ⊥
-      ended c m o (End at' n) q r = let z = ok.ends_once c i at' at n id m l q h in let y : at_of (step_at steps c) ≡ at' = ap at_of q in omega arith
-      ended c m o (Start at' n) q r = let y : rank_of (step_at steps c) ≡ 2 = ap rank_of q in omega arith
-      ended c m o (Queue at' n event frame) q r = let y : rank_of (step_at steps c) ≡ 1 = ap rank_of q in omega arith
+      ended c m o (End n at') q r = let z = ok.ends_once c i at' at n id m l q h in let y : at_of (step_at steps c) ≡ at' = ap at_of q in omega arith
+      ended c m o (Start n at') q r = let y : rank_of (step_at steps c) ≡ 2 = ap rank_of q in omega arith
+      ended c m o (Queue n at' event frame) q r = let y : rank_of (step_at steps c) ≡ 1 = ap rank_of q in omega arith
 
-  pub start_free : (c at id : ℕ) → c < length steps → step_at steps c ≡ Start at id → running tau steps c ≡ None
+  pub start_free : (c at id : ℕ) → c < length steps → step_at steps c ≡ Start id at → running tau steps c ≡ None
   start_free c at id l h = go (running tau steps c) refl
     where
       go : (r : Option (ℕ × ℕ)) → running tau steps c ≡ r → running tau steps c ≡ None
@@ -202,7 +202,7 @@ module _ (tau : ℕ) (streams : List Stream) (until : ℕ) (steps : List Step) (
           let q = r.5 z.0 z.3 o in
           omega arith)
 
-  pub none_missing : (i id e : ℕ) → i < length steps → running tau steps i ≡ Some (id, e) → (at_of (step_at steps i) < e) ⊎ (step_at steps i ≡ End e id)
+  pub none_missing : (i id e : ℕ) → i < length steps → running tau steps i ≡ Some (id, e) → (at_of (step_at steps i) < e) ⊎ (step_at steps i ≡ End id e)
   none_missing i id e l h = elim (cases_lt (at_of (step_at steps i)) e) [
     | inl v ↦ inl v
     | inr v ↦ (
@@ -211,7 +211,7 @@ module _ (tau : ℕ) (streams : List Stream) (until : ℕ) (steps : List Step) (
         let z = end_there' r.0 r.1 id (omega (arith, r.2)) r.3 (omega (arith, r.4)) in
         let y : at_of (step_at steps z.0) ≡ end_at tau steps r.0 r.1 id = ap at_of z.2 in
         let s : rank_of (step_at steps z.0) ≡ 0 = ap rank_of z.2 in
-        let f : step_at steps z.0 ≡ End e id = z.2 ∙ ap (λ n. End n id) (sym r.4) in
+        let f : step_at steps z.0 ≡ End id e = z.2 ∙ ap (λ n. End id n) (sym r.4) in
         elim (cases_order z.0 i) [
           | inl g ↦ inr (sym (ap (step_at steps) g) ∙ f)
           | inr (inl g) ↦ absurd (let q = r.5 z.0 z.3 g in omega arith)
@@ -222,10 +222,10 @@ module _ (tau : ℕ) (streams : List Stream) (until : ℕ) (steps : List Step) (
         ])
   ]
     where
-      ended : (c : ℕ) → i < c → c < length steps → step_at steps c ≡ End e id → (x : Step) → step_at steps i ≡ x → rank_of (step_at steps i) ≤ 0 → e ≤ at_of (step_at steps i) → ⊥
-      ended c m n f (End at' k) q r v = let z = ok.ends_once i c at' e k id m n q f in let y : at_of (step_at steps i) ≡ at' = ap at_of q in omega arith
-      ended c m n f (Start at' k) q r v = let y : rank_of (step_at steps i) ≡ 2 = ap rank_of q in omega arith
-      ended c m n f (Queue at' k event frame) q r v = let y : rank_of (step_at steps i) ≡ 1 = ap rank_of q in omega arith
+      ended : (c : ℕ) → i < c → c < length steps → step_at steps c ≡ End id e → (x : Step) → step_at steps i ≡ x → rank_of (step_at steps i) ≤ 0 → e ≤ at_of (step_at steps i) → ⊥
+      ended c m n f (End k at') q r v = let z = ok.ends_once i c at' e k id m n q f in let y : at_of (step_at steps i) ≡ at' = ap at_of q in omega arith
+      ended c m n f (Start k at') q r v = let y : rank_of (step_at steps i) ≡ 2 = ap rank_of q in omega arith
+      ended c m n f (Queue k at' event frame) q r v = let y : rank_of (step_at steps i) ≡ 1 = ap rank_of q in omega arith
 
   pub last_missing : (id e : ℕ) → running tau steps (length steps) ≡ Some (id, e) → until < e
   last_missing id e h = elim (cases_lt until e) [
@@ -239,8 +239,8 @@ module _ (tau : ℕ) (streams : List Stream) (until : ℕ) (steps : List Step) (
 
   -- a stream of which an instance waits after the first i steps has one that is queued there and starts later, if at all
   pub waits_index : (i k : ℕ) → i ≤ length steps → WaitsAfter steps i k →
-      (a : ℕ) × (q : ℕ) × (event : ℕ) × (frame : Content) × (a < i) × (step_at steps a ≡ Queue q k event frame) ×
-      ((t : ℕ) → (instance steps a q k event frame).start ≡ Some t → (v : ℕ) × (i ≤ v) × (v < length steps) × (step_at steps v ≡ Start t k))
+      (a : ℕ) × (q : ℕ) × (event : ℕ) × (frame : Content) × (a < i) × (step_at steps a ≡ Queue k q event frame) ×
+      ((t : ℕ) → (instance steps a q k event frame).start ≡ Some t → (v : ℕ) × (i ≤ v) × (v < length steps) × (step_at steps v ≡ Start k t))
   waits_index i k l w =
       let n = nth_before (is_queue k) steps i (starts k i) w in
       let s = queue_shape k (step_at steps n.0) n.3 in (
@@ -258,7 +258,7 @@ module _ (tau : ℕ) (streams : List Stream) (until : ℕ) (steps : List Step) (
             ]),
       )
 
-  pub start_lowest : (i at id : ℕ) → i < length steps → step_at steps i ≡ Start at id → (k : ℕ) → WaitsAfter steps i k → id ≤ k
+  pub start_lowest : (i at id : ℕ) → i < length steps → step_at steps i ≡ Start id at → (k : ℕ) → WaitsAfter steps i k → id ≤ k
   start_lowest i at id l h k w =
       let p = paired i at id l h in
       let n = waits_index i k (omega arith) w in
@@ -270,13 +270,13 @@ module _ (tau : ℕ) (streams : List Stream) (until : ℕ) (steps : List Step) (
       (here n.0 n.1 k n.2 n.3 (omega (arith, n.4)) n.5)
       (omega arith, λ t e. (let v = n.6 t e in let u = later i v.0 v.1 v.2 in let f : at_of (step_at steps v.0) ≡ t = ap at_of v.3 in omega arith))
 
-  pub start_asked : (i at id : ℕ) → i < length steps → step_at steps i ≡ Start at id → (k : ℕ) × WaitsAfter steps i k
+  pub start_asked : (i at id : ℕ) → i < length steps → step_at steps i ≡ Start id at → (k : ℕ) × WaitsAfter steps i k
   start_asked i at id l h =
       let p = paired i at id l h in
       let w = All-contains (λ y. ForSome y.start (λ s. Any (λ z. Waits z s) (instances steps))) (instances steps) (instance steps p.0 p.1 id p.2 p.3) ok.legal.asked_for (here p.0 p.1 id p.2 p.3 p.4 p.5) at p.8 in
       All-contains (λ z. Waits z at → (k : ℕ) × WaitsAfter steps i k) (instances steps) w.1 (of_each (λ z. Waits z at → (k : ℕ) × WaitsAfter steps i k) one) (w.0, w.2, w.3) w.4
     where
-      one : (a q k event : ℕ) (frame : Content) → a < length steps → step_at steps a ≡ Queue q k event frame → Waits (instance steps a q k event frame) at → (k : ℕ) × WaitsAfter steps i k
+      one : (a q k event : ℕ) (frame : Content) → a < length steps → step_at steps a ≡ Queue k q event frame → Waits (instance steps a q k event frame) at → (k : ℕ) × WaitsAfter steps i k
       one a q k event frame m g w =
           let x : at_of (step_at steps i) ≡ at = ap at_of h in
           let y : at_of (step_at steps a) ≡ q = ap at_of g in
@@ -294,8 +294,8 @@ module _ (tau : ℕ) (streams : List Stream) (until : ℕ) (steps : List Step) (
                 let z = starts_apart n.0 i s.0 at k id n.1 l s.1 h in omega (arith, z.1))
           ]
 
-  pub start_has : (i at id : ℕ) → i < length steps → step_at steps i ≡ Start at id →
-      (q event : ℕ) × (frame : Content) × (nth_that (is_queue id) (starts id i) steps ≡ Some (Queue q id event frame)) × (q < at + tau)
+  pub start_has : (i at id : ℕ) → i < length steps → step_at steps i ≡ Start id at →
+      (q event : ℕ) × (frame : Content) × (nth_that (is_queue id) (starts id i) steps ≡ Some (Queue id q event frame)) × (q < at + tau)
   start_has i at id l h =
       let p = paired i at id l h in
       let n = nth_that-at (is_queue id) steps p.0 p.4 (is_queue-of id (step_at steps p.0) p.1 p.2 p.3 p.5) in
@@ -314,7 +314,7 @@ module _ (tau : ℕ) (streams : List Stream) (until : ℕ) (steps : List Step) (
       (omega arith, λ t e. (let v = n.6 t e in let u = after' v.0 v.1 v.2 in let f : at_of (step_at steps v.0) ≡ t = ap at_of v.3 in omega arith)) in
       All-contains (λ y. Runs tau y (at_of (step_at steps i)) → ⊥) (instances steps) r.1 (of_each (λ y. Runs tau y (at_of (step_at steps i)) → ⊥) one) (r.0, r.2, r.3) r.4
     where
-      one : (a q id event : ℕ) (frame : Content) → a < length steps → step_at steps a ≡ Queue q id event frame → Runs tau (instance steps a q id event frame) (at_of (step_at steps i)) → ⊥
+      one : (a q id event : ℕ) (frame : Content) → a < length steps → step_at steps a ≡ Queue id q event frame → Runs tau (instance steps a q id event frame) (at_of (step_at steps i)) → ⊥
       one a q id event frame m g r =
           let b = started-at steps a q id event frame r.0 r.1 in
           let z = end_there tau steps a b.0 q id event frame r.0 m g (sym b.3) in

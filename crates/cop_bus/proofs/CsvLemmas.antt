@@ -45,9 +45,9 @@ table_read rows wide =
     rw (starts_plain (lines rows)) (lines_read (header ∷ rows) (length (lines (header ∷ rows)) + 1) (lit< tt, wide) (omega (arith, count_lines (header ∷ rows))))
 
 wide_step : (step : Step) → 1 < length (fields_of step)
-wide_step (Queue at id event frame) = lit< tt
-wide_step (Start at id) = lit< tt
-wide_step (End at id) = lit< tt
+wide_step (Queue id at event frame) = lit< tt
+wide_step (Start id at) = lit< tt
+wide_step (End id at) = lit< tt
 
 wide_steps : (steps : List Step) (last : Fields) → 1 < length last → AreWide (map fields_of steps ++ (last ∷ []))
 wide_steps [] last h = (h, tt)

@@ -55,18 +55,18 @@ at-found (x ∷ xs) id k P h e = elim (bool_cases (x.id == id)) [
 ]
 
 -- the last event is that of a step
-pub last-from : (steps : List Step) (k : ℕ) (j e : ℕ) → last_event k steps j ≡ Some e → (b : ℕ) × (at : ℕ) × (frame : Content) × (b < j) × (step_at steps b ≡ Queue at k e frame)
+pub last-from : (steps : List Step) (k : ℕ) (j e : ℕ) → last_event k steps j ≡ Some e → (b : ℕ) × (at : ℕ) × (frame : Content) × (b < j) × (step_at steps b ≡ Queue k at e frame)
 last-from steps k zero e h = absurd (cc)
 last-from steps k (suc j) e h = go (step_at steps j) refl h (last-from steps k j e)
   where
     go : (x : Step) → step_at steps j ≡ x → event_or k x (last_event k steps j) ≡ Some e →
-        (last_event k steps j ≡ Some e → (b : ℕ) × (at : ℕ) × (frame : Content) × (b < j) × (step_at steps b ≡ Queue at k e frame)) →
-        (b : ℕ) × (at : ℕ) × (frame : Content) × (b < suc j) × (step_at steps b ≡ Queue at k e frame)
-    go (Start at id) s g ih = let r = ih g in (r.0, r.1, r.2, omega (arith, r.3), r.4)
-    go (End at id) s g ih = let r = ih g in (r.0, r.1, r.2, omega (arith, r.3), r.4)
-    go (Queue at id event frame) s g ih = elim (bool_cases (id == k)) [
+        (last_event k steps j ≡ Some e → (b : ℕ) × (at : ℕ) × (frame : Content) × (b < j) × (step_at steps b ≡ Queue k at e frame)) →
+        (b : ℕ) × (at : ℕ) × (frame : Content) × (b < suc j) × (step_at steps b ≡ Queue k at e frame)
+    go (Start id at) s g ih = let r = ih g in (r.0, r.1, r.2, omega (arith, r.3), r.4)
+    go (End id at) s g ih = let r = ih g in (r.0, r.1, r.2, omega (arith, r.3), r.4)
+    go (Queue id at event frame) s g ih = elim (bool_cases (id == k)) [
       | inl t ↦ (let v : event ≡ e = same_some event e (sym (ap (λ b. cond b (Some event) (last_event k steps j)) t) ∙ g) in
-          (j, at, frame, omega arith, s ∙ ap (λ i. Queue at i event frame) (true-eq id k t) ∙ ap (λ v. Queue at k v frame) v))
+          (j, at, frame, omega arith, s ∙ ap (λ i. Queue i at event frame) (true-eq id k t) ∙ ap (λ v. Queue k at v frame) v))
       | inr f ↦ (let r = ih (sym (ap (λ b. cond b (Some event) (last_event k steps j)) f) ∙ g) in (r.0, r.1, r.2, omega (arith, r.3), r.4))
     ]
 
@@ -77,70 +77,70 @@ module _ (tau : ℕ) (streams : List Stream) (until : ℕ) (steps : List Step) (
   order-kept (suc i) l = and-true (nat_le (at_of (step_at steps (suc i))) until) (not_before (step_at steps i) (step_at steps (suc i))) (le-true (at_of (step_at steps (suc i))) until (ok.by_end (suc i) l))
       (test-ordered (step_at steps i) (step_at steps (suc i)) (ok.ordered i (suc i) (omega arith) l))
 
-  pub start-known : (i at id : ℕ) → i < length steps → step_at steps i ≡ Start at id → Any (λ s. s.id ≡ id) streams
+  pub start-known : (i at id : ℕ) → i < length steps → step_at steps i ≡ Start id at → Any (λ s. s.id ≡ id) streams
   start-known i at id l e =
       let h = ok.start_has i at id l e in
-      let n = nth_that-some (is_queue id) (count_to (is_start id) steps i) steps (Queue h.0 id h.1 h.2) h.3 in
+      let n = nth_that-some (is_queue id) (count_to (is_start id) steps i) steps (Queue id h.0 h.1 h.2) h.3 in
       (ok.known n.0 h.0 id h.1 h.2 n.1 n.2).some_stream
 
   pub id-known : (i : ℕ) → i < length steps → Any (λ s. s.id ≡ id_of (step_at steps i)) streams
   id-known i l = go (step_at steps i) refl
     where
       go : (x : Step) → step_at steps i ≡ x → Any (λ s. s.id ≡ id_of (step_at steps i)) streams
-      go (Queue at id event frame) e = subst (λ x. Any (λ s. s.id ≡ id_of x) streams) (sym e) (ok.known i at id event frame l e).some_stream
-      go (Start at id) e = subst (λ x. Any (λ s. s.id ≡ id_of x) streams) (sym e) (start-known i at id l e)
-      go (End at id) e =
+      go (Queue id at event frame) e = subst (λ x. Any (λ s. s.id ≡ id_of x) streams) (sym e) (ok.known i at id event frame l e).some_stream
+      go (Start id at) e = subst (λ x. Any (λ s. s.id ≡ id_of x) streams) (sym e) (start-known i at id l e)
+      go (End id at) e =
           let b = running_started tau steps i id at (omega arith) (ok.end_due i at id l e) in
           subst (λ x. Any (λ s. s.id ≡ id_of x) streams) (sym e) (start-known b.0 b.1 id (omega (arith, b.2)) b.3)
 
   -- of the stream that is found
-  pub instance-found : (i at id event : ℕ) (frame : Content) → i < length steps → step_at steps i ≡ Queue at id event frame → (k : Stream) → stream_of streams id ≡ Some k → IsInstanceOf k (instance steps i at id event frame)
+  pub instance-found : (i at id event : ℕ) (frame : Content) → i < length steps → step_at steps i ≡ Queue id at event frame → (k : Stream) → stream_of streams id ≡ Some k → IsInstanceOf k (instance steps i at id event frame)
   instance-found i at id event frame l e k f =
       at-found streams id k (λ s. IsInstanceOf s (instance steps i at id event frame)) (recursion_from_All (λ s. s.id ≡ id → IsInstanceOf s (instance steps i at id event frame)) streams (ok.known i at id event frame l e).obeys) f
 
   pub period-kept : (i : ℕ) (x : Step) → i < length steps → step_at steps i ≡ x → (o : Option Stream) → stream_of streams (id_of x) ≡ o → (v : Option ℕ) → last_event (id_of x) steps i ≡ v → is_period_later o v x ≡ true
-  period-kept i (Start at id) l e None f v g = refl
-  period-kept i (Start at id) l e (Some k) f None g = refl
-  period-kept i (Start at id) l e (Some k) f (Some w) g = refl
-  period-kept i (End at id) l e None f v g = refl
-  period-kept i (End at id) l e (Some k) f None g = refl
-  period-kept i (End at id) l e (Some k) f (Some w) g = refl
-  period-kept i (Queue at id event frame) l e None f v g = refl
-  period-kept i (Queue at id event frame) l e (Some k) f None g = refl
-  period-kept i (Queue at id event frame) l e (Some k) f (Some w) g =
+  period-kept i (Start id at) l e None f v g = refl
+  period-kept i (Start id at) l e (Some k) f None g = refl
+  period-kept i (Start id at) l e (Some k) f (Some w) g = refl
+  period-kept i (End id at) l e None f v g = refl
+  period-kept i (End id at) l e (Some k) f None g = refl
+  period-kept i (End id at) l e (Some k) f (Some w) g = refl
+  period-kept i (Queue id at event frame) l e None f v g = refl
+  period-kept i (Queue id at event frame) l e (Some k) f None g = refl
+  period-kept i (Queue id at event frame) l e (Some k) f (Some w) g =
       let b = last-from steps id i w g in
       let p = ok.period_apart b.0 i b.1 at id w event b.2 frame b.3 l b.4 e in
       le-true (w + k.period) event (at-found streams id k (λ s. w + s.period ≤ event) (recursion_from_All (λ s. s.id ≡ id → w + s.period ≤ event) streams p) f)
 
   pub time-kept : (i : ℕ) (x : Step) → i < length steps → step_at steps i ≡ x → (o : Option Stream) → stream_of streams (id_of x) ≡ o → is_queued_in_time o x ≡ true
-  time-kept i (Start at id) l e None f = refl
-  time-kept i (Start at id) l e (Some k) f = refl
-  time-kept i (End at id) l e None f = refl
-  time-kept i (End at id) l e (Some k) f = refl
-  time-kept i (Queue at id event frame) l e None f = refl
-  time-kept i (Queue at id event frame) l e (Some k) f =
+  time-kept i (Start id at) l e None f = refl
+  time-kept i (Start id at) l e (Some k) f = refl
+  time-kept i (End id at) l e None f = refl
+  time-kept i (End id at) l e (Some k) f = refl
+  time-kept i (Queue id at event frame) l e None f = refl
+  time-kept i (Queue id at event frame) l e (Some k) f =
       let y = instance-found i at id event frame l e k f in
       and-true (nat_le event at) (nat_le at (event + k.jitter)) (le-true event at y.after_event) (le-true at (event + k.jitter) y.within_jitter)
 
   pub length-kept : (i : ℕ) (x : Step) → i < length steps → step_at steps i ≡ x → (o : Option Stream) → stream_of streams (id_of x) ≡ o → is_of_length o x ≡ true
-  length-kept i (Start at id) l e None f = refl
-  length-kept i (Start at id) l e (Some k) f = refl
-  length-kept i (End at id) l e None f = refl
-  length-kept i (End at id) l e (Some k) f = refl
-  length-kept i (Queue at id event frame) l e None f = refl
-  length-kept i (Queue at id event frame) l e (Some k) f =
+  length-kept i (Start id at) l e None f = refl
+  length-kept i (Start id at) l e (Some k) f = refl
+  length-kept i (End id at) l e None f = refl
+  length-kept i (End id at) l e (Some k) f = refl
+  length-kept i (Queue id at event frame) l e None f = refl
+  length-kept i (Queue id at event frame) l e (Some k) f =
       let y = instance-found i at id event frame l e k f in
       and-true (nat_le (least_bits k.bytes) frame.bits && nat_le frame.bits (worst_bits k.bytes)) (frame.len == k.bytes)
       (and-true (nat_le (least_bits k.bytes) frame.bits) (nat_le frame.bits (worst_bits k.bytes)) (le-true (least_bits k.bytes) frame.bits y.not_shorter) (le-true frame.bits (worst_bits k.bytes) y.not_longer))
       (eq-true frame.len k.bytes y.same_bytes)
 
   pub transfer-kept : (i : ℕ) (x : Step) → i < length steps → step_at steps i ≡ x → (r : Option (ℕ × ℕ)) → running tau steps i ≡ r → fits_transfer r x ≡ true
-  transfer-kept i (Start at id) l e r f = ap (λ o. fits_transfer o (Start at id)) (sym f ∙ ok.start_free i at id l e)
-  transfer-kept i (End at id) l e r f = ap (λ o. fits_transfer o (End at id)) (sym f ∙ ok.end_due i at id l e) ∙ and-true (id == id) (at == at) (eq-true id id refl) (eq-true at at refl)
-  transfer-kept i (Queue at id event frame) l e None f = refl
-  transfer-kept i (Queue at id event frame) l e (Some r) f = elim (ok.none_missing i r.0 r.1 l f) [
+  transfer-kept i (Start id at) l e r f = ap (λ o. fits_transfer o (Start id at)) (sym f ∙ ok.start_free i at id l e)
+  transfer-kept i (End id at) l e r f = ap (λ o. fits_transfer o (End id at)) (sym f ∙ ok.end_due i at id l e) ∙ and-true (id == id) (at == at) (eq-true id id refl) (eq-true at at refl)
+  transfer-kept i (Queue id at event frame) l e None f = refl
+  transfer-kept i (Queue id at event frame) l e (Some r) f = elim (ok.none_missing i r.0 r.1 l f) [
     | inl m ↦ lt-true at r.1 (subst (λ y. at_of y < r.1) e m)
-    | inr m ↦ (let q : Queue at id event frame ≡ End r.1 r.0 = sym e ∙ m in absurd (cc))
+    | inr m ↦ (let q : Queue id at event frame ≡ End r.0 r.1 = sym e ∙ m in absurd (cc))
   ]
 
   -- one that waits is found to wait
@@ -154,18 +154,18 @@ module _ (tau : ℕ) (streams : List Stream) (until : ℕ) (steps : List Step) (
   ]
 
   pub send-kept : (i : ℕ) (x : Step) → i < length steps → step_at steps i ≡ x → has_one_to_send tau streams steps i x ≡ true
-  send-kept i (Queue at id event frame) l e = refl
-  send-kept i (End at id) l e = refl
-  send-kept i (Start at id) l e =
+  send-kept i (Queue id at event frame) l e = refl
+  send-kept i (End id at) l e = refl
+  send-kept i (Start id at) l e =
       let w = ok.start_asked i at id l e in
       let h = ok.start_has i at id l e in
       and-true (any_waits steps i streams) (is_soon_queued tau at (nth_that (is_queue id) (count_to (is_start id) steps i) steps)) (waits-found i w.0 w.1)
       (ap (is_soon_queued tau at) h.3 ∙ lt-true h.0 (at + tau) h.4)
 
   pub lowest-kept : (i : ℕ) (x : Step) → i < length steps → step_at steps i ≡ x → is_lowest streams steps i x ≡ true
-  lowest-kept i (Queue at id event frame) l e = refl
-  lowest-kept i (End at id) l e = refl
-  lowest-kept i (Start at id) l e = elim (bool_cases (lower_waits steps i id streams)) [
+  lowest-kept i (Queue id at event frame) l e = refl
+  lowest-kept i (End id at) l e = refl
+  lowest-kept i (Start id at) l e = elim (bool_cases (lower_waits steps i id streams)) [
     | inr f ↦ ap not f
     | inl t ↦ (let s = lower-some steps i id streams t in let g = ok.start_lowest i at id l e s.0 s.2 in absurd (omega (arith, s.1, g)))
   ]

@@ -19,22 +19,22 @@ pub record Obeys (tau : ℕ) (streams : List Stream) (until : ℕ) (steps : List
       (at_of (step_at steps i) < at_of (step_at steps j)) ⊎ ((at_of (step_at steps i) ≡ at_of (step_at steps j)) × (rank_of (step_at steps i) ≤ rank_of (step_at steps j)))
   pub by_end : (i : ℕ) → i < length steps → at_of (step_at steps i) ≤ until
   -- 61, 63, 64: of a stream, queued in time, of a length of the stream
-  pub known : (i at id event : ℕ) (frame : Content) → i < length steps → step_at steps i ≡ Queue at id event frame → IsWhole streams (instance steps i at id event frame)
+  pub known : (i at id event : ℕ) (frame : Content) → i < length steps → step_at steps i ≡ Queue id at event frame → IsWhole streams (instance steps i at id event frame)
   -- 62: events a period apart
-  pub period_apart : (i j at at' id event event' : ℕ) (frame : Content) (frame' : Content) → i < j → j < length steps → step_at steps i ≡ Queue at id event frame → step_at steps j ≡ Queue at' id event' frame' →
+  pub period_apart : (i j at at' id event event' : ℕ) (frame : Content) (frame' : Content) → i < j → j < length steps → step_at steps i ≡ Queue id at event frame → step_at steps j ≡ Queue id at' event' frame' →
       All (λ k. k.id ≡ id → event + k.period ≤ event') streams
   -- 65: a start only where no transfer runs, an end only of the one that runs and at its moment, and none is missing
-  pub start_free : (i at id : ℕ) → i < length steps → step_at steps i ≡ Start at id → running tau steps i ≡ None
-  pub end_due : (i at id : ℕ) → i < length steps → step_at steps i ≡ End at id → running tau steps i ≡ Some (id, at)
+  pub start_free : (i at id : ℕ) → i < length steps → step_at steps i ≡ Start id at → running tau steps i ≡ None
+  pub end_due : (i at id : ℕ) → i < length steps → step_at steps i ≡ End id at → running tau steps i ≡ Some (id, at)
   pub none_missing : (i id at : ℕ) → i < length steps → running tau steps i ≡ Some (id, at) →
-      (at_of (step_at steps i) < at) ⊎ (step_at steps i ≡ End at id)
+      (at_of (step_at steps i) < at) ⊎ (step_at steps i ≡ End id at)
   pub last_missing : (id at : ℕ) → running tau steps (length steps) ≡ Some (id, at) → until < at
   -- 66: some instance waits at a start, and the stream has one to send, queued less than a bit time later
-  pub start_asked : (i at id : ℕ) → i < length steps → step_at steps i ≡ Start at id → (k : ℕ) × WaitsAfter steps i k
-  pub start_has : (i at id : ℕ) → i < length steps → step_at steps i ≡ Start at id →
-      (q event : ℕ) × (frame : Content) × (nth_that (is_queue id) (count_to (is_start id) steps i) steps ≡ Some (Queue q id event frame)) × (q < at + tau)
+  pub start_asked : (i at id : ℕ) → i < length steps → step_at steps i ≡ Start id at → (k : ℕ) × WaitsAfter steps i k
+  pub start_has : (i at id : ℕ) → i < length steps → step_at steps i ≡ Start id at →
+      (q event : ℕ) × (frame : Content) × (nth_that (is_queue id) (count_to (is_start id) steps i) steps ≡ Some (Queue id q event frame)) × (q < at + tau)
   -- 67: none with a lower identifier waits at a start
-  pub start_lowest : (i at id : ℕ) → i < length steps → step_at steps i ≡ Start at id → (k : ℕ) → WaitsAfter steps i k → id ≤ k
+  pub start_lowest : (i at id : ℕ) → i < length steps → step_at steps i ≡ Start id at → (k : ℕ) → WaitsAfter steps i k → id ≤ k
   -- 68: none waits at an earlier tick at which no transfer runs
   pub not_idle : (i k : ℕ) → suc i < length steps → running tau steps (suc i) ≡ None → WaitsAfter steps (suc i) k → at_of (step_at steps (suc i)) ≤ at_of (step_at steps i)
   pub last_not_idle : (i k : ℕ) → suc i ≡ length steps → running tau steps (suc i) ≡ None → WaitsAfter steps (suc i) k → until ≤ at_of (step_at steps i)
@@ -46,8 +46,8 @@ pub record IsWholeTrace (tau : ℕ) (streams : List Stream) (until : ℕ) (steps
       (at_of (step_at steps i) < at_of (step_at steps j)) ⊎ ((at_of (step_at steps i) ≡ at_of (step_at steps j)) × (rank_of (step_at steps i) ≤ rank_of (step_at steps j)))
   pub by_end : (i : ℕ) → i < length steps → at_of (step_at steps i) ≤ until
   pub no_more_starts : (id : ℕ) → count_to (is_start id) steps (length steps) ≤ count_to (is_queue id) steps (length steps)
-  pub ends_are : (i at id : ℕ) → i < length steps → step_at steps i ≡ End at id →
+  pub ends_are : (i at id : ℕ) → i < length steps → step_at steps i ≡ End id at →
       Any (λ y. (y.id ≡ id) × ((s : ℕ) × (y.start ≡ Some s) × (s + y.bits * tau ≡ at))) (instances steps)
-  pub each_end : All (λ y. ForSome y.start (λ s. s + y.bits * tau ≤ until → (i : ℕ) × (i < length steps) × (step_at steps i ≡ End (s + y.bits * tau) y.id))) (instances steps)
-  pub ends_once : (i j at at' id id' : ℕ) → i < j → j < length steps → step_at steps i ≡ End at id → step_at steps j ≡ End at' id' → at < at'
+  pub each_end : All (λ y. ForSome y.start (λ s. s + y.bits * tau ≤ until → (i : ℕ) × (i < length steps) × (step_at steps i ≡ End y.id (s + y.bits * tau)))) (instances steps)
+  pub ends_once : (i j at at' id id' : ℕ) → i < j → j < length steps → step_at steps i ≡ End id at → step_at steps j ≡ End id' at' → at < at'
   pub legal : IsWholeRun tau streams until (instances steps)

@@ -36,17 +36,17 @@ module _ (tau : ℕ) (streams : List Stream) (until : ℕ) (steps : List Step) (
 
   -- what runs was started, and since then instances were queued alone
   pub running-started : (i id e : ℕ) → i ≤ length steps → running tau steps i ≡ Some (id, e) →
-      (b : ℕ) × (at : ℕ) × (b < i) × (step_at steps b ≡ Start at id) × (e ≡ end_of b at id) × ((c : ℕ) → b < c → c < i → rank_of (step_at steps c) ≡ 1)
+      (b : ℕ) × (at : ℕ) × (b < i) × (step_at steps b ≡ Start id at) × (e ≡ end_of b at id) × ((c : ℕ) → b < c → c < i → rank_of (step_at steps c) ≡ 1)
   running-started i id e l h = Steps.running_started tau steps i id e l h
 
   -- a transfer that was started still runs, or has ended at its moment
-  pub runs_or_ended : (b at id : ℕ) → step_at steps b ≡ Start at id → (d : ℕ) → suc b + d ≤ length steps →
-      (running tau steps (suc b + d) ≡ Some (id, end_of b at id)) ⊎ ((c : ℕ) × (c < suc b + d) × (step_at steps c ≡ End (end_of b at id) id))
+  pub runs_or_ended : (b at id : ℕ) → step_at steps b ≡ Start id at → (d : ℕ) → suc b + d ≤ length steps →
+      (running tau steps (suc b + d) ≡ Some (id, end_of b at id)) ⊎ ((c : ℕ) × (c < suc b + d) × (step_at steps c ≡ End id (end_of b at id)))
   runs_or_ended b at id h zero l = let e : suc b + 0 ≡ suc b = omega arith in
       inl (subst (λ n. running tau steps n ≡ Some (id, end_of b at id)) (sym e) (ap (λ x. after tau steps b x (running tau steps b)) h))
   runs_or_ended b at id h (suc d) l =
       let e : suc b + suc d ≡ suc (suc b + d) = omega arith in
-      subst (λ n. (running tau steps n ≡ Some (id, end_of b at id)) ⊎ ((c : ℕ) × (c < n) × (step_at steps c ≡ End (end_of b at id) id))) (sym e)
+      subst (λ n. (running tau steps n ≡ Some (id, end_of b at id)) ⊎ ((c : ℕ) × (c < n) × (step_at steps c ≡ End id (end_of b at id)))) (sym e)
       (elim (runs_or_ended b at id h d (omega arith)) [
         | inr w ↦ inr (w.0, omega (arith, w.1), w.2)
         | inl r ↦ go (step_at steps (suc b + d)) refl r
@@ -56,45 +56,45 @@ module _ (tau : ℕ) (streams : List Stream) (until : ℕ) (steps : List Step) (
       i = suc b + d
 
       go : (x : Step) → step_at steps (suc b + d) ≡ x → running tau steps (suc b + d) ≡ Some (id, end_of b at id) →
-          (after tau steps (suc b + d) (step_at steps (suc b + d)) (running tau steps (suc b + d)) ≡ Some (id, end_of b at id)) ⊎ ((c : ℕ) × (c < suc (suc b + d)) × (step_at steps c ≡ End (end_of b at id) id))
-      go (Queue at' k event frame) q r = inl (ap (λ x. after tau steps (suc b + d) x (running tau steps (suc b + d))) q ∙ r)
-      go (Start at' k) q r = let n = obeys.start_free (suc b + d) at' k (omega arith) q in absurd (cc)
-      go (End at' k) q r =
+          (after tau steps (suc b + d) (step_at steps (suc b + d)) (running tau steps (suc b + d)) ≡ Some (id, end_of b at id)) ⊎ ((c : ℕ) × (c < suc (suc b + d)) × (step_at steps c ≡ End id (end_of b at id)))
+      go (Queue k at' event frame) q r = inl (ap (λ x. after tau steps (suc b + d) x (running tau steps (suc b + d))) q ∙ r)
+      go (Start k at') q r = let n = obeys.start_free (suc b + d) at' k (omega arith) q in absurd (cc)
+      go (End k at') q r =
           let n = obeys.end_due (suc b + d) at' k (omega arith) q in
           let p = same_some (k, at') (id, end_of b at id) (sym n ∙ r) in
           let a : at' ≡ end_of b at id = ap (λ v. v.1) p in
           let f : k ≡ id = ap (λ v. v.0) p in
-          inr (suc b + d, omega arith, q ∙ ap (λ n. End n k) a ∙ ap (λ n. End (end_of b at id) n) f)
+          inr (suc b + d, omega arith, q ∙ ap (λ n. End k n) a ∙ ap (λ n. End n (end_of b at id)) f)
 
   -- a start takes the instance that has its number
-  pub paired : (b at id : ℕ) → b < length steps → step_at steps b ≡ Start at id →
-      (a : ℕ) × (q : ℕ) × (event : ℕ) × (frame : Content) × (a < length steps) × (step_at steps a ≡ Queue q id event frame) × (queues id a ≡ starts id b) × (q < at + tau) × (end_of b at id ≡ at + frame.bits * tau)
+  pub paired : (b at id : ℕ) → b < length steps → step_at steps b ≡ Start id at →
+      (a : ℕ) × (q : ℕ) × (event : ℕ) × (frame : Content) × (a < length steps) × (step_at steps a ≡ Queue id q event frame) × (queues id a ≡ starts id b) × (q < at + tau) × (end_of b at id ≡ at + frame.bits * tau)
   paired b at id l h =
       let w = obeys.start_has b at id l h in
-      let n = nth_that-some (is_queue id) (starts id b) steps (Queue w.0 id w.1 w.2) w.3 in
+      let n = nth_that-some (is_queue id) (starts id b) steps (Queue id w.0 w.1 w.2) w.3 in
       (n.0, w.0, w.1, w.2, n.1, n.2, n.4, w.4, ap (λ o. at + bits_of o * tau) w.3)
 
   -- and that instance starts there
-  pub starts_there : (a b q at id event : ℕ) (frame : Content) → b < length steps → step_at steps b ≡ Start at id → queues id a ≡ starts id b →
+  pub starts_there : (a b q at id event : ℕ) (frame : Content) → b < length steps → step_at steps b ≡ Start id at → queues id a ≡ starts id b →
       (instance steps a q id event frame).start ≡ Some at
   starts_there a b q at id event frame l h e =
       ap moment_of (ap (λ j. nth_that (is_start id) j steps) e ∙ nth_that-at (is_start id) steps b l (is_start-of id (step_at steps b) at h) ∙ ap Some h)
 
   -- an instance that starts does so at a start that has its number
   pub started_at : (a q id event : ℕ) (frame : Content) (s : ℕ) → (instance steps a q id event frame).start ≡ Some s →
-      (b : ℕ) × (b < length steps) × (step_at steps b ≡ Start s id) × (starts id b ≡ queues id a)
+      (b : ℕ) × (b < length steps) × (step_at steps b ≡ Start id s) × (starts id b ≡ queues id a)
   started_at a q id event frame s e =
       let m = moment-some (nth_that (is_start id) (queues id a) steps) s e in
       let n = nth_that-some (is_start id) (queues id a) steps m.0 m.1 in
       let h = start_shape id m.0 n.3 in
       let t : h.0 ≡ s = sym (ap at_of h.1) ∙ m.2 in
-      (n.0, n.1, n.2 ∙ h.1 ∙ ap (λ v. Start v id) t, n.4)
+      (n.0, n.1, n.2 ∙ h.1 ∙ ap (λ v. Start id v) t, n.4)
 
-  pub takes : (a q id event : ℕ) (frame : Content) → a < length steps → step_at steps a ≡ Queue q id event frame → 1 ≤ frame.bits * tau
+  pub takes : (a q id event : ℕ) (frame : Content) → a < length steps → step_at steps a ≡ Queue id q event frame → 1 ≤ frame.bits * tau
   takes a q id event frame l e = takes-time tau streams (instance steps a q id event frame) tick (obeys.known a q id event frame l e)
 
   -- of two starts the later comes after the earlier one's end
-  pub starts_apart : (b c at at' id id' : ℕ) → b < c → c < length steps → step_at steps b ≡ Start at id → step_at steps c ≡ Start at' id' → (end_of b at id ≤ at') × (at < at')
+  pub starts_apart : (b c at at' id id' : ℕ) → b < c → c < length steps → step_at steps b ≡ Start id at → step_at steps c ≡ Start id' at' → (end_of b at id ≤ at') × (at < at')
   starts_apart b c at at' id id' l k h g =
       let e : suc b + (c - suc b) ≡ c = omega arith in
       let none = obeys.start_free c at' id' k g in
@@ -108,18 +108,18 @@ module _ (tau : ℕ) (streams : List Stream) (until : ℕ) (steps : List Step) (
       (w, omega (arith, p.8))
 
   -- what is queued by the moment of a start stands before it
-  pub queued_before : (a b q at id k event : ℕ) (frame : Content) → a < length steps → b < length steps → step_at steps a ≡ Queue q k event frame → step_at steps b ≡ Start at id → q ≤ at → a < b
+  pub queued_before : (a b q at id k event : ℕ) (frame : Content) → a < length steps → b < length steps → step_at steps a ≡ Queue k q event frame → step_at steps b ≡ Start id at → q ≤ at → a < b
   queued_before a b q at id k event frame l m h g o = elim (cases_lt a b) [
     | inl r ↦ r
     | inr r ↦ absurd (elim (cases_lt b a) [
       | inl v ↦ (let x : at_of (step_at steps a) ≡ q = ap at_of h in let y : at_of (step_at steps b) ≡ at = ap at_of g in let u : rank_of (step_at steps a) ≡ 1 = ap rank_of h in let w : rank_of (step_at steps b) ≡ 2 = ap rank_of g in
           elim (obeys.ordered b a v l) [ inl z ↦ omega arith | inr z ↦ omega (arith, z.0, z.1) ])
-      | inr v ↦ (let e : a ≡ b = omega arith in let z : Queue q k event frame ≡ Start at id = sym h ∙ ap (step_at steps) e ∙ g in cc)
+      | inr v ↦ (let e : a ≡ b = omega arith in let z : Queue k q event frame ≡ Start id at = sym h ∙ ap (step_at steps) e ∙ g in cc)
     ])
   ]
 
   -- what waits when a start comes, and what waits at its moment
-  pub waits-step : (b k at id : ℕ) → b < length steps → step_at steps b ≡ Start at id → WaitsAfter steps b k → Any (λ z. Waits z at) (instances steps)
+  pub waits-step : (b k at id : ℕ) → b < length steps → step_at steps b ≡ Start id at → WaitsAfter steps b k → Any (λ z. Waits z at) (instances steps)
   waits-step b k at id l h w =
       let n = nth_before (is_queue k) steps b (starts k b) w in
       let s = queue_shape k (step_at steps n.0) n.3 in
@@ -134,7 +134,7 @@ module _ (tau : ℕ) (streams : List Stream) (until : ℕ) (steps : List Step) (
       (c.0, z, c.1, c.2, (q, u))
 
   -- an instance that waits at the moment of a start waits when it comes
-  pub waits-moment : (a b q k event : ℕ) (frame : Content) (at id : ℕ) → a < length steps → b < length steps → step_at steps a ≡ Queue q k event frame → step_at steps b ≡ Start at id →
+  pub waits-moment : (a b q k event : ℕ) (frame : Content) (at id : ℕ) → a < length steps → b < length steps → step_at steps a ≡ Queue k q event frame → step_at steps b ≡ Start id at →
       Waits (instance steps a q k event frame) at → WaitsAfter steps b k
   waits-moment a b q k event frame at id l m h g w =
       let r = queued_before a b q at id k event frame l m h g w.0 in
@@ -176,7 +176,7 @@ module _ (tau : ℕ) (streams : List Stream) (until : ℕ) (steps : List Step) (
 
   -- what waits at a tick, no transfer of which starts there, waits after the steps up to it
   pub waits-cut : (u k a q id event : ℕ) (frame : Content) → ((i : ℕ) → i < k → at_of (step_at steps i) ≤ u) → ((i : ℕ) → k ≤ i → i < length steps → u < at_of (step_at steps i)) →
-      a < length steps → step_at steps a ≡ Queue q id event frame → q ≤ u → ForSome (instance steps a q id event frame).start (λ s. suc u ≤ s) → (a < k) × WaitsAfter steps k id
+      a < length steps → step_at steps a ≡ Queue id q event frame → q ≤ u → ForSome (instance steps a q id event frame).start (λ s. suc u ≤ s) → (a < k) × WaitsAfter steps k id
   waits-cut u k a q id event frame before after' l h w v =
       let x : at_of (step_at steps a) ≡ q = ap at_of h in
       let r : a < k = elim (cases_lt a k) [ inl z ↦ z | inr z ↦ (let o = after' a z l in absurd (omega arith)) ] in
@@ -193,7 +193,7 @@ module _ (tau : ℕ) (streams : List Stream) (until : ℕ) (steps : List Step) (
         ],
       )
 
-  pub never-idle : (u : ℕ) → u < until → (a q id event : ℕ) (frame : Content) → a < length steps → step_at steps a ≡ Queue q id event frame → Waits (instance steps a q id event frame) u → Any (λ y. Runs tau y u) (instances steps)
+  pub never-idle : (u : ℕ) → u < until → (a q id event : ℕ) (frame : Content) → a < length steps → step_at steps a ≡ Queue id q event frame → Waits (instance steps a q id event frame) u → Any (λ y. Runs tau y u) (instances steps)
   never-idle u l a q id event frame m h w = elim (start_cases (instance steps a q id event frame).start) [
     | inl n ↦ idle (λ s e. absurd (cc))
     | inr v ↦ elim (cases_lt u v.0) [
@@ -230,10 +230,10 @@ module _ (tau : ℕ) (streams : List Stream) (until : ℕ) (steps : List Step) (
           ]
 
   -- of two instances of one stream the earlier is queued and sent first
-  pub comes-before : (a q id event : ℕ) (frame : Content) (b q' id' event' : ℕ) (frame' : Content) → a < b → b < length steps → step_at steps a ≡ Queue q id event frame → step_at steps b ≡ Queue q' id' event' frame' →
+  pub comes-before : (a q id event : ℕ) (frame : Content) (b q' id' event' : ℕ) (frame' : Content) → a < b → b < length steps → step_at steps a ≡ Queue id q event frame → step_at steps b ≡ Queue id' q' event' frame' →
       id ≡ id' → IsBefore streams (instance steps a q id event frame) (instance steps b q' id' event' frame')
   comes-before a q id event frame b q' id' event' frame' l m h g e =
-      let g' : step_at steps b ≡ Queue q' id event' frame' = subst (λ i. step_at steps b ≡ Queue q' i event' frame') (sym e) g in
+      let g' : step_at steps b ≡ Queue id q' event' frame' = subst (λ i. step_at steps b ≡ Queue i q' event' frame') (sym e) g in
       record {
         period_apart = obeys.period_apart a b q q' id event event' frame frame' l m h g';
         queued_first = (let o = later a b (omega arith) m in let x : at_of (step_at steps a) ≡ q = ap at_of h in let y : at_of (step_at steps b) ≡ q' = ap at_of g in omega arith);
@@ -247,11 +247,11 @@ module _ (tau : ℕ) (streams : List Stream) (until : ℕ) (steps : List Step) (
             (s.0, starts_there a n.0 q s.0 id event frame n.2 s.1 (sym n.4), x.1));
       }
 
-  pub length_there : (a b q id event : ℕ) (frame : Content) (at : ℕ) → a < length steps → b < length steps → step_at steps a ≡ Queue q id event frame → step_at steps b ≡ Start at id → queues id a ≡ starts id b → end_of b at id ≡ at + frame.bits * tau
+  pub length_there : (a b q id event : ℕ) (frame : Content) (at : ℕ) → a < length steps → b < length steps → step_at steps a ≡ Queue id q event frame → step_at steps b ≡ Start id at → queues id a ≡ starts id b → end_of b at id ≡ at + frame.bits * tau
   length_there a b q id event frame at l m h g e = Steps.end_there tau steps a b q id event frame at l h e
 
   -- no two transfers run at one tick
-  pub one-at-a-time : (a q id event : ℕ) (frame : Content) (b q' id' event' : ℕ) (frame' : Content) → a < b → b < length steps → step_at steps a ≡ Queue q id event frame → step_at steps b ≡ Queue q' id' event' frame' →
+  pub one-at-a-time : (a q id event : ℕ) (frame : Content) (b q' id' event' : ℕ) (frame' : Content) → a < b → b < length steps → step_at steps a ≡ Queue id q event frame → step_at steps b ≡ Queue id' q' event' frame' →
       (x : ℕ) → Runs tau (instance steps a q id event frame) x → Runs tau (instance steps b q' id' event' frame') x → ⊥
   one-at-a-time a q id event frame b q' id' event' frame' l m h g x r s =
       let v = started_at a q id event frame r.0 r.1 in
@@ -261,7 +261,7 @@ module _ (tau : ℕ) (streams : List Stream) (until : ℕ) (steps : List Step) (
       elim (cases_order v.0 w.0) [
         | inr (inl o) ↦ (let z = starts_apart v.0 w.0 r.0 s.0 id id' o w.1 v.2 w.2 in omega (arith, z.0, r.3, s.2))
         | inr (inr o) ↦ (let z = starts_apart w.0 v.0 s.0 r.0 id' id o v.1 w.2 v.2 in omega (arith, z.0, s.3, r.2))
-        | inl o ↦ (let z : Start r.0 id ≡ Start s.0 id' = sym v.2 ∙ ap (step_at steps) o ∙ w.2 in
+        | inl o ↦ (let z : Start id r.0 ≡ Start id' s.0 = sym v.2 ∙ ap (step_at steps) o ∙ w.2 in
             let i : id ≡ id' = cc in
             let p = count_to-past (is_queue id) steps a b l (omega arith) (is_queue-of id (step_at steps a) q event frame h) in
             let n : starts id v.0 ≡ starts id' w.0 = ap (λ k. starts k v.0) i ∙ ap (starts id') o in
@@ -293,19 +293,19 @@ module _ (tau : ℕ) (streams : List Stream) (until : ℕ) (steps : List Step) (
     never_idle = λ u l. from (λ z. Waits z u → Any (λ y. Runs tau y u) (instances steps)) (λ a q id event frame m h w. never-idle u l a q id event frame m h w);
   }
     where
-      from : (P : Instance → Type 0) → ((a q id event : ℕ) (frame : Content) → a < length steps → step_at steps a ≡ Queue q id event frame → P (instance steps a q id event frame)) → All P (instances steps)
+      from : (P : Instance → Type 0) → ((a q id event : ℕ) (frame : Content) → a < length steps → step_at steps a ≡ Queue id q event frame → P (instance steps a q id event frame)) → All P (instances steps)
       from P h = All-from_recursion P (instances steps) (each_instance steps 0 steps in_steps P (λ a q id event frame l k e. h a q id event frame (omega arith) e))
 
-      two : (R : Instance → Instance → Type 0) → ((a q id event : ℕ) (frame : Content) (b q' id' event' : ℕ) (frame' : Content) → a < b → b < length steps → step_at steps a ≡ Queue q id event frame → step_at steps b ≡ Queue q' id' event' frame' → R (instance steps a q id event frame) (instance steps b q' id' event' frame')) → AllPairs R (instances steps)
+      two : (R : Instance → Instance → Type 0) → ((a q id event : ℕ) (frame : Content) (b q' id' event' : ℕ) (frame' : Content) → a < b → b < length steps → step_at steps a ≡ Queue id q event frame → step_at steps b ≡ Queue id' q' event' frame' → R (instance steps a q id event frame) (instance steps b q' id' event' frame')) → AllPairs R (instances steps)
       two R h = AllPairs-from_Pairs R (instances steps) (pairs_instances steps 0 steps in_steps R (λ a q id event frame b q' id' event' frame' l k e g. h a q id event frame b q' id' event' frame' l (omega arith) e g))
 
   -- and the trace of one: each start is of an instance, and each end is there once
-  pub two_ends : (i j at at' id id' : ℕ) → i < j → j < length steps → step_at steps i ≡ End at id → step_at steps j ≡ End at' id' → at < at'
+  pub two_ends : (i j at at' id id' : ℕ) → i < j → j < length steps → step_at steps i ≡ End id at → step_at steps j ≡ End id' at' → at < at'
   two_ends i j at at' id id' l k h g =
       let r = running-started j id' at' (omega arith) (obeys.end_due j at' id' k g) in
       let o : i < r.0 = elim (cases_order i r.0) [
         | inr (inl v) ↦ v
-        | inl v ↦ absurd (let z : End at id ≡ Start r.1 id' = sym h ∙ ap (step_at steps) v ∙ r.3 in cc)
+        | inl v ↦ absurd (let z : End id at ≡ Start id' r.1 = sym h ∙ ap (step_at steps) v ∙ r.3 in cc)
         | inr (inr v) ↦ absurd (let z = r.5 i v l in let y : rank_of (step_at steps i) ≡ 0 = ap rank_of h in omega arith)
       ] in
       let p = paired r.0 r.1 id' (omega (arith, r.2)) r.3 in
@@ -333,15 +333,15 @@ module _ (tau : ℕ) (streams : List Stream) (until : ℕ) (steps : List Step) (
         let c = instance_in steps 0 steps in_steps p.0 p.1 id p.2 p.3 (omega arith) (omega (arith, p.4)) p.5 in
         let t = starts_there p.0 r.0 p.1 r.1 id p.2 p.3 (omega (arith, r.2)) r.3 p.6 in
         (c.0, instance steps p.0 p.1 id p.2 p.3, c.1, c.2, (refl, (r.1, t, omega (arith, p.8, r.4)))));
-    each_end = All-from_recursion (λ y. ForSome y.start (λ s. s + y.bits * tau ≤ until → (i : ℕ) × (i < length steps) × (step_at steps i ≡ End (s + y.bits * tau) y.id))) (instances steps)
-        (each_instance steps 0 steps in_steps (λ y. ForSome y.start (λ s. s + y.bits * tau ≤ until → (i : ℕ) × (i < length steps) × (step_at steps i ≡ End (s + y.bits * tau) y.id)))
+    each_end = All-from_recursion (λ y. ForSome y.start (λ s. s + y.bits * tau ≤ until → (i : ℕ) × (i < length steps) × (step_at steps i ≡ End y.id (s + y.bits * tau)))) (instances steps)
+        (each_instance steps 0 steps in_steps (λ y. ForSome y.start (λ s. s + y.bits * tau ≤ until → (i : ℕ) × (i < length steps) × (step_at steps i ≡ End y.id (s + y.bits * tau))))
         (λ a q id event frame k l h s e u.
         let v = started_at a q id event frame s e in
         let f = length_there a v.0 q id event frame s (omega arith) v.1 h v.2 (sym v.3) in
         let d : suc v.0 + (length steps - suc v.0) ≡ length steps = omega (arith, v.1) in
         elim (runs_or_ended v.0 s id v.2 (length steps - suc v.0) (omega (arith, v.1))) [
           | inl r ↦ (let z = obeys.last_missing id (end_of v.0 s id) (subst (λ n. running tau steps n ≡ Some (id, end_of v.0 s id)) d r) in absurd (omega arith))
-          | inr r ↦ (r.0, omega (arith, r.1), r.2 ∙ ap (λ n. End n id) f)
+          | inr r ↦ (r.0, omega (arith, r.1), r.2 ∙ ap (λ n. End id n) f)
         ]));
     ends_once = two_ends;
     legal = legal;

@@ -76,11 +76,11 @@ module _ (tau : ℕ) (streams : List Stream) (until : ℕ) (steps : List Step) w
   all-on-time d h = All-from_recursion AllOnTime streams (Each-from_Contains AllOnTime streams (λ k m. All-from_recursion (λ y. y.id ≡ k.id → IsOnTime tau until k.deadline y) (instances steps)
       (each_instance steps 0 steps (in-steps steps) (λ y. y.id ≡ k.id → IsOnTime tau until k.deadline y) (λ a at id event frame l n e. (λ q. on-time tau until k.deadline (instance steps a at id event frame) (at-step a at id event frame (omega arith) e k m q))))))
     where
-      at-step : (a at id event : ℕ) (frame : Content) → a < length steps → step_at steps a ≡ Queue at id event frame → (k : Stream) → Contains streams k → id ≡ k.id → misses tau until event frame.bits k.deadline (sent_at steps a id) ≡ false
+      at-step : (a at id event : ℕ) (frame : Content) → a < length steps → step_at steps a ≡ Queue id at event frame → (k : Stream) → Contains streams k → id ≡ k.id → misses tau until event frame.bits k.deadline (sent_at steps a id) ≡ false
       at-step a at id event frame l e k m q =
           let f = (none-at a l (none-from h a (omega arith))).0 in
           let g = ap (λ x. is_late tau until (stream_of streams (id_of x)) (sent_at steps a (id_of x)) x) e in
-          let o = ap (λ v. is_late tau until v (sent_at steps a id) (Queue at id event frame)) (found-is streams k id d m (sym q)) in
+          let o = ap (λ v. is_late tau until v (sent_at steps a id) (Queue id at event frame)) (found-is streams k id d m (sym q)) in
           sym o ∙ sym g ∙ f
 
   pub none-late : All AllOnTime streams → (i : ℕ) → i < length steps → late_at tau streams until steps i ≡ false
@@ -88,9 +88,9 @@ module _ (tau : ℕ) (streams : List Stream) (until : ℕ) (steps : List Step) w
     where
       go : (x : Step) → step_at steps i ≡ x → (o : Option Stream) → stream_of streams (id_of (step_at steps i)) ≡ o → late_at tau streams until steps i ≡ false
       go x e None f = ap (λ v. is_late tau until v (sent_at steps i (id_of (step_at steps i))) (step_at steps i)) f
-      go (Start at id) e (Some k) f = ap (λ v. is_late tau until v (sent_at steps i (id_of (step_at steps i))) (step_at steps i)) f ∙ ap (λ x. is_late tau until (Some k) (sent_at steps i (id_of x)) x) e
-      go (End at id) e (Some k) f = ap (λ v. is_late tau until v (sent_at steps i (id_of (step_at steps i))) (step_at steps i)) f ∙ ap (λ x. is_late tau until (Some k) (sent_at steps i (id_of x)) x) e
-      go (Queue at id event frame) e (Some k) f =
+      go (Start id at) e (Some k) f = ap (λ v. is_late tau until v (sent_at steps i (id_of (step_at steps i))) (step_at steps i)) f ∙ ap (λ x. is_late tau until (Some k) (sent_at steps i (id_of x)) x) e
+      go (End id at) e (Some k) f = ap (λ v. is_late tau until v (sent_at steps i (id_of (step_at steps i))) (step_at steps i)) f ∙ ap (λ x. is_late tau until (Some k) (sent_at steps i (id_of x)) x) e
+      go (Queue id at event frame) e (Some k) f =
           ap (λ v. is_late tau until v (sent_at steps i (id_of (step_at steps i))) (step_at steps i)) f ∙ ap (λ x. is_late tau until (Some k) (sent_at steps i (id_of x)) x) e
           ∙ elim (bool_cases (misses tau until event frame.bits k.deadline (sent_at steps i id))) [
             | inr n ↦ n

@@ -7,7 +7,7 @@ use Rattle.cop_bus.specs.declared.steps.Content.{Content}
 use Rattle.cop_bus.specs.declared.steps.Step.TheVariants.{Queue, Start, End}
 use Rattle.cop_bus.specs.Trace.{is_queue, is_start, count_to, nth_that, step_at}
 use Rattle.cop_bus.specs.Judge.{id_of, waits_after, last_event, event_or}
-use Rattle.cop_bus.specs.Tables.{IsPlace, IsAhead, IsNext, IsUnsent, IsLast, ahead_after, next_after, unsent_after, last_after}
+use Rattle.cop_bus.specs.Tables.{IsPlace, IsAhead, IsNext, IsUnsent, IsLinked, IsLast, ahead_after, next_after, unsent_after, last_after}
 use Rattle.cop_bus.proofs.StepLemmas.{nth_that-some, nth_that-at, nth_before, count_to-past, count_to-suc, count_to-zero, one-true, one-false, bool_cases, is_queue-of, is_start-of}
 use Rattle.cop_bus.proofs.Work.{lt-true, lt-false, eq-true, true-eq}
 
@@ -76,13 +76,13 @@ eq_cases a b = elim (cases_lt a b) [
 pub not-eq : (a b : ℕ) → (a ≡ b → ⊥) → (a == b) ≡ false
 not-eq a b h = elim (bool_cases (a == b)) [ inl t ↦ absurd (h (true-eq a b t)) | inr f ↦ f ]
 
-pub not-queue : (k id at event : ℕ) (frame : Content) (x : Step) → x ≡ Queue at id event frame → (k ≡ id → ⊥) → is_queue k x ≡ false
+pub not-queue : (k id at event : ℕ) (frame : Content) (x : Step) → x ≡ Queue id at event frame → (k ≡ id → ⊥) → is_queue k x ≡ false
 not-queue k id at event frame x e n = ap (is_queue k) e ∙ not-eq id k (λ f. n (sym f))
 
 -- The tables before a step from those after it.
 pub ahead-step : (steps : List Step) (i : ℕ) (ahead next : List ℕ) (x : Step) → i < length steps → step_at steps i ≡ x → id_of x < 65536 →
     IsAhead steps (suc i) ahead → IsNext steps (suc i) next → IsAhead steps i (ahead_after x i ahead) × IsNext steps i (next_after x i ahead next)
-ahead-step steps i ahead next (Queue at id event frame) l e i_fits h n =
+ahead-step steps i ahead next (Queue id at event frame) l e i_fits h n =
     let q : is_queue id (step_at steps i) ≡ true = is_queue-of id (step_at steps i) at event frame e in (
       record {
         ids = length-set ahead id i ∙ h.ids;
@@ -99,7 +99,7 @@ ahead-step steps i ahead next (Queue at id event frame) l e i_fits h n =
         steps_long = length-set next i (slice_index ahead id) ∙ n.steps_long;
         places = λ a k f m o. elim (eq_cases a i) [
           | inr s ↦ (let v = set-other next i a (slice_index ahead id) s in subst (IsPlace (is_queue k) steps (suc (count_to (is_queue k) steps a))) (sym v) (n.places a k (omega arith) m o))
-          | inl s ↦ (let o' : is_queue k (Queue at id event frame) ≡ true = sym (ap (is_queue k) (ap (step_at steps) s ∙ e)) ∙ o in
+          | inl s ↦ (let o' : is_queue k (Queue id at event frame) ≡ true = sym (ap (is_queue k) (ap (step_at steps) s ∙ e)) ∙ o in
               let t : id ≡ k = true-eq id k o' in
               let v = set-same next i a (slice_index ahead id) (sym s) (omega (arith, n.steps_long)) in
               let c = count-more (is_queue id) steps i l q in
@@ -110,23 +110,23 @@ ahead-step steps i ahead next (Queue at id event frame) l e i_fits h n =
         ];
       },
     )
-ahead-step steps i ahead next (Start at id) l e i_fits h n = (
+ahead-step steps i ahead next (Start id at) l e i_fits h n = (
   record { ids = h.ids; places = λ k m. place-at (is_queue k) steps _ _ _ (count-same (is_queue k) steps i l (ap (is_queue k) e)) (h.places k m) },
   record {
     steps_long = n.steps_long;
     places = λ a k f m o. elim (eq_cases a i) [
       | inr s ↦ n.places a k (omega arith) m o
-      | inl s ↦ (let o' : is_queue k (Start at id) ≡ true = sym (ap (is_queue k) (ap (step_at steps) s ∙ e)) ∙ o in absurd (cc))
+      | inl s ↦ (let o' : is_queue k (Start id at) ≡ true = sym (ap (is_queue k) (ap (step_at steps) s ∙ e)) ∙ o in absurd (cc))
     ];
   },
 )
-ahead-step steps i ahead next (End at id) l e i_fits h n = (
+ahead-step steps i ahead next (End id at) l e i_fits h n = (
   record { ids = h.ids; places = λ k m. place-at (is_queue k) steps _ _ _ (count-same (is_queue k) steps i l (ap (is_queue k) e)) (h.places k m) },
   record {
     steps_long = n.steps_long;
     places = λ a k f m o. elim (eq_cases a i) [
       | inr s ↦ n.places a k (omega arith) m o
-      | inl s ↦ (let o' : is_queue k (End at id) ≡ true = sym (ap (is_queue k) (ap (step_at steps) s ∙ e)) ∙ o in absurd (cc))
+      | inl s ↦ (let o' : is_queue k (End id at) ≡ true = sym (ap (is_queue k) (ap (step_at steps) s ∙ e)) ∙ o in absurd (cc))
     ];
   },
 )
@@ -163,34 +163,35 @@ unsent-start steps ahead h = record {
 }
 
 -- a start takes the place on to the next
-pub unsent-step : (steps : List Step) (i : ℕ) (next unsent : List ℕ) (x : Step) → i < length steps → step_at steps i ≡ x → id_of x < 65536 →
-    ((at id : ℕ) → x ≡ Start at id → slice_index unsent id < length steps) → IsNext steps 0 next → IsUnsent steps i unsent → IsUnsent steps (suc i) (unsent_after x next unsent)
-unsent-step steps i next unsent (Queue at id event frame) l e f some n h =
+pub unsent-step : (steps : List Step) (i : ℕ) (links unsent : List ℕ) (x : Step) → i < length steps → step_at steps i ≡ x → id_of x < 65536 →
+    ((at id : ℕ) → x ≡ Start id at → slice_index unsent id < length steps) → IsLinked steps i links → IsUnsent steps i unsent → IsUnsent steps (suc i) (unsent_after x links unsent)
+unsent-step steps i links unsent (Queue id at event frame) l e f some n h =
     record { ids = h.ids; places = λ k m. place-at (is_queue k) steps _ _ _ (sym (count-same (is_start k) steps i l (ap (is_start k) e))) (h.places k m) }
-unsent-step steps i next unsent (End at id) l e f some n h =
+unsent-step steps i links unsent (End id at) l e f some n h =
     record { ids = h.ids; places = λ k m. place-at (is_queue k) steps _ _ _ (sym (count-same (is_start k) steps i l (ap (is_start k) e))) (h.places k m) }
-unsent-step steps i next unsent (Start at id) l e f some n h = record {
-  ids = length-set unsent id (slice_index next (slice_index unsent id)) ∙ h.ids;
+unsent-step steps i links unsent (Start id at) l e f some n h = record {
+  ids = length-set unsent id (slice_index links (slice_index unsent id)) ∙ h.ids;
   places = λ k m. elim (eq_cases k id) [
-    | inr s ↦ (let v = set-other unsent id k (slice_index next (slice_index unsent id)) s in
+    | inr s ↦ (let v = set-other unsent id k (slice_index links (slice_index unsent id)) s in
         let g : is_start k (step_at steps i) ≡ false = ap (is_start k) e ∙ not-eq id k (λ r. s (sym r)) in
         subst (IsPlace (is_queue k) steps (count_to (is_start k) steps (suc i))) (sym v) (place-at (is_queue k) steps _ _ _ (sym (count-same (is_start k) steps i l g)) (h.places k m)))
-    | inl s ↦ (let v = set-same unsent id k (slice_index next (slice_index unsent id)) (sym s) (omega (arith, h.ids)) in
+    | inl s ↦ (let v = set-same unsent id k (slice_index links (slice_index unsent id)) (sym s) (omega (arith, h.ids)) in
         let p = h.places id f in
         let b = some at id refl in
-        let q = n.places (slice_index unsent id) id (omega arith) b (p.passes b) in
+        let m = p.number b in
+        let q = n.unsent (slice_index unsent id) id b (p.passes b) (omega arith) in
         let g : is_start id (step_at steps i) ≡ true = is_start-of id (step_at steps i) at e in
-        let c : suc (count_to (is_queue id) steps (slice_index unsent id)) ≡ count_to (is_start id) steps (suc i) = ap suc (p.number b) ∙ sym (count-more (is_start id) steps i l g) in
+        let c : suc (count_to (is_queue id) steps (slice_index unsent id)) ≡ count_to (is_start id) steps (suc i) = ap suc m ∙ sym (count-more (is_start id) steps i l g) in
         subst (IsPlace (is_queue k) steps (count_to (is_start k) steps (suc i))) (sym v)
-        (subst (λ j. IsPlace (is_queue j) steps (count_to (is_start j) steps (suc i)) (slice_index next (slice_index unsent id))) (sym s)
+        (subst (λ j. IsPlace (is_queue j) steps (count_to (is_start j) steps (suc i)) (slice_index links (slice_index unsent id))) (sym s)
         (place-at (is_queue id) steps _ _ _ c q)))
   ];
 }
 
 pub last-step : (steps : List Step) (i : ℕ) (last : List (Option ℕ)) (x : Step) → step_at steps i ≡ x → id_of x < 65536 → IsLast steps i last → IsLast steps (suc i) (last_after x last)
-last-step steps i last (Start at id) e f h = record { ids = h.ids; events = λ k m. h.events k m ∙ sym (ap (λ y. event_or k y (last_event k steps i)) e) }
-last-step steps i last (End at id) e f h = record { ids = h.ids; events = λ k m. h.events k m ∙ sym (ap (λ y. event_or k y (last_event k steps i)) e) }
-last-step steps i last (Queue at id event frame) e f h = record {
+last-step steps i last (Start id at) e f h = record { ids = h.ids; events = λ k m. h.events k m ∙ sym (ap (λ y. event_or k y (last_event k steps i)) e) }
+last-step steps i last (End id at) e f h = record { ids = h.ids; events = λ k m. h.events k m ∙ sym (ap (λ y. event_or k y (last_event k steps i)) e) }
+last-step steps i last (Queue id at event frame) e f h = record {
   ids = length-set last id (Some event) ∙ h.ids;
   events = λ k m. elim (eq_cases k id) [
     | inl s ↦ (ap (λ j. slice_index_or (slice_set last id (Some event)) j None) s ∙ get_or-set_same last id (Some event) None (omega (arith, h.ids))

@@ -66,13 +66,13 @@ frame_read frame h =
     ap (λ b. cond b (with_bytes frame.bits (decode_of (encode_upper (bytes_of frame)))) (Err Malformed)) short ∙ ap (with_bytes frame.bits) bytes ∙ ap Ok same
 
 -- a record of each kind
-start_read : (at id : ℕ) → at < 2 ^ 64 → id < 2 ^ 16 → entry_in (short (codes "start") at id) ≡ Ok (Taken (Start at id))
+start_read : (at id : ℕ) → at < 2 ^ 64 → id < 2 ^ 16 → entry_in (short (codes "start") at id) ≡ Ok (Taken (Start id at))
 unfolding entry_in
 start_read at id h k =
     let small : nat_lt id (2 ^ 16) ≡ true = lt-ltb id (2 ^ 16) k in
     rw (number_decimal at h, id_decimal id (omega arith), small) refl
 
-end_read : (at id : ℕ) → at < 2 ^ 64 → id < 2 ^ 16 → entry_in (short (codes "end") at id) ≡ Ok (Taken (End at id))
+end_read : (at id : ℕ) → at < 2 ^ 64 → id < 2 ^ 16 → entry_in (short (codes "end") at id) ≡ Ok (Taken (End id at))
 unfolding entry_in
 end_read at id h k =
     let small : nat_lt id (2 ^ 16) ≡ true = lt-ltb id (2 ^ 16) k in
@@ -82,7 +82,7 @@ until_read : (until : ℕ) → until < 2 ^ 64 → entry_in (short (codes "until"
 unfolding entry_in
 until_read until h = rw (number_decimal until h, id_decimal 0 (omega arith)) refl
 
-queue_read : (at id event : ℕ) (frame : Content) → at < 2 ^ 64 → id < 2 ^ 16 → event < 2 ^ 64 → IsWritableFrame frame → entry_in (queue_fields at id event frame) ≡ Ok (Taken (Queue at id event frame))
+queue_read : (at id event : ℕ) (frame : Content) → at < 2 ^ 64 → id < 2 ^ 16 → event < 2 ^ 64 → IsWritableFrame frame → entry_in (queue_fields at id event frame) ≡ Ok (Taken (Queue id at event frame))
 unfolding entry_in
 queue_read at id event frame h k m w =
     let small : nat_lt id (2 ^ 16) ≡ true = lt-ltb id (2 ^ 16) k in
@@ -90,9 +90,9 @@ queue_read at id event frame h k m w =
     rw (number_decimal at h, id_decimal id (omega arith), small, number_decimal event m, number_decimal frame.bits (omega (arith, w.bits)), bits, frame_read frame w) refl
 
 step_read : (step : Step) → IsWritable step → entry_in (fields_of step) ≡ Ok (Taken step)
-step_read (Queue at id event frame) h = queue_read at id event frame h.0 h.1 h.2 h.3
-step_read (Start at id) h = start_read at id h.0 h.1
-step_read (End at id) h = end_read at id h.0 h.1
+step_read (Queue id at event frame) h = queue_read at id event frame h.0 h.1 h.2 h.3
+step_read (Start id at) h = start_read at id h.0 h.1
+step_read (End id at) h = end_read at id h.0 h.1
 
 steps_read : (until place : ℕ) (before steps : List Step) → until < 2 ^ 64 → All IsWritable steps →
     trace_from place before (map fields_of steps ++ (short (codes "until") until 0 ∷ [])) ≡ Ok (record { until = until; steps = before ++ steps })

@@ -100,20 +100,20 @@ nth_before p (x ∷ xs) (suc i) j l = elim (bool_cases (p x)) [
 ]
 
 -- the shape of a step that passes
-pub queue_shape : (k : ℕ) (x : Step) → is_queue k x ≡ true → (at : ℕ) × (event : ℕ) × (frame : Content) × (x ≡ Queue at k event frame)
-queue_shape k (Queue at id event frame) e = (at, event, frame, ap (λ i. Queue at i event frame) (true-eq id k e))
-queue_shape k (Start at id) e = absurd (cc)
-queue_shape k (End at id) e = absurd (cc)
+pub queue_shape : (k : ℕ) (x : Step) → is_queue k x ≡ true → (at : ℕ) × (event : ℕ) × (frame : Content) × (x ≡ Queue k at event frame)
+queue_shape k (Queue id at event frame) e = (at, event, frame, ap (λ i. Queue i at event frame) (true-eq id k e))
+queue_shape k (Start id at) e = absurd (cc)
+queue_shape k (End id at) e = absurd (cc)
 
-pub start_shape : (k : ℕ) (x : Step) → is_start k x ≡ true → (at : ℕ) × (x ≡ Start at k)
-start_shape k (Start at id) e = (at, ap (λ i. Start at i) (true-eq id k e))
-start_shape k (Queue at id event frame) e = absurd (cc)
-start_shape k (End at id) e = absurd (cc)
+pub start_shape : (k : ℕ) (x : Step) → is_start k x ≡ true → (at : ℕ) × (x ≡ Start k at)
+start_shape k (Start id at) e = (at, ap (λ i. Start i at) (true-eq id k e))
+start_shape k (Queue id at event frame) e = absurd (cc)
+start_shape k (End id at) e = absurd (cc)
 
-pub is_queue-of : (k : ℕ) (x : Step) (at event : ℕ) (frame : Content) → x ≡ Queue at k event frame → is_queue k x ≡ true
+pub is_queue-of : (k : ℕ) (x : Step) (at event : ℕ) (frame : Content) → x ≡ Queue k at event frame → is_queue k x ≡ true
 is_queue-of k x at event frame e = ap (is_queue k) e ∙ eq-true k k refl
 
-pub is_start-of : (k : ℕ) (x : Step) (at : ℕ) → x ≡ Start at k → is_start k x ≡ true
+pub is_start-of : (k : ℕ) (x : Step) (at : ℕ) → x ≡ Start k at → is_start k x ≡ true
 is_start-of k x at e = ap (is_start k) e ∙ eq-true k k refl
 
 -- the rest is the steps from i on
@@ -128,46 +128,46 @@ rest_tail steps i x rest same k = let e : i + suc k ≡ suc i + k = omega arith 
 
 -- what holds of the instance of each step that queues one
 pub each_instance : (steps : List Step) (i : ℕ) (rest : List Step) → IsRest steps i rest → (P : Instance → Type 0) →
-    ((a at id event : ℕ) (frame : Content) → i ≤ a → a < i + length rest → step_at steps a ≡ Queue at id event frame → P (instance steps a at id event frame)) →
+    ((a at id event : ℕ) (frame : Content) → i ≤ a → a < i + length rest → step_at steps a ≡ Queue id at event frame → P (instance steps a at id event frame)) →
     Each P (instances_from steps i rest)
 each_instance steps i [] same P h = tt
-each_instance steps i (Queue at id event frame ∷ rest) same P h = (
-  h i at id event frame (omega arith) (omega arith) (rest_head steps i (Queue at id event frame) rest same),
-  each_instance steps (suc i) rest (rest_tail steps i (Queue at id event frame) rest same) P (λ a at id event frame l k. h a at id event frame (omega arith) (omega arith)),
+each_instance steps i (Queue id at event frame ∷ rest) same P h = (
+  h i at id event frame (omega arith) (omega arith) (rest_head steps i (Queue id at event frame) rest same),
+  each_instance steps (suc i) rest (rest_tail steps i (Queue id at event frame) rest same) P (λ a at id event frame l k. h a at id event frame (omega arith) (omega arith)),
 )
-each_instance steps i (Start at id ∷ rest) same P h = each_instance steps (suc i) rest (rest_tail steps i (Start at id) rest same) P (λ a at id event frame l k. h a at id event frame (omega arith) (omega arith))
-each_instance steps i (End at id ∷ rest) same P h = each_instance steps (suc i) rest (rest_tail steps i (End at id) rest same) P (λ a at id event frame l k. h a at id event frame (omega arith) (omega arith))
+each_instance steps i (Start id at ∷ rest) same P h = each_instance steps (suc i) rest (rest_tail steps i (Start id at) rest same) P (λ a at id event frame l k. h a at id event frame (omega arith) (omega arith))
+each_instance steps i (End id at ∷ rest) same P h = each_instance steps (suc i) rest (rest_tail steps i (End id at) rest same) P (λ a at id event frame l k. h a at id event frame (omega arith) (omega arith))
 
 -- what holds of the instances of each two steps
 pub pairs_instances : (steps : List Step) (i : ℕ) (rest : List Step) → IsRest steps i rest → (R : Instance → Instance → Type 0) →
-    ((a at id event : ℕ) (frame : Content) (b at' id' event' : ℕ) (frame' : Content) → a < b → b < i + length rest → step_at steps a ≡ Queue at id event frame → step_at steps b ≡ Queue at' id' event' frame' →
+    ((a at id event : ℕ) (frame : Content) (b at' id' event' : ℕ) (frame' : Content) → a < b → b < i + length rest → step_at steps a ≡ Queue id at event frame → step_at steps b ≡ Queue id' at' event' frame' →
     R (instance steps a at id event frame) (instance steps b at' id' event' frame')) →
     Pairs R (instances_from steps i rest)
 pairs_instances steps i [] same R h = tt
-pairs_instances steps i (Queue at id event frame ∷ rest) same R h = (
-  each_instance steps (suc i) rest (rest_tail steps i (Queue at id event frame) rest same) (R (instance steps i at id event frame))
-      (λ b at' id' event' frame' l k. h i at id event frame b at' id' event' frame' (omega arith) (omega arith) (rest_head steps i (Queue at id event frame) rest same)),
-  pairs_instances steps (suc i) rest (rest_tail steps i (Queue at id event frame) rest same) R (λ a at id event frame b at' id' event' frame' l k. h a at id event frame b at' id' event' frame' (omega arith) (omega arith)),
+pairs_instances steps i (Queue id at event frame ∷ rest) same R h = (
+  each_instance steps (suc i) rest (rest_tail steps i (Queue id at event frame) rest same) (R (instance steps i at id event frame))
+      (λ b at' id' event' frame' l k. h i at id event frame b at' id' event' frame' (omega arith) (omega arith) (rest_head steps i (Queue id at event frame) rest same)),
+  pairs_instances steps (suc i) rest (rest_tail steps i (Queue id at event frame) rest same) R (λ a at id event frame b at' id' event' frame' l k. h a at id event frame b at' id' event' frame' (omega arith) (omega arith)),
 )
-pairs_instances steps i (Start at id ∷ rest) same R h = pairs_instances steps (suc i) rest (rest_tail steps i (Start at id) rest same) R (λ a at id event frame b at' id' event' frame' l k. h a at id event frame b at' id' event' frame' (omega arith) (omega arith))
-pairs_instances steps i (End at id ∷ rest) same R h = pairs_instances steps (suc i) rest (rest_tail steps i (End at id) rest same) R (λ a at id event frame b at' id' event' frame' l k. h a at id event frame b at' id' event' frame' (omega arith) (omega arith))
+pairs_instances steps i (Start id at ∷ rest) same R h = pairs_instances steps (suc i) rest (rest_tail steps i (Start id at) rest same) R (λ a at id event frame b at' id' event' frame' l k. h a at id event frame b at' id' event' frame' (omega arith) (omega arith))
+pairs_instances steps i (End id at ∷ rest) same R h = pairs_instances steps (suc i) rest (rest_tail steps i (End id at) rest same) R (λ a at id event frame b at' id' event' frame' l k. h a at id event frame b at' id' event' frame' (omega arith) (omega arith))
 
 -- the instance of a step that queues one is there
-pub instance_in : (steps : List Step) (i : ℕ) (rest : List Step) → IsRest steps i rest → (a at id event : ℕ) (frame : Content) → i ≤ a → a < i + length rest → step_at steps a ≡ Queue at id event frame →
+pub instance_in : (steps : List Step) (i : ℕ) (rest : List Step) → IsRest steps i rest → (a at id event : ℕ) (frame : Content) → i ≤ a → a < i + length rest → step_at steps a ≡ Queue id at event frame →
     Contains (instances_from steps i rest) (instance steps a at id event frame)
 instance_in steps i [] same a at id event frame l k e = absurd (omega arith)
 instance_in steps i (x ∷ rest) same a at id event frame l k e = elim (cases_lt i a) [
   | inl n ↦ past x (instance_in steps (suc i) rest (rest_tail steps i x rest same) a at id event frame (omega arith) (omega arith) e)
   | inr n ↦ (let q : a ≡ i = omega arith in
-      let f : x ≡ Queue at id event frame = sym (rest_head steps i x rest same) ∙ sym (ap (step_at steps) q) ∙ e in
+      let f : x ≡ Queue id at event frame = sym (rest_head steps i x rest same) ∙ sym (ap (step_at steps) q) ∙ e in
       subst (λ y. Contains (instances_from steps i (y ∷ rest)) (instance steps a at id event frame)) (sym f)
       (subst (λ n. Contains (instance steps i at id event frame ∷ instances_from steps (suc i) rest) (instance steps n at id event frame)) (sym q) (Contains-head (instance steps i at id event frame) (instances_from steps (suc i) rest))))
 ]
   where
     past : (y : Step) → Contains (instances_from steps (suc i) rest) (instance steps a at id event frame) → Contains (instances_from steps i (y ∷ rest)) (instance steps a at id event frame)
-    past (Queue at' id' event' frame') c = Contains-tail (instance steps i at' id' event' frame') (instance steps a at id event frame) (instances_from steps (suc i) rest) c
-    past (Start at' id') c = c
-    past (End at' id') c = c
+    past (Queue id' at' event' frame') c = Contains-tail (instance steps i at' id' event' frame') (instance steps a at id event frame) (instances_from steps (suc i) rest) c
+    past (Start id' at') c = c
+    past (End id' at') c = c
 
 pub same_some : {X : Type 0} (a b : X) → Some a ≡ Some b → a ≡ b
 same_some a b e = cc
@@ -182,14 +182,14 @@ end_at tau steps b at id = at + bits_of (nth_that (is_queue id) (count_to (is_st
 
 -- what runs was started, and since then instances were queued alone
 pub running_started : (tau : ℕ) (steps : List Step) (i id e : ℕ) → i ≤ length steps → running tau steps i ≡ Some (id, e) →
-    (b : ℕ) × (at : ℕ) × (b < i) × (step_at steps b ≡ Start at id) × (e ≡ end_at tau steps b at id) × ((c : ℕ) → b < c → c < i → rank_of (step_at steps c) ≡ 1)
+    (b : ℕ) × (at : ℕ) × (b < i) × (step_at steps b ≡ Start id at) × (e ≡ end_at tau steps b at id) × ((c : ℕ) → b < c → c < i → rank_of (step_at steps c) ≡ 1)
 running_started tau steps zero id e l h = absurd (cc)
 running_started tau steps (suc i) id e l h = go (step_at steps i) refl h (running_started tau steps i id e (omega arith))
   where
     go : (x : Step) → step_at steps i ≡ x → after tau steps i x (running tau steps i) ≡ Some (id, e) →
-        (running tau steps i ≡ Some (id, e) → (b : ℕ) × (at : ℕ) × (b < i) × (step_at steps b ≡ Start at id) × (e ≡ end_at tau steps b at id) × ((c : ℕ) → b < c → c < i → rank_of (step_at steps c) ≡ 1)) →
-        (b : ℕ) × (at : ℕ) × (b < suc i) × (step_at steps b ≡ Start at id) × (e ≡ end_at tau steps b at id) × ((c : ℕ) → b < c → c < suc i → rank_of (step_at steps c) ≡ 1)
-    go (Queue at k event frame) q g ih = let r = ih g in (
+        (running tau steps i ≡ Some (id, e) → (b : ℕ) × (at : ℕ) × (b < i) × (step_at steps b ≡ Start id at) × (e ≡ end_at tau steps b at id) × ((c : ℕ) → b < c → c < i → rank_of (step_at steps c) ≡ 1)) →
+        (b : ℕ) × (at : ℕ) × (b < suc i) × (step_at steps b ≡ Start id at) × (e ≡ end_at tau steps b at id) × ((c : ℕ) → b < c → c < suc i → rank_of (step_at steps c) ≡ 1)
+    go (Queue k at event frame) q g ih = let r = ih g in (
       r.0,
       r.1,
       omega (arith, r.2),
@@ -200,33 +200,33 @@ running_started tau steps (suc i) id e l h = go (step_at steps i) refl h (runnin
         | inr v ↦ (let w : i ≡ c = omega arith in ap rank_of (sym (ap (step_at steps) w) ∙ q))
       ],
     )
-    go (Start at k) q g ih =
+    go (Start k at) q g ih =
         let p = same_some (k, end_at tau steps i at k) (id, e) g in
         let a : k ≡ id = ap (λ v. v.0) p in
         let b : end_at tau steps i at k ≡ e = ap (λ v. v.1) p in
-        (i, at, omega arith, q ∙ ap (λ n. Start at n) a, sym b ∙ ap (λ n. end_at tau steps i at n) a, λ c l m. absurd (omega arith))
-    go (End at k) q g ih = absurd (cc)
+        (i, at, omega arith, q ∙ ap (λ n. Start n at) a, sym b ∙ ap (λ n. end_at tau steps i at n) a, λ c l m. absurd (omega arith))
+    go (End k at) q g ih = absurd (cc)
 
 -- the end of the transfer of the instance that has the start's number
-pub end_there : (tau : ℕ) (steps : List Step) (a b q id event : ℕ) (frame : Content) (at : ℕ) → a < length steps → step_at steps a ≡ Queue q id event frame → count_to (is_queue id) steps a ≡ count_to (is_start id) steps b →
+pub end_there : (tau : ℕ) (steps : List Step) (a b q id event : ℕ) (frame : Content) (at : ℕ) → a < length steps → step_at steps a ≡ Queue id q event frame → count_to (is_queue id) steps a ≡ count_to (is_start id) steps b →
     end_at tau steps b at id ≡ at + frame.bits * tau
 end_there tau steps a b q id event frame at l h e =
     let n = nth_that-at (is_queue id) steps a l (is_queue-of id (step_at steps a) q event frame h) in
-    let f : nth_that (is_queue id) (count_to (is_start id) steps b) steps ≡ Some (Queue q id event frame) = ap (λ j. nth_that (is_queue id) j steps) (sym e) ∙ n ∙ ap Some h in
+    let f : nth_that (is_queue id) (count_to (is_start id) steps b) steps ≡ Some (Queue id q event frame) = ap (λ j. nth_that (is_queue id) j steps) (sym e) ∙ n ∙ ap Some h in
     ap (λ o. at + bits_of o * tau) f
 
 -- an instance that starts does so at a start that has its number
 pub started-at : (steps : List Step) (a q id event : ℕ) (frame : Content) (s : ℕ) → (instance steps a q id event frame).start ≡ Some s →
-    (b : ℕ) × (b < length steps) × (step_at steps b ≡ Start s id) × (count_to (is_start id) steps b ≡ count_to (is_queue id) steps a)
+    (b : ℕ) × (b < length steps) × (step_at steps b ≡ Start id s) × (count_to (is_start id) steps b ≡ count_to (is_queue id) steps a)
 started-at steps a q id event frame s e =
     let m = moment-some (nth_that (is_start id) (count_to (is_queue id) steps a) steps) s e in
     let n = nth_that-some (is_start id) (count_to (is_queue id) steps a) steps m.0 m.1 in
     let h = start_shape id m.0 n.3 in
     let t : h.0 ≡ s = sym (ap at_of h.1) ∙ m.2 in
-    (n.0, n.1, n.2 ∙ h.1 ∙ ap (λ v. Start v id) t, n.4)
+    (n.0, n.1, n.2 ∙ h.1 ∙ ap (λ v. Start id v) t, n.4)
 
 -- the instance that has the number of a start starts there
-pub starts-there : (steps : List Step) (a b q at id event : ℕ) (frame : Content) → b < length steps → step_at steps b ≡ Start at id → count_to (is_queue id) steps a ≡ count_to (is_start id) steps b →
+pub starts-there : (steps : List Step) (a b q at id event : ℕ) (frame : Content) → b < length steps → step_at steps b ≡ Start id at → count_to (is_queue id) steps a ≡ count_to (is_start id) steps b →
     (instance steps a q id event frame).start ≡ Some at
 starts-there steps a b q at id event frame l h e =
     ap moment_of (ap (λ j. nth_that (is_start id) j steps) e ∙ nth_that-at (is_start id) steps b l (is_start-of id (step_at steps b) at h) ∙ ap Some h)
@@ -236,13 +236,13 @@ in-steps steps i = ap (step_at steps) (let e : i ≡ 0 + i = omega arith in e)
 
 -- what holds of each two of the instances holds of those of two steps
 pub pairs_at : (steps : List Step) (i : ℕ) (rest : List Step) → IsRest steps i rest → (R : Instance → Instance → Type 0) → Pairs R (instances_from steps i rest) →
-    (a q id event : ℕ) (frame : Content) (b q' id' event' : ℕ) (frame' : Content) → i ≤ a → a < b → b < i + length rest → step_at steps a ≡ Queue q id event frame → step_at steps b ≡ Queue q' id' event' frame' →
+    (a q id event : ℕ) (frame : Content) (b q' id' event' : ℕ) (frame' : Content) → i ≤ a → a < b → b < i + length rest → step_at steps a ≡ Queue id q event frame → step_at steps b ≡ Queue id' q' event' frame' →
     R (instance steps a q id event frame) (instance steps b q' id' event' frame')
 pairs_at steps i [] same R h a q id event frame b q' id' event' frame' l m k e f = absurd (omega arith)
 pairs_at steps i (x ∷ rest) same R h a q id event frame b q' id' event' frame' l m k e f = elim (cases_lt i a) [
   | inl n ↦ pairs_at steps (suc i) rest (rest_tail steps i x rest same) R (rest_pairs x h) a q id event frame b q' id' event' frame' (omega arith) m (omega arith) e f
   | inr n ↦ (let v : a ≡ i = omega arith in
-      let g : x ≡ Queue q id event frame = sym (rest_head steps i x rest same) ∙ sym (ap (step_at steps) v) ∙ e in
+      let g : x ≡ Queue id q event frame = sym (rest_head steps i x rest same) ∙ sym (ap (step_at steps) v) ∙ e in
       let h' : Pairs R (instance steps i q id event frame ∷ instances_from steps (suc i) rest) = subst (λ y. Pairs R (instances_from steps i (y ∷ rest))) g h in
       let c = instance_in steps (suc i) rest (rest_tail steps i x rest same) b q' id' event' frame' (omega arith) (omega arith) f in
       let r : R (instance steps i q id event frame) (instance steps b q' id' event' frame') =
@@ -252,9 +252,9 @@ pairs_at steps i (x ∷ rest) same R h a q id event frame b q' id' event' frame'
 ]
   where
     rest_pairs : (y : Step) → Pairs R (instances_from steps i (y ∷ rest)) → Pairs R (instances_from steps (suc i) rest)
-    rest_pairs (Queue at' k event' frame') p = p.1
-    rest_pairs (Start at' k) p = p
-    rest_pairs (End at' k) p = p
+    rest_pairs (Queue k at' event' frame') p = p.1
+    rest_pairs (Start k at') p = p
+    rest_pairs (End k at') p = p
 
 pub count_to-zero : (p : Step → Bool) (xs : List Step) → count_to p xs 0 ≡ 0
 count_to-zero p [] = refl

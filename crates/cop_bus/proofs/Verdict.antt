@@ -66,7 +66,7 @@ soon-some tau at (Some x) h = (x, refl, true-lt (at_of x) (at + tau) h)
 
 -- so at a start there is an instance to send
 pub start-has : (tau : ℕ) (streams : List Stream) (until : ℕ) (steps : List Step) (i : ℕ) (unsent : List ℕ) (x : Step) (at id : ℕ) → broken_by tau streams until steps i x ≡ None →
-    x ≡ Start at id → id < 65536 → IsUnsent steps i unsent → slice_index unsent id < length steps
+    x ≡ Start id at → id < 65536 → IsUnsent steps i unsent → slice_index unsent id < length steps
 start-has tau streams until steps i unsent x at id h e f u =
     let k = keeps tau streams until steps i x h in
     let b = sym (ap (has_one_to_send tau streams steps i) e) ∙ k.to_send in

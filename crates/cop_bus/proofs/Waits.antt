@@ -1,5 +1,5 @@
 -- The identifiers of which an instance waits.
-use Rattle.std.proofs.Common.{◌≡◌, ◌∙◌, ℕ, ◌≤◌, ◌<◌, ◌⊎◌, inl, inr, suc, List, [], ◌∷◌, refl, sym, ap, Bool, true, false, cond, ◌==◌, ◌||◌, ◌&&◌, nat_lt, arith, length, Some}
+use Rattle.std.proofs.Common.{◌≡◌, ◌∙◌, ℕ, ◌≤◌, ◌<◌, ◌⊎◌, inl, inr, suc, List, [], ◌∷◌, refl, sym, ap, subst, Bool, true, false, cond, ◌==◌, ◌||◌, ◌&&◌, nat_lt, arith, length, Some}
 use Rattle.std.specs.Prelude.{is_some, slice_index}
 use Rattle.std.specs.Cmp.{nat_cmp_is}
 use Rattle.std.specs.declared.cmp.Ordering.TheVariants.{Greater}
@@ -13,10 +13,10 @@ use Rattle.cop_bus.specs.declared.steps.Step.{Step}
 use Rattle.cop_bus.specs.declared.steps.Step.TheVariants.{Queue, Start, End}
 use Rattle.cop_bus.specs.Trace.{is_queue, is_start, count_to, step_at}
 use Rattle.cop_bus.specs.Judge.{id_of, stream_of, waits_after, any_waits, lower_waits}
-use Rattle.cop_bus.specs.Tables.{IsWaiting, IsUnsent}
+use Rattle.cop_bus.specs.Tables.{IsWaiting, IsUnsent, is_queue_or_start}
 use Rattle.cop_bus.proofs.StepLemmas.{bool_cases, count_to-zero}
-use Rattle.cop_bus.proofs.Work.{lt-true, lt-false, eq-true, true-eq}
-use Rattle.cop_bus.proofs.Places.{eq_cases, not-eq, count-same, place-waits}
+use Rattle.cop_bus.proofs.Work.{lt-true, lt-false, true-eq}
+use Rattle.cop_bus.proofs.Places.{count-same, place-waits}
 
 or-right : (a b : Bool) → b ≡ true → (a || b) ≡ true
 or-right true b e = refl
@@ -103,34 +103,39 @@ waiting-start streams steps waiting h = record {
     none id = (let a = count_to-zero (is_start id) steps in let b = count_to-zero (is_queue id) steps in
         lt-false (count_to (is_start id) steps 0) (count_to (is_queue id) steps 0) (omega arith))
 
-other-queue : (k : ℕ) (x : Step) → (k ≡ id_of x → ⊥) → is_queue k x ≡ false
-other-queue k (Queue at id event frame) n = not-eq id k (λ e. n (sym e))
-other-queue k (Start at id) n = refl
-other-queue k (End at id) n = refl
+-- what is known of a step that queues or sends an instance of a stream, and of one that does neither
+its-own : (k : ℕ) (x : Step) → is_queue_or_start k x ≡ true → k ≡ id_of x
+its-own k (Queue id at event frame) e = sym (true-eq id k e)
+its-own k (Start id at) e = sym (true-eq id k e)
+its-own k (End id at) e = absurd (cc)
 
-other-start : (k : ℕ) (x : Step) → (k ≡ id_of x → ⊥) → is_start k x ≡ false
-other-start k (Start at id) n = not-eq id k (λ e. n (sym e))
-other-start k (Queue at id event frame) n = refl
-other-start k (End at id) n = refl
+no-queue : (k : ℕ) (x : Step) → is_queue_or_start k x ≡ false → is_queue k x ≡ false
+no-queue k (Queue id at event frame) e = e
+no-queue k (Start id at) e = refl
+no-queue k (End id at) e = refl
 
--- a step of a stream of the set changes what waits of that stream alone
+no-start : (k : ℕ) (x : Step) → is_queue_or_start k x ≡ false → is_start k x ≡ false
+no-start k (Queue id at event frame) e = refl
+no-start k (Start id at) e = e
+no-start k (End id at) e = refl
+
+-- a step that queues or sends an instance of a stream of the set changes what waits of that stream alone
 pub waiting-step : (streams : List Stream) (steps : List Step) (i : ℕ) (unsent : List ℕ) (waiting next : BTreeSet ℕ) → i < length steps → id_of (step_at steps i) < 65536 →
     is_some (stream_of streams (id_of (step_at steps i))) ≡ true → IsUnsent steps (suc i) unsent →
-    ((k : ℕ) → contains nat_cmp next k ≡ cond (k == id_of (step_at steps i)) (nat_lt (slice_index unsent (id_of (step_at steps i))) (suc i)) (contains nat_cmp waiting k)) →
+    ((k : ℕ) → contains nat_cmp next k ≡ cond (is_queue_or_start k (step_at steps i)) (nat_lt (slice_index unsent k) (suc i)) (contains nat_cmp waiting k)) →
     IsWaiting streams steps i waiting → IsWaiting streams steps (suc i) next
 waiting-step streams steps i unsent waiting next l f s u n h = record {
-  those = λ k. elim (eq_cases k (id_of (step_at steps i))) [
-    | inl e ↦ n k ∙ ap (λ b. cond b (nat_lt (slice_index unsent (id_of (step_at steps i))) (suc i)) (contains nat_cmp waiting k)) (eq-true k (id_of (step_at steps i)) e)
-        ∙ place-waits steps (suc i) (id_of (step_at steps i)) (slice_index unsent (id_of (step_at steps i))) (omega arith) (u.places (id_of (step_at steps i)) f) ∙ ap (waits_after steps (suc i)) (sym e)
-    | inr e ↦ n k ∙ ap (λ b. cond b (nat_lt (slice_index unsent (id_of (step_at steps i))) (suc i)) (contains nat_cmp waiting k)) (not-eq k (id_of (step_at steps i)) e)
-        ∙ h.those k ∙ sym (same k e)
+  those = λ k. elim (bool_cases (is_queue_or_start k (step_at steps i))) [
+    | inl e ↦ n k ∙ ap (λ b. cond b (nat_lt (slice_index unsent k) (suc i)) (contains nat_cmp waiting k)) e
+        ∙ place-waits steps (suc i) k (slice_index unsent k) (omega arith) (u.places k (subst (λ j. j < 65536) (sym (its-own k (step_at steps i) e)) f))
+    | inr e ↦ n k ∙ ap (λ b. cond b (nat_lt (slice_index unsent k) (suc i)) (contains nat_cmp waiting k)) e ∙ h.those k ∙ sym (same k e)
   ];
-  known = λ k w. elim (eq_cases k (id_of (step_at steps i))) [
-    | inl e ↦ ap (λ v. is_some (stream_of streams v)) e ∙ s
+  known = λ k w. elim (bool_cases (is_queue_or_start k (step_at steps i))) [
+    | inl e ↦ ap (λ v. is_some (stream_of streams v)) (its-own k (step_at steps i) e) ∙ s
     | inr e ↦ h.known k (sym (same k e) ∙ w)
   ];
 }
   where
-    same : (k : ℕ) → (k ≡ id_of (step_at steps i) → ⊥) → waits_after steps (suc i) k ≡ waits_after steps i k
-    same k e = ap (λ v. nat_lt v (count_to (is_queue k) steps (suc i))) (count-same (is_start k) steps i l (other-start k (step_at steps i) e))
-        ∙ ap (nat_lt (count_to (is_start k) steps i)) (count-same (is_queue k) steps i l (other-queue k (step_at steps i) e))
+    same : (k : ℕ) → is_queue_or_start k (step_at steps i) ≡ false → waits_after steps (suc i) k ≡ waits_after steps i k
+    same k e = ap (λ v. nat_lt v (count_to (is_queue k) steps (suc i))) (count-same (is_start k) steps i l (no-start k (step_at steps i) e))
+        ∙ ap (nat_lt (count_to (is_start k) steps i)) (count-same (is_queue k) steps i l (no-queue k (step_at steps i) e))

@@ -59,12 +59,12 @@ queued at id row = do
   event ← number_in (field row 3)
   bits ← bits_in (field row 4)
   frame ← content_in bits (field row 5)
-  Ok (Taken (Queue at id event frame))
+  Ok (Taken (Queue id at event frame))
 
 abbrev pub unqueued : List ℕ → ℕ → ℕ → Result Entry EntryFault
 unqueued kind at id =
-    if bytes_eq kind (codes "start") then Ok (Taken (Start at id))
-    else if bytes_eq kind (codes "end") then Ok (Taken (End at id))
+    if bytes_eq kind (codes "start") then Ok (Taken (Start id at))
+    else if bytes_eq kind (codes "end") then Ok (Taken (End id at))
     else if bytes_eq kind (codes "until") && (id == 0) then Ok (Until at)
     else Err Malformed
 

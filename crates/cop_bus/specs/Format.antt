@@ -27,9 +27,9 @@ abbrev pub queue_fields : ℕ → ℕ → ℕ → Content → Fields
 queue_fields at id event frame = codes "queue" ∷ decimal at ∷ decimal id ∷ decimal event ∷ decimal frame.bits ∷ encode_upper (bytes_of frame) ∷ []
 
 abbrev pub fields_of : Step → Fields
-fields_of (Queue at id event frame) = queue_fields at id event frame
-fields_of (Start at id) = short (codes "start") at id
-fields_of (End at id) = short (codes "end") at id
+fields_of (Queue id at event frame) = queue_fields at id event frame
+fields_of (Start id at) = short (codes "start") at id
+fields_of (End id at) = short (codes "end") at id
 
 -- the records of a trace: the last one tells its end
 abbrev pub rows_of : ℕ → List Step → List Fields

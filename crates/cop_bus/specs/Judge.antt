@@ -9,9 +9,9 @@ use Rattle.cop_bus.specs.Run.{least_bits, worst_bits}
 use Rattle.cop_bus.specs.Trace.{at_of, rank_of, is_queue, is_start, count_to, nth_that, step_at, running}
 
 abbrev pub id_of : Step → ℕ
-id_of (Queue at id event frame) = id
-id_of (Start at id) = id
-id_of (End at id) = id
+id_of (Queue id at event frame) = id
+id_of (Start id at) = id
+id_of (End id at) = id
 
 -- the stream of the set that has the identifier
 abbrev pub stream_of : List Stream → ℕ → Option Stream
@@ -20,9 +20,9 @@ stream_of (k ∷ ks) id = if k.id == id then Some k else stream_of ks id
 
 -- the event of the step if it queues an instance of the stream, and otherwise what was before
 abbrev pub event_or : ℕ → Step → Option ℕ → Option ℕ
-event_or k (Queue at id event frame) before = if id == k then Some event else before
-event_or k (Start at id) before = before
-event_or k (End at id) before = before
+event_or k (Queue id at event frame) before = if id == k then Some event else before
+event_or k (Start id at) before = before
+event_or k (End id at) before = before
 
 -- the event of the last of the first i steps that queues an instance of the stream
 abbrev pub last_event : ℕ → List Step → ℕ → Option ℕ
@@ -55,34 +55,34 @@ is_in_order until steps (suc i) x = nat_le (at_of x) until && not_before (step_a
 
 -- 62: the event is a period or more after that of the stream's instance before
 abbrev pub is_period_later : Option Stream → Option ℕ → Step → Bool
-is_period_later (Some k) (Some before) (Queue at id event frame) = nat_le (before + k.period) event
+is_period_later (Some k) (Some before) (Queue id at event frame) = nat_le (before + k.period) event
 is_period_later (Some k) None x = true
 is_period_later None before x = true
-is_period_later (Some k) (Some before) (Start at id) = true
-is_period_later (Some k) (Some before) (End at id) = true
+is_period_later (Some k) (Some before) (Start id at) = true
+is_period_later (Some k) (Some before) (End id at) = true
 
 -- 63: queued from the event to the jitter after it
 abbrev pub is_queued_in_time : Option Stream → Step → Bool
-is_queued_in_time (Some k) (Queue at id event frame) = nat_le event at && nat_le at (event + k.jitter)
-is_queued_in_time (Some k) (Start at id) = true
-is_queued_in_time (Some k) (End at id) = true
+is_queued_in_time (Some k) (Queue id at event frame) = nat_le event at && nat_le at (event + k.jitter)
+is_queued_in_time (Some k) (Start id at) = true
+is_queued_in_time (Some k) (End id at) = true
 is_queued_in_time None x = true
 
 -- 64: of a length that a frame of the stream can have, and of its number of bytes
 abbrev pub is_of_length : Option Stream → Step → Bool
-is_of_length (Some k) (Queue at id event frame) = nat_le (least_bits k.bytes) frame.bits && nat_le frame.bits (worst_bits k.bytes) && (frame.len == k.bytes)
-is_of_length (Some k) (Start at id) = true
-is_of_length (Some k) (End at id) = true
+is_of_length (Some k) (Queue id at event frame) = nat_le (least_bits k.bytes) frame.bits && nat_le frame.bits (worst_bits k.bytes) && (frame.len == k.bytes)
+is_of_length (Some k) (Start id at) = true
+is_of_length (Some k) (End id at) = true
 is_of_length None x = true
 
 -- 65: no start while a transfer runs, an end only of the one that runs and at its moment, and none is missing
 abbrev pub fits_transfer : Option (ℕ × ℕ) → Step → Bool
-fits_transfer None (Queue at id event frame) = true
-fits_transfer None (Start at id) = true
-fits_transfer None (End at id) = false
-fits_transfer (Some r) (Queue at id event frame) = nat_lt at r.1
-fits_transfer (Some r) (Start at id) = false
-fits_transfer (Some r) (End at id) = (r.0 == id) && (r.1 == at)
+fits_transfer None (Queue id at event frame) = true
+fits_transfer None (Start id at) = true
+fits_transfer None (End id at) = false
+fits_transfer (Some r) (Queue id at event frame) = nat_lt at r.1
+fits_transfer (Some r) (Start id at) = false
+fits_transfer (Some r) (End id at) = (r.0 == id) && (r.1 == at)
 
 -- 66: at a start some instance waits, and its stream has one to send, queued less than a bit time after it
 abbrev pub is_soon_queued : ℕ → ℕ → Option Step → Bool
@@ -90,15 +90,15 @@ is_soon_queued tau at None = false
 is_soon_queued tau at (Some x) = nat_lt (at_of x) (at + tau)
 
 abbrev pub has_one_to_send : ℕ → List Stream → List Step → ℕ → Step → Bool
-has_one_to_send tau streams steps i (Start at id) = any_waits steps i streams && is_soon_queued tau at (nth_that (is_queue id) (count_to (is_start id) steps i) steps)
-has_one_to_send tau streams steps i (Queue at id event frame) = true
-has_one_to_send tau streams steps i (End at id) = true
+has_one_to_send tau streams steps i (Start id at) = any_waits steps i streams && is_soon_queued tau at (nth_that (is_queue id) (count_to (is_start id) steps i) steps)
+has_one_to_send tau streams steps i (Queue id at event frame) = true
+has_one_to_send tau streams steps i (End id at) = true
 
 -- 67: at a start none with a lower identifier waits
 abbrev pub is_lowest : List Stream → List Step → ℕ → Step → Bool
-is_lowest streams steps i (Start at id) = not (lower_waits steps i id streams)
-is_lowest streams steps i (Queue at id event frame) = true
-is_lowest streams steps i (End at id) = true
+is_lowest streams steps i (Start id at) = not (lower_waits steps i id streams)
+is_lowest streams steps i (Queue id at event frame) = true
+is_lowest streams steps i (End id at) = true
 
 -- 68: none waits at a tick before the moment at which no transfer runs
 abbrev pub is_not_idle : List Stream → List Step → ℕ → Option (ℕ × ℕ) → ℕ → Bool

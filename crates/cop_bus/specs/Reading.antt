@@ -67,9 +67,9 @@ pub record IsWritableFrame (frame : Content) : Type 0 where
   pub rest : drop frame.len frame.body ≡ replicate (8 - frame.len) 0
 
 abbrev pub IsWritable : Step → Type 0
-IsWritable (Queue at id event frame) = (at < 2 ^ 64) × (id < 2 ^ 16) × (event < 2 ^ 64) × IsWritableFrame frame
-IsWritable (Start at id) = (at < 2 ^ 64) × (id < 2 ^ 16)
-IsWritable (End at id) = (at < 2 ^ 64) × (id < 2 ^ 16)
+IsWritable (Queue id at event frame) = (at < 2 ^ 64) × (id < 2 ^ 16) × (event < 2 ^ 64) × IsWritableFrame frame
+IsWritable (Start id at) = (at < 2 ^ 64) × (id < 2 ^ 16)
+IsWritable (End id at) = (at < 2 ^ 64) × (id < 2 ^ 16)
 
 -- numbers of their types, and frames whose data a record tells
 pub record AreWritable (until : ℕ) (steps : List Step) : Type 0 where

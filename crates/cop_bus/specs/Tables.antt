@@ -1,7 +1,7 @@
-use Rattle.std.specs.Prelude.{◌≡◌, ℕ, ◌≤◌, ◌<◌, List, Option, None, Some, Bool, true, suc, length, take, slice_index, slice_index_or, slice_set, is_some}
+use Rattle.std.specs.Prelude.{◌≡◌, ℕ, ◌≤◌, ◌<◌, List, Option, None, Some, Bool, true, suc, length, slice_index, slice_index_or, slice_set, is_some, false, ◌==◌}
 use Rattle.cop_bus.specs.declared.steps.Step.{Step}
 use Rattle.cop_bus.specs.declared.steps.Step.TheVariants.{Queue, Start, End}
-use Rattle.cop_bus.specs.Trace.{is_queue, is_start, count_to, nth_that, moment_of, step_at}
+use Rattle.cop_bus.specs.Trace.{is_queue, is_start, count_to, step_at}
 use Rattle.cop_bus.specs.Judge.{last_event, waits_after, stream_of}
 use Rattle.cop_rta.specs.declared.streams.Stream.{Stream}
 use Rattle.std.specs.BTreeSet.{BTreeSet, contains}
@@ -31,10 +31,14 @@ pub record IsUnsent (steps : List Step) (i : ℕ) (unsent : List ℕ) : Type 0 w
   pub ids : length unsent ≡ 65536
   pub places : (id : ℕ) → id < 65536 → IsPlace (is_queue id) steps (count_to (is_start id) steps i) (slice_index unsent id)
 
--- for each queue step the moment at which one of the first i steps sends its instance
-pub record IsSentBy (steps : List Step) (i : ℕ) (sent : List (Option ℕ)) : Type 0 where
-  pub steps_long : length sent ≡ length steps
-  pub moments : (a id : ℕ) → a < length steps → is_queue id (step_at steps a) ≡ true → slice_index_or sent a None ≡ moment_of (nth_that (is_start id) (count_to (is_queue id) steps a) (take i steps))
+-- for each queue step the place of the start that sends its instance, if one of the first i steps does, and otherwise of
+-- its stream's next queue step
+pub record IsLinked (steps : List Step) (i : ℕ) (links : List ℕ) : Type 0 where
+  pub steps_long : length links ≡ length steps
+  pub sent : (a id : ℕ) → a < length steps → is_queue id (step_at steps a) ≡ true → count_to (is_queue id) steps a < count_to (is_start id) steps i →
+      (slice_index links a < length steps) × IsPlace (is_start id) steps (count_to (is_queue id) steps a) (slice_index links a)
+  pub unsent : (a id : ℕ) → a < length steps → is_queue id (step_at steps a) ≡ true → count_to (is_start id) steps i ≤ count_to (is_queue id) steps a →
+      IsPlace (is_queue id) steps (suc (count_to (is_queue id) steps a)) (slice_index links a)
 
 -- each stream's last event
 pub record IsLast (steps : List Step) (i : ℕ) (last : List (Option ℕ)) : Type 0 where
@@ -48,26 +52,32 @@ pub record IsWaiting (streams : List Stream) (steps : List Step) (i : ℕ) (wait
 
 -- how the tables change at a step
 abbrev pub ahead_after : Step → ℕ → List ℕ → List ℕ
-ahead_after (Queue at id event frame) i ahead = slice_set ahead id i
-ahead_after (Start at id) i ahead = ahead
-ahead_after (End at id) i ahead = ahead
+ahead_after (Queue id at event frame) i ahead = slice_set ahead id i
+ahead_after (Start id at) i ahead = ahead
+ahead_after (End id at) i ahead = ahead
 
 abbrev pub next_after : Step → ℕ → List ℕ → List ℕ → List ℕ
-next_after (Queue at id event frame) i ahead next = slice_set next i (slice_index ahead id)
-next_after (Start at id) i ahead next = next
-next_after (End at id) i ahead next = next
+next_after (Queue id at event frame) i ahead next = slice_set next i (slice_index ahead id)
+next_after (Start id at) i ahead next = next
+next_after (End id at) i ahead next = next
 
 abbrev pub unsent_after : Step → List ℕ → List ℕ → List ℕ
-unsent_after (Start at id) next unsent = slice_set unsent id (slice_index next (slice_index unsent id))
-unsent_after (Queue at id event frame) next unsent = unsent
-unsent_after (End at id) next unsent = unsent
+unsent_after (Start id at) links unsent = slice_set unsent id (slice_index links (slice_index unsent id))
+unsent_after (Queue id at event frame) links unsent = unsent
+unsent_after (End id at) links unsent = unsent
 
-abbrev pub sent_after : Step → List ℕ → List (Option ℕ) → List (Option ℕ)
-sent_after (Start at id) unsent sent = slice_set sent (slice_index unsent id) (Some at)
-sent_after (Queue at id event frame) unsent sent = sent
-sent_after (End at id) unsent sent = sent
+abbrev pub links_after : Step → ℕ → List ℕ → List ℕ → List ℕ
+links_after (Start id at) i unsent links = slice_set links (slice_index unsent id) i
+links_after (Queue id at event frame) i unsent links = links
+links_after (End id at) i unsent links = links
+
+-- the step queues or sends an instance of the stream
+abbrev pub is_queue_or_start : ℕ → Step → Bool
+is_queue_or_start k (Queue id at event frame) = id == k
+is_queue_or_start k (Start id at) = id == k
+is_queue_or_start k (End id at) = false
 
 abbrev pub last_after : Step → List (Option ℕ) → List (Option ℕ)
-last_after (Queue at id event frame) last = slice_set last id (Some event)
-last_after (Start at id) last = last
-last_after (End at id) last = last
+last_after (Queue id at event frame) last = slice_set last id (Some event)
+last_after (Start id at) last = last
+last_after (End id at) last = last

@@ -8,25 +8,25 @@ use Rattle.cop_bus.specs.declared.steps.Step.TheVariants.{Queue, Start, End}
 use Rattle.cop_bus.specs.Run.{Instance, IsLegal, IsObeying}
 
 abbrev pub at_of : Step → ℕ
-at_of (Queue at id event frame) = at
-at_of (Start at id) = at
-at_of (End at id) = at
+at_of (Queue id at event frame) = at
+at_of (Start id at) = at
+at_of (End id at) = at
 
 -- at one moment ends come first, then queues, then starts
 abbrev pub rank_of : Step → ℕ
-rank_of (End at id) = 0
-rank_of (Queue at id event frame) = 1
-rank_of (Start at id) = 2
+rank_of (End id at) = 0
+rank_of (Queue id at event frame) = 1
+rank_of (Start id at) = 2
 
 abbrev pub is_queue : ℕ → Step → Bool
-is_queue k (Queue at id event frame) = id == k
-is_queue k (Start at id) = false
-is_queue k (End at id) = false
+is_queue k (Queue id at event frame) = id == k
+is_queue k (Start id at) = false
+is_queue k (End id at) = false
 
 abbrev pub is_start : ℕ → Step → Bool
-is_start k (Start at id) = id == k
-is_start k (Queue at id event frame) = false
-is_start k (End at id) = false
+is_start k (Start id at) = id == k
+is_start k (Queue id at event frame) = false
+is_start k (End id at) = false
 
 -- how many of the first i pass
 abbrev pub count_to : (Step → Bool) → List Step → ℕ → ℕ
@@ -58,17 +58,17 @@ instance steps i at id event frame = record {
 -- the instances of a trace, in the order in which they are queued
 abbrev pub instances_from : List Step → ℕ → List Step → List Instance
 instances_from steps i [] = []
-instances_from steps i (Queue at id event frame ∷ rest) = instance steps i at id event frame ∷ instances_from steps (suc i) rest
-instances_from steps i (Start at id ∷ rest) = instances_from steps (suc i) rest
-instances_from steps i (End at id ∷ rest) = instances_from steps (suc i) rest
+instances_from steps i (Queue id at event frame ∷ rest) = instance steps i at id event frame ∷ instances_from steps (suc i) rest
+instances_from steps i (Start id at ∷ rest) = instances_from steps (suc i) rest
+instances_from steps i (End id at ∷ rest) = instances_from steps (suc i) rest
 
 abbrev pub instances : List Step → List Instance
 instances steps = instances_from steps 0 steps
 
 abbrev pub bits_of : Option Step → ℕ
-bits_of (Some (Queue at id event frame)) = frame.bits
-bits_of (Some (Start at id)) = 0
-bits_of (Some (End at id)) = 0
+bits_of (Some (Queue id at event frame)) = frame.bits
+bits_of (Some (Start id at)) = 0
+bits_of (Some (End id at)) = 0
 bits_of None = 0
 
 abbrev pub no_step : Step
@@ -86,9 +86,9 @@ now_of steps = at_of (last_of steps)
 
 -- the transfer that runs after the first i steps: its identifier and the moment of its end
 abbrev pub after : ℕ → List Step → ℕ → Step → Option (ℕ × ℕ) → Option (ℕ × ℕ)
-after tau steps i (Queue at id event frame) running = running
-after tau steps i (Start at id) running = Some (id, at + bits_of (nth_that (is_queue id) (count_to (is_start id) steps i) steps) * tau)
-after tau steps i (End at id) running = None
+after tau steps i (Queue id at event frame) running = running
+after tau steps i (Start id at) running = Some (id, at + bits_of (nth_that (is_queue id) (count_to (is_start id) steps i) steps) * tau)
+after tau steps i (End id at) running = None
 
 abbrev pub running : ℕ → List Step → ℕ → Option (ℕ × ℕ)
 running tau steps zero = None
@@ -101,9 +101,9 @@ pub record IsLegalTrace (tau : ℕ) (streams : List Stream) (until : ℕ) (steps
       (at_of (step_at steps i) < at_of (step_at steps j)) ⊎ ((at_of (step_at steps i) ≡ at_of (step_at steps j)) × (rank_of (step_at steps i) ≤ rank_of (step_at steps j)))
   pub by_end : (i : ℕ) → i < length steps → at_of (step_at steps i) ≤ until
   pub no_more_starts : (id : ℕ) → count_to (is_start id) steps (length steps) ≤ count_to (is_queue id) steps (length steps)
-  pub ends_are : (i at id : ℕ) → i < length steps → step_at steps i ≡ End at id →
+  pub ends_are : (i at id : ℕ) → i < length steps → step_at steps i ≡ End id at →
       Any (λ y. (y.id ≡ id) × ((s : ℕ) × (y.start ≡ Some s) × (s + y.bits * tau ≡ at))) (instances steps)
-  pub each_end : All (λ y. ForSome y.start (λ s. s + y.bits * tau ≤ until → (i : ℕ) × (i < length steps) × (step_at steps i ≡ End (s + y.bits * tau) y.id))) (instances steps)
-  pub ends_once : (i j at at' id id' : ℕ) → i < j → j < length steps → step_at steps i ≡ End at id → step_at steps j ≡ End at' id' → at < at'
+  pub each_end : All (λ y. ForSome y.start (λ s. s + y.bits * tau ≤ until → (i : ℕ) × (i < length steps) × (step_at steps i ≡ End y.id (s + y.bits * tau)))) (instances steps)
+  pub ends_once : (i j at at' id id' : ℕ) → i < j → j < length steps → step_at steps i ≡ End id at → step_at steps j ≡ End id' at' → at < at'
   pub legal : IsLegal tau streams until (instances steps)
   pub obeying : All (IsObeying (instances steps)) streams

@@ -23,6 +23,6 @@ transfers_of tau until steps = filter_map (transfer_of tau until) (instances ste
 
 -- the transfer of the instance that a step queues, by the moment at which it is sent
 abbrev pub transfer_at : ℕ → ℕ → Step → Option ℕ → Option Transfer
-transfer_at tau until (Queue at id event frame) sent = transfer_from tau until id at frame.bits sent
-transfer_at tau until (Start at id) sent = None
-transfer_at tau until (End at id) sent = None
+transfer_at tau until (Queue id at event frame) sent = transfer_from tau until id at frame.bits sent
+transfer_at tau until (Start id at) sent = None
+transfer_at tau until (End id at) sent = None

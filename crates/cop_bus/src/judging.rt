@@ -6,7 +6,7 @@ ghost use Rattle.cop_rta.specs.declared.streams.Stream.{Stream};
 ghost use Rattle.cop_bus.specs.declared.steps.Step.{Step};
 ghost use Rattle.cop_bus.specs.Judge.{IsFaultOf, first_broken, stream_of, id_of, is_in_order, has_one_to_send, is_lowest, is_not_idle, broken_in_turn, broken_by, broken_at_end};
 ghost use Rattle.cop_bus.specs.Trace.{IsLegalTrace, running as running_spec, after, step_at, nth_that, is_queue, is_start, count_to};
-ghost use Rattle.cop_bus.specs.Tables.{IsWaiting, IsUnsent, IsNext, IsLast, IsSentBy, ahead_after, next_after, unsent_after, sent_after, last_after};
+ghost use Rattle.cop_bus.specs.Tables.{IsWaiting, IsUnsent, IsNext, IsLast, ahead_after, next_after, unsent_after, links_after, last_after};
 ghost use Rattle.cop_bus.specs.Late.{IsSent};
 
 use crate::faults::BusFault;
@@ -48,7 +48,7 @@ pub fn judge<'a>(
     ensures legal { OnOk result (IsLegalTrace (ticks_of rate) streams.now trace.now.until trace.now.steps.items) }
     ensures err { IfErr result (λ fault. IsFaultOf (first_broken (ticks_of rate) streams.now trace.now.until trace.now.steps.items) fault) }
 {
-    let sent = check_steps(
+    let links = check_steps(
         alloc,
         streams,
         rate.ticks_per_bit(),
@@ -60,29 +60,28 @@ pub fn judge<'a>(
         streams,
         trace,
         rate,
-        sent,
+        links,
     })
 }
 
-// For each queue step the moment at which its instance is sent, if the trace breaks no rule; else the first step that
-// breaks one, and the least rule that it breaks.
+// For each queue step the place of the start that sends its instance, if the trace breaks no rule; else the first step
+// that breaks one, and the least rule that it breaks.
 fn check_steps(
     alloc: Global,
     streams: &StreamSet,
     ticks: u32,
     until: u64,
     steps: &[Step],
-) -> Result<Vec<Option<u64>>, BusFault>
+) -> Result<Vec<usize>, BusFault>
     ensures ok { OnOk result (first_broken ticks streams.now until steps.now ≡ None) }
-    ensures sent { IfOk result (λ sent. IsSent steps.now sent.items) }
+    ensures sent { IfOk result (λ links. IsSent steps.now links.items) }
     ensures err { IfErr result (λ fault. IsFaultOf (first_broken ticks streams.now until steps.now) fault) }
 {
-    let links = link_all(alloc, steps)?;
-    let next = links.next;
-    let mut unsent = links.first;
+    let linked = link_all(alloc, steps)?;
+    let mut links = linked.next;
+    let mut unsent = linked.first;
     let mut waiting = BTreeSet::new(alloc);
     let mut last = no_events(alloc)?;
-    let mut sent = none_sent(alloc, steps)?;
     let mut running = None;
     for i in 0..steps.len() {
         match broken_by(
@@ -96,8 +95,7 @@ fn check_steps(
         }
         running = running_after(steps, i, ticks, running, &unsent);
         note_event(&steps[i], &mut last);
-        note_sent(&steps[i], &unsent, &mut sent);
-        send(&steps[i], &next, &mut unsent);
+        send(&steps[i], i, &mut links, &mut unsent);
         note_waiting(&steps[i], &unsent, i, &mut waiting)?;
     }
     match broken_at_end(until, steps, running, &waiting) {
@@ -105,7 +103,7 @@ fn check_steps(
             place: steps.len() + 1,
             number,
         }),
-        None => Ok(sent),
+        None => Ok(links),
     }
 }
 
@@ -156,26 +154,6 @@ fn no_events(alloc: Global) -> Result<Vec<Option<u64>>, AllocError>
     Ok(vec![in alloc; None; IDS]?)
 }
 
-// No moment for any step.
-fn none_sent(alloc: Global, steps: &[Step]) -> Result<Vec<Option<u64>>, AllocError>
-    ensures { IfOk result (λ sent. IsSentBy steps.now 0 sent.items) }
-{
-    Ok(vec![in alloc; None; steps.len()]?)
-}
-
-// Notes at the stream's first unsent instance the moment of a start, which sends it.
-fn note_sent(step: &Step, unsent: &[usize], sent: &mut Vec<Option<u64>>)
-    requires ids { length unsent.now ≡ 65536 }
-    requires some { (at id : ℕ) → step.now ≡ Step.Start at id → slice_index unsent.now id < length sent.old.items }
-    ensures { sent.new.items ≡ sent_after step.now unsent.now sent.old.items }
-{
-    match step {
-        Step::Queue { .. } => {}
-        Step::Start { at, id } => sent[unsent[usize::from(*id)]] = Some(*at),
-        Step::End { .. } => {}
-    }
-}
-
 // Notes the event of what the step queues.
 fn note_event(step: &Step, last: &mut Vec<Option<u64>>)
     requires { length last.old.items ≡ 65536 }
@@ -188,17 +166,21 @@ fn note_event(step: &Step, last: &mut Vec<Option<u64>>)
     }
 }
 
-// Notes that a start sends its stream's first unsent instance.
-fn send(step: &Step, next: &[usize], unsent: &mut Vec<usize>)
+// Notes that a start, which is step number `i`, sends its stream's first unsent instance: this one is linked to the
+// start, and the next one it was linked to is now the first.
+fn send(step: &Step, i: usize, links: &mut Vec<usize>, unsent: &mut Vec<usize>)
     requires ids { length unsent.old.items ≡ 65536 }
-    requires some { (at id : ℕ) → step.now ≡ Step.Start at id → slice_index unsent.old.items id < length next.now }
-    ensures { unsent.new.items ≡ unsent_after step.now next.now unsent.old.items }
+    requires some { (at id : ℕ) → step.now ≡ Step.Start id at → slice_index unsent.old.items id < length links.old.items }
+    ensures unsent { unsent.new.items ≡ unsent_after step.now links.old.items unsent.old.items }
+    ensures links { links.new.items ≡ links_after step.now i unsent.old.items links.old.items }
 {
     match step {
         Step::Queue { .. } => {}
         Step::Start { id, .. } => {
             let id = usize::from(*id);
-            unsent[id] = next[unsent[id]];
+            let sent = unsent[id];
+            unsent[id] = links[sent];
+            links[sent] = i;
         }
         Step::End { .. } => {}
     }

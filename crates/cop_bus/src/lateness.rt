@@ -2,7 +2,7 @@
 
 ghost use Rattle.std.specs.Prelude.{◌≡◌};
 ghost use Rattle.cop_frame.specs.Rate.{ticks_of};
-ghost use Rattle.cop_bus.specs.Late.{IsSent, first_late, has_ended, misses, is_late};
+ghost use Rattle.cop_bus.specs.Late.{IsSent, first_late, has_ended, misses, is_late, start_at};
 
 use crate::judging::stream_of;
 use crate::rules::id_of;
@@ -20,8 +20,18 @@ pub fn first_late(run: &Run<'_>) -> Option<usize>
         run.rate.ticks_per_bit(),
         run.trace.until,
         &run.trace.steps,
-        &run.sent,
+        &run.links,
     )
+}
+
+/// The moment of the start at a place of a trace, if one stands there.
+pub(crate) fn start_at(steps: &[Step], place: usize) -> Option<u64>
+    ensures { result ≡ start_at steps.now place }
+{
+    match steps.get(place) {
+        Some(Step::Start { at, .. }) => Some(*at),
+        _ => None,
+    }
 }
 
 fn first_late_step(
@@ -29,15 +39,16 @@ fn first_late_step(
     ticks: u32,
     until: u64,
     steps: &[Step],
-    sent: &[Option<u64>],
+    links: &[usize],
 ) -> Option<usize>
-    requires { IsSent steps.now sent.now }
+    requires { IsSent steps.now links.now }
     ensures { result ≡ first_late ticks streams.now until steps.now }
 {
     for i in 0..steps.len() {
         let step = &steps[i];
         let stream = stream_of(streams, id_of(step));
-        if is_late(ticks, until, stream, sent[i], step) {
+        let start = start_at(steps, links[i]);
+        if is_late(ticks, until, stream, start, step) {
             return Some(i + 1);
         }
     }

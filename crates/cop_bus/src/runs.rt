@@ -23,8 +23,8 @@ pub struct Run<'a> {
     pub streams: &'a StreamSet,
     pub trace: &'a Trace,
     pub rate: Rate,
-    // For each queue step the moment at which its instance is sent.
-    pub(crate) sent: Vec<Option<u64>>,
-    ghost moments: { IsSent trace.now.steps.items sent.items },
+    // For each queue step the place of the start that sends its instance, if one does.
+    pub(crate) links: Vec<usize>,
+    ghost moments: { IsSent trace.now.steps.items links.items },
     ghost clean: { first_broken (ticks_of rate) streams.now trace.now.until trace.now.steps.items ≡ None },
 }

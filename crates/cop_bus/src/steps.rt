@@ -8,24 +8,25 @@ pub struct Content {
     pub len: u8,
 }
 
-/// A step of a trace. Moments are in ticks.
+/// A step of a trace. Moments are in ticks. The identifier stands first, where it takes no room of its own: the fields lie in
+/// the order in which they are written, behind the tag.
 #[derive(Clone, Copy, PartialEq, Eq, Debug)]
 pub enum Step {
     /// The transfer that runs ends.
     End {
-        at: u64,
         id: u16,
+        at: u64,
     },
     /// An instance is queued, in answer to its event.
     Queue {
-        at: u64,
         id: u16,
+        at: u64,
         event: u64,
         frame: Content,
     },
     /// The next instance of a stream starts its transfer.
     Start {
-        at: u64,
         id: u16,
+        at: u64,
     },
 }

@@ -5,6 +5,7 @@ ghost use Rattle.cop_frame.specs.Rate.{ticks_of};
 ghost use Rattle.cop_bus.specs.Late.{IsSent};
 ghost use Rattle.cop_bus.specs.Transfers.{transfer_at, transfers_of};
 
+use crate::lateness::start_at;
 use crate::runs::Run;
 use crate::steps::Step;
 use std::alloc::{AllocError, Global};
@@ -44,14 +45,15 @@ fn transfers_in(
     ticks: u32,
     until: u64,
     steps: &[Step],
-    sent: &[Option<u64>],
+    links: &[usize],
 ) -> Result<Vec<Transfer>, AllocError>
-    requires { IsSent steps.now sent.now }
+    requires { IsSent steps.now links.now }
     ensures { IfOk result (λ transfers. transfers.items ≡ transfers_of ticks until steps.now) }
 {
     let mut transfers = Vec::new(alloc);
     for i in 0..steps.len() {
-        if let Some(transfer) = transfer_at(ticks, until, &steps[i], sent[i]) {
+        let start = start_at(steps, links[i]);
+        if let Some(transfer) = transfer_at(ticks, until, &steps[i], start) {
             transfers.push(transfer)?;
         }
     }
@@ -67,6 +69,6 @@ pub fn transfers_of(alloc: Global, run: &Run<'_>) -> Result<Vec<Transfer>, Alloc
         run.rate.ticks_per_bit(),
         run.trace.until,
         &run.trace.steps,
-        &run.sent,
+        &run.links,
     )
 }

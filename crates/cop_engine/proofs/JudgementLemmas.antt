@@ -7,7 +7,6 @@ use Rattle.cop_frame.specs.Rate.{ticks_of}
 use Rattle.cop_rta.specs.declared.streams.Stream.{Stream}
 use Rattle.cop_rta.specs.Entries.{Entry, entry_of}
 use Rattle.cop_bus.specs.declared.steps.Step.{Step}
-use Rattle.cop_bus.specs.declared.faults.BusFault.TheVariants as bus
 use Rattle.cop_bus.specs.Run.{IsOnTime}
 use Rattle.cop_bus.specs.Trace.{instances, IsLegalTrace}
 use Rattle.cop_bus.specs.Late.{first_late}
@@ -31,7 +30,7 @@ use Rattle.cop_engine.specs.declared.faults.Fault.{Fault}
 use Rattle.cop_engine.specs.declared.faults.Fault.TheVariants as faults
 use Rattle.cop_engine.specs.Faults.{fault_of}
 use Rattle.cop_engine.specs.Networks.{ExplainsNetwork}
-use Rattle.cop_engine.specs.Judgements.{IsJudged, IsJudgedBy, ExplainsTrace, IsPlannedNetwork, IsJudgement, ExplainsJudgement, SaysOnTime, judged_text, transfers_in}
+use Rattle.cop_engine.specs.Judgements.{IsJudged, IsCleared, IsJudgedBy, ExplainsTrace, IsPlannedNetwork, IsJudgement, ExplainsJudgement, SaysOnTime, judged_text, transfers_in}
 use Rattle.cop_engine.proofs.GuaranteeLemmas.{was_there, fine}
 use Rattle.cop_engine.proofs.NetworkLemmas.{network_found}
 use Rattle.cop_engine.proofs.RowStreams.{later_none}
@@ -62,6 +61,15 @@ module _ (nodes pdos : List ℕ) (eds : List File) (plan : PlanValue) (n : IsPla
             | inr high ↦ (λ j e m its. subst (λ (o : Option ℕ). IsOnTime (ticks_of plan.rate) until o (get_or (instances steps) j e)) (sym (no_deadline p k high there)) (λ v q. absurd (cc)))
           ]
 
+  -- so a text that says so is the judgement
+  cleared_judged : (trace text : List ℕ) → IsCleared plan.rate plan.streams trace text → IsJudged plan.rate plan.streams trace text
+  cleared_judged trace text h = record {
+    told = h.told;
+    read = h.read;
+    legal = h.legal;
+    text_is = h.text_is ∙ sym (ap (judged_text (transfers_in h.told.steps)) (none_late h.told.until h.told.steps h.legal));
+  }
+
   on_time_says : (trace text : List ℕ) → IsJudged plan.rate plan.streams trace text → SaysOnTime (Planned plan) trace text
   on_time_says trace text j = (j.told, j.read, j.text_is ∙ ap (judged_text (transfers_in j.told.steps)) (none_late j.told.until j.told.steps j.legal))
 
@@ -89,9 +97,9 @@ module _ (nodes pdos : List ℕ) (files : List File) (trace : List ℕ) where
   }
 
   pub judged_gives : (plan : PlanValue) (r : Result (Vec ℕ) Fault) → IsPlannedNetwork nodes pdos files (Planned plan)
-      → MatchResult r (λ text. IsJudged plan.rate plan.streams trace text.items) (λ fault. ExplainsTrace plan.rate plan.streams trace fault)
+      → MatchResult r (λ text. IsCleared plan.rate plan.streams trace text.items) (λ fault. ExplainsTrace plan.rate plan.streams trace fault)
       → MatchResult r (λ text. IsJudgement nodes pdos files trace text.items) (λ fault. ExplainsJudgement nodes pdos files trace fault)
-  judged_gives plan (Ok text) n h = record { outcome = Planned plan; network = n; judged = h }
+  judged_gives plan (Ok text) n h = record { outcome = Planned plan; network = n; judged = cleared_judged nodes pdos files plan n trace text.items h }
   judged_gives plan (Err fault) n h = go fault h
     where
       go : (fault : Fault) → ExplainsTrace plan.rate plan.streams trace fault → ExplainsJudgement nodes pdos files trace fault

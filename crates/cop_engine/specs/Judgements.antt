@@ -24,9 +24,9 @@ use Rattle.cop_engine.specs.Networks.{Found, network_in}
 
 -- a transfer starts
 abbrev pub is_start : Step → Bool
-is_start (steps.Start at id) = true
-is_start (steps.Queue at id event frame) = false
-is_start (steps.End at id) = false
+is_start (steps.Start id at) = true
+is_start (steps.Queue id at event frame) = false
+is_start (steps.End id at) = false
 
 abbrev pub transfers_in : List Step → ℕ
 transfers_in steps = count_by is_start steps
@@ -48,6 +48,13 @@ pub record IsJudged (rate : Rate) (streams : List Stream) (trace text : List ℕ
   pub read : trace_of trace ≡ Ok told
   pub legal : IsLegalTrace (ticks_of rate) streams told.until told.steps
   pub text_is : text ≡ judged_text (transfers_in told.steps) (first_late (ticks_of rate) streams told.until told.steps)
+
+-- the same, where none is late: under a plan's identifiers none is
+pub record IsCleared (rate : Rate) (streams : List Stream) (trace text : List ℕ) : Type 0 where
+  pub told : Told
+  pub read : trace_of trace ≡ Ok told
+  pub legal : IsLegalTrace (ticks_of rate) streams told.until told.steps
+  pub text_is : text ≡ judged_text (transfers_in told.steps) None
 
 -- it is none, or its first step that breaks a rule is this
 abbrev pub ExplainsTrace : Rate → List Stream → List ℕ → Fault → Type 0

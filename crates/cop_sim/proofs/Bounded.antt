@@ -44,8 +44,8 @@ module _ (steps : List Step) (id moment n : ℕ) (within : n ≤ length steps) (
   few : (d i : ℕ) (rest : List Step) → IsRest steps i rest → i + length rest ≡ length steps → i + d ≡ n → queues n ≤ number test (instances_from steps i rest) + max starts (queues i)
   few zero i rest same len e = let q : i ≡ n = omega arith in subst (λ m. queues m ≤ number test (instances_from steps i rest) + max starts (queues i)) q (omega arith)
   few (suc d) i [] same len e = absurd (omega arith)
-  few (suc d) i (Queue at k event frame ∷ rest) same len e =
-      let x = Queue at k event frame in
+  few (suc d) i (Queue k at event frame ∷ rest) same len e =
+      let x = Queue k at event frame in
       let h = rest_head steps i x rest same in
       let ih = few d (suc i) rest (rest_tail steps i x rest same) (omega arith) (omega arith) in
       let s = count_to-suc (is_queue id) steps i (omega arith) in
@@ -64,16 +64,16 @@ module _ (steps : List Step) (id moment n : ℕ) (within : n ≤ length steps) (
                   let c = one-true (test (instance steps i at k event frame)) w in omega (arith, ih2, l, c))
             ])
       ]
-  few (suc d) i (Start at k ∷ rest) same len e =
-      let x = Start at k in
+  few (suc d) i (Start k at ∷ rest) same len e =
+      let x = Start k at in
       let h = rest_head steps i x rest same in
       let ih = few d (suc i) rest (rest_tail steps i x rest same) (omega arith) (omega arith) in
       let s = count_to-suc (is_queue id) steps i (omega arith) in
       let z = one-false (is_queue id (step_at steps i)) (ap (is_queue id) h) in
       let q : queues (suc i) ≡ queues i = omega (arith, s, z) in
       subst (λ m. queues n ≤ number test (instances_from steps (suc i) rest) + max starts m) q ih
-  few (suc d) i (End at k ∷ rest) same len e =
-      let x = End at k in
+  few (suc d) i (End k at ∷ rest) same len e =
+      let x = End k at in
       let h = rest_head steps i x rest same in
       let ih = few d (suc i) rest (rest_tail steps i x rest same) (omega arith) (omega arith) in
       let s = count_to-suc (is_queue id) steps i (omega arith) in

@@ -1,6 +1,6 @@
 -- Offers that are queued by the end of a run.
-use Rattle.std.proofs.Common.{◌≡◌, ℕ, ◌<◌, ◌≤◌, inl, inr, List, length, sym, ◌∙◌, ap, subst, arith, nat_le, cond}
-use Rattle.std.specs.Prelude.{Option, None, Some, slice_get, Bool, true, false}
+use Rattle.std.proofs.Common.{◌≡◌, ℕ, ◌<◌, ◌≤◌, inl, inr, List, length, sym, ap, subst, arith, nat_le, cond}
+use Rattle.std.specs.Prelude.{Option, None, Some, slice_get, Bool}
 use Rattle.std.specs.Option.{option_and_then}
 use Rattle.std.proofs.lemmas.Bool.{cases_lt, cases_Bool, leb-true}
 use Rattle.std.proofs.lemmas.List.{get_or_past}

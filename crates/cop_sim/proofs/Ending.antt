@@ -63,7 +63,7 @@ module _ {B : Type 0} (offer : B → ℕ → Option Offer) (agrees : B → ℕ �
 
   module _ (e id : ℕ) (runs : h.running ≡ Some (e, id)) (within : e ≤ until) (later : (a : Actor) → Contains actors a → (o : Offer) → next_offer until steps (length steps) a ≡ Some o → e ≤ queued_at o) where
     abbrev x : Step
-    x = End e id
+    x = End id e
 
     runs-so : running (ticks_of plan.rate) (steps ++ at.ahead) (length steps) ≡ Some (id, e)
     runs-so = flipped-is (running (ticks_of plan.rate) (steps ++ at.ahead) (length steps)) e id (sym at.runs ∙ runs)

@@ -57,7 +57,7 @@ module _ (tau : ℕ) (pos : 1 ≤ tau) (actors : List Actor) (until : ℕ) (ther
     ]
 
     abbrev x : Step
-    x = End e id
+    x = End id e
 
     look : FindsTheSame steps ahead (x ∷ [])
     look = subst (λ t. FindsTheSame steps t (x ∷ [])) (sym none_ahead) (finds-more steps (x ∷ []))
@@ -103,7 +103,7 @@ module _ (tau : ℕ) (pos : 1 ≤ tau) (actors : List Actor) (until : ℕ) (ther
       obeying = ap (λ b. obeys a.stream b o) (before-kept steps x a refl) ∙ n.obeying;
       rising = λ i k event frame j q. (elim (at-cases steps x i j) [
         | inl c ↦ n.rising i k event frame c.0 (sym c.1 ∙ q)
-        | inr c ↦ (let z : End e id ≡ Queue (queued_at o) k event frame = sym c.1 ∙ q in absurd (cc))
+        | inr c ↦ (let z : End id e ≡ Queue k (queued_at o) event frame = sym c.1 ∙ q in absurd (cc))
       ]);
     }
       where

@@ -15,7 +15,7 @@ use Rattle.cop_bus.proofs.Appended.{step_at-here, length-one, one-more}
 
 -- each start of the steps finds with `more` behind them what it finds with `ahead` there
 abbrev pub FindsTheSame : List Step → List Step → List Step → Type 0
-FindsTheSame steps ahead more = (i at id : ℕ) → i < length steps → step_at steps i ≡ Start at id → (x : Step) →
+FindsTheSame steps ahead more = (i at id : ℕ) → i < length steps → step_at steps i ≡ Start id at → (x : Step) →
     nth_that (is_queue id) (count_to (is_start id) steps i) (steps ++ ahead) ≡ Some x → nth_that (is_queue id) (count_to (is_start id) steps i) (steps ++ more) ≡ Some x
 
 pub finds-more : (steps more : List Step) → FindsTheSame steps [] more
@@ -83,31 +83,31 @@ idle-more streams steps more r moment = go (length steps) r (omega arith)
         ∙ ap (λ b. nat_le moment (at_of (step_at steps i)) || not b) (any_waits-more steps more (suc i) streams l)
 
 -- a start or an end owes nothing by rules 62 to 64
-pub start-period : (o : Option Stream) (v : Option ℕ) (at id : ℕ) → is_period_later o v (Start at id) ≡ true
+pub start-period : (o : Option Stream) (v : Option ℕ) (at id : ℕ) → is_period_later o v (Start id at) ≡ true
 start-period (Some k) (Some b) at id = refl
 start-period (Some k) None at id = refl
 start-period None (Some b) at id = refl
 start-period None None at id = refl
 
-pub end-period : (o : Option Stream) (v : Option ℕ) (at id : ℕ) → is_period_later o v (End at id) ≡ true
+pub end-period : (o : Option Stream) (v : Option ℕ) (at id : ℕ) → is_period_later o v (End id at) ≡ true
 end-period (Some k) (Some b) at id = refl
 end-period (Some k) None at id = refl
 end-period None (Some b) at id = refl
 end-period None None at id = refl
 
-pub start-time : (o : Option Stream) (at id : ℕ) → is_queued_in_time o (Start at id) ≡ true
+pub start-time : (o : Option Stream) (at id : ℕ) → is_queued_in_time o (Start id at) ≡ true
 start-time (Some k) at id = refl
 start-time None at id = refl
 
-pub end-time : (o : Option Stream) (at id : ℕ) → is_queued_in_time o (End at id) ≡ true
+pub end-time : (o : Option Stream) (at id : ℕ) → is_queued_in_time o (End id at) ≡ true
 end-time (Some k) at id = refl
 end-time None at id = refl
 
-pub start-length : (o : Option Stream) (at id : ℕ) → is_of_length o (Start at id) ≡ true
+pub start-length : (o : Option Stream) (at id : ℕ) → is_of_length o (Start id at) ≡ true
 start-length (Some k) at id = refl
 start-length None at id = refl
 
-pub end-length : (o : Option Stream) (at id : ℕ) → is_of_length o (End at id) ≡ true
+pub end-length : (o : Option Stream) (at id : ℕ) → is_of_length o (End id at) ≡ true
 end-length (Some k) at id = refl
 end-length None at id = refl
 

@@ -36,14 +36,14 @@ held-other until steps x a next ring f g h =
       offer = h.offer ∙ sym (next-kept until steps x a f);
       its = h.its;
       count = (let c = h.count in omega (arith, q, s, c));
-      each = λ k y e. ap (λ n. nth_that (is_queue a.stream.id) (n + k) (steps ++ x ∷ [])) s ∙ nth_that-more (is_queue a.stream.id) (starts a.stream.id steps + k) steps (x ∷ []) (Queue y.at a.stream.id y.event y.frame) (h.each k y e);
+      each = λ k y e. ap (λ n. nth_that (is_queue a.stream.id) (n + k) (steps ++ x ∷ [])) s ∙ nth_that-more (is_queue a.stream.id) (starts a.stream.id steps + k) steps (x ∷ []) (Queue a.stream.id y.at y.event y.frame) (h.each k y e);
     }
 
 -- the start of an instance that waits takes it out
 pub held-started : (until : ℕ) (steps : List Step) (z : ℕ) (a : Actor) (next : Option Offer) (ring : RingValue) → 0 < length ring.waiting → IsHeld until steps a next ring →
-    IsHeld until (steps ++ Start z a.stream.id ∷ []) a next (record { id = ring.id; waiting = drop 1 ring.waiting; most = ring.most })
+    IsHeld until (steps ++ Start a.stream.id z ∷ []) a next (record { id = ring.id; waiting = drop 1 ring.waiting; most = ring.most })
 held-started until steps z a next ring l h =
-    let x = Start z a.stream.id in
+    let x = Start a.stream.id z in
     let q = count-kept (is_queue a.stream.id) steps x refl in
     let s = count-raised (is_start a.stream.id) steps x (eq-true a.stream.id a.stream.id refl) in
     record {
@@ -51,7 +51,7 @@ held-started until steps z a next ring l h =
       its = h.its;
       count = shorter ring.waiting ∙ (let c = h.count in omega (arith, q, s, c));
       each = λ k y e. (let n : starts a.stream.id (steps ++ x ∷ []) + k ≡ starts a.stream.id steps + suc k = omega (arith, s) in
-          ap (λ n. nth_that (is_queue a.stream.id) n (steps ++ x ∷ [])) n ∙ nth_that-more (is_queue a.stream.id) (starts a.stream.id steps + suc k) steps (x ∷ []) (Queue y.at a.stream.id y.event y.frame) (h.each (suc k) y (further ring.waiting k y e)));
+          ap (λ n. nth_that (is_queue a.stream.id) n (steps ++ x ∷ [])) n ∙ nth_that-more (is_queue a.stream.id) (starts a.stream.id steps + suc k) steps (x ∷ []) (Queue a.stream.id y.at y.event y.frame) (h.each (suc k) y (further ring.waiting k y e)));
     }
   where
     shorter : (ys : List Instance) → length (drop 1 ys) ≡ length ys - 1
@@ -64,9 +64,9 @@ held-started until steps z a next ring l h =
 
 -- the start of a joiner leaves its ring empty
 pub held-joiner : (until : ℕ) (steps : List Step) (z : ℕ) (a : Actor) (next : Option Offer) (ring : RingValue) → length ring.waiting ≡ 0 → IsHeld until steps a next ring →
-    IsHeld until (steps ++ Start z a.stream.id ∷ []) a next ring
+    IsHeld until (steps ++ Start a.stream.id z ∷ []) a next ring
 held-joiner until steps z a next ring l h =
-    let x = Start z a.stream.id in
+    let x = Start a.stream.id z in
     let q = count-kept (is_queue a.stream.id) steps x refl in
     let s = count-raised (is_start a.stream.id) steps x (eq-true a.stream.id a.stream.id refl) in
     record {
@@ -91,7 +91,7 @@ held-joined until steps o a next after ring l h again =
       offer = again;
       its = h.its;
       count = (let c = h.count in omega (arith, q, s, c, l));
-      each = λ k y e. ap (λ n. nth_that (is_queue a.stream.id) (n + k) (steps ++ x ∷ [])) s ∙ nth_that-more (is_queue a.stream.id) (starts a.stream.id steps + k) steps (x ∷ []) (Queue y.at a.stream.id y.event y.frame) (h.each k y e);
+      each = λ k y e. ap (λ n. nth_that (is_queue a.stream.id) (n + k) (steps ++ x ∷ [])) s ∙ nth_that-more (is_queue a.stream.id) (starts a.stream.id steps + k) steps (x ∷ []) (Queue a.stream.id y.at y.event y.frame) (h.each k y e);
     }
 
 -- another queue step puts its instance behind the others
@@ -108,13 +108,13 @@ held-queued until steps o y a next after ring e1 e2 e3 l h again =
       its = h.its;
       count = (let c = h.count in let n = length-append ring.waiting (y ∷ []) in omega (arith, q, s, c, l, n));
       each = λ k v e. ap (λ n. nth_that (is_queue a.stream.id) (n + k) (steps ++ x ∷ [])) s ∙ elim (split ring.waiting k v e) [
-        | inl f ↦ nth_that-more (is_queue a.stream.id) (starts a.stream.id steps + k) steps (x ∷ []) (Queue v.at a.stream.id v.event v.frame) (h.each k v f)
+        | inl f ↦ nth_that-more (is_queue a.stream.id) (starts a.stream.id steps + k) steps (x ∷ []) (Queue a.stream.id v.at v.event v.frame) (h.each k v f)
         | inr f ↦ (let c = h.count in let m : starts a.stream.id steps + k ≡ queues a.stream.id steps = (let g = f.0 in omega (arith, c, g, l)) in
             let here = step_at-here steps x [] in
             let t = nth_that-at (is_queue a.stream.id) (steps ++ x ∷ []) (length steps) (let n = length-one steps x in omega arith) (ap (is_queue a.stream.id) here ∙ eq-true a.stream.id a.stream.id refl) in
             let r = count_to-more (is_queue a.stream.id) steps (x ∷ []) (length steps) (omega arith) in
-            let w : x ≡ Queue y.at a.stream.id y.event y.frame = ap (λ m. Queue m a.stream.id o.event o.frame) (sym e1) ∙ ap (λ m. Queue y.at a.stream.id m o.frame) (sym e2) ∙ ap (Queue y.at a.stream.id y.event) (sym e3) in
-            ap (λ n. nth_that (is_queue a.stream.id) n (steps ++ x ∷ [])) (m ∙ sym r) ∙ t ∙ ap Some (here ∙ w) ∙ ap (λ u. Some (Queue u.at a.stream.id u.event u.frame)) f.1)
+            let w : x ≡ Queue a.stream.id y.at y.event y.frame = ap (λ m. Queue a.stream.id m o.event o.frame) (sym e1) ∙ ap (λ m. Queue a.stream.id y.at m o.frame) (sym e2) ∙ ap (Queue a.stream.id y.at y.event) (sym e3) in
+            ap (λ n. nth_that (is_queue a.stream.id) n (steps ++ x ∷ [])) (m ∙ sym r) ∙ t ∙ ap Some (here ∙ w) ∙ ap (λ u. Some (Queue a.stream.id u.at u.event u.frame)) f.1)
       ];
     }
   where

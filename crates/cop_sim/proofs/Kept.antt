@@ -71,7 +71,7 @@ offers-one until steps x a h new j y e = elim (nth_that-one (is_queue a.stream.i
 ]
 
 pub rising-one : (steps : List Step) (x : Step) → QueuesRise steps →
-    ((i at id id' event event' : ℕ) (frame frame' : Content) → i < length steps → step_at steps i ≡ Queue at id event frame → x ≡ Queue at id' event' frame' → id ≤ id') → QueuesRise (steps ++ x ∷ [])
+    ((i at id id' event event' : ℕ) (frame frame' : Content) → i < length steps → step_at steps i ≡ Queue id at event frame → x ≡ Queue id' at event' frame' → id ≤ id') → QueuesRise (steps ++ x ∷ [])
 rising-one steps x h new i j at id id' event event' frame frame' l m e f =
     let n = length-one steps x in
     let li : i < length steps = omega arith in
@@ -81,7 +81,7 @@ rising-one steps x h new i j at id id' event event' frame frame' l m e f =
       | inr k ↦ new i at id id' event event' frame frame' li ei (sym k.1 ∙ f)
     ]
 
-pub starts-one : (until : ℕ) (steps : List Step) (x : Step) → StartsBefore until steps → ((z id : ℕ) → x ≡ Start z id → z < until) → StartsBefore until (steps ++ x ∷ [])
+pub starts-one : (until : ℕ) (steps : List Step) (x : Step) → StartsBefore until steps → ((z id : ℕ) → x ≡ Start id z → z < until) → StartsBefore until (steps ++ x ∷ [])
 starts-one until steps x h new i z id l e = elim (at-cases steps x i l) [
   | inl k ↦ h i z id k.0 (sym k.1 ∙ e)
   | inr k ↦ new z id (sym k.1 ∙ e)
@@ -113,7 +113,7 @@ SendsLowestHere tau actors until steps z id =
     Any (λ a. (a.stream.id ≡ id) × Competes tau until steps (length steps) z a) actors × All (λ a. Competes tau until steps (length steps) z a → id ≤ a.stream.id) actors
 
 pub lowest-one : (tau : ℕ) (actors : List Actor) (until : ℕ) (steps : List Step) (x : Step) → SendsTheLowest tau actors until steps →
-    ((z id : ℕ) → x ≡ Start z id → SendsLowestHere tau actors until steps z id) → SendsTheLowest tau actors until (steps ++ x ∷ [])
+    ((z id : ℕ) → x ≡ Start id z → SendsLowestHere tau actors until steps z id) → SendsTheLowest tau actors until (steps ++ x ∷ [])
 lowest-one tau actors until steps x h new i z id l e = elim (at-cases steps x i l) [
   | inl k ↦ go i (omega (arith, k.0)) (h i z id k.0 (sym k.1 ∙ e))
   | inr k ↦ subst (λ n. At n (steps ++ x ∷ [])) (sym k.0) (go (length steps) (omega arith) (new z id (sym k.1 ∙ e)))

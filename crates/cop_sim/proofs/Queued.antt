@@ -81,7 +81,7 @@ module _ (tau : ℕ) (actors : List Actor) (until : ℕ) (there : (a : Actor) �
     obeying = ap (λ v. obeys b.stream v p) (before-kept steps x b f) ∙ w0;
     rising = λ i k event frame j e. (elim (at-cases steps x i j) [
       | inl w ↦ (goes.next b d p q w0).rising i k event frame w.0 (sym w.1 ∙ e)
-      | inr w ↦ (let z : Queue (queued_at o) a.stream.id o.event o.frame ≡ Queue (queued_at p) k event frame = sym w.1 ∙ e in
+      | inr w ↦ (let z : Queue a.stream.id (queued_at o) o.event o.frame ≡ Queue k (queued_at p) event frame = sym w.1 ∙ e in
           let k1 : a.stream.id ≡ k = cc in let m1 : queued_at o ≡ queued_at p = cc in
           elim (least b d p q) [ inl l ↦ absurd (omega (arith, l, m1)) | inr l ↦ (let g = l.1 in omega (arith, g, k1)) ])
     ]);
@@ -100,9 +100,9 @@ module _ (tau : ℕ) (actors : List Actor) (until : ℕ) (there : (a : Actor) �
             | inl g ↦ (let u = by-now tau (streams_of actors) until steps ahead goes.fine (length steps - suc i) i (let wl = w.0 in omega arith) in
                 let v = (order-end until steps x its.in_turn).1 in
                 let z = ap at_of (sym w.1 ∙ e) in absurd (omega (arith, u, v, z, g)))
-            | inr g ↦ (let s : queued_at p ≡ queued_at o = omega (arith, g, t) in its.rising i k event frame w.0 (sym w.1 ∙ e ∙ ap (λ m. Queue m k event frame) s))
+            | inr g ↦ (let s : queued_at p ≡ queued_at o = omega (arith, g, t) in its.rising i k event frame w.0 (sym w.1 ∙ e ∙ ap (λ m. Queue k m event frame) s))
           ]
-          | inr w ↦ (let z : Queue (queued_at o) a.stream.id o.event o.frame ≡ Queue (queued_at p) k event frame = sym w.1 ∙ e in let k1 : a.stream.id ≡ k = cc in omega (arith, k1))
+          | inr w ↦ (let z : Queue a.stream.id (queued_at o) o.event o.frame ≡ Queue k (queued_at p) event frame = sym w.1 ∙ e in let k1 : a.stream.id ≡ k = cc in omega (arith, k1))
         ]);
       }
 
@@ -149,7 +149,7 @@ module _ (tau : ℕ) (actors : List Actor) (until : ℕ) (there : (a : Actor) �
       none_left_out = λ b d f p q. (let z = sym (ap (is_queue b.stream.id) (last-one steps x)) ∙ f in
           let l = not-after b d p (sym (next-kept until steps x b z) ∙ q) in let n = now-one steps x in omega (arith, l, n));
       rising = rising-one steps x goes.rising (λ i at k k' event event' frame frame' l q p. (let m1 : at ≡ queued_at o = cc in let k1 : k' ≡ a.stream.id = cc in
-          let g = its.rising i k event frame l (q ∙ ap (λ m. Queue m k event frame) m1) in omega (arith, g, k1)));
+          let g = its.rising i k event frame l (q ∙ ap (λ m. Queue k m event frame) m1) in omega (arith, g, k1)));
       none_at_end = starts-one until steps x goes.none_at_end (λ z k p. absurd (cc));
       lowest = lowest-one tau actors until steps x goes.lowest (λ z k p. absurd (cc));
     }

@@ -39,16 +39,16 @@ lower-false tau until steps i z id (a ∷ actors) h =
     go false e false f = refl
 
 pub rank-most : (x : Step) → nat_le (rank_of x) 2 ≡ true
-rank-most (Queue at id event frame) = refl
-rank-most (Start at id) = refl
-rank-most (End at id) = refl
+rank-most (Queue id at event frame) = refl
+rank-most (Start id at) = refl
+rank-most (End id at) = refl
 
 -- a transfer takes a bit time at least
 pub takes-a-bit : (bits tau : ℕ) → 1 ≤ bits → tau ≤ bits * tau
 takes-a-bit zero tau l = absurd (omega arith)
 takes-a-bit (suc n) tau l = omega arith
 
-pub has-bits : (k : Stream) (at id event : ℕ) (frame : Content) → is_of_length (Some k) (Queue at id event frame) ≡ true → 1 ≤ frame.bits
+pub has-bits : (k : Stream) (at id event : ℕ) (frame : Content) → is_of_length (Some k) (Queue id at event frame) ≡ true → 1 ≤ frame.bits
 has-bits k at id event frame h =
     let l = true-le (least_bits k.bytes) frame.bits (and-left (nat_le (least_bits k.bytes) frame.bits) (nat_le frame.bits (worst_bits k.bytes)) (and-left (nat_le (least_bits k.bytes) frame.bits && nat_le frame.bits (worst_bits k.bytes)) (frame.len == k.bytes) h)) in
     omega arith
@@ -61,7 +61,7 @@ module _ (tau : ℕ) (pos : 1 ≤ tau) (actors : List Actor) (until : ℕ) (ther
   id = a.stream.id
 
   abbrev x : Step
-  x = Start z id
+  x = Start id z
 
   in-order : (n : ℕ) → n ≡ length steps → is_in_order until steps n x ≡ true
   in-order zero e = le-true z until (omega arith)
@@ -92,7 +92,7 @@ module _ (tau : ℕ) (pos : 1 ≤ tau) (actors : List Actor) (until : ℕ) (ther
         obeying = w0;
         rising = λ i k event frame j e. (elim (at-cases steps x i j) [
           | inl w ↦ (goes.next b d p h (ap (λ v. obeys b.stream v p) (sym (before-kept steps x b refl)) ∙ w0)).rising i k event frame w.0 (sym w.1 ∙ e)
-          | inr w ↦ (let y : Start z id ≡ Queue (queued_at p) k event frame = sym w.1 ∙ e in absurd (cc))
+          | inr w ↦ (let y : Start id z ≡ Queue k (queued_at p) event frame = sym w.1 ∙ e in absurd (cc))
         ]);
       }
 
@@ -161,8 +161,8 @@ module _ (tau : ℕ) (pos : 1 ≤ tau) (actors : List Actor) (until : ℕ) (ther
       let f = nth_that-at (is_queue id) steps n.0 n.2 n.3 in
       let k = keeps tau (streams_of actors) until (steps ++ []) n.0 (step_at steps n.0) (goes.fine n.0 n.2) in
       let m = by-now tau (streams_of actors) until steps [] goes.fine (length steps - suc n.0) n.0 (let h = n.2 in omega arith) in
-      let b : is_of_length (Some a.stream) (Queue q.0 id q.1 q.2) ≡ true =
-      sym (ap (λ s. is_of_length s (Queue q.0 id q.1 q.2)) (there a c)) ∙ sym (ap (λ y. is_of_length (stream_of (streams_of actors) (id_of y)) y) q.3) ∙ k.of_length in
+      let b : is_of_length (Some a.stream) (Queue id q.0 q.1 q.2) ≡ true =
+      sym (ap (λ s. is_of_length s (Queue id q.0 q.1 q.2)) (there a c)) ∙ sym (ap (λ y. is_of_length (stream_of (streams_of actors) (id_of y)) y) q.3) ∙ k.of_length in
       started [] (step_at steps n.0) (nth_that-more (is_queue id) (count_to (is_start id) steps (length steps)) steps (x ∷ []) (step_at steps n.0) (ap (λ j. nth_that (is_queue id) j steps) (sym n.4) ∙ f))
       (omega (arith, m, now, pos)) (subst (λ y. 1 ≤ bits_of (Some y)) (sym q.3) (has-bits a.stream q.0 id q.1 q.2 b))
       (λ y e. absurd (cc)) (inl refl)

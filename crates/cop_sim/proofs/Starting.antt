@@ -47,7 +47,7 @@ module _ {B : Type 0} (offer : B → ℕ → Option Offer) (agrees : B → ℕ �
   tau = ticks_of plan.rate
 
   abbrev x : Step
-  x = Start h.now a.stream.id
+  x = Start a.stream.id h.now
 
   there : (b : Actor) → Contains actors b → stream_of (streams_of actors) b.stream.id ≡ Some b.stream
   there = Places.there offer agrees plan until firsts bs h steps at
@@ -150,9 +150,9 @@ module _ {B : Type 0} (offer : B → ℕ → Option Offer) (agrees : B → ℕ �
         let l = slice_get_within seat.1.waiting 0 y e in
         let w = held-waits until steps a (next_at h.next s.place) seat.1 seat.4.held l in
         let g = Started.started_waiting tau (pos plan.rate) actors until there steps goes h.now (sym at.now_is) early none-runs-alone some-waits later a c competes lowest w in
-        let f : nth_that (is_queue a.stream.id) (count_to (is_start a.stream.id) (steps ++ x ∷ []) (length steps)) (steps ++ x ∷ []) ≡ Some (Queue y.at a.stream.id y.event y.frame) =
+        let f : nth_that (is_queue a.stream.id) (count_to (is_start a.stream.id) (steps ++ x ∷ []) (length steps)) (steps ++ x ∷ []) ≡ Some (Queue a.stream.id y.at y.event y.frame) =
         ap (λ n. nth_that (is_queue a.stream.id) n (steps ++ x ∷ [])) (count_to-more (is_start a.stream.id) steps (x ∷ []) (length steps) (omega arith) ∙ (let z : starts a.stream.id steps ≡ starts a.stream.id steps + 0 = omega arith in z))
-        ∙ nth_that-more (is_queue a.stream.id) (starts a.stream.id steps + 0) steps (x ∷ []) (Queue y.at a.stream.id y.event y.frame) (seat.4.held.each 0 y e) in
+        ∙ nth_that-more (is_queue a.stream.id) (starts a.stream.id steps + 0) steps (x ∷ []) (Queue a.stream.id y.at y.event y.frame) (seat.4.held.each 0 y e) in
         let r : running tau ((steps ++ x ∷ []) ++ []) (length (steps ++ x ∷ [])) ≡ Some (a.stream.id, h.now + y.frame.bits * tau) =
         running-one tau (streams_of actors) until steps [] [] x (finds-more steps (x ∷ [])) goes.fine ∙ ap (λ o. Some (a.stream.id, h.now + bits_of o * tau)) f in
         let t = st.waiting seat.1 y seat.3 e in

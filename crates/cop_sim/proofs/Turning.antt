@@ -72,12 +72,12 @@ module _ {B S : Type 0} (offer : B → ℕ → Option Offer) (agrees : B → ℕ
       some-stream x y e = cc
 
   module _ (due : Option Due) (first : IsDueSoFar plan.streams h.next (length h.next) due) where
-    pub turned-end : (cs : List B) (h' : AtHand) (failed : Bool) (s t : S) (e id : ℕ) → cs ≡ bs → IsNextEvent h.running due (any_in h.rings) h.now until (End e id) → h' ≡ record h { running = None; now = e } → takes s (step.End e id) t →
+    pub turned-end : (cs : List B) (h' : AtHand) (failed : Bool) (s t : S) (e id : ℕ) → cs ≡ bs → IsNextEvent h.running due (any_in h.rings) h.now until (End id e) → h' ≡ record h { running = None; now = e } → takes s (step.End id e) t →
         IsTurned offer agrees takes plan until firsts cs h' failed s t steps (Ok true)
     turned-end cs h' failed s t e id same event stage taken = (
-      step.End e id,
-      subst (λ (v : List B). IsAt offer agrees plan until firsts v h' (steps ++ step.End e id ∷ [])) (sym same)
-          (subst (λ (v : AtHand). IsAt offer agrees plan until firsts bs v (steps ++ step.End e id ∷ [])) (sym stage)
+      step.End id e,
+      subst (λ (v : List B). IsAt offer agrees plan until firsts v h' (steps ++ step.End id e ∷ [])) (sym same)
+          (subst (λ (v : AtHand). IsAt offer agrees plan until firsts bs v (steps ++ step.End id e ∷ [])) (sym stage)
           (ended-at offer agrees plan until firsts bs h steps at e id event.0 event.1 (Places.after-due offer agrees plan until firsts bs h steps at due first e event.2))),
       taken,
     )
@@ -149,13 +149,13 @@ module _ {B S : Type 0} (offer : B → ℕ → Option Offer) (agrees : B → ℕ
         abbrev sent : (a : Actor) × (slice_get actors s.place ≡ Some a)
         sent = Places.actor-there offer agrees plan until firsts bs h steps at s.place chosen.within
 
-        pub turned-start : (h' : AtHand) (cs : List B) (failed : Bool) (u t : S) → cs ≡ bs → IsStarted (ticks_of plan.rate) s h h' → takes u (step.Start h.now s.id) t → IsTurned offer agrees takes plan until firsts cs h' failed u t steps (Ok true)
+        pub turned-start : (h' : AtHand) (cs : List B) (failed : Bool) (u t : S) → cs ≡ bs → IsStarted (ticks_of plan.rate) s h h' → takes u (step.Start s.id h.now) t → IsTurned offer agrees takes plan until firsts cs h' failed u t steps (Ok true)
         turned-start h' cs failed u t same st taken =
             let i = Starting.its offer agrees plan until firsts bs h steps at event.0 event.1 event.2 due first event.3 s chosen sent.0 sent.1 in (
-              step.Start h.now sent.0.stream.id,
-              subst (λ (v : List B). IsAt offer agrees plan until firsts v h' (steps ++ step.Start h.now sent.0.stream.id ∷ [])) (sym same)
+              step.Start sent.0.stream.id h.now,
+              subst (λ (v : List B). IsAt offer agrees plan until firsts v h' (steps ++ step.Start sent.0.stream.id h.now ∷ [])) (sym same)
                   (Starting.after-start offer agrees plan until firsts bs h steps at event.0 event.1 event.2 due first event.3 s chosen sent.0 sent.1 h' st),
-              subst (λ n. takes u (step.Start h.now n) t) i taken,
+              subst (λ n. takes u (step.Start n h.now) t) i taken,
             )
 
 -- ---- the same by what each call was given

@@ -38,7 +38,7 @@ actor-of (a ∷ rest) id h = elim (bool_cases (a.stream.id == id)) [
 
 -- a step at a moment comes before an offer's queue step
 abbrev Comes : Step → Actor → Offer → Type 0
-Comes x a o = (at_of x < queued_at o) ⊎ ((at_of x ≡ queued_at o) × (rank_of x ≤ 1) × ((at id event : ℕ) (frame : Content) → x ≡ Queue at id event frame → id ≤ a.stream.id))
+Comes x a o = (at_of x < queued_at o) ⊎ ((at_of x ≡ queued_at o) × (rank_of x ≤ 1) × ((at id event : ℕ) (frame : Content) → x ≡ Queue id at event frame → id ≤ a.stream.id))
 
 -- What holds of a step of a play that comes next after the steps before, where a transfer runs or none.
 record IsTurn (tau : ℕ) (actors : List Actor) (until : ℕ) (steps : List Step) (runs : Option (ℕ × ℕ)) (x : Step) : Type 0 where
@@ -47,11 +47,11 @@ record IsTurn (tau : ℕ) (actors : List Actor) (until : ℕ) (steps : List Step
   behind : (i : ℕ) → i < length steps → at_of (step_at steps i) ≤ at_of x
   not_idle : is_not_idle (streams_of actors) steps (length steps) runs (at_of x) ≡ true
   comes : (a : Actor) → Contains actors a → (o : Offer) → next_offer until steps (length steps) a ≡ Some o → Comes x a o
-  queues : (at id event : ℕ) (frame : Content) → x ≡ Queue at id event frame →
+  queues : (at id event : ℕ) (frame : Content) → x ≡ Queue id at event frame →
       (a : Actor) × Contains actors a × (a.stream.id ≡ id) × ((o : Offer) × (next_offer until steps (length steps) a ≡ Some o) × (x ≡ queue_step a.stream.id o))
-  waits : (z id : ℕ) → x ≡ Start z id → any_waits steps (length steps) (streams_of actors) ≡ true
-  early : (z id : ℕ) → x ≡ Start z id → z < until
-  lowest : (z id : ℕ) → x ≡ Start z id →
+  waits : (z id : ℕ) → x ≡ Start id z → any_waits steps (length steps) (streams_of actors) ≡ true
+  early : (z id : ℕ) → x ≡ Start id z → z < until
+  lowest : (z id : ℕ) → x ≡ Start id z →
       ((a : Actor) × Contains actors a × (a.stream.id ≡ id) × Competes tau until steps (length steps) z a) × All (λ a. Competes tau until steps (length steps) z a → id ≤ a.stream.id) actors
 
 -- what holds where no step comes after them
@@ -78,14 +78,14 @@ no-later actors steps (suc n) moment later None e idle h w b =
     go false false f g = absurd (cc)
 
 -- a transfer of which an end is the end
-end-fits : (runs : Option (ℕ × ℕ)) (at id : ℕ) → fits_transfer runs (End at id) ≡ true → runs ≡ Some (id, at)
+end-fits : (runs : Option (ℕ × ℕ)) (at id : ℕ) → fits_transfer runs (End id at) ≡ true → runs ≡ Some (id, at)
 end-fits None at id h = absurd (cc)
 end-fits (Some r) at id h =
     let e = true-eq r.0 id (and-left (r.0 == id) (r.1 == at) h) in
     let f = true-eq r.1 at (and-right (r.0 == id) (r.1 == at) h) in
     ap (λ k. Some (k, r.1)) e ∙ ap (λ k. Some (id, k)) f
 
-start-fits : (runs : Option (ℕ × ℕ)) (at id : ℕ) → fits_transfer runs (Start at id) ≡ true → runs ≡ None
+start-fits : (runs : Option (ℕ × ℕ)) (at id : ℕ) → fits_transfer runs (Start id at) ≡ true → runs ≡ None
 start-fits None at id h = refl
 start-fits (Some r) at id h = absurd (cc)
 
@@ -93,8 +93,8 @@ not-both : (runs : Option (ℕ × ℕ)) (at id : ℕ) → runs ≡ Some (id, at)
 not-both None at id f g = absurd (cc)
 not-both (Some r) at id f g = absurd (cc)
 
-same-end : (runs : Option (ℕ × ℕ)) (at id at' id' : ℕ) → runs ≡ Some (id, at) → runs ≡ Some (id', at') → End at id ≡ End at' id'
-same-end runs at id at' id' f g = ap (λ (r : ℕ × ℕ). End r.1 r.0) (same_some {X = ℕ × ℕ} (id, at) (id', at') (sym f ∙ g))
+same-end : (runs : Option (ℕ × ℕ)) (at id at' id' : ℕ) → runs ≡ Some (id, at) → runs ≡ Some (id', at') → End id at ≡ End id' at'
+same-end runs at id at' id' f g = ap (λ (r : ℕ × ℕ). End r.0 r.1) (same_some {X = ℕ × ℕ} (id, at) (id', at') (sym f ∙ g))
 
 module _ (tau : ℕ) (actors : List Actor) (distinct : AreDistinct (streams_of actors)) (until : ℕ) (steps : List Step) (runs : Option (ℕ × ℕ)) where
   abbrev Turn : Step → Type 0
@@ -102,31 +102,31 @@ module _ (tau : ℕ) (actors : List Actor) (distinct : AreDistinct (streams_of a
 
   -- no step comes where there is none to come
   over-turn : (x : Step) → IsOver actors until steps runs → Turn x → ⊥
-  over-turn (End at id) over t =
+  over-turn (End id at) over t =
       let r = end-fits runs at id t.fits in
       let l = true-lt until at (sym (ap (is_unfinished until) r) ∙ over.unfinished) in
       let w = t.within in omega (arith, l, w)
-  over-turn (Queue at id event frame) over t =
+  over-turn (Queue id at event frame) over t =
       let q = t.queues at id event frame refl in
       let e : None ≡ Some (q.3).0 = sym (over.none_left q.0 q.1) ∙ (q.3).1 in absurd (cc)
-  over-turn (Start z id) over t =
+  over-turn (Start id z) over t =
       let l = no-later actors steps (length steps) until z runs refl (start-fits runs z id t.fits) over.not_idle (t.waits z id refl) t.behind in
       let e = t.early z id refl in omega (arith, l, e)
 
   -- an end comes alone
-  end-queue : (at id at' id' event : ℕ) (frame : Content) → Turn (End at id) → Turn (Queue at' id' event frame) → ⊥
+  end-queue : (at id at' id' event : ℕ) (frame : Content) → Turn (End id at) → Turn (Queue id' at' event frame) → ⊥
   end-queue at id at' id' event frame s t =
       let q = t.queues at' id' event frame refl in
       let r = end-fits runs at id s.fits in
-      let l : at' < at = true-lt at' at (sym (ap (λ k. fits_transfer k (Queue at' id' event frame)) r) ∙ t.fits) in
+      let l : at' < at = true-lt at' at (sym (ap (λ k. fits_transfer k (Queue id' at' event frame)) r) ∙ t.fits) in
       let m : at' ≡ queued_at (q.3).0 = ap at_of (q.3).2 in
       elim (s.comes q.0 q.1 (q.3).0 (q.3).1) [ inl c ↦ omega (arith, l, m, c) | inr c ↦ (let d = c.0 in omega (arith, l, m, d)) ]
 
-  end-start : (at id z id' : ℕ) → Turn (End at id) → Turn (Start z id') → ⊥
+  end-start : (at id z id' : ℕ) → Turn (End id at) → Turn (Start id' z) → ⊥
   end-start at id z id' s t = not-both runs at id (end-fits runs at id s.fits) (start-fits runs z id' t.fits)
 
   -- nothing starts where an offer is due
-  queue-start : (at id event z id' : ℕ) (frame : Content) → Turn (Queue at id event frame) → Turn (Start z id') → ⊥
+  queue-start : (at id event z id' : ℕ) (frame : Content) → Turn (Queue id at event frame) → Turn (Start id' z) → ⊥
   queue-start at id event z id' frame s t =
       let q = s.queues at id event frame refl in
       let m : at ≡ queued_at (q.3).0 = ap at_of (q.3).2 in
@@ -134,7 +134,7 @@ module _ (tau : ℕ) (actors : List Actor) (distinct : AreDistinct (streams_of a
       elim (t.comes q.0 q.1 (q.3).0 (q.3).1) [ inl c ↦ omega (arith, l, m, c) | inr c ↦ (let d = c.1 in absurd (omega (arith, d))) ]
 
   -- at one moment the lower identifier is queued first
-  no-sooner : (at id event at' id' event' : ℕ) (frame frame' : Content) → Turn (Queue at id event frame) → Turn (Queue at' id' event' frame') →
+  no-sooner : (at id event at' id' event' : ℕ) (frame frame' : Content) → Turn (Queue id at event frame) → Turn (Queue id' at' event' frame') →
       (at < at') ⊎ ((at ≡ at') × (id ≤ id'))
   no-sooner at id event at' id' event' frame frame' s t =
       let q = t.queues at' id' event' frame' refl in
@@ -145,7 +145,7 @@ module _ (tau : ℕ) (actors : List Actor) (distinct : AreDistinct (streams_of a
         | inr c ↦ (let d = c.0 in let l = c.2 at id event frame refl in inr (omega (arith, m, d), omega (arith, l, i)))
       ]
 
-  queue-queue : (at id event at' id' event' : ℕ) (frame frame' : Content) → Turn (Queue at id event frame) → Turn (Queue at' id' event' frame') → Queue at id event frame ≡ Queue at' id' event' frame'
+  queue-queue : (at id event at' id' event' : ℕ) (frame frame' : Content) → Turn (Queue id at event frame) → Turn (Queue id' at' event' frame') → Queue id at event frame ≡ Queue id' at' event' frame'
   queue-queue at id event at' id' event' frame frame' s t =
       let p = s.queues at id event frame refl in
       let q = t.queues at' id' event' frame' refl in
@@ -160,7 +160,7 @@ module _ (tau : ℕ) (actors : List Actor) (distinct : AreDistinct (streams_of a
       same (inr f) (inl g) = let h = f.0 in absurd (omega (arith, g, h))
       same (inr f) (inr g) = let h = f.1 in let k = g.1 in omega (arith, h, k)
 
-  start-start : (z id z' id' : ℕ) → Turn (Start z id) → Turn (Start z' id') → Start z id ≡ Start z' id'
+  start-start : (z id z' id' : ℕ) → Turn (Start id z) → Turn (Start id' z') → Start id z ≡ Start id' z'
   start-start z id z' id' s t =
       let idle = start-fits runs z id s.fits in
       let l = no-later actors steps (length steps) z z' runs refl idle s.not_idle (s.waits z id refl) t.behind in
@@ -173,19 +173,19 @@ module _ (tau : ℕ) (actors : List Actor) (distinct : AreDistinct (streams_of a
       let h = (p.0).2 in
       let k = (q.0).2 in
       let i : id ≡ id' = omega (arith, f, g, h, k) in
-      ap (λ k. Start k id) e ∙ ap (Start z') i
+      ap (λ k. Start id k) e ∙ ap (λ j. Start j z') i
 
   -- two steps that come next are one
   turn-turn : (x y : Step) → Turn x → Turn y → x ≡ y
-  turn-turn (End at id) (End at' id') s t = same-end runs at id at' id' (end-fits runs at id s.fits) (end-fits runs at' id' t.fits)
-  turn-turn (End at id) (Queue at' id' event frame) s t = absurd (end-queue at id at' id' event frame s t)
-  turn-turn (End at id) (Start z id') s t = absurd (end-start at id z id' s t)
-  turn-turn (Queue at id event frame) (End at' id') s t = absurd (end-queue at' id' at id event frame t s)
-  turn-turn (Queue at id event frame) (Queue at' id' event' frame') s t = queue-queue at id event at' id' event' frame frame' s t
-  turn-turn (Queue at id event frame) (Start z id') s t = absurd (queue-start at id event z id' frame s t)
-  turn-turn (Start z id) (End at' id') s t = absurd (end-start at' id' z id t s)
-  turn-turn (Start z id) (Queue at' id' event frame) s t = absurd (queue-start at' id' event z id frame t s)
-  turn-turn (Start z id) (Start z' id') s t = start-start z id z' id' s t
+  turn-turn (End id at) (End id' at') s t = same-end runs at id at' id' (end-fits runs at id s.fits) (end-fits runs at' id' t.fits)
+  turn-turn (End id at) (Queue id' at' event frame) s t = absurd (end-queue at id at' id' event frame s t)
+  turn-turn (End id at) (Start id' z) s t = absurd (end-start at id z id' s t)
+  turn-turn (Queue id at event frame) (End id' at') s t = absurd (end-queue at' id' at id event frame t s)
+  turn-turn (Queue id at event frame) (Queue id' at' event' frame') s t = queue-queue at id event at' id' event' frame frame' s t
+  turn-turn (Queue id at event frame) (Start id' z) s t = absurd (queue-start at id event z id' frame s t)
+  turn-turn (Start id z) (End id' at') s t = absurd (end-start at' id' z id t s)
+  turn-turn (Start id z) (Queue id' at' event frame) s t = absurd (queue-start at' id' event z id frame t s)
+  turn-turn (Start id z) (Start id' z') s t = start-start z id z' id' s t
 
 -- the bits of an offer
 abbrev bits_offered : Option Offer → ℕ
@@ -239,20 +239,20 @@ module _ (rate : Rate) (actors : List Actor) (distinct : AreDistinct (streams_of
                   sym (ap at_of e) ∙ v.0 ∙ ap at_of w.3,
                   subst (λ y. rank_of x ≤ rank_of y) w.3 (subst (λ y. rank_of y ≤ rank_of (step_at steps w.0)) e v.1),
                   λ at id event frame g. (let at-o : at ≡ queued_at o = sym (ap at_of g) ∙ sym (ap at_of e) ∙ v.0 ∙ ap at_of w.3 in
-                      play.rising i w.0 at id a.stream.id event o.event frame o.frame k w.2 (e ∙ g) (w.3 ∙ ap (λ m. Queue m a.stream.id o.event o.frame) (sym at-o))),
+                      play.rising i w.0 at id a.stream.id event o.event frame o.frame k w.2 (e ∙ g) (w.3 ∙ ap (λ m. Queue a.stream.id m o.event o.frame) (sym at-o))),
                 )
               ])
         ]
       where
-        own : (id k at event : ℕ) (frame : Content) → Queue at id event frame ≡ queue_step k o → id ≤ k
+        own : (id k at event : ℕ) (frame : Content) → Queue id at event frame ≡ queue_step k o → id ≤ k
         own id k at event frame f = let g : id ≡ k = cc in omega (arith, g)
 
     -- the bits of what a start sends are those of its actor's offer
-    sends : (i z id : ℕ) → i < length steps → step_at steps i ≡ Start z id → (a : Actor) → Contains actors a → a.stream.id ≡ id →
+    sends : (i z id : ℕ) → i < length steps → step_at steps i ≡ Start id z → (a : Actor) → Contains actors a → a.stream.id ≡ id →
         bits_of (nth_that (is_queue id) (count_to (is_start id) steps i) steps) ≡ bits_offered (a.offer (count_to (is_start id) steps i))
     sends i z id l e a c h =
         let n = count_to (is_start id) steps i in
-        let k = kept i (Start z id) l e in
+        let k = kept i (Start id z) l e in
         let s = soon-some tau z (nth_that (is_queue id) n steps) (and-right (any_waits steps i (streams_of actors)) _ k.to_send) in
         let q = its-offers a c n s.0 (ap (λ j. nth_that (is_queue j) n steps) h ∙ s.1) in
         ap bits_of s.1 ∙ ap (λ y. bits_of (Some y)) q.2 ∙ ap bits_offered (sym q.1)
@@ -291,7 +291,7 @@ module _ (rate : Rate) (actors : List Actor) (distinct : AreDistinct (streams_of
     keep : Keeps tau (streams_of actors) until all n x
     keep = kept all play n x inside here
 
-    queued-of : (at id event : ℕ) (frame : Content) → x ≡ Queue at id event frame →
+    queued-of : (at id event : ℕ) (frame : Content) → x ≡ Queue id at event frame →
         (a : Actor) × Contains actors a × (a.stream.id ≡ id) × ((o : Offer) × (next_offer until p n a ≡ Some o) × (x ≡ queue_step a.stream.id o))
     queued-of at id event frame e =
         let a = actor-of actors id (sym (ap (λ y. is_some (stream_of (streams_of actors) (id_of y))) e) ∙ keep.known) in
@@ -301,7 +301,7 @@ module _ (rate : Rate) (actors : List Actor) (distinct : AreDistinct (streams_of
         let m : queued_at q.0 ≤ until = subst (λ y. at_of y ≤ until) q.2 (play.legal.by_end n inside) in
         (a.0, a.1, a.2, (q.0, sym (offer-same a.0) ∙ ap (option_and_then (by_end until)) q.1 ∙ ap (λ b. cond b (Some q.0) None) (le-true (queued_at q.0) until m), f))
 
-    lowest-of : (z id : ℕ) → x ≡ Start z id →
+    lowest-of : (z id : ℕ) → x ≡ Start id z →
         ((a : Actor) × Contains actors a × (a.stream.id ≡ id) × Competes tau until p n z a) × All (λ a. Competes tau until p n z a → id ≤ a.stream.id) actors
     lowest-of z id e =
         let w = play.lowest n z id inside (here ∙ e) in
@@ -351,9 +351,9 @@ module _ (rate : Rate) (actors : List Actor) (distinct : AreDistinct (streams_of
       ∙ sym (ap (λ y. after tau (p ++ x ∷ ys) (length p) y (running tau (p ++ x ∷ ys) (length p))) (step_at-here p x ys))
     where
       go : (y : Step) → x ≡ y → after tau (p ++ x ∷ xs) (length p) y (running tau (p ++ x ∷ ys) (length p)) ≡ after tau (p ++ x ∷ ys) (length p) y (running tau (p ++ x ∷ ys) (length p))
-      go (End at id) e = refl
-      go (Queue at id event frame) e = refl
-      go (Start z id) e =
+      go (End id at) e = refl
+      go (Queue id at event frame) e = refl
+      go (Start id z) e =
           let a = (lowest-of p x xs f z id e).0 in
           let c = sends (p ++ x ∷ xs) f (length p) z id (inside p x xs f) (here p x xs f ∙ e) a.0 a.1 a.2 in
           let d = sends (p ++ x ∷ ys) g (length p) z id (inside p x ys g) (here p x ys g ∙ e) a.0 a.1 a.2 in

@@ -17,7 +17,7 @@ AreFine tau streams until steps ahead = (i : ℕ) → i < length steps → broke
 pub record IsNext (until : ℕ) (steps : List Step) (a : Actor) (o : Offer) : Type 0 where
   pub in_turn : is_in_order until steps (length steps) (queue_step a.stream.id o) ≡ true
   pub obeying : obeys a.stream (answer_before a (count_to (is_queue a.stream.id) steps (length steps))) o ≡ true
-  pub rising : (i id event : ℕ) (frame : Content) → i < length steps → step_at steps i ≡ Queue (queued_at o) id event frame → id ≤ a.stream.id
+  pub rising : (i id event : ℕ) (frame : Content) → i < length steps → step_at steps i ≡ Queue id (queued_at o) event frame → id ≤ a.stream.id
 
 -- how many instances of a stream are queued by what is ahead
 abbrev pub queued_ahead : ℕ → List Step → ℕ

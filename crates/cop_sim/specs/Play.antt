@@ -29,7 +29,7 @@ abbrev pub queued_at : Offer → ℕ
 queued_at o = o.event + o.delay
 
 abbrev pub queue_step : ℕ → Offer → Step
-queue_step id o = Queue (queued_at o) id o.event o.frame
+queue_step id o = Queue id (queued_at o) o.event o.frame
 
 -- the answer after those that the first i steps queue
 abbrev pub next_answer : List Step → ℕ → Actor → Option Offer
@@ -63,17 +63,17 @@ Competes tau until steps i z a = (waits_after steps i a.stream.id ≡ true) ⊎ 
 
 -- at each start the lowest of those that wait or join is sent
 abbrev pub SendsTheLowest : ℕ → List Actor → ℕ → List Step → Type 0
-SendsTheLowest tau actors until steps = (i z id : ℕ) → i < length steps → step_at steps i ≡ Start z id →
+SendsTheLowest tau actors until steps = (i z id : ℕ) → i < length steps → step_at steps i ≡ Start id z →
     Any (λ a. (a.stream.id ≡ id) × Competes tau until steps i z a) actors × All (λ a. Competes tau until steps i z a → id ≤ a.stream.id) actors
 
 -- the queue steps of one moment rise by identifier
 abbrev pub QueuesRise : List Step → Type 0
 QueuesRise steps = (i j at id id' event event' : ℕ) (frame frame' : Content) → i < j → j < length steps →
-    step_at steps i ≡ Queue at id event frame → step_at steps j ≡ Queue at id' event' frame' → id ≤ id'
+    step_at steps i ≡ Queue id at event frame → step_at steps j ≡ Queue id' at event' frame' → id ≤ id'
 
 -- nothing starts at the end
 abbrev pub StartsBefore : ℕ → List Step → Type 0
-StartsBefore until steps = (i z id : ℕ) → i < length steps → step_at steps i ≡ Start z id → z < until
+StartsBefore until steps = (i z id : ℕ) → i < length steps → step_at steps i ≡ Start id z → z < until
 
 -- The play of these actors: a legal trace in which each queues its offers, up to the first answer that is none or
 -- is past the end, and the lowest of those that wait or join is sent.

@@ -54,7 +54,7 @@ pub record IsHeld (until : ℕ) (steps : List Step) (a : Actor) (next : Option O
   pub offer : next ≡ next_offer until steps (length steps) a
   pub its : ring.id ≡ a.stream.id
   pub count : length ring.waiting ≡ queues a.stream.id steps - starts a.stream.id steps
-  pub each : (k : ℕ) (y : Instance) → slice_get ring.waiting k ≡ Some y → nth_that (is_queue a.stream.id) (starts a.stream.id steps + k) steps ≡ Some (Queue y.at a.stream.id y.event y.frame)
+  pub each : (k : ℕ) (y : Instance) → slice_get ring.waiting k ≡ Some y → nth_that (is_queue a.stream.id) (starts a.stream.id steps + k) steps ≡ Some (Queue a.stream.id y.at y.event y.frame)
 
 abbrev pub actor_of : {B : Type 0} → (B → ℕ → Option Offer) → (B → ℕ → ℕ → Bool) → Stream → B → Actor
 actor_of offer agrees k b = record { stream = k; offer = offer b; agrees = agrees b }

@@ -31,7 +31,7 @@ pub(crate) fn end_transfer<S: Sink>(
 ) -> Result<(), SimFault>
     requires { S.has_failed sink.old ≡ false }
     ensures stage { OnOk result (at_hand stage.new ≡ record (at_hand stage.old) { running = None; now = at }) }
-    ensures taken { OnOk result (S.takes sink.old (steps.End at id) sink.new) }
+    ensures taken { OnOk result (S.takes sink.old (steps.End id at) sink.new) }
     ensures works { OnOk result (S.has_failed sink.new ≡ false) }
     ensures fault { IfErr result (λ fault. fault ≡ faults.Sink) }
     ensures failed { OnErr result (S.has_failed sink.new ≡ true) }
@@ -78,7 +78,7 @@ fn instance_of(due: &Due) -> Instance
 }
 
 fn queue_step(instance: &Instance) -> Step
-    ensures { result ≡ steps.Queue instance.now.at instance.now.id instance.now.event instance.now.frame }
+    ensures { result ≡ steps.Queue instance.now.id instance.now.at instance.now.event instance.now.frame }
 {
     Step::Queue {
         at: instance.at,
@@ -152,7 +152,7 @@ pub(crate) fn start_transfer<S: Sink>(
     requires early { stage.old.now ≤ 4000000000 }
     requires works { S.has_failed sink.old ≡ false }
     ensures started { OnOk result (IsStarted ticks sent (at_hand stage.old) (at_hand stage.new)) }
-    ensures taken { OnOk result (S.takes sink.old (steps.Start stage.old.now sent.id) sink.new) }
+    ensures taken { OnOk result (S.takes sink.old (steps.Start sent.id stage.old.now) sink.new) }
     ensures works { OnOk result (S.has_failed sink.new ≡ false) }
     ensures fault { IfErr result (λ fault. fault ≡ faults.Sink) }
     ensures failed { OnErr result (S.has_failed sink.new ≡ true) }

@@ -1,4 +1,4 @@
-use Rattle.std.proofs.Common.{◌≡◌, ◌<◌, ◌+◌, ◌∙◌, suc, drop, refl, subst, sym, ap, arith, List, Option, Some, None, length, cond, ◌==◌, nat_lt}
+use Rattle.std.proofs.Common.{◌≡◌, ◌<◌, ◌+◌, ◌∙◌, suc, drop, refl, subst, sym, ap, arith, List, Option, Some, None, length, cond, nat_lt}
 use Rattle.std.specs.BTreeSet.{BTreeSet, contains}
 use Rattle.std.specs.Ordering.{nat_cmp}
 use Rattle.std.specs.Prelude.{ℕ, slice_index}
@@ -7,9 +7,9 @@ use Rattle.cop_rta.specs.declared.streams.Stream.{Stream}
 use Rattle.cop_bus.specs.declared.steps.Step.{Step}
 use Rattle.cop_bus.specs.Trace.{step_at, after, running}
 use Rattle.cop_bus.specs.Judge.{id_of, at_step, broken_at_end, first_broken, first_broken_from}
-use Rattle.cop_bus.specs.Tables.{IsWaiting, IsUnsent, IsLast, IsNext, IsSentBy, sent_after}
+use Rattle.cop_bus.specs.Tables.{IsWaiting, IsUnsent, IsLinked, IsLast, is_queue_or_start}
 use Rattle.cop_bus.proofs.Places.{unsent-step, last-step}
-use Rattle.cop_bus.proofs.Sent.{sent-step, sent-all}
+use Rattle.cop_bus.proofs.Sent.{linked-start, linked-step, linked-all}
 use Rattle.cop_bus.proofs.Waits.{has-none, waiting-start, waiting-step}
 use Rattle.cop_bus.proofs.Verdict.{at-end, keeps, start-has, not-here}
 use Rattle.cop_bus.proofs.judging.check_steps.Goals as goal
@@ -17,10 +17,9 @@ use Rattle.cop_bus.proofs.judging.check_steps.Goals as goal
 pub loop-i-init : goal.loop-i-init
 loop-i-init c = record {
   last = c.in_ok-last.ensures c.args.steps.now;
-  unsent = c.in_ok-links.ensures.first;
+  unsent = c.in_ok-linked.ensures.first;
   waiting = waiting-start c.args.streams.now c.args.steps.now c.new-waiting.result (has-none c.new-waiting.result (λ l. let e = c.new-waiting.ensures.len in omega (arith, e)));
-  sent = c.in_ok-sent.ensures;
-  next = c.in_ok-links.ensures.next;
+  links = linked-start c.args.steps.now c.in_ok-linked.linked.next.items c.in_ok-linked.ensures.next;
   transfer = refl;
   none_yet = refl;
 }
@@ -41,23 +40,14 @@ returns-in-Some-broken_at_end-clause-err c =
     let n : suc (length c.args.steps.now) ≡ length c.args.steps.now + 1 = omega arith in
     t ∙ ap (λ o. at_step (length c.args.steps.now) o None) c.in-Some-broken_at_end.is ∙ ap (λ k. Some (k, c.in-Some-broken_at_end.number)) n
 
-pub returns-clause-ok : goal.returns-clause-ok
-returns-clause-ok c =
+pub returns-in-None-broken_at_end-clause-ok : goal.returns-in-None-broken_at_end-clause-ok
+returns-in-None-broken_at_end-clause-ok c =
     let t = at_end c.args.ticks c.args.until c.args.streams.now c.args.steps.now c.loop-i.i c.loop-i.waiting c.loop-i.running c.broken_at_end.result (omega (arith, c.loop-i-test.false, c.loop-i.auto.i-end))
     c.broken_at_end.ensures c.loop-i.invariant.waiting c.loop-i.invariant.transfer c.loop-i.invariant.none_yet in
     t ∙ ap (λ o. at_step (length c.args.steps.now) o None) c.in-None-broken_at_end.is
 
-pub returns-clause-sent : goal.returns-clause-sent
-returns-clause-sent c = sent-all c.args.steps.now c.loop-i.i c.loop-i.sent.items (omega (arith, c.loop-i-test.false, c.loop-i.auto.i-end)) c.loop-i.invariant.sent
-
-pub note_sent-requires-clause-some : goal.note_sent-requires-clause-some
-note_sent-requires-clause-some c at id e =
-    let steps = c.args.steps.now in
-    let b = sym c.in-None.ensures.least in
-    let f : id < 65536 = subst (λ x. id_of x < 65536) e c.in-None.ensures.fits in
-    let u = subst (IsUnsent steps c.loop-i.i) (sym c.deref-in-loop-i-3.ensures.value) c.loop-i.invariant.unsent in
-    let s = start-has c.args.ticks c.args.streams.now c.args.until steps c.loop-i.i c.deref-in-loop-i-3.result.now (step_at steps c.loop-i.i) at id b e f u in
-    omega (arith, s, c.loop-i.invariant.sent.steps_long)
+pub returns-in-None-broken_at_end-clause-sent : goal.returns-in-None-broken_at_end-clause-sent
+returns-in-None-broken_at_end-clause-sent c = linked-all c.args.steps.now c.loop-i.i c.loop-i.links.items (omega (arith, c.loop-i-test.false, c.loop-i.auto.i-end)) c.loop-i.invariant.links
 
 pub send-requires-clause-some : goal.send-requires-clause-some
 send-requires-clause-some c at id e =
@@ -65,8 +55,7 @@ send-requires-clause-some c at id e =
     let b = sym c.in-None.ensures.least in
     let f : id < 65536 = subst (λ x. id_of x < 65536) e c.in-None.ensures.fits in
     let s = start-has c.args.ticks c.args.streams.now c.args.until steps c.loop-i.i c.loop-i.unsent.items (step_at steps c.loop-i.i) at id b e f c.loop-i.invariant.unsent in
-    let n : length c.deref-in-loop-i-4.result.now ≡ length steps = ap length c.deref-in-loop-i-4.ensures.value ∙ c.loop-i.invariant.next.steps_long in
-    omega (arith, s, n)
+    omega (arith, s, c.loop-i.invariant.links.steps_long)
 
 pub loop-i-preserved : goal.loop-i-preserved
 loop-i-preserved c =
@@ -76,22 +65,20 @@ loop-i-preserved c =
     let h = c.loop-i.invariant in
     let b = sym c.in-None.ensures.least in
     let n : suc i ≡ i + 1 = omega arith in
-    let next = subst (IsNext steps 0) (sym c.deref-in-loop-i-4.ensures.value) h.next in
-    let has : (at id : ℕ) → x ≡ Start at id → slice_index c.loop-i.unsent.items id < length steps =
+    let has : (at id : ℕ) → x ≡ Start id at → slice_index c.loop-i.unsent.items id < length steps =
     λ at id e. start-has c.args.ticks c.args.streams.now c.args.until steps c.loop-i.i c.loop-i.unsent.items x at id b e (subst (λ y. id_of y < 65536) e c.in-None.ensures.fits) h.unsent in
     let last = last-step steps i c.loop-i.last.items x refl c.in-None.ensures.fits h.last in
-    let unsent = unsent-step steps i c.deref-in-loop-i-4.result.now c.loop-i.unsent.items x c.loop-i-test.true refl c.in-None.ensures.fits has next h.unsent in
-    let sent = sent-step steps i c.loop-i.unsent.items c.loop-i.sent.items x c.loop-i-test.true refl c.in-None.ensures.fits has h.unsent h.sent in
-    let waiting = waiting-step c.args.streams.now steps i c.deref-in-loop-i-5.result.now c.loop-i.waiting c.note_waiting.new.waiting c.loop-i-test.true c.in-None.ensures.fits
+    let unsent = unsent-step steps i c.loop-i.links.items c.loop-i.unsent.items x c.loop-i-test.true refl c.in-None.ensures.fits has h.links h.unsent in
+    let links = linked-step steps i c.loop-i.unsent.items c.loop-i.links.items x c.loop-i-test.true refl c.in-None.ensures.fits has h.unsent h.links in
+    let waiting = waiting-step c.args.streams.now steps i c.deref-in-loop-i-3.result.now c.loop-i.waiting c.note_waiting.new.waiting c.loop-i-test.true c.in-None.ensures.fits
     (keeps c.args.ticks c.args.streams.now c.args.until steps i x b).known
-    (subst (IsUnsent steps (suc i)) (sym (c.deref-in-loop-i-5.ensures.value ∙ c.send.ensures)) unsent)
-    (λ k. c.in_ok-note_waiting.ensures k ∙ ap (λ m. cond (k == id_of x) (nat_lt (slice_index c.deref-in-loop-i-5.result.now (id_of x)) m) (contains nat_cmp c.loop-i.waiting k)) (sym n)) h.waiting in
+    (subst (IsUnsent steps (suc i)) (sym (c.deref-in-loop-i-3.ensures.value ∙ c.send.ensures.unsent)) unsent)
+    (λ k. c.in_ok-note_waiting.ensures k ∙ ap (λ m. cond (is_queue_or_start k x) (nat_lt (slice_index c.deref-in-loop-i-3.result.now k) m) (contains nat_cmp c.loop-i.waiting k)) (sym n)) h.waiting in
     record {
       waiting = subst (λ k. IsWaiting c.args.streams.now steps k c.note_waiting.new.waiting) n waiting;
       last = subst (λ k. IsLast steps k c.note_event.new.last.items) n (subst (IsLast steps (suc i)) (sym c.note_event.ensures) last);
-      unsent = subst (λ k. IsUnsent steps k c.send.new.unsent.items) n (subst (IsUnsent steps (suc i)) (sym c.send.ensures) unsent);
-      sent = subst (λ k. IsSentBy steps k c.note_sent.new.sent.items) n (subst (IsSentBy steps (suc i)) (sym (c.note_sent.ensures ∙ ap (λ u. sent_after x u c.loop-i.sent.items) c.deref-in-loop-i-3.ensures.value)) sent);
-      next = h.next;
+      unsent = subst (λ k. IsUnsent steps k c.send.new.unsent.items) n (subst (IsUnsent steps (suc i)) (sym c.send.ensures.unsent) unsent);
+      links = subst (λ k. IsLinked steps k c.send.new.links.items) n (subst (IsLinked steps (suc i)) (sym c.send.ensures.links) links);
       transfer = c.running_after-running.ensures ∙ ap (after c.args.ticks steps i x) h.transfer ∙ ap (running c.args.ticks steps) n;
       none_yet = subst (λ k. first_broken_from c.args.ticks c.args.streams.now c.args.until steps k (drop k steps) ≡ first_broken c.args.ticks c.args.streams.now c.args.until steps) n
           (not-here c.args.ticks c.args.streams.now c.args.until steps i c.loop-i-test.true h.none_yet (sym b));

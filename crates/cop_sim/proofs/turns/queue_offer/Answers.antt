@@ -24,7 +24,7 @@ returns-in-Err-clause-fault g c = (
   refl,
   λ l. (let q = get_or_default c.args.stage.now.queued.items c.args.due.place c.index.result.now 0 (omega (arith, c.requires.place, c.requires.sized.queued)) in
       omega (arith, l, q, c.saturating_add-queued.ensures, c.index.ensures)),
-  λ l. (let e = c.queue_step.ensures ∙ ap (λ (y : Instance). Queue y.at y.id y.event y.frame) (c.instance_of-instance.ensures c.args.until c.ranges.until.fits l) in
+  λ l. (let e = c.queue_step.ensures ∙ ap (λ (y : Instance). Queue y.id y.at y.event y.frame) (c.instance_of-instance.ensures c.args.until c.ranges.until.fits l) in
       subst (λ (x : Step). g.S.Sink.takes c.args.sink.now x c.hand.new.sink) e c.in_ok-hand.ensures.taken),
   λ k b e f. (
     c.in-Err.field-0,

@@ -38,7 +38,7 @@ returns-in-Nothing-clause-turned g c firsts steps at short =
 pub returns-in_ok-end_transfer-in-End-clause-turned :
     goal.returns-in_ok-end_transfer-in-End-clause-turned
 returns-in_ok-end_transfer-in-End-clause-turned g c firsts steps at short =
-    turned-end g.B.Behaviour.offer g.B.Behaviour.agrees g.S.Sink.takes c.args.plan.now c.args.until firsts c.args.behaviours.now.items (at_hand c.args.stage.now) steps at c.first-first.result (c.first-first.ensures.first c.args.plan.now.streams at.ids_are) c.args.behaviours.now.items (at_hand c.end_transfer.new.stage) (g.S.Sink.has_failed c.end_transfer.new.sink) c.args.sink.now c.end_transfer.new.sink c.in-End.at c.in-End.id refl (event-here c.args.stage.now.running c.first-first.result c.any_waits.result c.args.stage.now.waiting c.args.stage.now.now c.args.until (End c.in-End.at c.in-End.id) c.any_waits.ensures c.in-End.ensures)
+    turned-end g.B.Behaviour.offer g.B.Behaviour.agrees g.S.Sink.takes c.args.plan.now c.args.until firsts c.args.behaviours.now.items (at_hand c.args.stage.now) steps at c.first-first.result (c.first-first.ensures.first c.args.plan.now.streams at.ids_are) c.args.behaviours.now.items (at_hand c.end_transfer.new.stage) (g.S.Sink.has_failed c.end_transfer.new.sink) c.args.sink.now c.end_transfer.new.sink c.in-End.at c.in-End.id refl (event-here c.args.stage.now.running c.first-first.result c.any_waits.result c.args.stage.now.waiting c.args.stage.now.now c.args.until (End c.in-End.id c.in-End.at) c.any_waits.ensures c.in-End.ensures)
     c.in_ok-end_transfer-in-End.ensures.stage c.in_ok-end_transfer-in-End.ensures.taken
 
 pub returns-in_ok-queue_offer-in-Queue-clause-turned :
