@@ -2,10 +2,11 @@
 //! device.
 
 use crate::tests::{
-    ABORTED, BOOT_UP, CONFIRMED, OFF, ON, REFUSED, RESTARTING, SILENT, START, Sent, devices, frame,
+    ABORTED, BOOT_UP, CONFIRMED, OFF, ON, REFUSED, RESTARTING, SILENT, START, Sent, device, frame,
     is_frame, manager,
 };
 use cop_boot::{Device, End, Input, Manager, drive};
+use cop_eds::EdsFault;
 use cop_frame::Frame;
 use cop_nmt::NodeState;
 use std::alloc::Global;
@@ -91,13 +92,19 @@ fn due(state: &State, first: u8) -> (Option<Sent>, Option<End>) {
     }
 }
 
+/// A manager hears frames one after another.
+fn hear_each(manager: &mut Manager, heard: &[Sent]) -> Result<(), Fail> {
+    for sent in heard {
+        let _ = manager.on_frame(&frame(*sent)?, 0);
+    }
+    Ok(())
+}
+
 /// A manager of node 5, brought into a state.
 fn brought_to(alloc: Global, state: &State) -> Result<Manager, Fail> {
     let mut manager = manager(alloc, &[5])?;
     let _ = manager.begin(0);
-    for sent in state.heard.iter().copied() {
-        let _ = manager.on_frame(&frame(sent)?, 0);
-    }
+    hear_each(&mut manager, state.heard)?;
     let _ = manager.on_moment(state.reached);
     Ok(manager)
 }
@@ -105,42 +112,49 @@ fn brought_to(alloc: Global, state: &State) -> Result<Manager, Fail> {
 /// All that is handed in to bring it there, and a frame after it.
 fn inputs(alloc: Global, state: &State, last: Frame) -> Result<Vec<Input>, Fail> {
     let mut inputs = Vec::new(alloc);
-    for sent in state.heard.iter().copied() {
-        inputs.push(Input::Heard(frame(sent)?))?;
+    for sent in state.heard {
+        inputs.push(Input::Heard(frame(*sent)?))?;
     }
     inputs.push(Input::Moment(state.reached))?;
     inputs.push(Input::Heard(last))?;
     Ok(inputs)
 }
 
+/// Whether all is started after an answer that comes by the call, where it has done what is due.
+fn called(alloc: Global, state: &State, first: u8) -> Result<Option<bool>, Fail> {
+    let (sends, end) = due(state, first);
+    let mut manager = brought_to(alloc, state)?;
+    let sent = manager.on_frame(&answer(first), state.reached);
+    let is_due = is_frame(sent, sends) && manager.end(5) == end;
+    Ok(is_due.then_some(manager.started()))
+}
+
+/// The same where the answer ends a whole list.
+fn driven(alloc: Global, state: &State, first: u8) -> Result<Option<bool>, Fail> {
+    let (sends, end) = due(state, first);
+    let inputs = inputs(alloc, state, answer(first))?;
+    let mut manager = manager(alloc, &[5])?;
+    let frames = drive(alloc, &mut manager, &inputs)?;
+    let is_last = sends.is_none() || is_frame(frames.last().copied(), sends);
+    let is_due = is_last && manager.end(5) == end;
+    Ok(is_due.then_some(manager.started()))
+}
+
 /// Whether a manager in a state does what is due to an answer, by the call and through a whole list.
 fn does_what_is_due(alloc: Global, state: &State, first: u8) -> Result<bool, Fail> {
-    let (sends, end) = due(state, first);
-    let mut called = brought_to(alloc, state)?;
-    let sent = called.on_frame(&answer(first), state.reached);
-    let mut driven = manager(alloc, &[5])?;
-    let frames = drive(alloc, &mut driven, &inputs(alloc, state, answer(first))?)?;
-    let last = if sends.is_some() {
-        frames.last().copied()
-    } else {
-        None
-    };
-    Ok(
-        is_frame(sent, sends)
-            && is_frame(last, sends)
-            && called.end(5) == end
-            && driven.end(5) == end
-            && called.started() == driven.started(),
-    )
+    let called = called(alloc, state, first)?;
+    Ok(called.is_some() && called == driven(alloc, state, first)?)
 }
 
 #[test]
 fn each_first_byte_of_an_answer(rt: HostRuntime) -> Result<(), Fail> {
-    for (number, state) in STATES.iter().enumerate() {
+    for state in STATES {
         for first in 0..=u8::MAX {
+            let is_due = does_what_is_due(rt.alloc(), state, first)?;
             assert!(rt;
-                does_what_is_due(rt.alloc(), state, first)?,
-                "state {number}, first byte {first}"
+                is_due,
+                "first byte {first} after {} frames",
+                state.heard.len()
             );
         }
     }
@@ -167,17 +181,22 @@ const IGNORED: &[Sent] = &[
     (0x000, &[1, 5]),
 ];
 
+/// Whether a manager in a state sends nothing at a frame, and the end of the node stays.
+fn ignores(manager: &mut Manager, state: &State, sent: Sent) -> Result<bool, Fail> {
+    let answer = manager.on_frame(&frame(sent)?, state.reached);
+    Ok(answer.is_none() && manager.end(5) == state.end)
+}
+
 #[test]
 fn frames_that_are_nothing_to_a_manager(rt: HostRuntime) -> Result<(), Fail> {
     for state in STATES {
         let mut manager = brought_to(rt.alloc(), state)?;
         let started = manager.started();
-        for (number, sent) in IGNORED.iter().copied().enumerate() {
-            let answer = manager.on_frame(&frame(sent)?, state.reached);
-            assert_eq!(rt; answer, None, "frame {number}");
-            assert_eq!(rt; manager.end(5), state.end, "frame {number}");
+        for sent in IGNORED {
+            let (id, data) = *sent;
+            assert!(rt; ignores(&mut manager, state, *sent)?, "{id}: {data:?}");
         }
-        assert_eq!(rt; manager.started(), started);
+        assert!(rt; manager.started() == started);
     }
     Ok(())
 }
@@ -189,14 +208,20 @@ const MISDIRECTED: &[Sent] = &[
     (0x585, &[0x60, 0x00, 0x18, 0x02, 0, 0, 0, 0]),
 ];
 
+/// Whether a manager in a state aborts what it asked at a frame.
+fn aborts_at(alloc: Global, state: &State, sent: Sent) -> Result<bool, Fail> {
+    let mut manager = brought_to(alloc, state)?;
+    let answer = manager.on_frame(&frame(sent)?, 0);
+    Ok(is_frame(answer, Some(ENDED)) && manager.end(5) == Some(UNEXPECTED))
+}
+
 #[test]
 fn answers_to_what_was_not_asked(rt: HostRuntime) -> Result<(), Fail> {
-    for state in STATES.iter().filter(|state| state.out.is_some()) {
-        for sent in MISDIRECTED.iter().copied() {
-            let mut manager = brought_to(rt.alloc(), state)?;
-            let answer = manager.on_frame(&frame(sent)?, 0);
-            assert!(rt; is_frame(answer, Some(ENDED)));
-            assert_eq!(rt; manager.end(5), Some(UNEXPECTED));
+    for state in STATES {
+        for sent in MISDIRECTED {
+            if state.out.is_some() {
+                assert!(rt; aborts_at(rt.alloc(), state, *sent)?, "{:?}", sent.1);
+            }
         }
     }
     Ok(())
@@ -221,10 +246,8 @@ const DEVICE_STATES: &[(u8, NodeState)] = &[
 ];
 
 /// A device of node 5 in a state.
-fn device_in(alloc: Global, enters: u8) -> Result<Device, Fail> {
-    let mut device = devices(alloc, &[5])?
-        .pop()
-        .ok_or_else(|| Fail::from("no device"))?;
+fn device_in(alloc: Global, enters: u8) -> Result<Device, EdsFault> {
+    let mut device = device(alloc, 5)?;
     let _ = device.on_frame(&Frame::new(0x000, &[enters, 5]));
     Ok(device)
 }
@@ -240,8 +263,9 @@ fn obeys(mut device: Device, state: NodeState, command: u8) -> bool {
 }
 
 #[test]
-fn each_command_to_a_device(rt: HostRuntime) -> Result<(), Fail> {
-    for (enters, state) in DEVICE_STATES.iter().copied() {
+fn each_command_to_a_device(rt: HostRuntime) -> Result<(), EdsFault> {
+    for case in DEVICE_STATES {
+        let (enters, state) = *case;
         for command in 0..=u8::MAX {
             let device = device_in(rt.alloc(), enters)?;
             assert!(rt; obeys(device, state, command), "command {command}");
@@ -252,20 +276,24 @@ fn each_command_to_a_device(rt: HostRuntime) -> Result<(), Fail> {
 
 /// Whether a device answers an SDO request where its state has it, but for an abort, and whether only a download can
 /// have changed the value.
-fn serves(mut device: Device, state: NodeState, first: u8) -> Result<bool, Fail> {
+fn serves(mut device: Device, state: NodeState, first: u8) -> bool {
     let answer = device.on_frame(&Frame::new(0x605, &[first, 0x00, 0x18, 0x02, 7, 0, 0, 0]));
     let kind = first >> 5;
     let hears = state != NodeState::Stopped;
-    let is_kept = device.dictionary().read(0x1800, 2)? == [255].as_slice();
-    Ok(answer.is_some() == (hears && kind != 4) && (is_kept || hears && kind == 1))
+    let Ok(value) = device.dictionary().read(0x1800, 2) else {
+        return false;
+    };
+    let is_kept = value == [255].as_slice();
+    answer.is_some() == (hears && kind != 4) && (is_kept || hears && kind == 1)
 }
 
 #[test]
-fn each_first_byte_to_a_device(rt: HostRuntime) -> Result<(), Fail> {
-    for (enters, state) in DEVICE_STATES.iter().copied() {
+fn each_first_byte_to_a_device(rt: HostRuntime) -> Result<(), EdsFault> {
+    for case in DEVICE_STATES {
+        let (enters, state) = *case;
         for first in 0..=u8::MAX {
             let device = device_in(rt.alloc(), enters)?;
-            assert!(rt; serves(device, state, first)?, "first byte {first}");
+            assert!(rt; serves(device, state, first), "first byte {first}");
         }
     }
     Ok(())

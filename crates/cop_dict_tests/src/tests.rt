@@ -1,8 +1,7 @@
 use cop_dict::{Abort, DataType, Dictionary, MappingFault, Object, build};
 use cop_eds::{EdsFault, parse};
-use std::alloc::Global;
+use std::alloc::{AllocError, Global};
 use std::process;
-use std::test::Fail;
 
 // The sample device.
 const SAMPLE: &[u8] = b"[FileInfo]
@@ -163,40 +162,52 @@ fn device(alloc: Global, text: &[u8]) -> Result<Dictionary, EdsFault> {
     build(alloc, &eds, 5)
 }
 
-// A write: index and sub, bytes, and the answer.
-type Row<'a> = ((u16, u8), &'a [u8], Result<(), u32>);
+/// A write: index and sub, bytes, and the answer, where an error is the code of the abort.
+type Row = ((u16, u8), &'static [u8], Result<(), u32>);
 
 // Writes in turn have these answers.
 fn answer(rt: &impl process::Abort, dict: &mut Dictionary, rows: &[Row]) {
-    for (at, bytes, wanted) in rows {
-        let answer = dict.write(at.0, at.1, bytes);
-        assert_eq!(rt; answer.map_err(|abort| abort.code()), *wanted);
+    for case in rows {
+        let ((index, sub), bytes, wanted) = *case;
+        let answer = dict.write(index, sub, bytes);
+        assert_eq!(rt;
+            answer.map_err(|abort| abort.code()),
+            wanted,
+            "{bytes:?} to {index} sub {sub}"
+        );
     }
 }
 
+/// Whether a value is read at an index and sub.
+fn holds(dict: &Dictionary, index: u16, sub: u8, value: &[u8]) -> bool {
+    dict.read(index, sub) == Ok(value)
+}
+
+/// Writes to the sample in turn.
+const SAMPLE_WRITES: &[Row] = &[
+    ((0x1017, 0), &[0x64, 0], Ok(())),
+    ((0x1017, 0), &[0x64, 0, 0], Err(0x0607_0012)),
+    ((0x1017, 0), &[0x64], Err(0x0607_0013)),
+    ((0x1000, 0), &[0], Err(0x0601_0002)),
+    ((0x1018, 0), &[1], Err(0x0602_0000)),
+    ((0x1017, 1), &[1], Err(0x0609_0011)),
+    ((0x1800, 1), &[0x81, 0x01, 0x00, 0x40], Err(0x0800_0022)),
+    ((0x1800, 1), &[0x81, 0x01, 0x00, 0xC0], Err(0x0800_0022)),
+    ((0x1800, 1), &[0x85, 0x01, 0x00, 0xC0], Ok(())),
+    ((0x1800, 1), &[0x80, 0x01, 0x00, 0x40], Err(0x0609_0030)),
+    ((0x1800, 1), &[0x81, 0x01, 0x00, 0x60], Err(0x0609_0030)),
+    ((0x1800, 1), &[0x81, 0x01, 0x00, 0x40], Ok(())),
+];
+
 #[test]
-fn sample(rt: HostRuntime) -> Result<(), Fail> {
+fn sample(rt: HostRuntime) -> Result<(), EdsFault> {
     let mut dict = device(rt.alloc(), SAMPLE)?;
-    assert_eq!(rt; dict.read(0x1A00, 2)?, [0x20, 0x02, 0x00, 0x20].as_slice());
-    let rows: &[Row] = &[
-        ((0x1017, 0), &[0x64, 0], Ok(())),
-        ((0x1017, 0), &[0x64, 0, 0], Err(0x0607_0012)),
-        ((0x1017, 0), &[0x64], Err(0x0607_0013)),
-        ((0x1000, 0), &[0], Err(0x0601_0002)),
-        ((0x1018, 0), &[1], Err(0x0602_0000)),
-        ((0x1017, 1), &[1], Err(0x0609_0011)),
-        ((0x1800, 1), &[0x81, 0x01, 0x00, 0x40], Err(0x0800_0022)),
-        ((0x1800, 1), &[0x81, 0x01, 0x00, 0xC0], Err(0x0800_0022)),
-        ((0x1800, 1), &[0x85, 0x01, 0x00, 0xC0], Ok(())),
-        ((0x1800, 1), &[0x80, 0x01, 0x00, 0x40], Err(0x0609_0030)),
-        ((0x1800, 1), &[0x81, 0x01, 0x00, 0x60], Err(0x0609_0030)),
-        ((0x1800, 1), &[0x81, 0x01, 0x00, 0x40], Ok(())),
-    ];
-    answer(&rt, &mut dict, rows);
-    assert_eq!(rt; dict.read(0x1017, 0)?, [0x64, 0].as_slice());
-    assert_eq!(rt; dict.read(0x1800, 1)?, [0x81, 0x01, 0x00, 0x40].as_slice());
+    assert!(rt; holds(&dict, 0x1A00, 2, &[0x20, 0x02, 0x00, 0x20]));
+    answer(&rt, &mut dict, SAMPLE_WRITES);
+    assert!(rt; holds(&dict, 0x1017, 0, &[0x64, 0]));
+    assert!(rt; holds(&dict, 0x1800, 1, &[0x81, 0x01, 0x00, 0x40]));
     dict.reset_communication();
-    assert_eq!(rt; dict.read(0x1800, 1)?, [0x85, 0x01, 0x00, 0x40].as_slice());
+    assert!(rt; holds(&dict, 0x1800, 1, &[0x85, 0x01, 0x00, 0x40]));
     Ok(())
 }
 
@@ -213,146 +224,159 @@ const READINGS: &[Reading] = &[
 ];
 
 #[test]
-fn values_by_type(rt: HostRuntime) -> Result<(), Fail> {
+fn values_by_type(rt: HostRuntime) -> Result<(), EdsFault> {
     let dict = device(rt.alloc(), DEVICE)?;
-    assert_eq!(rt; dict.entries().len(), 13);
     for case in READINGS {
         let ((index, sub), wanted) = *case;
-        assert_eq!(rt; dict.read(index, sub), wanted);
+        assert!(rt; dict.read(index, sub) == wanted, "{index} sub {sub}");
     }
+    assert!(rt; dict.entries().len() == 13);
     let limited = dict.entry(0x2001, 0);
-    assert_eq!(rt; limited.and_then(|entry| entry.integer()), Some(-2));
+    assert!(rt; limited.and_then(|entry| entry.integer()) == Some(-2));
+    Ok(())
+}
+
+/// Writes by the type of the object.
+const TYPED_WRITES: &[Row] = &[
+    ((0x2000, 2), &[1, 2], Err(0x0601_0002)),
+    ((0x2003, 0), &[], Err(0x0601_0000)),
+    ((0x2001, 0), &[0xFB, 0xFF], Ok(())),
+    ((0x2001, 0), &[0xFA, 0xFF], Err(0x0609_0032)),
+    ((0x2001, 0), &[0x05, 0x00], Ok(())),
+    ((0x2001, 0), &[0x06, 0x00], Err(0x0609_0031)),
+    ((0x2002, 0), b"a longer name", Ok(())),
+];
+
+#[test]
+fn writes_by_type(rt: HostRuntime) -> Result<(), EdsFault> {
+    let mut dict = device(rt.alloc(), DEVICE)?;
+    answer(&rt, &mut dict, TYPED_WRITES);
     Ok(())
 }
 
 #[test]
-fn writes_by_type(rt: HostRuntime) -> Result<(), Fail> {
+fn resets(rt: HostRuntime) -> Result<(), EdsFault> {
     let mut dict = device(rt.alloc(), DEVICE)?;
-    let rows: &[Row] = &[
-        ((0x2000, 2), &[1, 2], Err(0x0601_0002)),
-        ((0x2003, 0), &[], Err(0x0601_0000)),
-        ((0x2001, 0), &[0xFB, 0xFF], Ok(())),
-        ((0x2001, 0), &[0xFA, 0xFF], Err(0x0609_0032)),
-        ((0x2001, 0), &[0x05, 0x00], Ok(())),
-        ((0x2001, 0), &[0x06, 0x00], Err(0x0609_0031)),
-        ((0x2002, 0), b"a longer name", Ok(())),
-    ];
-    answer(&rt, &mut dict, rows);
-    Ok(())
-}
-
-#[test]
-fn resets(rt: HostRuntime) -> Result<(), Fail> {
-    let mut dict = device(rt.alloc(), DEVICE)?;
-    let rows: &[Row] = &[((0x2002, 0), b"a longer name", Ok(()))];
-    answer(&rt, &mut dict, rows);
+    answer(&rt, &mut dict, &[((0x2002, 0), b"a longer name", Ok(()))]);
     dict.reset_communication();
-    assert_eq!(rt; dict.read(0x2002, 0)?, b"a longer name".as_slice());
+    assert!(rt; holds(&dict, 0x2002, 0, b"a longer name"));
     dict.reset_all();
-    assert_eq!(rt; dict.read(0x2002, 0)?, b"n+$NODEID".as_slice());
+    assert!(rt; holds(&dict, 0x2002, 0, b"n+$NODEID"));
     Ok(())
 }
 
+/// Writes to the mappings of two PDOs in turn.
+const MAPPING_WRITES: &[Row] = &[
+    // The TPDO exists; the RPDO doesn't, and its sub 0 is 1.
+    ((0x1A00, 0), &[0], Err(0x0800_0022)),
+    ((0x1600, 1), &[0x20, 0x02, 0x00, 0x20], Err(0x0800_0022)),
+    ((0x1600, 0), &[0], Ok(())),
+    ((0x1600, 1), &[0x20, 0x01, 0x00, 0x20], Ok(())),
+    // Two entries, the second a dummy of 8 bits; the third can't be written.
+    ((0x1600, 0), &[2], Ok(())),
+    ((0x1600, 0), &[3], Err(0x0604_0041)),
+    ((0x1600, 0), &[4], Err(0x0604_0041)),
+    ((0x1600, 0), &[65], Err(0x0604_0042)),
+    ((0x1600, 0), &[0], Ok(())),
+    // 32, 8 and 32 bits are more than 64.
+    ((0x1600, 3), &[0x20, 0x01, 0x00, 0x20], Ok(())),
+    ((0x1600, 0), &[3], Err(0x0604_0042)),
+    // A dummy has the width of its type, and the others have their objects'.
+    ((0x1600, 2), &[0x07, 0x00, 0x05, 0x00], Ok(())),
+    ((0x1600, 0), &[2], Err(0x0604_0041)),
+    ((0x1600, 1), &[0x1F, 0x01, 0x00, 0x20], Ok(())),
+    ((0x1600, 0), &[1], Err(0x0604_0041)),
+];
+
 #[test]
-fn mappings(rt: HostRuntime) -> Result<(), Fail> {
+fn mappings(rt: HostRuntime) -> Result<(), EdsFault> {
     let mut dict = device(rt.alloc(), DEVICE)?;
-    let rows: &[Row] = &[
-        // The TPDO exists; the RPDO doesn't, and its sub 0 is 1.
-        ((0x1A00, 0), &[0], Err(0x0800_0022)),
-        ((0x1600, 1), &[0x20, 0x02, 0x00, 0x20], Err(0x0800_0022)),
-        ((0x1600, 0), &[0], Ok(())),
-        ((0x1600, 1), &[0x20, 0x01, 0x00, 0x20], Ok(())),
-        // Two entries, the second a dummy of 8 bits; the third can't be written.
-        ((0x1600, 0), &[2], Ok(())),
-        ((0x1600, 0), &[3], Err(0x0604_0041)),
-        ((0x1600, 0), &[4], Err(0x0604_0041)),
-        ((0x1600, 0), &[65], Err(0x0604_0042)),
-        ((0x1600, 0), &[0], Ok(())),
-        // 32, 8 and 32 bits are more than 64.
-        ((0x1600, 3), &[0x20, 0x01, 0x00, 0x20], Ok(())),
-        ((0x1600, 0), &[3], Err(0x0604_0042)),
-        // A dummy has the width of its type, and the others have their objects'.
-        ((0x1600, 2), &[0x07, 0x00, 0x05, 0x00], Ok(())),
-        ((0x1600, 0), &[2], Err(0x0604_0041)),
-        ((0x1600, 1), &[0x1F, 0x01, 0x00, 0x20], Ok(())),
-        ((0x1600, 0), &[1], Err(0x0604_0041)),
-    ];
-    answer(&rt, &mut dict, rows);
-    assert_eq!(rt; dict.layout_bits(0x1A00, 1), Err(MappingFault::Absent));
-    assert_eq!(rt; dict.mapped(0x1600, 1), Err(MappingFault::NotMappable));
+    answer(&rt, &mut dict, MAPPING_WRITES);
+    assert!(rt; dict.layout_bits(0x1A00, 1) == Err(MappingFault::Absent));
+    assert!(rt; dict.mapped(0x1600, 1) == Err(MappingFault::NotMappable));
     Ok(())
 }
 
 #[test]
-fn stores(rt: HostRuntime) -> Result<(), Fail> {
+fn stores(rt: HostRuntime) -> Result<(), EdsFault> {
     let mut dict = device(rt.alloc(), DEVICE)?;
     let is_flag = |entry: &Object| matches!(entry.description().data_type, DataType::Boolean);
     if dict.entry(0x2000, 2).is_some_and(is_flag) {
         dict.store(0x2000, 2, &[0]);
     }
-    assert_eq!(rt; dict.read(0x2000, 2)?, [0].as_slice());
+    assert!(rt; holds(&dict, 0x2000, 2, &[0]));
     assert!(rt; dict.entry(0x2002, 1).is_none());
     Ok(())
 }
 
 #[test]
-fn widths_are_admitted(rt: HostRuntime) -> Result<(), Fail> {
+fn widths_are_admitted(rt: HostRuntime) -> Result<(), EdsFault> {
     let dict = device(rt.alloc(), DEVICE)?;
-    assert_eq!(rt; dict.admits(0x2001, 0, None), Ok(Some(2)));
-    assert_eq!(rt; dict.admits(0x2001, 0, Some(3)), Err(Abort::TooLong));
-    assert_eq!(rt; dict.admits(0x2002, 0, Some(3)), Ok(None));
+    assert!(rt; dict.admits(0x2001, 0, None) == Ok(Some(2)));
+    assert!(rt; dict.admits(0x2001, 0, Some(3)) == Err(Abort::TooLong));
+    assert!(rt; dict.admits(0x2002, 0, Some(3)) == Ok(None));
     Ok(())
 }
 
 // A device with one object of a data type, and these further lines from line 6 on.
-fn refusal(alloc: Global, data_type: &[u8], lines: &[u8]) -> Result<Option<(u8, usize)>, Fail> {
-    let mut text = Vec::from_slice(
-        alloc,
-        b"[OptionalObjects]\nSupportedObjects=1\n1=0x2000\n[2000]\nAccessType=rw\n",
-    )?;
+fn device_of(alloc: Global, data_type: &[u8], lines: &[u8]) -> Result<Vec<u8>, AllocError> {
+    let head = b"[OptionalObjects]\nSupportedObjects=1\n1=0x2000\n[2000]\nAccessType=rw\n";
+    let mut text = Vec::from_slice(alloc, head)?;
     text.extend_from_slice(lines)?;
     text.extend_from_slice(b"\nDataType=")?;
     text.extend_from_slice(data_type)?;
-    match device(alloc, &text) {
+    Ok(text)
+}
+
+// What a text is refused for, and the line.
+fn refusal(alloc: Global, text: &[u8]) -> Result<Option<(u8, usize)>, EdsFault> {
+    match device(alloc, text) {
         Ok(_) => Ok(None),
         Err(EdsFault::Refused(refusal)) => Ok(Some((refusal.rule.number(), refusal.line))),
-        Err(fault) => Err(fault)?,
+        Err(fault) => Err(fault),
     }
 }
 
+/// A data type, lines of its object, and the number of the rule that they break with the line from 1, or none.
+const REFUSALS: &[(&[u8], &[u8], Option<(u8, usize)>)] = &[
+    // BOOLEAN, INTEGER8, UNSIGNED8, UNSIGNED64, VISIBLE_STRING, REAL32
+    (b"1", b"DefaultValue=1", None),
+    (b"1", b"DefaultValue=2", Some((13, 6))),
+    (b"2", b"DefaultValue=-128", None),
+    (b"2", b"DefaultValue=-129", Some((13, 6))),
+    (b"2", b"DefaultValue=128", Some((13, 6))),
+    (b"2", b"DefaultValue=0xFF", None),
+    (b"2", b"DefaultValue=0x100", Some((13, 6))),
+    (b"2", b"DefaultValue=$NODEID+0x7B", Some((13, 6))),
+    (b"5", b"DefaultValue=-1", Some((13, 6))),
+    (b"5", b"DefaultValue=010", Some((14, 6))),
+    (b"5", b"DefaultValue=x\nParameterValue=2", None),
+    (b"5", b"LowLimit=256\nDefaultValue=256", Some((13, 7))),
+    (
+        b"5",
+        b"HighLimit=256\nLowLimit=08\nDefaultValue=1",
+        Some((13, 6)),
+    ),
+    (b"5", b"HighLimit=256\nLowLimit=x", Some((13, 7))),
+    (b"0x1B", b"DefaultValue=0xFFFFFFFFFFFFFFFF", None),
+    (
+        b"0x1B",
+        b"DefaultValue=$NODEID+0xFFFFFFFFFFFFFFFF",
+        Some((13, 6)),
+    ),
+    (b"9", b"DefaultValue=010\nHighLimit=x", None),
+    (b"8", b"DefaultValue=x", None),
+];
+
 #[test]
-fn refusals(rt: HostRuntime) -> Result<(), Fail> {
-    let rows: &[(&[u8], &[u8], Option<(u8, usize)>)] = &[
-        // BOOLEAN, INTEGER8, UNSIGNED8, UNSIGNED64, VISIBLE_STRING, REAL32
-        (b"1", b"DefaultValue=1", None),
-        (b"1", b"DefaultValue=2", Some((13, 6))),
-        (b"2", b"DefaultValue=-128", None),
-        (b"2", b"DefaultValue=-129", Some((13, 6))),
-        (b"2", b"DefaultValue=128", Some((13, 6))),
-        (b"2", b"DefaultValue=0xFF", None),
-        (b"2", b"DefaultValue=0x100", Some((13, 6))),
-        (b"2", b"DefaultValue=$NODEID+0x7B", Some((13, 6))),
-        (b"5", b"DefaultValue=-1", Some((13, 6))),
-        (b"5", b"DefaultValue=010", Some((14, 6))),
-        (b"5", b"DefaultValue=x\nParameterValue=2", None),
-        (b"5", b"LowLimit=256\nDefaultValue=256", Some((13, 7))),
-        (
-            b"5",
-            b"HighLimit=256\nLowLimit=08\nDefaultValue=1",
-            Some((13, 6)),
-        ),
-        (b"5", b"HighLimit=256\nLowLimit=x", Some((13, 7))),
-        (b"0x1B", b"DefaultValue=0xFFFFFFFFFFFFFFFF", None),
-        (
-            b"0x1B",
-            b"DefaultValue=$NODEID+0xFFFFFFFFFFFFFFFF",
-            Some((13, 6)),
-        ),
-        (b"9", b"DefaultValue=010\nHighLimit=x", None),
-        (b"8", b"DefaultValue=x", None),
-    ];
-    for (data_type, lines, wanted) in rows {
-        assert_eq!(rt; refusal(rt.alloc(), data_type, lines)?, *wanted);
+fn refusals(rt: HostRuntime) -> Result<(), EdsFault> {
+    for case in REFUSALS {
+        let (data_type, lines, wanted) = *case;
+        let text = device_of(rt.alloc(), data_type, lines)?;
+        assert!(rt;
+            refusal(rt.alloc(), &text)? == wanted,
+            "{data_type:?} {lines:?}"
+        );
     }
     Ok(())
 }

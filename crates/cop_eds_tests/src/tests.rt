@@ -1,7 +1,6 @@
 use cop_eds::{Access, Amount, Eds, EdsFault, Rule, amount_of, number_of, parse};
 use cop_frame::Rate;
-use std::alloc::Global;
-use std::test::Fail;
+use std::alloc::{AllocError, Global};
 
 const UNIT: &[u8] = b"\
 [FileInfo]\n\
@@ -75,10 +74,10 @@ AccessType=ro\n\
 PDOMapping=1\n";
 
 // What a text is refused for, and the line; `(0, 0)` where it is read.
-fn refused(alloc: Global, text: &[u8]) -> Result<(u8, usize), Fail> {
+fn refused(alloc: Global, text: &[u8]) -> Result<(u8, usize), EdsFault> {
     match parse(alloc, text) {
         Err(EdsFault::Refused(refusal)) => Ok((refusal.rule.number(), refusal.line)),
-        Err(fault) => Err(Fail::from(fault)),
+        Err(fault) => Err(fault),
         Ok(_) => Ok((0, 0)),
     }
 }
@@ -89,10 +88,10 @@ fn section_of(eds: &Eds<'_>, name: Option<&[u8]>) -> Option<usize> {
 }
 
 #[test]
-fn the_sample_is_read(rt: HostRuntime) -> Result<(), Fail> {
+fn the_sample_is_read(rt: HostRuntime) -> Result<(), EdsFault> {
     let eds = parse(rt.alloc(), UNIT)?;
-    assert_eq!(rt; eds.source(), UNIT);
-    assert_eq!(rt; (eds.lines().len(), eds.objects().len()), (69, 11));
+    assert!(rt; eds.source() == UNIT);
+    assert!(rt; eds.lines().len() == 69 && eds.objects().len() == 11);
     Ok(())
 }
 
@@ -105,11 +104,11 @@ const RATES: &[(Rate, bool)] = &[
 ];
 
 #[test]
-fn rates_of_the_sample(rt: HostRuntime) -> Result<(), Fail> {
+fn rates_of_the_sample(rt: HostRuntime) -> Result<(), EdsFault> {
     let rates = parse(rt.alloc(), UNIT)?.rates();
     for case in RATES {
         let (rate, wanted) = *case;
-        assert_eq!(rt; rates.contains(rate), wanted);
+        assert!(rt; rates.contains(rate) == wanted, "{} kbit/s", rate.kbits());
     }
     Ok(())
 }
@@ -124,38 +123,40 @@ const OBJECTS: &[(u16, u8, Option<&[u8]>)] = &[
 ];
 
 #[test]
-fn objects_of_the_sample(rt: HostRuntime) -> Result<(), Fail> {
+fn objects_of_the_sample(rt: HostRuntime) -> Result<(), EdsFault> {
     let eds = parse(rt.alloc(), UNIT)?;
     for case in OBJECTS {
         let (index, sub, name) = *case;
-        assert_eq!(rt; eds.object(index, sub), section_of(&eds, name));
+        assert!(rt;
+            eds.object(index, sub) == section_of(&eds, name),
+            "{index} sub {sub}"
+        );
     }
     Ok(())
 }
 
 #[test]
-fn values_of_the_sample(rt: HostRuntime) -> Result<(), Fail> {
+fn values_of_the_sample(rt: HostRuntime) -> Result<(), EdsFault> {
     let eds = parse(rt.alloc(), UNIT)?;
-    let section = eds.section(b"1800sub1").ok_or("no section")?;
-    let value = eds.value(section, b"defaultvalue").ok_or("no value")?;
-    assert_eq!(rt; value, b"$NODEID+0x40000180".as_slice());
+    let section = eds.section(b"1800sub1").expect(&rt, "no section");
+    assert!(rt; eds.value(section, b"defaultvalue") == Some(b"$NODEID+0x40000180".as_slice()));
     assert!(rt; eds.value(section, b"ParameterValue").is_none());
     Ok(())
 }
 
 #[test]
-fn every_prefix_returns(rt: HostRuntime) -> Result<(), Fail> {
+fn every_prefix_returns(rt: HostRuntime) -> Result<(), EdsFault> {
     let alloc = rt.alloc();
     for end in 0..UNIT.len() {
         let _ = refused(alloc, &UNIT[..end])?;
     }
-    assert_eq!(rt; refused(alloc, b"")?, (0, 0));
-    assert_eq!(rt; refused(alloc, b"[FileInfo")?, (10, 1));
-    assert_eq!(rt; refused(alloc, b"[FileInfo]\nFileName=a\n[Devi")?, (10, 3));
+    assert!(rt; refused(alloc, b"")? == (0, 0));
+    assert!(rt; refused(alloc, b"[FileInfo")? == (10, 1));
+    assert!(rt; refused(alloc, b"[FileInfo]\nFileName=a\n[Devi")? == (10, 3));
     Ok(())
 }
 
-// A text, the rule that it breaks, and where.
+/// A text, the number of the rule that it breaks first, and the line from 1; 0 and 0 where it is read.
 const ROWS: &[(&[u8], u8, usize)] = &[
     (b"a=1\n", 10, 1),
     (b" [a]\n", 10, 1),
@@ -243,10 +244,10 @@ const ROWS: &[(&[u8], u8, usize)] = &[
 ];
 
 #[test]
-fn the_first_broken_rule_is_named(rt: HostRuntime) -> Result<(), Fail> {
+fn the_first_broken_rule_is_named(rt: HostRuntime) -> Result<(), EdsFault> {
     for case in ROWS {
         let (text, number, line) = *case;
-        assert_eq!(rt; refused(rt.alloc(), text)?, (number, line));
+        assert!(rt; refused(rt.alloc(), text)? == (number, line), "{text:?}");
     }
     Ok(())
 }
@@ -256,19 +257,16 @@ const MESSY: &[u8] =
     b"\xEF\xBB\xBF; device\r\n[deviceinfo] ; rates\r\n\tBAUDRATE_125 = 1\t\r\n\r\n[optionalobjects]\r\nsupportedobjects=1\r\n1=0x2abC\r\n[2ABC]\r\nobjecttype=0x8\r\n[2abcsub01]\r\nParameterName= a;b \r\ndatatype=5\r\nAccessType=Rww\r\nDefaultValue=0x180 + $nodeid\r\nLowLimit=\r\n[2abcSub0a]\r\nDataType=7\r\nAccessType=const";
 
 #[test]
-fn a_messy_text_is_read(rt: HostRuntime) -> Result<(), Fail> {
+fn a_messy_text_is_read(rt: HostRuntime) -> Result<(), EdsFault> {
     let eds = parse(rt.alloc(), MESSY)?;
     assert!(rt; eds.rates().contains(Rate::Kbit125) && !eds.rates().contains(Rate::Kbit250));
-    let object = *eds.objects().first().ok_or("no objects")?;
-    assert_eq!(rt;
-        (object.index, object.sub, object.data_type),
-        (0x2ABC, 1, 5)
-    );
-    assert_eq!(rt; object.access, Access::ReadWriteOutput);
+    let object = eds.objects().first().expect(&rt, "no objects");
+    assert!(rt; object.index == 0x2ABC && object.sub == 1);
+    assert!(rt; object.data_type == 5 && object.access == Access::ReadWriteOutput);
     Ok(())
 }
 
-/// Objects of the messy text.
+/// Objects of the messy text, each by its index and sub, and the names of their sections.
 const MESSY_OBJECTS: &[(u16, u8, Option<&[u8]>)] = &[
     (0x2ABC, 0, None),
     (0x2ABC, 1, Some(b"2ABCSUB1")),
@@ -276,64 +274,79 @@ const MESSY_OBJECTS: &[(u16, u8, Option<&[u8]>)] = &[
 ];
 
 #[test]
-fn objects_of_a_messy_text(rt: HostRuntime) -> Result<(), Fail> {
+fn objects_of_a_messy_text(rt: HostRuntime) -> Result<(), EdsFault> {
     let eds = parse(rt.alloc(), MESSY)?;
     for case in MESSY_OBJECTS {
         let (index, sub, name) = *case;
-        assert_eq!(rt; eds.object(index, sub), section_of(&eds, name));
+        assert!(rt;
+            eds.object(index, sub) == section_of(&eds, name),
+            "{index} sub {sub}"
+        );
     }
     Ok(())
 }
 
 #[test]
-fn keys_of_a_messy_text(rt: HostRuntime) -> Result<(), Fail> {
+fn keys_of_a_messy_text(rt: HostRuntime) -> Result<(), EdsFault> {
     let eds = parse(rt.alloc(), MESSY)?;
-    let section = eds.object(0x2ABC, 1).ok_or("no object")?;
-    let name = eds.value(section, b"parametername").ok_or("no name")?;
-    assert_eq!(rt; name, b"a;b".as_slice());
-    assert_eq!(rt;
-        eds.amount(section, b"DefaultValue"),
-        Ok(Some((14, Amount::PlusNode(0x180))))
-    );
-    assert_eq!(rt; eds.key_line(section, b"LowLimit"), Some(15));
+    let section = eds.object(0x2ABC, 1).expect(&rt, "no object");
+    assert!(rt; eds.value(section, b"parametername") == Some(b"a;b".as_slice()));
+    assert!(rt; eds.key_line(section, b"LowLimit") == Some(15));
     assert!(rt; eds.entry(section, b"LowLimit").is_none());
     Ok(())
 }
 
 #[test]
-fn numbers_are_read(rt: HostRuntime) {
-    assert_eq!(rt; number_of(b"08"), Ok(8));
-    assert_eq!(rt; number_of(b"010"), Err(Rule::AmbiguousNumber));
-    assert_eq!(rt; number_of(b"007"), Ok(7));
+fn amounts_of_a_messy_text(rt: HostRuntime) -> Result<(), EdsFault> {
+    let eds = parse(rt.alloc(), MESSY)?;
+    let section = eds.object(0x2ABC, 1).expect(&rt, "no object");
+    let amount = Amount::PlusNode(0x180);
+    assert!(rt; eds.amount(section, b"DefaultValue") == Ok(Some((14, amount))));
+    Ok(())
 }
+
+#[test]
+fn numbers_are_read(rt: HostRuntime) {
+    assert!(rt; number_of(b"08") == Ok(8));
+    assert!(rt; number_of(b"010") == Err(Rule::AmbiguousNumber));
+    assert!(rt; number_of(b"007") == Ok(7));
+}
+
+/// Texts, and the amounts that they are or the rules that they break.
+const AMOUNTS: &[(&[u8], Result<Amount, Rule>)] = &[
+    (b"12", Ok(Amount::Decimal(12))),
+    (b"-12", Ok(Amount::Negative(12))),
+    (b"0XfF", Ok(Amount::Hexadecimal(255))),
+    (b"$nodeid", Ok(Amount::PlusNode(0))),
+    (b"$NODEID + 3", Ok(Amount::PlusNode(3))),
+    (b"0x180+$NODEID", Ok(Amount::PlusNode(0x180))),
+    (b"-010", Err(Rule::AmbiguousNumber)),
+    (b"$NODEID+010", Err(Rule::AmbiguousNumber)),
+    (b"$NODEID+-5", Err(Rule::Number)),
+    (b"-0x5", Err(Rule::Number)),
+];
 
 #[test]
 fn amounts_are_read(rt: HostRuntime) {
-    let rows: &[(&[u8], Result<Amount, Rule>)] = &[
-        (b"12", Ok(Amount::Decimal(12))),
-        (b"-12", Ok(Amount::Negative(12))),
-        (b"0XfF", Ok(Amount::Hexadecimal(255))),
-        (b"$nodeid", Ok(Amount::PlusNode(0))),
-        (b"$NODEID + 3", Ok(Amount::PlusNode(3))),
-        (b"0x180+$NODEID", Ok(Amount::PlusNode(0x180))),
-        (b"-010", Err(Rule::AmbiguousNumber)),
-        (b"$NODEID+010", Err(Rule::AmbiguousNumber)),
-        (b"$NODEID+-5", Err(Rule::Number)),
-        (b"-0x5", Err(Rule::Number)),
-    ];
-    for case in rows {
+    for case in AMOUNTS {
         let (text, amount) = *case;
-        assert_eq!(rt; amount_of(text), amount);
+        assert!(rt; amount_of(text) == amount, "{text:?}");
     }
 }
 
-#[test]
-fn twenty_thousand_lines_are_read(rt: HostRuntime) -> Result<(), Fail> {
-    let mut text = Vec::from_slice(rt.alloc(), UNIT)?;
+/// The sample, and twenty thousand lines of comment after it.
+fn long_text(alloc: Global) -> Result<Vec<u8>, AllocError> {
+    let mut text = Vec::from_slice(alloc, UNIT)?;
     for _ in 0..20_000 {
         text.extend_from_slice(b";\n")?;
     }
+    Ok(text)
+}
+
+#[test]
+fn twenty_thousand_lines_are_read(rt: HostRuntime) -> Result<(), EdsFault> {
+    let text = long_text(rt.alloc())?;
     let eds = parse(rt.alloc(), &text)?;
-    assert_eq!(rt; (eds.lines().len(), eds.objects().len()), (20_069, 11));
+    assert!(rt; eds.lines().len() == 20_069 && eds.objects().len() == 11);
     Ok(())
 }

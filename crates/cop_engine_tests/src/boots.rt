@@ -50,12 +50,13 @@ const NETWORKS: &[(&str, &str, &[u8])] = &[
 #[test]
 fn boots(rt: HostRuntime) -> Result<(), Fail> {
     let alloc = rt.alloc();
-    for (nodes, pdos, wanted) in NETWORKS.iter().copied() {
+    for case in NETWORKS {
+        let (nodes, pdos, wanted) = *case;
         let nodes = format!(in alloc; "{NODES}{nodes}")?;
         let pdos = format!(in alloc; "{PDOS}{pdos}")?;
         for seed in [0, 1, u64::MAX] {
             let text = booted(alloc, seed, nodes.as_str(), pdos.as_str())?;
-            assert_eq!(rt; text.as_slice(), wanted, "seed {seed}");
+            assert!(rt; text.as_slice() == wanted, "seed {seed}");
         }
     }
     Ok(())

@@ -31,7 +31,8 @@ fn streams(alloc: Global, count: u16) -> Result<String, AllocError> {
 fn eleven_hundred_streams_and_one_more(rt: HostRuntime) -> Result<(), Fail> {
     let most = streams(rt.alloc(), 1100)?;
     let report = test_bytes(rt.alloc(), most.as_bytes(), Rate::Kbit1000)?;
-    assert_eq!(rt; report.iter().filter(|byte| **byte == b'\n').count(), 1100);
+    let lines = report.iter().filter(|byte| **byte == b'\n').count();
+    assert!(rt; lines == 1100);
     let more = streams(rt.alloc(), 1101)?;
     let is_refused = matches!(
         test_bytes(rt.alloc(), more.as_bytes(), Rate::Kbit1000),
@@ -128,38 +129,56 @@ fn pdos(alloc: Global) -> Result<String, AllocError> {
     Ok(text)
 }
 
-/// The files of the plan.
-fn planned(
-    alloc: Global,
-    nodes: &str,
-    pdos: &str,
-    eds: &[(String, Vec<u8>)],
-) -> Result<Files, Fault> {
-    plan_bytes(alloc, nodes.as_bytes(), pdos.as_bytes(), eds)
+/// The tables of a network, and the EDS file of its devices.
+#[derive(Drop)]
+struct Sources {
+    nodes: String,
+    pdos: String,
+    eds: Vec<(String, Vec<u8>)>,
+}
+
+fn network(alloc: Global) -> Result<Sources, AllocError> {
+    let text = Vec::from_slice(alloc, device(alloc)?.as_bytes())?;
+    let mut eds = Vec::new(alloc);
+    eds.push((String::from_str(alloc, "many.eds")?, text))?;
+    Ok(Sources {
+        nodes: nodes(alloc)?,
+        pdos: pdos(alloc)?,
+        eds,
+    })
+}
+
+/// The files of its plan.
+fn planned(alloc: Global, network: &Sources) -> Result<Files, Fault> {
+    plan_bytes(
+        alloc,
+        network.nodes.as_bytes(),
+        network.pdos.as_bytes(),
+        &network.eds,
+    )
+}
+
+/// What a check says of refusals.
+fn checked(alloc: Global, network: &Sources, refusals: &[u8]) -> Result<(Vec<u8>, bool), Fault> {
+    check_bytes(
+        alloc,
+        network.nodes.as_bytes(),
+        network.pdos.as_bytes(),
+        &network.eds,
+        refusals,
+    )
 }
 
 #[test]
 fn a_rate_is_refused_with_512_pdos(rt: HostRuntime) -> Result<(), Fail> {
-    let alloc = rt.alloc();
-    let text = Vec::from_slice(alloc, device(alloc)?.as_bytes())?;
-    let eds = [(String::from_str(alloc, "many.eds")?, text)];
-    let (nodes, pdos) = (nodes(alloc)?, pdos(alloc)?);
-    let files = planned(alloc, nodes.as_str(), pdos.as_str(), &eds)?;
-    assert!(rt;
-        files
-            .plan
-            .starts_with(b"rate 1000\npdo 1.1 id 181h response 1080\n")
+    let network = network(rt.alloc())?;
+    let files = planned(rt.alloc(), &network)?;
+    let (first, last) = (
+        b"rate 1000\npdo 1.1 id 181h response 1080\n",
+        b"pdo 8.64 id 380h response 276480\nrefused 500 members 512\n",
     );
-    assert!(rt;
-        files.plan.ends_with(b"pdo 8.64 id 380h response 276480\nrefused 500 members 512\n")
-    );
-    let checked = check_bytes(
-        alloc,
-        nodes.as_bytes(),
-        pdos.as_bytes(),
-        &eds,
-        &files.refusals,
-    )?;
-    assert_eq!(rt; checked.0.as_slice(), b"500 holds\n".as_slice());
+    assert!(rt; files.plan.starts_with(first) && files.plan.ends_with(last));
+    let (lines, hold) = checked(rt.alloc(), &network, &files.refusals)?;
+    assert!(rt; lines.as_slice() == b"500 holds\n".as_slice() && hold);
     Ok(())
 }

@@ -64,9 +64,9 @@ fn an_outlet_fails_at_each_file(rt: HostRuntime) -> Result<(), Fail> {
     for case in DELIVERED {
         let (room, wanted, names) = *case;
         let mut shelf = with_room(rt.alloc(), room);
-        assert_eq!(rt; deliver(&files, &mut shelf), wanted);
-        assert_eq!(rt; shelf.failed(), wanted.is_err());
-        assert_eq!(rt; shelf.names.as_slice(), names);
+        assert!(rt; deliver(&files, &mut shelf) == wanted);
+        assert!(rt; shelf.failed() == wanted.is_err());
+        assert!(rt; shelf.names.as_slice() == names);
     }
     Ok(())
 }

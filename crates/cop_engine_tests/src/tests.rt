@@ -50,7 +50,7 @@ fn reports(rt: HostRuntime) -> Result<(), Fail> {
     ];
     for case in cases {
         let (text, rate, want) = *case;
-        assert_eq!(rt; test_bytes(rt.alloc(), text, rate)?.as_slice(), want);
+        assert!(rt; test_bytes(rt.alloc(), text, rate)?.as_slice() == want);
     }
     Ok(())
 }
@@ -73,23 +73,22 @@ fn refusals(rt: HostRuntime) -> Result<(), Fail> {
     for case in cases {
         let (text, wanted, at) = *case;
         let report = test_bytes(rt.alloc(), text, Rate::Kbit125);
-        assert_eq!(rt; refused(report)?, Some((wanted, at)));
+        assert!(rt; refused(report)? == Some((wanted, at)));
     }
     Ok(())
 }
 
 #[test]
 fn statuses(rt: HostRuntime) {
-    assert_eq!(rt; status(&Fault::Usage), 2);
-    assert_eq!(rt;
+    assert!(rt; status(&Fault::Usage) == 2);
+    assert!(rt;
         status(&Fault::Refused {
             number: 5,
             place: 2
-        }),
-        3
+        }) == 3
     );
-    assert_eq!(rt; status(&Fault::File(String::new(rt.alloc()))), 5);
-    assert_eq!(rt; status(&Fault::Memory), 6);
+    assert!(rt; status(&Fault::File(String::new(rt.alloc()))) == 5);
+    assert!(rt; status(&Fault::Memory) == 6);
 }
 
 #[test]
@@ -104,14 +103,14 @@ fn every_prefix_returns(rt: HostRuntime) -> Result<(), Fail> {
 fn large_inputs_are_file_faults(rt: HostRuntime) {
     match read_all(rt.alloc(), io::repeat(b'0')) {
         Ok(_) => assert!(rt; false),
-        Err(error) => assert_eq!(rt; error.kind(), io::ErrorKind::FileTooLarge),
+        Err(error) => assert!(rt; error.kind() == io::ErrorKind::FileTooLarge),
     }
 }
 
 #[test]
 fn inputs_are_read_whole(rt: HostRuntime) -> Result<(), Fail> {
     let table = b"id,bytes,period,jitter,deadline\n".as_slice();
-    assert_eq!(rt; read_all(rt.alloc(), table)?.as_slice(), table);
+    assert!(rt; read_all(rt.alloc(), table)?.as_slice() == table);
     Ok(())
 }
 
@@ -242,11 +241,9 @@ pub(crate) const VALVE_REFUSED: &[u8] =
     b"rate,pdo,what,value\n0,0,version,1\n250,1,late,0\n250,1,busy,1\n250,1,busy,5360\n250,1,queue,1040\n250,1,queue,3200\n";
 
 pub(crate) fn eds_files(alloc: Global, text: &[u8]) -> Result<Vec<(String, Vec<u8>)>, AllocError> {
-    let mut bytes = Vec::new(alloc);
-    bytes.extend_from_slice(text)?;
-    let name = String::from_str(alloc, "unit.eds")?;
     let mut files = Vec::new(alloc);
-    files.push((name, bytes))?;
+    let name = String::from_str(alloc, "unit.eds")?;
+    files.push((name, Vec::from_slice(alloc, text)?))?;
     Ok(files)
 }
 
@@ -284,8 +281,7 @@ fn networks_are_planned(rt: HostRuntime) -> Result<(), Fail> {
     for case in cases {
         let (nodes, pdos, eds, passes, text) = *case;
         let files = planned(rt.alloc(), nodes, pdos, eds)?;
-        assert_eq!(rt; files.planned, passes);
-        assert_eq!(rt; files.plan.as_slice(), text);
+        assert!(rt; files.planned == passes && files.plan.as_slice() == text);
     }
     Ok(())
 }
@@ -299,7 +295,7 @@ fn refusals_of_plans(rt: HostRuntime) -> Result<(), Fail> {
     for case in cases {
         let (nodes, pdos, text) = *case;
         let files = planned(rt.alloc(), nodes, pdos, UNIT)?;
-        assert_eq!(rt; files.refusals.as_slice(), text);
+        assert!(rt; files.refusals.as_slice() == text);
     }
     Ok(())
 }
@@ -319,7 +315,7 @@ fn networks_are_refused(rt: HostRuntime) -> Result<(), Fail> {
     for case in cases {
         let (nodes, pdos, eds, number, place) = *case;
         let files = planned(rt.alloc(), nodes, pdos, eds);
-        assert_eq!(rt; refused(files)?, Some((number, place)));
+        assert!(rt; refused(files)? == Some((number, place)));
     }
     Ok(())
 }
@@ -336,9 +332,8 @@ pub(crate) const TWO_VALVES: &[u8] =
 fn the_valve_has_a_dcf(rt: HostRuntime) -> Result<(), Fail> {
     let files = planned(rt.alloc(), VALVE, ONE_PDO, UNIT)?;
     let dcf = files.dcf.as_slice();
-    assert_eq!(rt; dcf.len(), 1);
-    assert_eq!(rt; dcf[0].name(), "node-005.dcf");
-    assert_eq!(rt; dcf[0].text(), VALVE_DCF);
+    assert!(rt; dcf.len() == 1);
+    assert!(rt; dcf[0].name() == "node-005.dcf" && dcf[0].text() == VALVE_DCF);
     Ok(())
 }
 
@@ -353,9 +348,10 @@ fn dcf_files_stand_by_rising_node(rt: HostRuntime) -> Result<(), Fail> {
         let (nodes, pdos, eds, names) = *case;
         let files = planned(rt.alloc(), nodes, pdos, eds)?;
         let dcf = files.dcf.as_slice();
-        assert_eq!(rt; dcf.len(), names.len());
-        for (at, name) in names.iter().enumerate() {
-            assert_eq!(rt; dcf[at].name(), *name);
+        assert!(rt; dcf.len() == names.len());
+        let mut wanted = names.iter();
+        for file in dcf {
+            assert!(rt; wanted.next() == Some(&file.name()));
         }
     }
     Ok(())
@@ -386,8 +382,7 @@ fn refusals_are_checked(rt: HostRuntime) -> Result<(), Fail> {
     for case in cases {
         let (refusals, text, all) = *case;
         let (lines, hold) = checked(rt.alloc(), refusals)?;
-        assert_eq!(rt; lines.as_slice(), text);
-        assert_eq!(rt; hold, all);
+        assert!(rt; lines.as_slice() == text && hold == all);
     }
     Ok(())
 }
@@ -406,7 +401,7 @@ fn refusal_files_are_refused(rt: HostRuntime) -> Result<(), Fail> {
     for case in cases {
         let (refusals, number, place) = *case;
         let found = checked(rt.alloc(), refusals);
-        assert_eq!(rt; refused(found)?, Some((number, place)));
+        assert!(rt; refused(found)? == Some((number, place)));
     }
     Ok(())
 }
@@ -429,7 +424,7 @@ until,4000,0,,,
 fn a_trace_of_the_valve_is_on_time(rt: HostRuntime) -> Result<(), Fail> {
     let files = eds_files(rt.alloc(), UNIT)?;
     let text = judge_bytes(rt.alloc(), VALVE, ONE_PDO, &files, VALVE_TRACE)?;
-    assert_eq!(rt; text.as_slice(), b"transfers 3\non time\n".as_slice());
+    assert!(rt; text.as_slice() == b"transfers 3\non time\n".as_slice());
     Ok(())
 }
 
@@ -454,7 +449,7 @@ fn traces_are_refused(rt: HostRuntime) -> Result<(), Fail> {
     for case in BROKEN_TRACES {
         let (trace, number, place) = *case;
         let judged = judge_bytes(rt.alloc(), VALVE, ONE_PDO, &files, trace);
-        assert_eq!(rt; refused(judged)?, Some((number, place)));
+        assert!(rt; refused(judged)? == Some((number, place)));
     }
     Ok(())
 }

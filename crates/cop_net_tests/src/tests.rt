@@ -181,14 +181,11 @@ fn the_streams_of_the_valve(rt: HostRuntime) -> Result<(), Fail> {
     let (nodes, pdos, files) = valve(rt.alloc())?;
     let valve = network(rt.alloc(), &nodes, &pdos, &files)?;
     let streams = valve.set().streams();
-    assert_eq!(rt; streams.len(), VALVE_STREAMS.len());
-    for (stream, wanted) in streams.iter().zip(VALVE_STREAMS) {
-        let (id, bytes, period, deadline) = *wanted;
-        assert_eq!(rt;
-            (stream.id, stream.bytes, stream.period),
-            (id, bytes, period)
-        );
-        assert_eq!(rt; (stream.jitter, stream.deadline), (0, deadline));
+    assert!(rt; streams.len() == VALVE_STREAMS.len());
+    let mut wanted = VALVE_STREAMS.iter();
+    for stream in streams {
+        let found = (stream.id, stream.bytes, stream.period, stream.deadline);
+        assert!(rt; wanted.next() == Some(&found) && stream.jitter == 0);
     }
     Ok(())
 }
@@ -202,29 +199,32 @@ fn is_accepted(files: &EdsFiles<'_>, name: &str) -> Option<bool> {
     }
 }
 
+/// The sample device's file, and two that are cut off, of which one has the same name.
+fn three_files(alloc: Global) -> Result<[(String, Vec<u8>); 3], Fail> {
+    let cut = b"[1000";
+    Ok([
+        file(alloc, "unit.eds", text_of(alloc, USUAL)?)?,
+        file(alloc, "other.eds", Vec::from_slice(alloc, cut)?)?,
+        file(alloc, "unit.eds", Vec::from_slice(alloc, cut)?)?,
+    ])
+}
+
 #[test]
 fn a_file_is_read_by_its_name(rt: HostRuntime) -> Result<(), Fail> {
-    let files = [
-        file(rt.alloc(), "unit.eds", text_of(rt.alloc(), USUAL)?)?,
-        file(
-            rt.alloc(),
-            "other.eds",
-            Vec::from_slice(rt.alloc(), b"[1000")?,
-        )?,
-        file(
-            rt.alloc(),
-            "unit.eds",
-            Vec::from_slice(rt.alloc(), b"[1000")?,
-        )?,
-    ];
+    let files = three_files(rt.alloc())?;
     let read = EdsFiles::new(rt.alloc(), &files)?;
-    assert_eq!(rt; is_accepted(&read, "unit.eds"), Some(true));
-    assert_eq!(rt; is_accepted(&read, "other.eds"), Some(false));
-    assert_eq!(rt; is_accepted(&read, "none.eds"), None);
-    let nodes = nodes_of(rt.alloc(), VALVE)?;
-    let pdos = pdos_of(rt.alloc(), "5,1,10000,0,670,\n")?;
+    assert!(rt; is_accepted(&read, "unit.eds") == Some(true));
+    assert!(rt; is_accepted(&read, "other.eds") == Some(false));
+    assert!(rt; is_accepted(&read, "none.eds").is_none());
+    Ok(())
+}
+
+#[test]
+fn a_network_is_made_of_files_that_are_read(rt: HostRuntime) -> Result<(), Fail> {
+    let (nodes, pdos, files) = valve(rt.alloc())?;
+    let read = EdsFiles::new(rt.alloc(), &files)?;
     let valve = network_of_files(rt.alloc(), &nodes, &pdos, &read)?;
-    assert_eq!(rt; valve.pdos(), 1);
+    assert!(rt; valve.pdos() == 1);
     Ok(())
 }
 
@@ -232,11 +232,8 @@ fn a_file_is_read_by_its_name(rt: HostRuntime) -> Result<(), Fail> {
 fn the_tables_of_the_valve(rt: HostRuntime) -> Result<(), Fail> {
     let (nodes, pdos, files) = valve(rt.alloc())?;
     let valve = network(rt.alloc(), &nodes, &pdos, &files)?;
-    assert_eq!(rt;
-        (valve.devices().len(), valve.rows().len(), valve.pdos()),
-        (1, 1, 1)
-    );
-    assert_eq!(rt; (valve.heartbeat(5), valve.heartbeat(6)), (100, 0));
+    assert!(rt; valve.devices().len() == 1 && valve.rows().len() == 1 && valve.pdos() == 1);
+    assert!(rt; valve.heartbeat(5) == 100 && valve.heartbeat(6) == 0);
     assert!(rt; valve.dictionary(5).is_some() && valve.dictionary(6).is_none());
     Ok(())
 }
@@ -245,7 +242,7 @@ fn the_tables_of_the_valve(rt: HostRuntime) -> Result<(), Fail> {
 fn the_rates_of_the_valve(rt: HostRuntime) -> Result<(), Fail> {
     let (nodes, pdos, files) = valve(rt.alloc())?;
     let rates = network(rt.alloc(), &nodes, &pdos, &files)?.rates();
-    assert_eq!(rt; rates.slowest(), Some(Rate::Kbit250));
+    assert!(rt; rates.slowest() == Some(Rate::Kbit250));
     assert!(rt; !rates.contains(Rate::Kbit800));
     Ok(())
 }
@@ -413,25 +410,23 @@ fn refused_networks(rt: HostRuntime) -> Result<(), Fail> {
     for case in REFUSED {
         let (nodes, pdos, parts, refused) = *case;
         let files = [file(rt.alloc(), "unit.eds", text_of(rt.alloc(), parts)?)?];
-        assert_eq!(rt; refused_of(rt.alloc(), nodes, pdos, &files)?, refused);
+        assert!(rt; refused_of(rt.alloc(), nodes, pdos, &files)? == refused);
     }
     Ok(())
 }
 
 #[test]
-fn files_of_one_name(rt: HostRuntime) -> Result<(), Fail> {
-    let alloc = rt.alloc();
-    let broken = Vec::from_slice(alloc, b"[1800su")?;
-    let files = [
-        file(alloc, "unit.eds", text_of(alloc, USUAL)?)?,
-        file(alloc, "unit.eds", broken)?,
-    ];
-    assert_eq!(rt; refused_of(alloc, TWO, "", &files)?, None);
-    let empty = [file(alloc, "unit.eds", Vec::new(alloc))?];
-    assert_eq!(rt;
-        refused_of(alloc, "device,5,First,unit.eds,0,0\n", "", &empty)?,
-        Some((52, Table::Nodes, 0))
-    );
+fn of_files_with_one_name_the_first_counts(rt: HostRuntime) -> Result<(), Fail> {
+    let files = three_files(rt.alloc())?;
+    assert!(rt; refused_of(rt.alloc(), TWO, "", &files)?.is_none());
+    Ok(())
+}
+
+#[test]
+fn an_empty_file_supports_no_rate(rt: HostRuntime) -> Result<(), Fail> {
+    let empty = [file(rt.alloc(), "unit.eds", Vec::new(rt.alloc()))?];
+    let refused = refused_of(rt.alloc(), "device,5,First,unit.eds,0,0\n", "", &empty)?;
+    assert!(rt; refused == Some((52, Table::Nodes, 0)));
     Ok(())
 }
 
@@ -447,47 +442,63 @@ fn rule_of(alloc: Global, files: &[(String, Vec<u8>)]) -> Result<Option<Rule>, F
 }
 
 #[test]
-fn what_refusals_carry(rt: HostRuntime) -> Result<(), Fail> {
-    let alloc = rt.alloc();
-    assert_eq!(rt; rule_of(alloc, &[])?, Some(Rule::Eds(None)));
+fn a_refusal_carries_the_rule_of_the_text(rt: HostRuntime) -> Result<(), Fail> {
+    assert!(rt; rule_of(rt.alloc(), &[])? == Some(Rule::Eds(None)));
     let line = cop_eds::Refusal {
         rule: cop_eds::Rule::Line,
         line: 2,
     };
-    let cut = Vec::from_slice(alloc, b"[A]\n[1800su")?;
-    let cut = [file(alloc, "unit.eds", cut)?];
-    assert_eq!(rt; rule_of(alloc, &cut)?, Some(Rule::Eds(Some(line))));
-    let usual = [file(alloc, "unit.eds", text_of(alloc, USUAL)?)?];
-    let absent = Rule::Transmit(Some(MappingFault::Absent));
-    assert_eq!(rt; rule_of(alloc, &usual)?, Some(absent));
+    let cut = Vec::from_slice(rt.alloc(), b"[A]\n[1800su")?;
+    let files = [file(rt.alloc(), "unit.eds", cut)?];
+    assert!(rt; rule_of(rt.alloc(), &files)? == Some(Rule::Eds(Some(line))));
     Ok(())
 }
 
 #[test]
-fn refused_tables(rt: HostRuntime) -> Result<(), Fail> {
-    let alloc = rt.alloc();
-    let nodes = [
-        ("", (42, Table::Nodes, 0)),
-        ("device,5,First\n", (40, Table::Nodes, 1)),
-        ("device,5,First,unit.eds,1,0\n", (41, Table::Nodes, 1)),
-        ("emcy,5,,,100000,0\n", (42, Table::Nodes, 1)),
-    ];
-    for (rows, refused) in nodes {
-        let text = format!(in alloc; "row,node,name,eds,period,jitter\n{rows}")?;
-        assert_eq!(rt; told(read_nodes(alloc, text.as_bytes()))?, Some(refused));
+fn a_refusal_carries_the_rule_of_the_mapping(rt: HostRuntime) -> Result<(), Fail> {
+    let files = [file(rt.alloc(), "unit.eds", text_of(rt.alloc(), USUAL)?)?];
+    let absent = Rule::Transmit(Some(MappingFault::Absent));
+    assert!(rt; rule_of(rt.alloc(), &files)? == Some(absent));
+    Ok(())
+}
+
+/// Rows of nodes, and the refusal.
+const NODES_REFUSED: &[(&str, Refused)] = &[
+    ("", (42, Table::Nodes, 0)),
+    ("device,5,First\n", (40, Table::Nodes, 1)),
+    ("device,5,First,unit.eds,1,0\n", (41, Table::Nodes, 1)),
+    ("emcy,5,,,100000,0\n", (42, Table::Nodes, 1)),
+];
+
+#[test]
+fn refused_tables_of_nodes(rt: HostRuntime) -> Result<(), Fail> {
+    for case in NODES_REFUSED {
+        let (rows, refused) = *case;
+        let text = format!(in rt.alloc(); "row,node,name,eds,period,jitter\n{rows}")?;
+        assert!(rt; told(read_nodes(rt.alloc(), text.as_bytes()))? == Some(refused));
     }
-    let pdos = [
-        ("5,1,10000,0,670,\n5,1,10000,0,670,\n", (44, Table::Pdos, 2)),
-        ("5,1,10000,0,,\n", (41, Table::Pdos, 1)),
-    ];
-    for (rows, refused) in pdos {
-        let text = format!(in alloc; "node,tpdo,period,jitter,deadline,consumers\n{rows}")?;
-        assert_eq!(rt; told(read_pdos(alloc, text.as_bytes()))?, Some(refused));
+    Ok(())
+}
+
+/// Texts of the table of PDOs, and the refusal.
+const PDOS_REFUSED: &[(&[u8], Refused)] = &[
+    (
+        b"node,tpdo,period,jitter,deadline,consumers\n5,1,10000,0,670,\n5,1,10000,0,670,\n",
+        (44, Table::Pdos, 2),
+    ),
+    (
+        b"node,tpdo,period,jitter,deadline,consumers\n5,1,10000,0,,\n",
+        (41, Table::Pdos, 1),
+    ),
+    (b"node\n", (40, Table::Pdos, 0)),
+];
+
+#[test]
+fn refused_tables_of_pdos(rt: HostRuntime) -> Result<(), Fail> {
+    for case in PDOS_REFUSED {
+        let (text, refused) = *case;
+        assert!(rt; told(read_pdos(rt.alloc(), text))? == Some(refused));
     }
-    assert_eq!(rt;
-        told(read_pdos(alloc, b"node\n"))?,
-        Some((40, Table::Pdos, 0))
-    );
     Ok(())
 }
 
@@ -497,12 +508,9 @@ fn one_pdo_too_many(rt: HostRuntime) -> Result<(), Fail> {
     for tpdo in 1..=512 {
         write!(text, "5,{tpdo},10000,0,670,\n")?;
     }
-    assert_eq!(rt; told(read_pdos(rt.alloc(), text.as_bytes()))?, None);
+    assert!(rt; told(read_pdos(rt.alloc(), text.as_bytes()))? == None);
     text.push_str("6,1,10000,0,670,\n")?;
-    assert_eq!(rt;
-        told(read_pdos(rt.alloc(), text.as_bytes()))?,
-        Some((49, Table::Pdos, 513))
-    );
+    assert!(rt; told(read_pdos(rt.alloc(), text.as_bytes()))? == Some((49, Table::Pdos, 513)));
     Ok(())
 }
 
@@ -513,8 +521,7 @@ fn the_sample_device_sends_eight_bytes(rt: HostRuntime) -> Result<(), Fail> {
     let dict = build(rt.alloc(), &eds, 5)?;
     match payload(&dict, Direction::Transmit, 1) {
         Ok(mapping) => {
-            assert_eq!(rt; mapping.bits(), 64);
-            assert_eq!(rt; mapping.bytes(), 8);
+            assert!(rt; mapping.bits() == 64 && mapping.bytes() == 8);
         }
         Err(_) => assert!(rt; false),
     }

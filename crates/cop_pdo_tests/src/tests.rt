@@ -10,7 +10,8 @@ type Row<'a> = (u16, u8, DataType, Access, &'a [u8]);
 
 fn dictionary(alloc: Global, rows: &[Row<'_>]) -> Result<Dictionary, AllocError> {
     let mut dict = Dictionary::new(alloc);
-    for (index, sub, data_type, access, initial) in rows.iter().copied() {
+    for row in rows {
+        let (index, sub, data_type, access, initial) = *row;
         let description = Description {
             data_type,
             access,
@@ -87,72 +88,68 @@ const FLAG_AND_BYTE: &[Row<'static>] = &[
         &[8, 0, 1, 0x20],
     ),
     (0x2000, 0, DataType::Boolean, Access::ReadWrite, &[1]),
+    (0x2001, 0, DataType::Unsigned8, Access::ReadWrite, &[0xAB]),
 ];
 
-fn device(alloc: Global) -> Result<Dictionary, AllocError> {
-    let mut dict = dictionary(alloc, FLAG_AND_BYTE)?;
-    let byte = Description {
-        data_type: DataType::Unsigned8,
-        access: Access::ReadWrite,
-        is_mappable: true,
-        low: None,
-        high: None,
-    };
-    if dict.entries().iter().all(|e| e.is_before(0x2001, 0)) {
-        dict.push(Object::new(alloc, 0x2001, 0, byte, &[0xAB])?)?;
-    }
-    Ok(dict)
-}
+/// COB-IDs, and what they are switched on with 181h to.
+const SWITCHED_ON: &[(u32, u32)] = &[
+    (0x4000_0185, 0x4000_0181),
+    (0xC000_0185, 0x4000_0181),
+    (0x8000_0185, 0x181),
+];
 
 #[test]
 fn cob_ids(rt: HostRuntime) {
-    assert_eq!(rt; off(0x4000_0185), 0xC000_0185);
-    for (from, to) in [
-        (0x4000_0185, 0x4000_0181),
-        (0xC000_0185, 0x4000_0181),
-        (0x8000_0185, 0x181),
-    ] {
-        assert_eq!(rt; on(from, 0x181), to);
+    for case in SWITCHED_ON {
+        let (from, to) = *case;
+        assert!(rt; on(from, 0x181) == to, "{from}");
     }
+    assert!(rt; off(0x4000_0185) == 0xC000_0185);
     assert!(rt; exists(0x4000_0185) && !exists(0x8000_0185));
 }
 
 #[test]
 fn a_flag_and_a_byte_are_packed(rt: HostRuntime) -> Result<(), Fail> {
-    let dict = device(rt.alloc())?;
+    let dict = dictionary(rt.alloc(), FLAG_AND_BYTE)?;
     let sent = payload(&dict, Direction::Transmit, 1)?;
-    assert_eq!(rt; (sent.bits(), sent.bytes()), (9, 2));
-    assert_eq!(rt; pack(&dict, &sent), ([0x57, 0x01, 0, 0, 0, 0, 0, 0], 2));
+    assert!(rt; sent.bits() == 9 && sent.bytes() == 2);
+    assert!(rt; pack(&dict, &sent) == ([0x57, 0x01, 0, 0, 0, 0, 0, 0], 2));
     Ok(())
 }
 
 #[test]
 fn layouts_are_compared(rt: HostRuntime) -> Result<(), Fail> {
-    let dict = device(rt.alloc())?;
+    let dict = dictionary(rt.alloc(), FLAG_AND_BYTE)?;
     let sent = payload(&dict, Direction::Transmit, 1)?;
     let received = payload(&dict, Direction::Receive, 1)?;
-    assert!(rt; same_layout(&sent, &received));
     let dummy = payload(&dict, Direction::Receive, 2)?;
-    assert!(rt; !same_layout(&sent, &dummy));
+    assert!(rt; same_layout(&sent, &received) && !same_layout(&sent, &dummy));
     Ok(())
+}
+
+/// Whether an entry holds this value.
+fn holds(dict: &Dictionary, index: u16, sub: u8, value: &[u8]) -> bool {
+    match dict.read(index, sub) {
+        Ok(found) => found == value,
+        Err(_) => false,
+    }
 }
 
 #[test]
 fn a_flag_and_a_byte_are_unpacked(rt: HostRuntime) -> Result<(), Fail> {
-    let mut dict = device(rt.alloc())?;
+    let mut dict = dictionary(rt.alloc(), FLAG_AND_BYTE)?;
     let received = payload(&dict, Direction::Receive, 1)?;
     assert!(rt; unpack(&mut dict, &received, &[0x22, 0, 0xFF]).is_ok());
-    assert_eq!(rt; dict.read(0x2000, 0)?, [0].as_slice());
-    assert_eq!(rt; dict.read(0x2001, 0)?, [0x11].as_slice());
+    assert!(rt; holds(&dict, 0x2000, 0, &[0]) && holds(&dict, 0x2001, 0, &[0x11]));
     Ok(())
 }
 
 #[test]
 fn a_body_that_is_too_short(rt: HostRuntime) -> Result<(), Fail> {
-    let mut dict = device(rt.alloc())?;
+    let mut dict = dictionary(rt.alloc(), FLAG_AND_BYTE)?;
     let received = payload(&dict, Direction::Receive, 1)?;
     assert!(rt; unpack(&mut dict, &received, &[0x57]).is_err());
-    assert_eq!(rt; dict.read(0x2001, 0)?, [0xAB].as_slice());
+    assert!(rt; holds(&dict, 0x2001, 0, &[0xAB]));
     Ok(())
 }
 
@@ -175,6 +172,7 @@ const ENTRY: Row<'static> = (
 );
 
 const OBJECT: Row<'static> = (0x2000, 0, DataType::Unsigned8, Access::ReadWrite, &[1]);
+
 /// The rows of a dictionary, and the number of what is refused in it.
 const REFUSED: &[(&[Row<'static>], u8)] = &[
     (&[COUNT, ENTRY, OBJECT], 20),
@@ -199,21 +197,22 @@ const REFUSED: &[(&[Row<'static>], u8)] = &[
     ),
 ];
 
+/// The number of the rule for which the TPDO has no payload.
+fn refused(dict: &Dictionary) -> Option<u8> {
+    match payload(dict, Direction::Transmit, 1) {
+        Ok(_) => None,
+        Err(fault) => Some(refusal_number(fault)),
+    }
+}
+
 #[test]
 fn refused_payloads(rt: HostRuntime) -> Result<(), Fail> {
     for case in REFUSED {
         let (rows, number) = *case;
         let dict = dictionary(rt.alloc(), rows)?;
-        match payload(&dict, Direction::Transmit, 1) {
-            Ok(_) => assert!(rt; false),
-            Err(fault) => assert_eq!(rt; refusal_number(fault), number),
-        }
-        assert!(rt;
-            matches!(
-                payload(&dict, Direction::Receive, 1),
-                Err(MappingFault::Absent)
-            )
-        );
+        assert!(rt; refused(&dict) == Some(number), "rule {number}");
+        let received = payload(&dict, Direction::Receive, 1);
+        assert!(rt; matches!(received, Err(MappingFault::Absent)));
     }
     Ok(())
 }

@@ -1,9 +1,12 @@
 //! A network, and its report.
 
-use cop_net::{network, read_nodes, read_pdos};
+ghost use Rattle.std.specs.Prelude.{length};
+ghost use Rattle.cop_plan.specs.Plans.{IsOutcome};
+
+use cop_net::{Network, NodeTable, PdoTable, network, read_nodes, read_pdos};
 use cop_plan::{Outcome, Plan, plan};
-use cop_report::{Figures, Input, Report, figures_of, page_of, timeline_of};
-use std::alloc::Global;
+use cop_report::{Figures, Input, Report, Timeline, figures_of, page_of, timeline_of};
+use std::alloc::{AllocError, Global};
 use std::test::Fail;
 
 /// A device that sends one PDO of 64 bits and has another that no row uses.
@@ -85,41 +88,81 @@ fn eds_files(alloc: Global) -> Result<Vec<(String, Vec<u8>)>, Fail> {
     Ok(files)
 }
 
+/// The tables of the network.
+fn tables(alloc: Global, pdos: &str) -> Result<(NodeTable, PdoTable), Fail> {
+    let nodes = read_nodes(alloc, NODES.as_bytes())?;
+    Ok((nodes, read_pdos(alloc, pdos.as_bytes())?))
+}
+
+/// The bus over time, where there are a plan and a trace.
+fn timeline(
+    alloc: Global,
+    outcome: &Outcome,
+    trace: Option<&str>,
+) -> Result<Option<Timeline>, Fail> {
+    match (outcome, trace) {
+        (Outcome::Planned(plan), Some(trace)) => {
+            Ok(Some(timeline_of(alloc, plan, trace.as_bytes())?))
+        }
+        _ => Ok(None),
+    }
+}
+
+/// The file that the page names.
+const INPUTS: &[Input<'static>] = &[Input {
+    name: "a<b>&\"c\".csv",
+    size: 117,
+}];
+
+/// The page of a report.
+fn page<'a>(
+    alloc: Global,
+    network: &'a Network<'_>,
+    outcome: &'a Outcome,
+    figures: &'a Figures,
+    timeline: Option<&'a Timeline>,
+) -> Result<String, AllocError>
+    requires { IsOutcome network.now.equipment.rates network.now.set (length network.now.rows) outcome.now }
+{
+    page_of(
+        alloc,
+        Report {
+            network,
+            outcome,
+            figures,
+            timeline,
+            inputs: INPUTS,
+        },
+    )
+}
+
+/// The numbers of what came of a network, and its page.
+fn told(
+    alloc: Global,
+    network: &Network<'_>,
+    outcome: &Outcome,
+    trace: Option<&str>,
+) -> Result<(Figures, String), Fail>
+    requires { IsOutcome network.now.equipment.rates network.now.set (length network.now.rows) outcome.now }
+{
+    let figures = figures_of(alloc, network, outcome)?;
+    let timeline = timeline(alloc, outcome, trace)?;
+    let page = page(alloc, network, outcome, &figures, timeline.as_ref())?;
+    Ok((figures, page))
+}
+
 /// The numbers of the network and its page, with the bus over time where there is a trace.
 pub fn report(alloc: Global, pdos: &str, trace: Option<&str>) -> Result<(Figures, String), Fail> {
-    let nodes = read_nodes(alloc, NODES.as_bytes())?;
-    let pdos = read_pdos(alloc, pdos.as_bytes())?;
+    let (nodes, pdos) = tables(alloc, pdos)?;
     let files = eds_files(alloc)?;
     let network = network(alloc, &nodes, &pdos, &files)?;
     let outcome = plan(alloc, &network)?;
-    let figures = figures_of(alloc, &network, &outcome)?;
-    let timeline = match (&outcome, trace) {
-        (Outcome::Planned(plan), Some(trace)) => {
-            Some(timeline_of(alloc, plan, trace.as_bytes())?)
-        }
-        _ => None,
-    };
-    let inputs = [Input {
-        name: "a<b>&\"c\".csv",
-        size: 117,
-    }];
-    let page = page_of(
-        alloc,
-        Report {
-            network: &network,
-            outcome: &outcome,
-            figures: &figures,
-            timeline: timeline.as_ref(),
-            inputs: &inputs,
-        },
-    )?;
-    Ok((figures, page))
+    told(alloc, &network, &outcome, trace)
 }
 
 /// The plan of the network.
 pub fn planned(alloc: Global) -> Result<Plan, Fail> {
-    let nodes = read_nodes(alloc, NODES.as_bytes())?;
-    let pdos = read_pdos(alloc, PDOS.as_bytes())?;
+    let (nodes, pdos) = tables(alloc, PDOS)?;
     let files = eds_files(alloc)?;
     let network = network(alloc, &nodes, &pdos, &files)?;
     match plan(alloc, &network)? {

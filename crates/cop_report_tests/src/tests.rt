@@ -15,11 +15,9 @@ const ESCAPED: &[(&str, &str)] = &[
 
 #[test]
 fn no_text_is_markup(rt: HostRuntime) -> Result<(), Fail> {
-    for (text, wanted) in ESCAPED {
-        assert_eq!(rt;
-            format!(in rt.alloc(); "{}", Escaped(text))?.as_str(),
-            *wanted
-        );
+    for case in ESCAPED {
+        let (text, wanted) = *case;
+        assert!(rt; format!(in rt.alloc(); "{}", Escaped(text))?.as_str() == wanted);
     }
     Ok(())
 }
@@ -35,29 +33,18 @@ const TIMES: &[(u64, &str)] = &[
 
 #[test]
 fn ticks_are_microseconds(rt: HostRuntime) -> Result<(), Fail> {
-    for (ticks, wanted) in TIMES {
-        assert_eq!(rt;
-            format!(in rt.alloc(); "{}", Micros(*ticks))?.as_str(),
-            *wanted
-        );
+    for case in TIMES {
+        let (ticks, wanted) = *case;
+        assert!(rt; format!(in rt.alloc(); "{}", Micros(ticks))?.as_str() == wanted);
     }
     Ok(())
 }
 
 #[test]
 fn numbers_are_shown(rt: HostRuntime) -> Result<(), Fail> {
-    assert_eq!(rt;
-        format!(in rt.alloc(); "{}", Percent(27000000))?.as_str(),
-        "2.7 %"
-    );
-    assert_eq!(rt;
-        format!(in rt.alloc(); "{}", Percent(1000000001))?.as_str(),
-        "100.1 %"
-    );
-    assert_eq!(rt;
-        format!(in rt.alloc(); "{}", Identifier(0x181))?.as_str(),
-        "181h"
-    );
+    assert!(rt; format!(in rt.alloc(); "{}", Percent(27000000))?.as_str() == "2.7 %");
+    assert!(rt; format!(in rt.alloc(); "{}", Percent(1000000001))?.as_str() == "100.1 %");
+    assert!(rt; format!(in rt.alloc(); "{}", Identifier(0x181))?.as_str() == "181h");
     Ok(())
 }
 
@@ -66,23 +53,26 @@ fn numbers_are_shown(rt: HostRuntime) -> Result<(), Fail> {
 #[test]
 fn the_numbers_are_the_plans(rt: HostRuntime) -> Result<(), Fail> {
     let (figures, _page) = report(rt.alloc(), PDOS, None)?;
-    assert_eq!(rt; figures.rate, Some(Rate::Kbit500));
+    assert!(rt; figures.rate == Some(Rate::Kbit500) && figures.pdos.len() == 1);
     for times in figures.pdos.iter() {
-        assert_eq!(rt;
-            (times.pdo, times.stream.id, times.response),
-            (0, 0x181, 2680)
-        );
+        assert!(rt; times.pdo == 0 && times.stream.id == 0x181 && times.response == 2680);
     }
+    Ok(())
+}
+
+/// At 250 kbit/s the same 335 bits take twice the time.
+#[test]
+fn the_refused_rates_are_the_plans(rt: HostRuntime) -> Result<(), Fail> {
+    let (figures, _page) = report(rt.alloc(), PDOS, None)?;
+    let late = Verdict::Late {
+        q: 0,
+        response: 5360,
+    };
+    assert!(rt; figures.refused.len() == 1);
     for refused in figures.refused.iter() {
-        assert_eq!(rt; refused.rate, Rate::Kbit250);
+        assert!(rt; refused.rate == Rate::Kbit250 && refused.members.as_slice().len() == 1);
         for member in refused.members.as_slice() {
-            assert_eq!(rt;
-                member.verdict,
-                Verdict::Late {
-                    q: 0,
-                    response: 5360
-                }
-            );
+            assert!(rt; member.verdict == late);
         }
     }
     Ok(())
@@ -97,9 +87,10 @@ const LOADS: &[(Rate, u64, u64)] = &[
 #[test]
 fn the_loads_are_those_of_the_tables(rt: HostRuntime) -> Result<(), Fail> {
     let (figures, _page) = report(rt.alloc(), PDOS, None)?;
-    assert_eq!(rt; figures.loads.len(), LOADS.len());
-    for (load, wanted) in figures.loads.iter().zip(LOADS) {
-        assert_eq!(rt; (load.rate, load.pdos, load.fixed), *wanted);
+    assert!(rt; figures.loads.len() == LOADS.len());
+    let mut wanted = LOADS.iter();
+    for load in figures.loads.iter() {
+        assert!(rt; wanted.next() == Some(&(load.rate, load.pdos, load.fixed)));
     }
     Ok(())
 }
@@ -129,10 +120,8 @@ fn the_page_says_the_plan(rt: HostRuntime) -> Result<(), Fail> {
 #[test]
 fn the_page_says_that_no_rate_passes(rt: HostRuntime) -> Result<(), Fail> {
     let (figures, page) = report(rt.alloc(), STRICT, None)?;
-    assert_eq!(rt;
-        (figures.rate, figures.pdos.len(), figures.refused.len()),
-        (None, 0, 2)
-    );
+    assert!(rt; figures.rate.is_none() && figures.pdos.is_empty());
+    assert!(rt; figures.refused.len() == 2);
     assert!(rt; page.contains("no rate passes"));
     assert!(rt;
         page.contains(

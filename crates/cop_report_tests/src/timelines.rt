@@ -37,14 +37,13 @@ const TRANSFERS: &[Transfer] = &[
 fn the_timeline_is_that_of_the_trace(rt: HostRuntime) -> Result<(), Fail> {
     let plan = planned(rt.alloc())?;
     let timeline = timeline_of(rt.alloc(), &plan, TRACE.as_bytes())?;
-    assert_eq!(rt;
-        (timeline.until, timeline.ended, timeline.late),
-        (4000, 2, None)
-    );
-    assert_eq!(rt; timeline.lanes.len(), 2);
-    for (lane, transfer) in timeline.lanes.iter().zip(TRANSFERS) {
-        assert_eq!(rt; lane.id, transfer.id);
-        assert_eq!(rt; lane.transfers.as_slice(), [*transfer].as_slice());
+    assert!(rt; timeline.until == 4000 && timeline.ended == 2 && timeline.late.is_none());
+    assert!(rt; timeline.lanes.len() == 2);
+    let mut wanted = TRANSFERS.iter();
+    for lane in timeline.lanes.iter() {
+        let shown = lane.transfers.as_slice();
+        assert!(rt; shown.len() == 1 && shown.first() == wanted.next());
+        assert!(rt; shown.first().is_some_and(|transfer| transfer.id == lane.id));
     }
     Ok(())
 }
@@ -78,10 +77,8 @@ const REFUSED: &[(&str, BusFault)] = &[
 fn traces_are_refused(rt: HostRuntime) -> Result<(), Fail> {
     let plan = planned(rt.alloc())?;
     for (trace, fault) in REFUSED {
-        assert_eq!(rt;
-            timeline_of(rt.alloc(), &plan, trace.as_bytes()).err(),
-            Some(*fault)
-        );
+        let found = timeline_of(rt.alloc(), &plan, trace.as_bytes()).err();
+        assert_eq!(rt; found, Some(*fault));
     }
     Ok(())
 }
@@ -103,8 +100,8 @@ fn the_page_shows_the_bus_over_time(rt: HostRuntime) -> Result<(), Fail> {
     for said in SAID {
         assert!(rt; page.contains(*said), "{said}");
     }
-    assert_eq!(rt; page.matches("class=\"sends\"").count(), 2);
-    assert_eq!(rt; page.matches("class=\"waits\"").count(), 1);
+    assert!(rt; page.matches("class=\"sends\"").count() == 2);
+    assert!(rt; page.matches("class=\"waits\"").count() == 1);
     assert!(rt; !page.contains("Only the first"));
     Ok(())
 }
@@ -146,7 +143,7 @@ fn long_trace(alloc: Global, transfers: u16) -> Result<String, AllocError> {
 fn a_long_trace_is_cut(rt: HostRuntime) -> Result<(), Fail> {
     let trace = long_trace(rt.alloc(), 5001)?;
     let (_figures, page) = report(rt.alloc(), PDOS, Some(trace.as_str()))?;
-    assert_eq!(rt; page.matches("class=\"sends\"").count(), MOST_SHOWN);
+    assert!(rt; page.matches("class=\"sends\"").count() == MOST_SHOWN);
     assert!(rt; page.contains("In it 5001 transfers came to an end."));
     assert!(rt; page.contains("Only the first 5000 transfers are drawn"));
     Ok(())

@@ -1,13 +1,12 @@
 //! Each first byte to a client in each state: what comes of it, and the bytes that it has then.
 
-use crate::tests::{asks, says};
+use crate::tests::{asks, is_joined, says};
 use cop_frame::Frame;
 use cop_sdo::{Client, ClientFault, Progress};
 use std::alloc::Global;
-use std::test::Fail;
 
 /// What the client awaits, with what the next answer has to keep.
-#[derive(Clone, Copy, Debug)]
+#[derive(Clone, Copy)]
 enum Task {
     Idle,
     Giving,
@@ -27,6 +26,7 @@ enum Call {
 
 // A state, and what brings an idle client into it: a call, and answers in turn.
 struct State {
+    name: &'static str,
     call: Call,
     answers: &'static [[u8; 8]],
     task: Task,
@@ -52,8 +52,9 @@ const TEN_BYTES: [u8; 8] = [0x41, 0, 0x20, 0, 10, 0, 0, 0];
 
 const SEVEN: [u8; 8] = [0, 1, 2, 3, 4, 5, 6, 7];
 
-const STATES: [State; 11] = [
+const STATES: &[State] = &[
     State {
+        name: "idle",
         call: Call::Nothing,
         answers: &[],
         task: Task::Idle,
@@ -61,18 +62,21 @@ const STATES: [State; 11] = [
     },
     // a download with its bytes, and one in segments: its initiate, two segments and the last
     State {
+        name: "one byte is sent",
         call: Call::Download(&[1]),
         answers: &[],
         task: Task::Giving,
         bytes: b"",
     },
     State {
+        name: "a download is asked for",
         call: Call::Download(VALUE),
         answers: &[],
         task: Task::Beginning,
         bytes: VALUE,
     },
     State {
+        name: "the first segment is sent",
         call: Call::Download(VALUE),
         answers: &[CONFIRMED],
         task: Task::Sending {
@@ -82,6 +86,7 @@ const STATES: [State; 11] = [
         bytes: VALUE,
     },
     State {
+        name: "the second segment is sent",
         call: Call::Download(VALUE),
         answers: &[CONFIRMED, CONFIRMED_EVEN],
         task: Task::Sending {
@@ -91,6 +96,7 @@ const STATES: [State; 11] = [
         bytes: VALUE,
     },
     State {
+        name: "the last segment is sent",
         call: Call::Download(VALUE),
         answers: &[CONFIRMED, CONFIRMED_EVEN, CONFIRMED_ODD],
         task: Task::Sending {
@@ -101,12 +107,14 @@ const STATES: [State; 11] = [
     },
     // an upload: its initiate, and segments of 5 bytes, of 10, and of no stated size
     State {
+        name: "an upload is asked for",
         call: Call::Upload,
         answers: &[],
         task: Task::Asking,
         bytes: b"",
     },
     State {
+        name: "5 bytes are awaited",
         call: Call::Upload,
         answers: &[[0x41, 0, 0x20, 0, 5, 0, 0, 0]],
         task: Task::Receiving {
@@ -116,6 +124,7 @@ const STATES: [State; 11] = [
         bytes: b"",
     },
     State {
+        name: "10 bytes are awaited, 7 are there",
         call: Call::Upload,
         answers: &[TEN_BYTES, SEVEN],
         task: Task::Receiving {
@@ -125,6 +134,7 @@ const STATES: [State; 11] = [
         bytes: &[1, 2, 3, 4, 5, 6, 7],
     },
     State {
+        name: "bytes of no stated size are awaited",
         call: Call::Upload,
         answers: &[[0x40, 0, 0x20, 0, 0, 0, 0, 0]],
         task: Task::Receiving {
@@ -134,6 +144,7 @@ const STATES: [State; 11] = [
         bytes: b"",
     },
     State {
+        name: "bytes of no stated size are awaited, 7 are there",
         call: Call::Upload,
         answers: &[[0x40, 0, 0x20, 0, 0, 0, 0, 0], SEVEN],
         task: Task::Receiving {
@@ -249,11 +260,6 @@ fn due<'a>(state: &State, body: &'a [u8; 8]) -> After<'a> {
     }
 }
 
-// Whether bytes are two parts, one behind the other.
-fn is_joined(all: &[u8], front: &[u8], back: &[u8]) -> bool {
-    all.len() == front.len() + back.len() && all.starts_with(front) && all.ends_with(back)
-}
-
 fn has_taken(client: &Client, bytes: (&[u8], &[u8])) -> bool {
     is_joined(client.taken(), bytes.0, bytes.1)
 }
@@ -284,28 +290,37 @@ fn does_what_is_due(alloc: Global, state: &State, body: &[u8; 8]) -> Result<bool
     Ok(is_there && progress == after.progress && has_taken(&client, after.bytes))
 }
 
-// Whether a client in a state ignores frames of fewer bytes, and from another node.
+// Whether a client ignores a frame from another node, and frames of fewer bytes.
+fn ignores_each(client: &mut Client, body: &[u8; 8]) -> bool {
+    if client.step(&Frame::new(0x586, body)) != Progress::Ignored {
+        return false;
+    }
+    for len in 0..8usize {
+        if client.step(&Frame::new(0x585, &body[..len])) != Progress::Ignored {
+            return false;
+        }
+    }
+    true
+}
+
+// Whether a client in a state ignores such frames, and has the same bytes then.
 fn ignores(alloc: Global, state: &State, body: &[u8; 8]) -> Result<bool, ClientFault> {
     let mut client = brought_to(alloc, state)?;
-    let mut is_silent = client.step(&Frame::new(0x586, body)) == Progress::Ignored;
-    for len in 0..8usize {
-        let progress = client.step(&Frame::new(0x585, &body[..len]));
-        is_silent = is_silent && progress == Progress::Ignored;
-    }
-    Ok(is_silent && has_taken(&client, (state.bytes, b"")))
+    Ok(ignores_each(&mut client, body) && has_taken(&client, (state.bytes, b"")))
 }
 
 // The address of the transfer, another index, and another sub.
-const ADDRESSES: [[u8; 3]; 3] = [[0, 0x20, 0], [1, 0x20, 0], [0, 0x20, 1]];
+const ADDRESSES: &[[u8; 3]] = &[[0, 0x20, 0], [1, 0x20, 0], [0, 0x20, 1]];
 
 #[test]
-fn each_first_byte_in_each_state(rt: HostRuntime) -> Result<(), Fail> {
-    for state in &STATES {
-        for [low, high, sub] in ADDRESSES {
+fn each_first_byte_in_each_state(rt: HostRuntime) -> Result<(), ClientFault> {
+    for state in STATES {
+        for address in ADDRESSES {
+            let [low, high, sub] = *address;
             for first in 0..=255u8 {
                 let body = [first, low, high, sub, 0x13, 0, 7, 6];
                 let is_due = does_what_is_due(rt.alloc(), state, &body)?;
-                assert!(rt; is_due, "{first} to {:?}", state.task);
+                assert!(rt; is_due, "{first} where {}", state.name);
             }
         }
     }
@@ -313,11 +328,11 @@ fn each_first_byte_in_each_state(rt: HostRuntime) -> Result<(), Fail> {
 }
 
 #[test]
-fn other_frames_in_each_state(rt: HostRuntime) -> Result<(), Fail> {
-    for state in &STATES {
+fn other_frames_in_each_state(rt: HostRuntime) -> Result<(), ClientFault> {
+    for state in STATES {
         for first in 0..=255u8 {
             let is_ignored = ignores(rt.alloc(), state, &[first, 0, 0x20, 0, 2, 0, 0, 0])?;
-            assert!(rt; is_ignored, "{first} to {:?}", state.task);
+            assert!(rt; is_ignored, "{first} where {}", state.name);
         }
     }
     Ok(())

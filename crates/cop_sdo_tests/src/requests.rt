@@ -1,21 +1,20 @@
 //! Each first byte to a server in each state: the answer, and the values after it.
 
-use crate::tests::{DEVICE, asks, dictionary, says};
+use crate::tests::{DEVICE, asks, dictionary, is_joined, says};
 use cop_dict::Dictionary;
 use cop_frame::Frame;
 use cop_sdo::Server;
 use std::alloc::{AllocError, Global};
-use std::test::Fail;
 
 /// An object's index and sub.
-#[derive(Clone, Copy, Debug)]
+#[derive(Clone, Copy)]
 struct Address {
     index: u16,
     sub: u8,
 }
 
 /// The transfer that runs, with what its next segment has to keep.
-#[derive(Clone, Copy, Debug)]
+#[derive(Clone, Copy)]
 enum Transfer {
     Idle,
     Download {
@@ -62,7 +61,7 @@ struct Target {
     value: &'static [u8],
 }
 
-const TARGETS: [Target; 5] = [
+const TARGETS: &[Target] = &[
     Target {
         at: TEXT,
         kind: Kind::Text,
@@ -98,6 +97,7 @@ const TARGETS: [Target; 5] = [
 
 // A state, and the requests that bring an idle server into it.
 struct State {
+    name: &'static str,
     requests: &'static [[u8; 8]],
     transfer: Transfer,
     bytes: &'static [u8],
@@ -109,14 +109,16 @@ const SEVEN_MORE: [u8; 8] = [0x10, 8, 9, 10, 11, 12, 13, 14];
 
 const ASK: [u8; 8] = [0x40, 1, 0x20, 0, 0, 0, 0, 0];
 
-const STATES: [State; 7] = [
+const STATES: &[State] = &[
     State {
+        name: "idle",
         requests: &[],
         transfer: Transfer::Idle,
         bytes: b"",
     },
     // a download of no stated size, of 5 bytes, of 10 after toggle 0, and of 17 after toggle 1
     State {
+        name: "a download of no stated size",
         requests: &[[0x20, 0, 0x20, 0, 0, 0, 0, 0]],
         transfer: Transfer::Download {
             at: TEXT,
@@ -126,6 +128,7 @@ const STATES: [State; 7] = [
         bytes: b"",
     },
     State {
+        name: "a download of 5 bytes",
         requests: &[[0x21, 0, 0x20, 0, 5, 0, 0, 0]],
         transfer: Transfer::Download {
             at: TEXT,
@@ -135,6 +138,7 @@ const STATES: [State; 7] = [
         bytes: b"",
     },
     State {
+        name: "a download of 10 bytes, after toggle 0",
         requests: &[[0x21, 0, 0x20, 0, 10, 0, 0, 0], SEVEN],
         transfer: Transfer::Download {
             at: TEXT,
@@ -144,6 +148,7 @@ const STATES: [State; 7] = [
         bytes: &[1, 2, 3, 4, 5, 6, 7],
     },
     State {
+        name: "a download of 17 bytes, after toggle 1",
         requests: &[[0x21, 0, 0x20, 0, 17, 0, 0, 0], SEVEN, SEVEN_MORE],
         transfer: Transfer::Download {
             at: TEXT,
@@ -154,6 +159,7 @@ const STATES: [State; 7] = [
     },
     // an upload of 10 bytes, and after its first segment
     State {
+        name: "an upload",
         requests: &[ASK],
         transfer: Transfer::Upload {
             at: TEN_BYTES,
@@ -162,6 +168,7 @@ const STATES: [State; 7] = [
         bytes: b"ten bytes!",
     },
     State {
+        name: "an upload, after its first segment",
         requests: &[ASK, [0x60, 0, 0, 0, 0, 0, 0, 0]],
         transfer: Transfer::Upload {
             at: TEN_BYTES,
@@ -297,11 +304,6 @@ fn due<'a>(state: &State, target: &Target, body: &'a [u8; 8]) -> After<'a> {
     }
 }
 
-// Whether bytes are two parts, one behind the other.
-fn is_joined(all: &[u8], front: &[u8], back: &[u8]) -> bool {
-    all.len() == front.len() + back.len() && all.starts_with(front) && all.ends_with(back)
-}
-
 fn body_of(first: u8, target: &Target) -> [u8; 8] {
     let [low, high] = target.at.index.to_le_bytes();
     [first, low, high, target.at.sub, 2, 0, 0, 0]
@@ -343,31 +345,38 @@ fn does_what_is_due(
     Ok(answer == after.answer.map(says) && is_written(&dict, &before, after.written))
 }
 
-// Whether a server in a state ignores frames of fewer bytes, and to another node.
-fn ignores(alloc: Global, state: &State, first: u8) -> Result<bool, AllocError> {
+// Whether a server ignores a frame to another node, and frames of fewer bytes.
+fn ignores_each(server: &mut Server, dict: &mut Dictionary, body: &[u8; 8]) -> bool {
+    if server.step(dict, &Frame::new(0x606, body)).is_some() {
+        return false;
+    }
+    for len in 0..8usize {
+        if server
+            .step(dict, &Frame::new(0x605, &body[..len]))
+            .is_some()
+        {
+            return false;
+        }
+    }
+    true
+}
+
+// Whether a server in a state ignores such frames, and leaves all values.
+fn ignores(alloc: Global, state: &State, body: &[u8; 8]) -> Result<bool, AllocError> {
     let before = dictionary(alloc, DEVICE)?;
     let mut dict = dictionary(alloc, DEVICE)?;
     let mut server = brought_to(alloc, &mut dict, state);
-    let body = [first, 0, 0x20, 0, 2, 0, 0, 0];
-    let mut is_silent = server.step(&mut dict, &Frame::new(0x606, &body)).is_none();
-    for len in 0..8usize {
-        let answer = server.step(&mut dict, &Frame::new(0x605, &body[..len]));
-        is_silent = is_silent && answer.is_none();
-    }
-    Ok(is_silent && is_written(&dict, &before, None))
+    Ok(ignores_each(&mut server, &mut dict, body) && is_written(&dict, &before, None))
 }
 
 #[test]
-fn each_first_byte_in_each_state(rt: HostRuntime) -> Result<(), Fail> {
-    for state in &STATES {
-        for target in &TARGETS {
+fn each_first_byte_in_each_state(rt: HostRuntime) -> Result<(), AllocError> {
+    for state in STATES {
+        for target in TARGETS {
             for first in 0..=255u8 {
                 let is_due = does_what_is_due(rt.alloc(), state, target, first)?;
-                assert!(rt;
-                    is_due,
-                    "{first} to {:?} at {:?}",
-                    state.transfer, target.at
-                );
+                let index = target.at.index;
+                assert!(rt; is_due, "{first} to {index} in {}", state.name);
             }
         }
     }
@@ -375,11 +384,11 @@ fn each_first_byte_in_each_state(rt: HostRuntime) -> Result<(), Fail> {
 }
 
 #[test]
-fn other_frames_in_each_state(rt: HostRuntime) -> Result<(), Fail> {
-    for state in &STATES {
+fn other_frames_in_each_state(rt: HostRuntime) -> Result<(), AllocError> {
+    for state in STATES {
         for first in 0..=255u8 {
-            let is_ignored = ignores(rt.alloc(), state, first)?;
-            assert!(rt; is_ignored, "{first} to {:?}", state.transfer);
+            let is_ignored = ignores(rt.alloc(), state, &[first, 0, 0x20, 0, 2, 0, 0, 0])?;
+            assert!(rt; is_ignored, "{first} in {}", state.name);
         }
     }
     Ok(())

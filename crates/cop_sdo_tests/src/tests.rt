@@ -2,27 +2,33 @@ use cop_dict::{Access, DataType, Description, Dictionary, Object};
 use cop_frame::Frame;
 use cop_sdo::{Client, ClientFault, Progress, Server, serve};
 use std::alloc::{AllocError, Global};
-use std::test::Fail;
 
 // An entry of a dictionary: its address, type, access, and initial value.
 pub type Row<'a> = (u16, u8, DataType, Access, &'a [u8]);
 
 pub fn dictionary(alloc: Global, rows: &[Row<'_>]) -> Result<Dictionary, AllocError> {
     let mut dict = Dictionary::new(alloc);
-    for (index, sub, data_type, access, initial) in rows.iter().copied() {
-        let description = Description {
-            data_type,
-            access,
-            is_mappable: false,
-            low: None,
-            high: None,
-        };
-        let fits = data_type.width().is_none_or(|width| width == initial.len());
-        if fits && dict.entries().iter().all(|e| e.is_before(index, sub)) {
-            dict.push(Object::new(alloc, index, sub, description, initial)?)?;
-        }
+    for row in rows {
+        push(alloc, &mut dict, row)?;
     }
     Ok(dict)
+}
+
+// An entry behind those of a dictionary, where it is of its type's width and they are before it.
+fn push(alloc: Global, dict: &mut Dictionary, row: &Row<'_>) -> Result<(), AllocError> {
+    let (index, sub, data_type, access, initial) = *row;
+    let description = Description {
+        data_type,
+        access,
+        is_mappable: false,
+        low: None,
+        high: None,
+    };
+    let fits = data_type.width().is_none_or(|width| width == initial.len());
+    if fits && dict.entries().iter().all(|e| e.is_before(index, sub)) {
+        dict.push(Object::new(alloc, index, sub, description, initial)?)?;
+    }
+    Ok(())
 }
 
 pub const DEVICE: &[Row<'static>] = &[
@@ -62,15 +68,29 @@ pub fn says(body: [u8; 8]) -> Frame {
     Frame::new(0x585, &body)
 }
 
+// Whether bytes are two parts, one behind the other.
+pub fn is_joined(all: &[u8], front: &[u8], back: &[u8]) -> bool {
+    all.len() == front.len() + back.len() && all.starts_with(front) && all.ends_with(back)
+}
+
 // A request, and what the server answers.
 type Exchange = ([u8; 8], Option<[u8; 8]>);
 
 // The first place where an idle server of node 5 answers requests in turn otherwise.
 fn first_other(alloc: Global, dict: &mut Dictionary, rows: &[Exchange]) -> Option<usize> {
     let mut server = Server::new(alloc, 5);
-    rows.iter().position(|(request, answer)| {
-        server.step(dict, &asks(*request)) != answer.map(says)
-    })
+    for place in 0..rows.len() {
+        let (request, answer) = rows[place];
+        if server.step(dict, &asks(request)) != answer.map(says) {
+            return Some(place);
+        }
+    }
+    None
+}
+
+// Whether this value is stored at sub 0 of an index.
+fn holds(dict: &Dictionary, index: u16, value: &[u8]) -> bool {
+    dict.read(index, 0) == Ok(value)
 }
 
 const UPLOADS: &[Exchange] = &[
@@ -235,23 +255,24 @@ const DOWNLOADS: &[Exchange] = &[
 ];
 
 #[test]
-fn uploads(rt: HostRuntime) -> Result<(), Fail> {
+fn uploads(rt: HostRuntime) -> Result<(), AllocError> {
     let mut dict = dictionary(rt.alloc(), DEVICE)?;
-    assert_eq!(rt; first_other(rt.alloc(), &mut dict, UPLOADS), None);
+    let other = first_other(rt.alloc(), &mut dict, UPLOADS);
+    assert!(rt; other.is_none(), "{other:?}");
     Ok(())
 }
 
 #[test]
-fn downloads(rt: HostRuntime) -> Result<(), Fail> {
+fn downloads(rt: HostRuntime) -> Result<(), AllocError> {
     let mut dict = dictionary(rt.alloc(), DEVICE)?;
-    assert_eq!(rt; first_other(rt.alloc(), &mut dict, DOWNLOADS), None);
-    assert_eq!(rt; dict.read(0x2000, 0)?, b"".as_slice());
-    assert_eq!(rt; dict.read(0x1017, 0)?, [0x64, 0].as_slice());
+    let other = first_other(rt.alloc(), &mut dict, DOWNLOADS);
+    assert!(rt; other.is_none(), "{other:?}");
+    assert!(rt; holds(&dict, 0x2000, b"") && holds(&dict, 0x1017, &[0x64, 0]));
     Ok(())
 }
 
 #[test]
-fn ten_bytes_in_segments(rt: HostRuntime) -> Result<(), Fail> {
+fn ten_bytes_in_segments(rt: HostRuntime) -> Result<(), AllocError> {
     let mut dict = dictionary(rt.alloc(), DEVICE)?;
     let mut server = Server::new(rt.alloc(), 5);
     let frames = [
@@ -266,11 +287,8 @@ fn ten_bytes_in_segments(rt: HostRuntime) -> Result<(), Fail> {
         says([0x20, 0, 0, 0, 0, 0, 0, 0]),
         says([0x30, 0, 0, 0, 0, 0, 0, 0]),
     ];
-    assert_eq!(rt; given.as_slice(), wanted.as_slice());
-    assert_eq!(rt;
-        dict.read(0x2000, 0)?,
-        [1, 2, 3, 4, 5, 6, 7, 8, 9, 10].as_slice()
-    );
+    assert!(rt; given.as_slice() == wanted.as_slice());
+    assert!(rt; holds(&dict, 0x2000, &[1, 2, 3, 4, 5, 6, 7, 8, 9, 10]));
     Ok(())
 }
 
@@ -289,67 +307,98 @@ fn play(client: &mut Client, server: &mut Server, dict: &mut Dictionary, first: 
     Progress::Ignored
 }
 
+// How a download to sub 0 of an index ends; one for which the client gets no memory is aborted.
+fn give(
+    client: &mut Client,
+    server: &mut Server,
+    dict: &mut Dictionary,
+    index: u16,
+    value: &[u8],
+) -> Progress {
+    match client.download(index, 0, value) {
+        Ok(first) => play(client, server, dict, first),
+        Err(ClientFault::Memory) => Progress::Aborted(0x0504_0005),
+        Err(_) => Progress::Ignored,
+    }
+}
+
+// How an upload of sub 0 of an index ends.
+fn take(client: &mut Client, server: &mut Server, dict: &mut Dictionary, index: u16) -> Progress {
+    match client.upload(index, 0) {
+        Ok(first) => play(client, server, dict, first),
+        Err(_) => Progress::Ignored,
+    }
+}
+
 // Whether a value goes to the server and comes back.
 fn goes_and_comes(
     client: &mut Client,
     server: &mut Server,
     dict: &mut Dictionary,
     value: &[u8],
-) -> Result<bool, Fail> {
-    let first = client.download(0x2000, 0, value)?;
-    let is_given = play(client, server, dict, first) == Progress::Done;
-    let is_stored = dict.read(0x2000, 0)? == value;
-    let first = client.upload(0x2000, 0)?;
-    let is_asked = play(client, server, dict, first) == Progress::Done;
-    Ok(is_given && is_stored && is_asked && client.taken() == value)
+) -> bool {
+    let is_given = give(client, server, dict, 0x2000, value) == Progress::Done;
+    let is_stored = holds(dict, 0x2000, value);
+    let is_asked = take(client, server, dict, 0x2000) == Progress::Done;
+    is_given && is_stored && is_asked && client.taken() == value
+}
+
+// So many bytes, all the same.
+fn same_bytes(alloc: Global, count: usize) -> Result<Vec<u8>, AllocError> {
+    let mut bytes = Vec::new(alloc);
+    bytes.resize(count, 0x5A)?;
+    Ok(bytes)
 }
 
 #[test]
-fn values_go_and_come(rt: HostRuntime) -> Result<(), Fail> {
+fn values_go_and_come(rt: HostRuntime) -> Result<(), AllocError> {
+    let value = same_bytes(rt.alloc(), 65_535)?;
     let mut dict = dictionary(rt.alloc(), DEVICE)?;
     let mut server = Server::new(rt.alloc(), 5);
     let mut client = Client::new(rt.alloc(), 5);
-    let mut value = Vec::new(rt.alloc());
-    value.resize(65_535, 0x5A)?;
-    for len in (0..21usize).chain(65_535..65_536) {
+    for len in 0..21usize {
         assert!(rt; len <= value.len());
-        let is_back = goes_and_comes(&mut client, &mut server, &mut dict, &value[..len])?;
-        assert!(rt; is_back, "{len} bytes");
+        assert!(rt;
+            goes_and_comes(&mut client, &mut server, &mut dict, &value[..len]),
+            "{len}"
+        );
     }
+    assert!(rt; goes_and_comes(&mut client, &mut server, &mut dict, &value));
     Ok(())
 }
 
 #[test]
-fn calls_that_are_refused(rt: HostRuntime) -> Result<(), Fail> {
+fn a_value_that_is_too_long_is_refused(rt: HostRuntime) -> Result<(), AllocError> {
+    let value = same_bytes(rt.alloc(), 65_536)?;
     let mut client = Client::new(rt.alloc(), 5);
-    let mut value = Vec::new(rt.alloc());
-    value.resize(65_536, 0x5A)?;
-    let too_long = client.download(0x2000, 0, &value);
-    assert_eq!(rt; too_long, Err(ClientFault::TooLong));
-    assert_eq!(rt; client.expire(), None);
-    let _ = client.download(0x2000, 0, b"")?;
-    assert_eq!(rt; client.upload(0x2000, 0), Err(ClientFault::Busy));
+    assert!(rt; client.download(0x2000, 0, &value) == Err(ClientFault::TooLong));
+    assert!(rt; client.expire().is_none());
     Ok(())
 }
 
 #[test]
-fn a_value_that_is_only_read(rt: HostRuntime) -> Result<(), Fail> {
+fn a_call_while_a_transfer_runs_is_refused(rt: HostRuntime) {
+    let mut client = Client::new(rt.alloc(), 5);
+    assert!(rt; client.download(0x2000, 0, b"").is_ok());
+    assert!(rt; client.upload(0x2000, 0) == Err(ClientFault::Busy));
+}
+
+#[test]
+fn a_value_that_is_only_read(rt: HostRuntime) -> Result<(), AllocError> {
     let mut dict = dictionary(rt.alloc(), DEVICE)?;
     let mut server = Server::new(rt.alloc(), 5);
     let mut client = Client::new(rt.alloc(), 5);
-    let first = client.download(0x2001, 0, b"")?;
-    let end = play(&mut client, &mut server, &mut dict, first);
-    assert_eq!(rt; end, Progress::Aborted(0x0601_0002));
+    let end = give(&mut client, &mut server, &mut dict, 0x2001, b"");
+    assert!(rt; end == Progress::Aborted(0x0601_0002));
     Ok(())
 }
 
 #[test]
-fn a_first_frame_and_its_expiry(rt: HostRuntime) -> Result<(), Fail> {
+fn a_first_frame_and_its_expiry(rt: HostRuntime) {
     let mut client = Client::new(rt.alloc(), 5);
-    let first = client.download(0x1800, 1, &[0x85, 1, 0, 0xC0])?;
-    assert_eq!(rt; first, asks([0x23, 0, 0x18, 1, 0x85, 1, 0, 0xC0]));
-    assert_eq!(rt; client.expire(), Some(asks([0x80, 0, 0x18, 1, 0, 0, 4, 5])));
-    Ok(())
+    let first = client.download(0x1800, 1, &[0x85, 1, 0, 0xC0]);
+    assert!(rt; first == Ok(asks([0x23, 0, 0x18, 1, 0x85, 1, 0, 0xC0])));
+    assert!(rt; client.expire() == Some(asks([0x80, 0, 0x18, 1, 0, 0, 4, 5])));
 }
 
 // The call of an idle client: a download of no bytes, which goes in segments, or of some, or an upload.
@@ -459,7 +508,7 @@ fn hears(client: &mut Client, hearing: &Hearing) -> Result<bool, ClientFault> {
 }
 
 #[test]
-fn what_a_client_hears(rt: HostRuntime) -> Result<(), Fail> {
+fn what_a_client_hears(rt: HostRuntime) -> Result<(), ClientFault> {
     for (number, hearing) in HEARINGS.iter().enumerate() {
         let mut client = Client::new(rt.alloc(), 5);
         assert!(rt; hears(&mut client, hearing)?, "hearing {number}");
@@ -475,68 +524,57 @@ fn is_refused(end: Progress) -> bool {
     }
 }
 
+/// Values of ten bytes, one after another.
+const TEN_BYTES: &[&[u8]] = &[b"ten bytes!", b"other ten."];
+
 // These two are run with each allocation failing in turn, too: then one transfer is aborted with
 // all values as they were, and the next one comes to its end.
 #[test]
-fn memory_refused_to_a_download(rt: HostRuntime) -> Result<(), Fail> {
+fn memory_refused_to_a_download(rt: HostRuntime) {
     let Ok(mut dict) = dictionary(rt.alloc(), &DEVICE[..4]) else {
-        return Ok(());
+        return;
     };
     let mut server = Server::new(rt.alloc(), 5);
     let mut client = Client::new(rt.alloc(), 5);
     let mut stored: &[u8] = b"";
-    for value in [b"ten bytes!", b"other ten."] {
-        let end = match client.download(0x2000, 0, value) {
-            Ok(first) => play(&mut client, &mut server, &mut dict, first),
-            Err(fault) => {
-                assert_eq!(rt; fault, ClientFault::Memory);
-                Progress::Aborted(0x0504_0005)
-            }
-        };
+    for value in TEN_BYTES {
+        let end = give(&mut client, &mut server, &mut dict, 0x2000, value);
         assert!(rt; end == Progress::Done || is_refused(end));
         if end == Progress::Done {
             stored = value;
         }
-        assert_eq!(rt; dict.read(0x2000, 0)?, stored);
+        assert!(rt; holds(&dict, 0x2000, stored));
     }
     assert!(rt; !stored.is_empty());
-    Ok(())
 }
 
 #[test]
-fn memory_refused_to_no_short_download(rt: HostRuntime) -> Result<(), Fail> {
+fn memory_refused_to_no_short_download(rt: HostRuntime) {
     let Ok(mut dict) = dictionary(rt.alloc(), &DEVICE[..4]) else {
-        return Ok(());
+        return;
     };
     let mut server = Server::new(rt.alloc(), 5);
     let mut client = Client::new(rt.alloc(), 5);
     // one to four bytes of an object of one width take no memory
-    let first = client.download(0x1017, 0, &[1, 2])?;
-    assert_eq!(rt;
-        play(&mut client, &mut server, &mut dict, first),
-        Progress::Done
-    );
-    assert_eq!(rt; dict.read(0x1017, 0)?, [1, 2].as_slice());
-    Ok(())
+    let end = give(&mut client, &mut server, &mut dict, 0x1017, &[1, 2]);
+    assert!(rt; end == Progress::Done && holds(&dict, 0x1017, &[1, 2]));
 }
 
 #[test]
-fn memory_refused_to_an_upload(rt: HostRuntime) -> Result<(), Fail> {
+fn memory_refused_to_an_upload(rt: HostRuntime) {
     let Ok(mut dict) = dictionary(rt.alloc(), &DEVICE[4..6]) else {
-        return Ok(());
+        return;
     };
     let mut server = Server::new(rt.alloc(), 5);
     let mut client = Client::new(rt.alloc(), 5);
     let mut is_one_done = false;
     for _ in 0..2u8 {
-        let first = client.upload(0x2001, 0)?;
-        let end = play(&mut client, &mut server, &mut dict, first);
+        let end = take(&mut client, &mut server, &mut dict, 0x2001);
         let is_done = end == Progress::Done;
         assert!(rt; is_done || is_refused(end));
         let taken: &[u8] = if is_done { b"ten bytes!" } else { b"" };
-        assert_eq!(rt; client.taken(), taken);
+        assert!(rt; client.taken() == taken);
         is_one_done = is_one_done || is_done;
     }
     assert!(rt; is_one_done);
-    Ok(())
 }

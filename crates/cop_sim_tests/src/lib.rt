@@ -3,4 +3,6 @@
 #![tactic(auto)]
 
 #[cfg(test)]
+mod sinks;
+#[cfg(test)]
 mod tests;

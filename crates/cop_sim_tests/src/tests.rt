@@ -1,15 +1,12 @@
 ghost use Rattle.std.specs.Prelude.{◌≤◌};
 
-use cop_bus::{Content, Step, Trace, write_trace};
+use cop_bus::{Content, Step, Trace};
 use cop_frame::{Rate, RateSet};
 use cop_plan::{Count, Outcome, Plan, assign, can_assign};
-use cop_rta::{Stream, read_streams};
-use cop_sim::{
-    Behaviour, Offer, Scripted, Seeded, SimFault, Sink, Steps, TraceSink, simulate, simulate_over,
-};
-use std::alloc::Global;
+use cop_rta::{Stream, StreamSet, read_streams};
+use cop_sim::{Behaviour, Offer, Scripted, Seeded, SimFault, Steps, simulate, simulate_over};
+use std::alloc::{AllocError, Global};
 use std::collections::VecDeque;
-use std::process::Abort;
 use std::test::Fail;
 
 /// The valve: a PDO, its emergency messages and its heartbeat, planned at 500 kbit/s.
@@ -20,24 +17,42 @@ const VALVE: &[u8] =
 const TWO: &[u8] =
     b"id,bytes,period,jitter,deadline\n0x181,8,1350,1282,1600\n0x182,8,13500,0,330\n";
 
-/// The plan of a table of streams, of which so many are PDOs.
-fn plan_of(alloc: Global, table: &[u8], pdos: usize, rates: &[Rate]) -> Result<Plan, Fail> {
-    let set = read_streams(alloc, table)?;
-    let mut candidates = RateSet::new();
+/// The set of these rates.
+fn set_of(rates: &[Rate]) -> RateSet {
+    let mut set = RateSet::new();
     for rate in rates {
-        candidates.insert(*rate);
+        set.insert(*rate);
     }
-    if !can_assign(&set, pdos) {
-        return Err(Fail::from("not to be assigned"));
+    set
+}
+
+/// The plan of streams of which so many are PDOs, if there is one.
+fn plan_for(
+    alloc: Global,
+    streams: &StreamSet,
+    pdos: usize,
+    rates: &RateSet,
+) -> Result<Option<Plan>, AllocError> {
+    if !can_assign(streams, pdos) {
+        return Ok(None);
     }
     let mut count = Count { trials: 0, busy: 0 };
-    match assign(alloc, &set, pdos, &candidates, &mut count)? {
-        Outcome::Planned(plan) => Ok(plan),
-        Outcome::Refused(_) => Err(Fail::from("no rate passes")),
+    match assign(alloc, streams, pdos, rates, &mut count)? {
+        Outcome::Planned(plan) => Ok(Some(plan)),
+        Outcome::Refused(_) => Ok(None),
     }
 }
 
-fn valve(alloc: Global) -> Result<Plan, Fail> {
+/// The plan of a table of streams, of which so many are PDOs.
+fn plan_of(alloc: Global, table: &[u8], pdos: usize, rates: &[Rate]) -> Result<Plan, Fail> {
+    let streams = read_streams(alloc, table)?;
+    match plan_for(alloc, &streams, pdos, &set_of(rates))? {
+        Some(plan) => Ok(plan),
+        None => Err(Fail::new("no plan")),
+    }
+}
+
+pub fn valve(alloc: Global) -> Result<Plan, Fail> {
     plan_of(
         alloc,
         VALVE,
@@ -65,19 +80,22 @@ const BEAT: Content = Content {
 };
 
 /// The offers of a stream, and the starts that it joins.
-type Script = (&'static [Offer], &'static [u64]);
+pub type Script = (&'static [Offer], &'static [u64]);
 
-fn scripted(alloc: Global, script: Script) -> Result<Scripted, Fail> {
-    let (offers, yes) = script;
-    let mut list = VecDeque::new(alloc);
+/// These offers in order.
+fn queue_of(alloc: Global, offers: &[Offer]) -> Result<VecDeque<Offer>, AllocError> {
+    let mut queue = VecDeque::new(alloc);
     for offer in offers {
-        list.push_back(*offer)?;
+        queue.push_back(*offer)?;
     }
-    let mut moments = Vec::new(alloc);
-    moments.extend_from_slice(yes)?;
+    Ok(queue)
+}
+
+pub fn scripted(alloc: Global, script: Script) -> Result<Scripted, AllocError> {
+    let (offers, yes) = script;
     Ok(Scripted {
-        offers: list,
-        yes: moments,
+        offers: queue_of(alloc, offers)?,
+        yes: Vec::from_slice(alloc, yes)?,
     })
 }
 
@@ -87,7 +105,7 @@ fn simulated(
     plan: &Plan,
     scripts: &[Script],
     until: u64,
-) -> Result<Result<Trace, SimFault>, Fail>
+) -> Result<Result<Trace, SimFault>, AllocError>
     requires { until ≤ 4000000000 }
 {
     let mut behaviours = Vec::new(alloc);
@@ -98,12 +116,18 @@ fn simulated(
     Ok(simulate(alloc, plan, behaviours, until))
 }
 
-/// The steps of the play of scripts.
-fn steps_of(alloc: Global, plan: &Plan, scripts: &[Script], until: u64) -> Result<Vec<Step>, Fail>
+/// Whether these are the steps of the play of scripts.
+fn are_steps(
+    alloc: Global,
+    plan: &Plan,
+    scripts: &[Script],
+    until: u64,
+    wanted: &[Step],
+) -> Result<bool, SimFault>
     requires { until ≤ 4000000000 }
 {
     let trace = simulated(alloc, plan, scripts, until)??;
-    Ok(trace.steps)
+    Ok(trace.steps.as_slice() == wanted)
 }
 
 /// The fault of the simulation of scripts, if there is one.
@@ -112,7 +136,7 @@ fn fault_of(
     plan: &Plan,
     scripts: &[Script],
     until: u64,
-) -> Result<Option<SimFault>, Fail>
+) -> Result<Option<SimFault>, AllocError>
     requires { until ≤ 4000000000 }
 {
     match simulated(alloc, plan, scripts, until)? {
@@ -121,7 +145,7 @@ fn fault_of(
     }
 }
 
-const VALVE_SCRIPTS: &[Script] = &[
+pub const VALVE_SCRIPTS: &[Script] = &[
     (
         &[Offer {
             event: 1,
@@ -148,7 +172,7 @@ const VALVE_SCRIPTS: &[Script] = &[
     ),
 ];
 
-const VALVE_STEPS: &[Step] = &[
+pub const VALVE_STEPS: &[Step] = &[
     Step::Queue {
         at: 0,
         id: 0x705,
@@ -184,8 +208,7 @@ const VALVE_STEPS: &[Step] = &[
 #[test]
 fn the_valve_to_4000_ticks(rt: HostRuntime) -> Result<(), Fail> {
     let plan = valve(rt.alloc())?;
-    let steps = steps_of(rt.alloc(), &plan, VALVE_SCRIPTS, 4000)?;
-    assert_eq!(rt; steps.as_slice(), VALVE_STEPS);
+    assert!(rt; are_steps(rt.alloc(), &plan, VALVE_SCRIPTS, 4000, VALVE_STEPS)?);
     Ok(())
 }
 
@@ -378,8 +401,7 @@ fn plays_of_two(rt: HostRuntime) -> Result<(), Fail> {
     let plan = two(rt.alloc())?;
     for case in PLAYS {
         let (scripts, until, wanted) = *case;
-        let steps = steps_of(rt.alloc(), &plan, scripts, until.min(10000))?;
-        assert_eq!(rt; steps.as_slice(), wanted);
+        assert!(rt; are_steps(rt.alloc(), &plan, scripts, until.min(10000), wanted)?);
     }
     Ok(())
 }
@@ -511,92 +533,13 @@ fn faults(rt: HostRuntime) -> Result<(), Fail> {
     for case in FAULTS {
         let (scripts, until, wanted) = *case;
         let fault = fault_of(rt.alloc(), &plan, scripts, until.min(50000))?;
-        assert_eq!(rt; fault, wanted);
+        assert!(rt; fault == wanted);
     }
     Ok(())
 }
 
-/// A sink that fails after so many steps.
-#[derive(Drop)]
-struct Failing {
-    taken: Vec<Step>,
-    room: usize,
-    failed: bool,
-}
-
-impl Sink for Failing {
-    ghost use Rattle.std.specs.Prelude.{◌≡◌, ◌++◌, ◌∷◌, []};
-
-    ghost takes = { λ s x t. t.taken.items ≡ s.taken.items ++ x ∷ [] };
-
-    ghost has_failed = { λ s. s.failed };
-
-    fn take(&mut self, step: &Step) -> bool {
-        if self.taken.len() < self.room && self.taken.push(*step).is_ok() {
-            return true;
-        }
-        self.failed = true;
-        false
-    }
-
-    fn failed(&self) -> bool {
-        self.failed
-    }
-}
-
-/// The behaviours of the valve's scripts.
-fn valve_behaviours(alloc: Global) -> Result<Vec<Scripted>, Fail> {
-    let mut behaviours = Vec::new(alloc);
-    for script in VALVE_SCRIPTS {
-        behaviours.push(scripted(alloc, *script)?)?;
-    }
-    Ok(behaviours)
-}
-
-#[test]
-fn a_sink_fails_at_each_step(rt: HostRuntime) -> Result<(), Fail> {
-    let plan = valve(rt.alloc())?;
-    for room in 0..VALVE_STEPS.len() {
-        let mut sink = Failing {
-            taken: Vec::new(rt.alloc()),
-            room,
-            failed: false,
-        };
-        let behaviours = valve_behaviours(rt.alloc())?;
-        let fault = simulate_over(rt.alloc(), &plan, behaviours, 4000, &mut sink);
-        assert_eq!(rt; fault, Err(SimFault::Sink));
-        assert!(rt; sink.failed());
-        assert_eq!(rt; sink.taken.as_slice(), &VALVE_STEPS[..room]);
-    }
-    Ok(())
-}
-
-/// The trace of the valve's steps.
-fn valve_trace(alloc: Global) -> Result<Vec<u8>, Fail> {
-    let mut steps = Vec::new(alloc);
-    steps.extend_from_slice(VALVE_STEPS)?;
-    Ok(write_trace(alloc, &Trace { until: 4000, steps })?)
-}
-
-/// What a trace's sink wrote of the valve's run.
-fn written_trace(alloc: Global) -> Result<Vec<u8>, Fail> {
-    let plan = valve(alloc)?;
-    let behaviours = valve_behaviours(alloc)?;
-    let mut sink = TraceSink::new(Vec::new(alloc));
-    if sink.failed() {
-        return Err(Fail::from("failed at once"));
-    }
-    simulate_over(alloc, &plan, behaviours, 4000, &mut sink)?;
-    Ok(sink.finish(4000).ok_or("not written")?)
-}
-
-#[test]
-fn a_trace_is_written_as_it_goes(rt: HostRuntime) -> Result<(), Fail> {
-    assert_eq!(rt; written_trace(rt.alloc())?, valve_trace(rt.alloc())?);
-    Ok(())
-}
-
-/// What a seed offers for a stream of period 40000 and jitter 99.
+/// What a seed offers for a stream of period 40000 and jitter 99: the event and the delay in ticks,
+/// and the frame's bits.
 const SEEDED: &[(u64, u64, u32)] = &[(1783, 97, 135), (44499, 55, 127)];
 
 #[test]
@@ -616,14 +559,12 @@ fn offers_of_a_seed(rt: HostRuntime) -> Result<(), Fail> {
             body: [0; 8],
             len: 8,
         };
-        assert_eq!(rt;
-            seeded.next(),
-            Some(Offer {
-                event,
-                delay,
-                frame
-            })
-        );
+        let offer = Offer {
+            event,
+            delay,
+            frame,
+        };
+        assert!(rt; seeded.next() == Some(offer), "at {event}");
     }
     Ok(())
 }
@@ -631,8 +572,8 @@ fn offers_of_a_seed(rt: HostRuntime) -> Result<(), Fail> {
 /// A PDO, and a frame of lower priority that is queued every 400 ticks and takes 540.
 const HURRIED: &[u8] = b"id,bytes,period,jitter,deadline\n0x181,8,10000,0,1000\n0x705,8,100,0,\n";
 
-/// The behaviours of the hurried frame with 300 instances, beside a PDO with none.
-fn hurried_behaviours(alloc: Global) -> Result<Vec<Scripted>, Fail> {
+/// The offers of the hurried frame, with 300 instances.
+fn hurried_offers(alloc: Global) -> Result<VecDeque<Offer>, AllocError> {
     let mut offers = VecDeque::new(alloc);
     for number in 0..300u64 {
         offers.push_back(Offer {
@@ -641,32 +582,35 @@ fn hurried_behaviours(alloc: Global) -> Result<Vec<Scripted>, Fail> {
             frame: LONG,
         })?;
     }
+    Ok(offers)
+}
+
+/// The behaviours of the hurried frame, beside a PDO with no instances.
+fn hurried_behaviours(alloc: Global) -> Result<Vec<Scripted>, AllocError> {
     let mut behaviours = Vec::new(alloc);
     behaviours.push(scripted(alloc, (&[], &[]))?)?;
     behaviours.push(Scripted {
-        offers,
+        offers: hurried_offers(alloc)?,
         yes: Vec::new(alloc),
     })?;
     Ok(behaviours)
+}
+
+/// How the run of the hurried frame to this moment ends.
+fn hurried_to(alloc: Global, plan: &Plan, until: u64) -> Result<(), SimFault>
+    requires { until ≤ 4000000000 }
+{
+    let behaviours = hurried_behaviours(alloc)?;
+    simulate_over(alloc, plan, behaviours, until, &mut Steps::new(alloc))
 }
 
 // When instance 247, counted from 0, is queued at 98,800 ticks, 183 have started: 65 wait.
 #[test]
 fn more_than_64_instances_wait(rt: HostRuntime) -> Result<(), Fail> {
     let plan = plan_of(rt.alloc(), HURRIED, 1, &[Rate::Kbit1000])?;
-    let cases: &[(u64, Result<(), SimFault>)] = &[
-        (98799, Ok(())),
-        (98800, Err(SimFault::Backlog { id: 0x705 })),
-    ];
-    for case in cases {
-        let (until, wanted) = *case;
-        let behaviours = hurried_behaviours(rt.alloc())?;
-        let mut steps = Steps::new(rt.alloc());
-        assert_eq!(rt;
-            simulate_over(rt.alloc(), &plan, behaviours, until, &mut steps),
-            wanted
-        );
-    }
+    let backlog = SimFault::Backlog { id: 0x705 };
+    assert!(rt; hurried_to(rt.alloc(), &plan, 98_799) == Ok(()));
+    assert!(rt; hurried_to(rt.alloc(), &plan, 98_800) == Err(backlog));
     Ok(())
 }
 
@@ -735,7 +679,7 @@ const THREE_SCRIPTS: &[Script] = &[
 ];
 
 /// When the transfers of a run start, and of which identifiers.
-fn starts_of(alloc: Global, steps: &[Step]) -> Result<Vec<(u64, u16)>, Fail> {
+fn starts_of(alloc: Global, steps: &[Step]) -> Result<Vec<(u64, u16)>, AllocError> {
     let mut starts = Vec::new(alloc);
     for step in steps {
         if let Step::Start { at, id } = step {
@@ -745,6 +689,7 @@ fn starts_of(alloc: Global, steps: &[Step]) -> Result<Vec<(u64, u16)>, Fail> {
     Ok(starts)
 }
 
+/// When the transfers of the three PDOs start, and of which identifiers.
 const STARTS: &[(u64, u16)] = &[
     (0, 0x181),
     (4000, 0x182),
@@ -755,18 +700,26 @@ const STARTS: &[(u64, u16)] = &[
     (24000, 0x183),
 ];
 
+/// Whether the run of the three PDOs to 28,000 ticks has these starts and this last step.
+fn runs_so(
+    alloc: Global,
+    plan: &Plan,
+    starts: &[(u64, u16)],
+    last: &Step,
+) -> Result<bool, SimFault> {
+    let trace = simulated(alloc, plan, THREE_SCRIPTS, 28_000)??;
+    let found = starts_of(alloc, &trace.steps)?;
+    Ok(found.as_slice() == starts && trace.steps.last() == Some(last))
+}
+
 // The second instance of the third PDO, of 14,000, ends at 28,000: its longest response.
 #[test]
 fn the_longest_response_is_reached(rt: HostRuntime) -> Result<(), Fail> {
     let plan = plan_of(rt.alloc(), THREE, 3, &[Rate::Kbit125])?;
-    let steps = steps_of(rt.alloc(), &plan, THREE_SCRIPTS, 28000)?;
-    assert_eq!(rt; starts_of(rt.alloc(), &steps)?.as_slice(), STARTS);
-    assert_eq!(rt;
-        steps.last(),
-        Some(&Step::End {
-            at: 28000,
-            id: 0x183
-        })
-    );
+    let last = Step::End {
+        at: 28_000,
+        id: 0x183,
+    };
+    assert!(rt; runs_so(rt.alloc(), &plan, STARTS, &last)?);
     Ok(())
 }

@@ -1,27 +1,32 @@
-use cop_table::{Record, TableError, id, number, under_header};
-use std::alloc::AllocError;
-use std::test::Fail;
+use cop_table::{Record, Records, TableError, id, number, under_header};
+use std::alloc::{AllocError, Global};
 
 const HEADER: &[&[u8]] = &[b"id", b"bytes"];
 
-// The identifiers of the records, and how many fields each has; or None under another header.
-fn ids(rt: &HostRuntime, text: &[u8]) -> Result<Option<Vec<(Option<u64>, usize)>>, Fail> {
-    let mut row = Record::new(rt.alloc());
-    let mut rows = match under_header(rt.alloc(), text, HEADER, &mut row) {
-        Ok(rows) => rows,
-        Err(TableError::Header) => return Ok(None),
-        Err(TableError::Memory) => return Err(AllocError)?,
-    };
-    let mut found = Vec::new(rt.alloc());
-    for _ in 0..100 {
-        if !rows.read(&mut row)? {
-            break;
+/// The identifier in the first field of a record, and how many fields there are.
+type Found = (Option<u64>, usize);
+
+/// Whether these are the records that are still to come.
+fn are_left(rows: &mut Records, row: &mut Record, wanted: &[Found]) -> Result<bool, AllocError> {
+    for record in wanted {
+        if !rows.read(row)? || id(row.field(0)) != record.0 || row.len() != record.1 {
+            return Ok(false);
         }
-        found.push((id(row.field(0)), row.len()))?;
     }
-    Ok(Some(found))
+    Ok(!rows.read(row)?)
 }
 
+/// Whether these are the records under the header.
+fn are_records(alloc: Global, text: &[u8], wanted: &[Found]) -> Result<bool, AllocError> {
+    let mut row = Record::new(alloc);
+    match under_header(alloc, text, HEADER, &mut row) {
+        Ok(mut rows) => are_left(&mut rows, &mut row, wanted),
+        Err(TableError::Header) => Ok(false),
+        Err(TableError::Memory) => Err(AllocError),
+    }
+}
+
+/// Fields, and the identifiers that they write.
 const IDS: &[(&[u8], Option<u64>)] = &[
     (b"0x7fF", Some(0x7FF)),
     (b"0x", None),
@@ -31,50 +36,58 @@ const IDS: &[(&[u8], Option<u64>)] = &[
 
 #[test]
 fn numbers_are_read(rt: HostRuntime) {
-    assert_eq!(rt; number(10, b"0000000012"), Some(12));
-    assert_eq!(rt; number(10, b"00000000012"), None);
+    assert!(rt; number(10, b"0000000012") == Some(12));
+    assert!(rt; number(10, b"00000000012").is_none());
     for case in IDS {
-        let (text, want) = *case;
-        assert_eq!(rt; id(text), want);
+        let (text, wanted) = *case;
+        assert!(rt; id(text) == wanted);
     }
 }
 
+/// Texts under the header, and their records.
+const RECORDS: &[(&[u8], &[Found])] = &[
+    // a byte order mark is left out, and a quoted field is what stands between its quotes
+    (
+        b"\xEF\xBB\xBFid,bytes\r\n\r\n\"0x181\",8\n1,2,3\nx",
+        &[(Some(0x181), 2), (Some(1), 3), (None, 1)],
+    ),
+    (b"id,bytes\n", &[]),
+    (b"id,bytes\n1,2\n3", &[(Some(1), 2), (Some(3), 1)]),
+    // empty lines are no records
+    (b"id,bytes\n\n\n1\n\n", &[(Some(1), 1)]),
+    // a comma at the end begins one more field
+    (b"id,bytes\n,\n1,,\n", &[(None, 2), (Some(1), 3)]),
+    // LF, CR LF and CR alone each end a record
+    (
+        b"id,bytes\n1,2\r\n3\r4,5,6",
+        &[(Some(1), 2), (Some(3), 1), (Some(4), 3)],
+    ),
+    // between quotes a comma and a line end are bytes of the field
+    (b"id,bytes\n\"1,2\",\"3\n4\"\n5", &[(None, 2), (Some(5), 1)]),
+];
+
 #[test]
-fn records_are_read(rt: HostRuntime) -> Result<(), Fail> {
-    let text = b"\xEF\xBB\xBFid,bytes\r\n\r\n\"0x181\",8\n1,2,3\nx";
-    let wanted = [(Some(0x181), 2), (Some(1), 3), (None, 1)];
-    assert!(rt; ids(&rt, text)?.is_some_and(|found| found.as_slice() == wanted.as_slice()));
-    for other in ["", "idb,ytes\n"] {
-        assert!(rt; ids(&rt, other.as_bytes())?.is_none());
+fn records_are_lines_cut_at_commas(rt: HostRuntime) -> Result<(), AllocError> {
+    for case in RECORDS {
+        let (text, wanted) = *case;
+        assert!(rt; are_records(rt.alloc(), text, wanted)?);
     }
     Ok(())
 }
 
-// A text under the header, and how many fields each of its records has.
-const SHAPES: &[(&[u8], &[usize])] = &[
-    (b"id,bytes\n", &[]),
-    (b"id,bytes\n1,2\n3", &[2, 1]),
-    // empty lines are no records
-    (b"id,bytes\n\n\n1\n\n", &[1]),
-    // a comma at the end begins one more field
-    (b"id,bytes\n,\n1,,\n", &[2, 3]),
-    // LF, CR LF and CR alone each end a record
-    (b"id,bytes\n1,2\r\n3\r4,5,6", &[2, 1, 3]),
-    // between quotes a comma and a line end are bytes of the field
-    (b"id,bytes\n\"1,2\",\"3\n4\"\n5", &[2, 1]),
-];
+/// Whether a text is refused, since its first record is not the header.
+fn has_other_header(alloc: Global, text: &[u8]) -> Result<bool, AllocError> {
+    let mut row = Record::new(alloc);
+    match under_header(alloc, text, HEADER, &mut row) {
+        Ok(_) => Ok(false),
+        Err(TableError::Header) => Ok(true),
+        Err(TableError::Memory) => Err(AllocError),
+    }
+}
 
 #[test]
-fn records_are_lines_cut_at_commas(rt: HostRuntime) -> Result<(), Fail> {
-    for case in SHAPES {
-        let (text, sizes) = *case;
-        let found = ids(&rt, text)?.ok_or("another header")?;
-        assert!(rt;
-            found
-                .iter()
-                .map(|record| record.1)
-                .eq(sizes.iter().copied())
-        );
-    }
+fn another_header_is_refused(rt: HostRuntime) -> Result<(), AllocError> {
+    assert!(rt; has_other_header(rt.alloc(), b"")?);
+    assert!(rt; has_other_header(rt.alloc(), b"idb,ytes\n")?);
     Ok(())
 }
