@@ -17,7 +17,7 @@ from concurrent.futures import ThreadPoolExecutor
 HERE = os.path.dirname(os.path.dirname(os.path.realpath(__file__)))
 # What a test says that ends for want of memory, or that compares an answer with it.
 # As an SDO abort code it is 05040005h, which is 84148229 or the bytes 5, 0, 4, 5.
-MEMORY = re.compile(rb"(error|left): .*(Memory|Alloc|out of memory|84148229|5, 0, 4, 5\])")
+MEMORY = re.compile(rb"([Ee]rror|left): .*(Memory|Alloc|out of memory|84148229|5, 0, 4, 5\])")
 # Tests of an SDO service that ask for its answers with ample memory, so that the abort which says want of memory is a
 # wrong answer to them. What happens without, the tests named memory_refused_to.. of the same crate say.
 AMPLE = re.compile(r"each_first_byte|tests::downloads|tests::uploads")

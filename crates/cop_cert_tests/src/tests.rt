@@ -479,6 +479,7 @@ fn is_printed(alloc: Global, fault: &CertFault, wanted: &str) -> Result<bool, Al
 fn faults_of_refusal_files_are_printed(rt: HostRuntime) -> Result<(), AllocError> {
     match read(rt.alloc(), b"x") {
         Ok(_) => assert!(rt; false),
+        Err(CertFault::Memory) => return Err(AllocError),
         Err(fault) => {
             assert!(rt; is_printed(rt.alloc(), &fault, "rule 31 is broken at record 0")?);
         }

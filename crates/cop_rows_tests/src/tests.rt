@@ -362,6 +362,7 @@ fn copies_of_devices_are_equal(rt: HostRuntime) -> Result<(), Fail> {
 fn faults_are_printed(rt: HostRuntime) -> Result<(), Fail> {
     match read_pdos(rt.alloc(), b"x") {
         Ok(_) => assert!(rt; false),
+        Err(RowFault::Memory) => return Err(Fail::from(RowFault::Memory)),
         Err(fault) => {
             let text = format!(in rt.alloc(); "{fault}")?;
             assert!(rt; text.as_str() == "refused at record 0");

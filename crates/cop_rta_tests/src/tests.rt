@@ -247,6 +247,7 @@ fn is_printed(alloc: Global, fault: &TableFault, wanted: &str) -> Result<bool, A
 fn faults_of_tables_are_printed(rt: HostRuntime) -> Result<(), AllocError> {
     match read_streams(rt.alloc(), b"x") {
         Ok(_) => assert!(rt; false),
+        Err(TableFault::Memory) => return Err(AllocError),
         Err(fault) => assert!(rt; is_printed(rt.alloc(), &fault, "refused at record 0")?),
     }
     assert!(rt; is_printed(rt.alloc(), &TableFault::Memory, "out of memory")?);
