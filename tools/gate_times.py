@@ -1,5 +1,5 @@
 #!/usr/bin/env python3
-"""Runs the gate from nothing and tells where its processor time goes: by crate, for its library, its tests and its must-fail edits.
+"""Runs the gate from nothing and tells where its processor time goes: by crate, for library, tests and must-fail edits.
 
 usage: tools/gate_times.py [LOG]    at the top of a clean clone, with nothing else running on the machine; what the
                                     gate says goes to LOG (gate.log where none is given)

@@ -1,9 +1,9 @@
-ghost use Rattle.std.specs.Prelude.{◌≤◌, ◌<◌, ◌^◌, ◌≡◌, ℕ, None, IfOk};
+ghost use Rattle.std.specs.Prelude.{◌≤◌, ◌<◌, ◌^◌, ◌≡◌, ℕ, None, IfOk, All, [], true};
 ghost use Rattle.cop_bus.specs.Bus.{AreQueuedBy};
 
 use cop_bus::{
-    Bus, BusFault, Content, Full, Instance, Started, Step, Trace, first_late, judge, read_trace,
-    write_trace,
+    Bus, BusFault, Content, Full, Instance, Ring, Started, Step, Trace, first_late, judge,
+    read_trace, write_trace,
 };
 use cop_frame::Rate;
 use cop_rta::{SetFault, Stream, StreamSet};
@@ -423,6 +423,52 @@ fn lowest_identifier_is_sent(rt: HostRuntime) -> Result<(), Fail> {
     assert!(rt; lengths == Some(0));
     assert!(rt; bus.end() == Some((602, 0x181)));
     assert!(rt; bus.running().is_none());
+    Ok(())
+}
+
+/// Whether no instance waits in a ring, if it is that of the identifier.
+#[tactic(auto, using(std::proofs::lemmas::List::nil_from_length))]
+fn is_free(ring: &Ring, id: u16) -> bool
+    ensures { result ≡ true → ring.now.id ≡ id → ring.now.waiting ≡ [] }
+{
+    ring.id() != id || ring.len() == 0
+}
+
+/// Whether there are two rings, and no instance waits in one of the identifier.
+fn are_free(rings: &[Ring], id: u16) -> bool
+    ensures { result ≡ true → All (λ r. r.id ≡ id → r.waiting ≡ []) rings.now }
+{
+    match rings {
+        [first, second] => is_free(first, id) && is_free(second, id),
+        _ => false,
+    }
+}
+
+/// What starts at 100 where 182h waits since then and an instance of 181h joins at 102.
+fn started_with_joiner(bus: &mut Bus) -> Option<Started>
+    requires idle { bus.old.running ≡ None }
+    requires queued { (now : ℕ) → 100 ≤ now → AreQueuedBy bus.old.rings now }
+{
+    if bus.rate() == Rate::Kbit1000 && are_free(bus.rings(), 0x181) {
+        bus.start(100, &[instance(102, 0x181, 111)])
+    } else {
+        None
+    }
+}
+
+// A joiner with a lower identifier than what waits is sent, for its own bits, and what waits goes on waiting.
+#[test]
+fn lower_joiner_is_sent(rt: HostRuntime) -> Result<(), Fail> {
+    let mut bus = bus_of_two(rt.alloc())?;
+    assert!(rt; wait(&mut bus, instance(100, 0x182, 135)) == Some(Ok(())));
+    let started = Started {
+        id: 0x181,
+        joined: true,
+    };
+    assert!(rt; started_with_joiner(&mut bus) == Some(started));
+    assert!(rt; bus.running() == Some((544, 0x181)));
+    let lengths = bus.rings().get(1).map(|ring| ring.len());
+    assert!(rt; lengths == Some(1));
     Ok(())
 }
 
