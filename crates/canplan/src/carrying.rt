@@ -88,6 +88,27 @@ fn run_into(
     }
 }
 
+/// Runs what the planner answers for a network, if that is a plan, by the numbers of the seed and the end: what is said of it.
+fn run_outcome(
+    rt: &HostRuntime,
+    outcome: &Outcome,
+    numbers: (u64, u64),
+    trace: &str,
+) -> Result<Vec<u8>, Fault> {
+    let (seed, until) = numbers;
+    match outcome {
+        Outcome::Planned(plan) => run_into(rt, plan, seed, until, trace),
+        Outcome::Refused(_) => Ok(none_passes(rt.alloc())?),
+    }
+}
+
+/// What the planner answers for a network.
+fn read_outcome(rt: &HostRuntime, network: NetworkFiles<'_>) -> Result<Outcome, Fault> {
+    let tables = read_tables(rt, network)?;
+    let eds_files = read_eds_files(rt, network, &tables)?;
+    outcome_of(rt.alloc(), &tables.nodes, &tables.pdos, &eds_files)
+}
+
 /// The seeded run of a network, by the numbers of the seed and the end: the trace is written, and then the run is told.
 fn run(
     rt: &HostRuntime,
@@ -95,13 +116,8 @@ fn run(
     network: NetworkFiles<'_>,
     trace: &str,
 ) -> Result<u8, Fault> {
-    let (seed, until) = numbers;
-    let tables = read_tables(rt, network)?;
-    let eds_files = read_eds_files(rt, network, &tables)?;
-    let text = match outcome_of(rt.alloc(), &tables.nodes, &tables.pdos, &eds_files)? {
-        Outcome::Planned(plan) => run_into(rt, &plan, seed, until, trace)?,
-        Outcome::Refused(_) => none_passes(rt.alloc())?,
-    };
+    let outcome = read_outcome(rt, network)?;
+    let text = run_outcome(rt, &outcome, numbers, trace)?;
     print(rt, &text)?;
     Ok(text_status(&text))
 }

@@ -166,18 +166,26 @@ fn explain_command<'a>(alloc: Global) -> Result<Command<'a>, AllocError> {
         .arg(number)
 }
 
+/// A command with one more subcommand, where there was memory for it.
+fn with<'a>(
+    command: Command<'a>,
+    subcommand: Result<Command<'a>, AllocError>,
+) -> Result<Command<'a>, AllocError> {
+    command.subcommand(subcommand?)
+}
+
 /// All words that the program understands.
 pub fn command<'a>(alloc: Global) -> Result<Command<'a>, AllocError> {
-    Command::new(alloc, "canplan")
+    let command = Command::new(alloc, "canplan")
         .version("0.1.0")
         .about(ABOUT)
-        .after_help(AFTER)
-        .subcommand(test_command(alloc)?)?
-        .subcommand(plan_command(alloc)?)?
-        .subcommand(check_command(alloc)?)?
-        .subcommand(boot_command(alloc)?)?
-        .subcommand(run_command(alloc)?)?
-        .subcommand(judge_command(alloc)?)?
-        .subcommand(report_command(alloc)?)?
-        .subcommand(explain_command(alloc)?)
+        .after_help(AFTER);
+    let command = with(command, test_command(alloc))?;
+    let command = with(command, plan_command(alloc))?;
+    let command = with(command, check_command(alloc))?;
+    let command = with(command, boot_command(alloc))?;
+    let command = with(command, run_command(alloc))?;
+    let command = with(command, judge_command(alloc))?;
+    let command = with(command, report_command(alloc))?;
+    with(command, explain_command(alloc))
 }

@@ -1,10 +1,13 @@
 //! The page that shows the plan of a network, and what a trace tells of it.
 
+ghost use Rattle.std.specs.Prelude.{length};
+ghost use Rattle.cop_plan.specs.Plans.{IsOutcome};
+
 use crate::files::{Tables, beside, read_eds_files, read_file, read_tables, write_file};
 use crate::judging::judge;
 use crate::orders::NetworkFiles;
 use cop_engine::{Fault, plan_status};
-use cop_net::{network, read_nodes, read_pdos};
+use cop_net::{Network, network, read_nodes, read_pdos};
 use cop_plan::{Outcome, plan};
 use cop_report::{Input, Report, Timeline, figures_of, page_of, timeline_of};
 use std::alloc::AllocError;
@@ -90,29 +93,63 @@ fn timeline(
     Ok(Some(timeline))
 }
 
-/// The page of the plan of a network.
-fn network_page(rt: &HostRuntime, sources: &Sources<'_>) -> Result<Page, Fault> {
-    let nodes = read_nodes(rt.alloc(), &sources.tables.nodes)?;
-    let pdos = read_pdos(rt.alloc(), &sources.tables.pdos)?;
-    let network = network(rt.alloc(), &nodes, &pdos, &sources.eds_files)?;
-    let outcome = plan(rt.alloc(), &network)?;
-    let timeline = timeline(rt, &outcome, &sources.trace)?;
-    let figures = figures_of(rt.alloc(), &network, &outcome)?;
+/// The text of a page.
+fn page_text(
+    rt: &HostRuntime,
+    sources: &Sources<'_>,
+    network: &Network<'_>,
+    outcome: &Outcome,
+    timeline: Option<&Timeline>,
+) -> Result<String, Fault>
+    requires { IsOutcome network.now.equipment.rates network.now.set (length network.now.rows) outcome.now }
+{
+    let figures = figures_of(rt.alloc(), network, outcome)?;
     let opened = opened(rt, sources)?;
     let inputs = inputs(rt, sources, &opened)?;
     let report = Report {
-        network: &network,
-        outcome: &outcome,
+        network,
+        outcome,
         figures: &figures,
-        timeline: timeline.as_ref(),
+        timeline,
         inputs: &inputs,
     };
-    let text = page_of(rt.alloc(), report)?;
+    Ok(page_of(rt.alloc(), report)?)
+}
+
+/// The page of what the planner answers for a network.
+fn outcome_page(
+    rt: &HostRuntime,
+    sources: &Sources<'_>,
+    network: &Network<'_>,
+    outcome: &Outcome,
+) -> Result<Page, Fault>
+    requires { IsOutcome network.now.equipment.rates network.now.set (length network.now.rows) outcome.now }
+{
+    let timeline = timeline(rt, outcome, &sources.trace)?;
+    let text = page_text(rt, sources, network, outcome, timeline.as_ref())?;
     Ok(Page {
         text,
         planned: matches!(outcome, Outcome::Planned(_)),
         is_late: timeline.is_some_and(|timeline| timeline.late.is_some()),
     })
+}
+
+/// The page of a network.
+fn network_page(
+    rt: &HostRuntime,
+    sources: &Sources<'_>,
+    network: &Network<'_>,
+) -> Result<Page, Fault> {
+    let outcome = plan(rt.alloc(), network)?;
+    outcome_page(rt, sources, network, &outcome)
+}
+
+/// The page of the network that the files make.
+fn sources_page(rt: &HostRuntime, sources: &Sources<'_>) -> Result<Page, Fault> {
+    let nodes = read_nodes(rt.alloc(), &sources.tables.nodes)?;
+    let pdos = read_pdos(rt.alloc(), &sources.tables.pdos)?;
+    let network = network(rt.alloc(), &nodes, &pdos, &sources.eds_files)?;
+    network_page(rt, sources, &network)
 }
 
 /// The page that shows the plan of a network, and the bus over time where there is a trace: it is written into a file. A
@@ -132,7 +169,7 @@ pub fn write_report(
         trace: trace_file,
         eds_files,
     };
-    let page = network_page(rt, &sources)?;
+    let page = sources_page(rt, &sources)?;
     if let Some(name) = trace {
         if page.is_late {
             return judge(rt, network, name);

@@ -4,11 +4,13 @@ use Rattle.cop_rta.specs.declared.streams.Stream.{Stream}
 use Rattle.cop_rta.specs.declared.verdicts.Verdict.{Verdict}
 use Rattle.cop_rta.specs.Entries.{entry_of}
 use Rattle.cop_cert.specs.Format.{text_of}
+use Rattle.cop_rows.specs.declared.pdo_table.PdoRow.{PdoRow}
 use Rattle.cop_net.specs.Devices.{File}
 use Rattle.cop_net.specs.Network.{Net, BeginsWith, IsNetwork}
 use Rattle.cop_plan.specs.declared.assigning.Outcome.{Outcome}
 use Rattle.cop_plan.specs.declared.assigning.Outcome.TheVariants.{Planned, Refused}
 use Rattle.cop_plan.specs.Plans.{IsOutcome}
+use Rattle.cop_plan.specs.Values.{PlanValue}
 use Rattle.cop_engine.specs.declared.plans.Files.{Files}
 use Rattle.cop_engine.specs.Tests.{AreVerdicts}
 use Rattle.cop_engine.specs.Networks.{Found, network_in, net_of}
@@ -19,6 +21,10 @@ use Rattle.cop_engine.specs.PlanTexts.{plan_text, is_planned, refusals_of}
 abbrev pub ArePlanVerdicts : Outcome → List Verdict → ℕ → Type 0
 ArePlanVerdicts (Planned plan) verdicts pdos = AreVerdicts plan.rate plan.streams verdicts pdos
 ArePlanVerdicts (Refused refusals) verdicts pdos = Unit {0}
+
+-- the text of a plan, with what the test says of its PDOs
+abbrev pub IsPlanText : List PdoRow → PlanValue → List ℕ → Type 0
+IsPlanText rows plan text = (verdicts : List Verdict) × AreVerdicts plan.rate plan.streams verdicts (length rows) × (text ≡ plan_text rows verdicts (Planned plan))
 
 -- The plan's text with the response of each PDO, the refusal file with the greatest refusal set of each slower
 -- candidate, or of each candidate where no rate passes, and the DCF file of each device.

@@ -1,19 +1,23 @@
 //! The plan of a network, from its files to the files of the plan.
 
-ghost use Rattle.std.specs.Prelude.{◌≡◌, ◌≤◌, length, map, IfOk, MatchResult};
+ghost use Rattle.std.specs.Prelude.{◌≡◌, ◌≤◌, List, length, map, IfOk, MatchResult};
 ghost use Rattle.std.specs.String.{string_bytes};
+ghost use Rattle.cop_net.specs.Devices.{File};
+ghost use Rattle.cop_net.specs.Network.{Net};
+ghost use Rattle.cop_plan.specs.Plans.{IsOutcome, IsPlan};
+ghost use Rattle.cop_plan.specs.declared.assigning.Outcome.TheVariants.{Refused};
 ghost use Rattle.cop_engine.specs.Networks.{ExplainsNetwork};
 ghost use Rattle.cop_engine.specs.Dcfs.{HaveTexts};
-ghost use Rattle.cop_engine.specs.Plans.{AreFilesFor};
+ghost use Rattle.cop_engine.specs.Plans.{AreFilesFor, IsPlanText};
 ghost use Rattle.cop_engine.specs.Guarantee.{AreGuaranteedFiles};
 
 use crate::dcfs::{DcfFile, dcf_files};
 use crate::faults::Fault;
 use crate::plan_texts::{planned_text, refused_text};
 use crate::tests_of_streams::judge_first;
-use cop_cert::{Items, write};
+use cop_cert::{Items, Refusal, write};
 use cop_net::{EdsFiles, Network, network_of_files, read_nodes, read_pdos};
-use cop_plan::{Outcome, plan};
+use cop_plan::{Outcome, Plan, plan};
 use std::alloc::{AllocError, Global};
 
 /// What `plan` gives: the text of the plan, the refusal file, and the DCF file of each device.
@@ -27,7 +31,47 @@ pub struct Files {
     pub dcf: Items<DcfFile>,
 }
 
-/// The files of the plan of a network.
+/// The text of a plan of a network, with the response of each PDO.
+fn plan_text(alloc: Global, network: &Network<'_>, plan: &Plan) -> Result<Vec<u8>, AllocError>
+    requires { IsPlan network.now.equipment.rates network.now.set (length network.now.rows) plan.now }
+    ensures { IfOk result (λ text. IsPlanText network.now.rows plan.now text.items) }
+{
+    let verdicts = judge_first(alloc, plan.streams(), plan.rate(), network.pdos())?;
+    planned_text(alloc, network.rows(), &verdicts, plan)
+}
+
+/// The files of a plan of a network.
+fn planned_files(
+    alloc: Global,
+    network: &Network<'_>,
+    plan: &Plan,
+    eds_files: &EdsFiles<'_>,
+) -> Result<Files, AllocError>
+    requires plan { IsPlan network.now.equipment.rates network.now.set (length network.now.rows) plan.now }
+    requires texts { HaveTexts eds_files.now network.now.nodes.devices }
+    ensures { IfOk result (AreFilesFor eds_files.now network.now) }
+{
+    Ok(Files {
+        planned: true,
+        plan: plan_text(alloc, network, plan)?,
+        refusals: write(alloc, plan.refusals())?,
+        dcf: dcf_files(alloc, network, plan, eds_files)?,
+    })
+}
+
+/// The files where no rate passes.
+fn refused_files(alloc: Global, refusals: &[Refusal]) -> Result<Files, AllocError>
+    ensures { (eds : List File) (net : Net) → IsOutcome net.equipment.rates net.set (length net.rows) (Refused refusals.now) → IfOk result (AreFilesFor eds net) }
+{
+    Ok(Files {
+        planned: false,
+        plan: refused_text(alloc, refusals)?,
+        refusals: write(alloc, refusals)?,
+        dcf: Items::new(alloc),
+    })
+}
+
+/// The files of what the planner answers for a network.
 fn files_of(
     alloc: Global,
     network: &Network<'_>,
@@ -37,21 +81,8 @@ fn files_of(
     ensures { IfOk result (AreFilesFor eds_files.now network.now) }
 {
     match plan(alloc, network)? {
-        Outcome::Planned(plan) => {
-            let verdicts = judge_first(alloc, plan.streams(), plan.rate(), network.pdos())?;
-            Ok(Files {
-                planned: true,
-                plan: planned_text(alloc, network.rows(), &verdicts, &plan)?,
-                refusals: write(alloc, plan.refusals())?,
-                dcf: dcf_files(alloc, network, &plan, eds_files)?,
-            })
-        }
-        Outcome::Refused(refusals) => Ok(Files {
-            planned: false,
-            plan: refused_text(alloc, refusals.as_slice())?,
-            refusals: write(alloc, refusals.as_slice())?,
-            dcf: Items::new(alloc),
-        }),
+        Outcome::Planned(plan) => planned_files(alloc, network, &plan, eds_files),
+        Outcome::Refused(refusals) => refused_files(alloc, refusals.as_slice()),
     }
 }
 
