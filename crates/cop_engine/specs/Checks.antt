@@ -13,6 +13,7 @@ use Rattle.cop_cert.specs.Reading.{refusals_of}
 use Rattle.cop_net.specs.declared.faults.Refusal as net
 use Rattle.cop_net.specs.Devices.{File}
 use Rattle.cop_net.specs.Faults.{number_of_rule}
+use Rattle.cop_net.specs.Network.{Net}
 use Rattle.cop_engine.specs.declared.faults.Fault.{Fault}
 use Rattle.cop_engine.specs.declared.faults.Fault.TheVariants as faults
 use Rattle.cop_engine.specs.Reports.{lines_below}
@@ -33,6 +34,13 @@ check_line_at refusals answers k = option_map_or (λ r. check_line r (get_or ans
 pub record AreChecked (streams : List Stream) (pdos : ℕ) (refusals : List Refusal) (answers : List Bool) (count : ℕ) : Type 0 where
   pub length_is : length answers ≡ count
   pub each : (k : ℕ) → k < count → (r : Refusal) → slice_get refusals k ≡ Some r → (get_or answers k false ≡ true ↔ IsRefusal least_id streams pdos r)
+
+-- a line for each refusal against a network, and whether all hold
+pub record AreLinesOf (net : Net) (refusals : List Refusal) (lines : List ℕ) (all : Bool) : Type 0 where
+  pub answers : List Bool
+  pub checked : AreChecked net.set (length net.rows) refusals answers (length refusals)
+  pub lines_are : lines ≡ lines_below (check_line_at refusals answers) (length refusals)
+  pub all_hold : IsTrue all ↔ All (λ answer. answer ≡ true) answers
 
 -- what `holds` means: no assignment of identifiers passes at the refusal's rate
 abbrev pub RuleOut : List Stream → ℕ → List Refusal → List Bool → Type 0

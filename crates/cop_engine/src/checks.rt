@@ -3,12 +3,12 @@
 ghost use Rattle.std.specs.Prelude.{◌≡◌, ◌≤◌, ◌↔◌, ◌++◌, true, length, map, OnOk, IfOk, IsTrue, MatchResult, All};
 ghost use Rattle.std.specs.String.{string_bytes};
 ghost use Rattle.cop_engine.specs.Reports.{lines_below};
-ghost use Rattle.cop_engine.specs.Checks.{said, check_line, check_line_at, AreChecked, IsCheckOf, ExplainsCheck};
+ghost use Rattle.cop_engine.specs.Checks.{said, check_line, check_line_at, AreChecked, AreLinesOf, IsCheckOf, ExplainsCheck};
 
 use crate::faults::Fault;
 use crate::reports::push_number;
 use cop_cert::{Refusal, check, read};
-use cop_net::{network, read_nodes, read_pdos};
+use cop_net::{Network, network, read_nodes, read_pdos};
 use cop_rta::StreamSet;
 use std::alloc::{AllocError, Global};
 
@@ -67,6 +67,19 @@ fn all_hold(answers: &[bool]) -> bool
     answers.iter().all(|answer| *answer)
 }
 
+/// What is said of refusals against a network, and whether all hold.
+fn checked(
+    alloc: Global,
+    network: &Network<'_>,
+    refusals: &[Refusal],
+) -> Result<(Vec<u8>, bool), AllocError>
+    ensures { IfOk result (λ found. AreLinesOf network.now refusals.now found.0.items found.1) }
+{
+    let answers = check_each(alloc, network.set(), network.pdos(), refusals)?;
+    let text = checks_text(alloc, refusals, &answers)?;
+    Ok((text, all_hold(&answers)))
+}
+
 /// The check of a refusal file against the network of some tables and EDS files: a line for each refusal, and whether all
 /// hold. Otherwise the first rule that the network breaks, or else that the file breaks, or want of memory.
 pub fn check_bytes(
@@ -82,7 +95,5 @@ pub fn check_bytes(
     let pdos = read_pdos(alloc, pdos)?;
     let network = network(alloc, &nodes, &pdos, eds_files)?;
     let refusals = read(alloc, refusals)?;
-    let answers = check_each(alloc, network.set(), network.pdos(), &refusals)?;
-    let text = checks_text(alloc, &refusals, &answers)?;
-    Ok((text, all_hold(&answers)))
+    Ok(checked(alloc, &network, &refusals)?)
 }

@@ -30,10 +30,9 @@ returns-in_err-refusals c =
 
 pub returns : goal.returns
 returns c =
-    check_is c.args.nodes.now c.args.pdos.now _ c.in_ok-nodes.nodes c.in_ok-pdos.pdos c.in_ok-network.network c.args.refusals.now c.in_ok-text.text.items
-    c.in_ok-refusals.refusals.items c.in_ok-answers.answers.items c.all_hold.result
+    let said = rw c.deref.ensures.value at c.in_ok-checked.ensures in
+    check_is c.args.nodes.now c.args.pdos.now _ c.in_ok-nodes.nodes c.in_ok-pdos.pdos c.in_ok-network.network c.args.refusals.now c.in_ok-checked.field-0.0.items
+    c.in_ok-refusals.refusals.items said.answers c.in_ok-checked.field-0.1
     c.in_ok-nodes.ensures c.in_ok-pdos.ensures c.in_ok-network.ensures.exact c.in_ok-network.ensures.tables.1 c.in_ok-refusals.ensures.read
-    (rw (c.set.ensures.set, c.pdos-2.ensures.count, c.deref.ensures.value) at c.in_ok-answers.ensures)
-    (rw (c.deref-2.ensures.value, c.deref-3.ensures.value) at c.in_ok-text.ensures)
-    (rw c.deref-4.ensures.value at c.all_hold.ensures)
+    said.checked said.lines_are said.all_hold
     (subst IsNetwork c.network-2.view_is c.network-2.invariant.0)
