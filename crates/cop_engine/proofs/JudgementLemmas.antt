@@ -19,8 +19,6 @@ use Rattle.cop_net.specs.declared.faults.Table.TheVariants.{Nodes, Pdos}
 use Rattle.cop_net.specs.Devices.{File}
 use Rattle.cop_net.specs.Network.{Net, IsNetwork, accepted, network_of}
 use Rattle.cop_net.specs.Tables.{in_table}
-use Rattle.cop_net.specs.declared.faults.PlanFault.{PlanFault}
-use Rattle.cop_net.specs.declared.faults.PlanFault.TheVariants as plans
 use Rattle.cop_plan.specs.Values.{PlanValue, Timing, timing_of}
 use Rattle.cop_plan.specs.Plans.{IsPlan, IsOutcome}
 use Rattle.cop_plan.specs.declared.assigning.Outcome.{Outcome}
@@ -28,7 +26,6 @@ use Rattle.cop_plan.specs.declared.assigning.Outcome.TheVariants.{Planned, Refus
 use Rattle.cop_sim.proofs.GuaranteeLemmas.{kept}
 use Rattle.cop_engine.specs.declared.faults.Fault.{Fault}
 use Rattle.cop_engine.specs.declared.faults.Fault.TheVariants as faults
-use Rattle.cop_engine.specs.Faults.{fault_of}
 use Rattle.cop_engine.specs.Networks.{ExplainsNetwork}
 use Rattle.cop_engine.specs.Judgements.{IsJudged, IsCleared, IsJudgedBy, ExplainsTrace, IsPlannedNetwork, IsJudgement, ExplainsJudgement, SaysOnTime, judged_text, transfers_in}
 use Rattle.cop_engine.proofs.GuaranteeLemmas.{was_there, fine}
@@ -79,9 +76,12 @@ says_on_time nodes pdos eds trace text (Refused refusals) n j = j
 
 -- ---- what each reading gives
 
-pub of_network : (nodes pdos : List ℕ) (files : List File) (trace : List ℕ) (fault : PlanFault) → ExplainsNetwork nodes pdos files (fault_of fault) → ExplainsJudgement nodes pdos files trace (fault_of fault)
-of_network nodes pdos files trace (plans.Refused r) e = inl e
-of_network nodes pdos files trace plans.Memory e = tt
+pub of_network : (nodes pdos : List ℕ) (files : List File) (trace : List ℕ) (fault : Fault) → ExplainsNetwork nodes pdos files fault → ExplainsJudgement nodes pdos files trace fault
+of_network nodes pdos files trace (faults.Refused number place) e = inl e
+of_network nodes pdos files trace faults.Simulation e = e
+of_network nodes pdos files trace (faults.File name) e = e
+of_network nodes pdos files trace faults.Usage e = e
+of_network nodes pdos files trace faults.Memory e = tt
 
 module _ (nodes pdos : List ℕ) (files : List File) (trace : List ℕ) where
   -- the plan of the network that was read

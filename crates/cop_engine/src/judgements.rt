@@ -6,9 +6,9 @@ ghost use Rattle.cop_engine.specs.Judgements.{transfers_in, judged_text, none_pa
 
 use crate::faults::Fault;
 use crate::reports::push_number;
+use crate::runs::outcome_of;
 use cop_bus::{Step, judge, read_trace};
-use cop_net::{network, read_nodes, read_pdos};
-use cop_plan::{Outcome, Plan, plan};
+use cop_plan::{Outcome, Plan};
 use std::alloc::{AllocError, Global};
 
 /// How many transfers start.
@@ -65,10 +65,7 @@ pub fn judge_bytes(
 ) -> Result<Vec<u8>, Fault>
     ensures { MatchResult result (λ text. IsJudgement nodes.now pdos.now (map (λ f. record { name = string_bytes f.0; text = f.1.items }) eds_files.now) trace.now text.items) (λ fault. ExplainsJudgement nodes.now pdos.now (map (λ f. record { name = string_bytes f.0; text = f.1.items }) eds_files.now) trace.now fault) }
 {
-    let nodes = read_nodes(alloc, nodes)?;
-    let pdos = read_pdos(alloc, pdos)?;
-    let network = network(alloc, &nodes, &pdos, eds_files)?;
-    match plan(alloc, &network)? {
+    match outcome_of(alloc, nodes, pdos, eds_files)? {
         Outcome::Planned(plan) => judged(alloc, &plan, trace),
         Outcome::Refused(_) => Ok(none_passes(alloc)?),
     }

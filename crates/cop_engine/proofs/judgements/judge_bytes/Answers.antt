@@ -1,39 +1,22 @@
-use Rattle.std.proofs.Common.{subst}
-use Rattle.cop_net.specs.Network.{IsNetwork}
-use Rattle.cop_plan.specs.declared.assigning.Outcome.TheVariants.{Planned, Refused}
-use Rattle.cop_engine.specs.Faults.{fault_of}
-use Rattle.cop_engine.proofs.NetworkLemmas.{nodes_explain, pdos_explain, network_explains, err_is}
-use Rattle.cop_engine.proofs.JudgementLemmas.{of_network, planned_network, judged_gives}
+use Rattle.cop_plan.specs.declared.assigning.Outcome.TheVariants.{Refused}
+use Rattle.cop_engine.proofs.NetworkLemmas.{err_is}
+use Rattle.cop_engine.proofs.JudgementLemmas.{of_network, judged_gives}
 use Rattle.cop_engine.proofs.judgements.judge_bytes.Goals as goal
 
-pub returns-in_err-nodes : goal.returns-in_err-nodes
-returns-in_err-nodes c =
-    err_is c.from_residual.result _ _ (fault_of c.in_err-nodes.field-0.0) c.from_residual.ensures.1
-    (of_network c.args.nodes.now c.args.pdos.now _ c.args.trace.now c.in_err-nodes.field-0.0 (nodes_explain c.args.nodes.now c.args.pdos.now _ c.in_err-nodes.field-0.0 c.in_err-nodes.ensures))
-
-pub returns-in_err-pdos : goal.returns-in_err-pdos
-returns-in_err-pdos c =
-    err_is c.from_residual-in_err-pdos.result _ _ (fault_of c.in_err-pdos.field-0.0) c.from_residual-in_err-pdos.ensures.1
-    (of_network c.args.nodes.now c.args.pdos.now _ c.args.trace.now c.in_err-pdos.field-0.0
-    (pdos_explain c.args.nodes.now c.args.pdos.now _ c.in_ok-nodes.nodes c.in_err-pdos.field-0.0 c.in_ok-nodes.ensures c.in_err-pdos.ensures))
-
-pub returns-in_err-network : goal.returns-in_err-network
-returns-in_err-network c =
-    err_is c.from_residual-in_err-network.result _ _ (fault_of c.in_err-network.field-0.0) c.from_residual-in_err-network.ensures.1
-    (of_network c.args.nodes.now c.args.pdos.now _ c.args.trace.now c.in_err-network.field-0.0
-    (network_explains c.args.nodes.now c.args.pdos.now _ c.in_ok-nodes.nodes c.in_ok-pdos.pdos c.in_err-network.field-0.0 c.in_ok-nodes.ensures c.in_ok-pdos.ensures c.in_err-network.ensures.exact))
+pub returns-in_err-plan : goal.returns-in_err-plan
+returns-in_err-plan c =
+    err_is c.from_residual.result _ _ c.in_err-plan.field-0.0 c.from_residual.ensures.1
+    (of_network c.args.nodes.now c.args.pdos.now _ c.args.trace.now c.in_err-plan.field-0.0 c.in_err-plan.ensures)
 
 pub returns-in-Planned : goal.returns-in-Planned
 returns-in-Planned c =
     judged_gives c.args.nodes.now c.args.pdos.now _ c.args.trace.now c.in-Planned.plan c.judged.result
-    (planned_network c.args.nodes.now c.args.pdos.now _ c.args.trace.now c.in_ok-nodes.nodes c.in_ok-pdos.pdos c.in_ok-network.network (Planned c.in-Planned.plan) c.in_ok-nodes.ensures c.in_ok-pdos.ensures c.in_ok-network.ensures.exact c.in_ok-network.ensures.tables.1
-    (subst IsNetwork c.network-2.view_is c.network-2.invariant.0) (rw c.in-Planned.is at c.in_ok-plan.ensures))
+    (rw c.in-Planned.is at c.in_ok-plan.ensures)
     c.judged.ensures
 
 pub returns : goal.returns
 returns c = record {
   outcome = Refused c.in-Refused.field-0;
-  network = planned_network c.args.nodes.now c.args.pdos.now _ c.args.trace.now c.in_ok-nodes.nodes c.in_ok-pdos.pdos c.in_ok-network.network (Refused c.in-Refused.field-0) c.in_ok-nodes.ensures c.in_ok-pdos.ensures c.in_ok-network.ensures.exact c.in_ok-network.ensures.tables.1
-      (subst IsNetwork c.network-2.view_is c.network-2.invariant.0) (rw c.in-Refused.is at c.in_ok-plan.ensures);
+  network = rw c.in-Refused.is at c.in_ok-plan.ensures;
   judged = c.in_ok-none_passes-in-Refused.ensures;
 }
