@@ -95,6 +95,10 @@ abbrev pub IsBootedBy : ℕ → Net → Outcome → List ℕ → Type 0
 IsBootedBy seed net (Planned plan) text = IsBooted seed net plan.ids text
 IsBootedBy seed net (Refused refusals) text = text ≡ none_passes
 
+-- the boot of a network by what the planner answers for it
+abbrev pub IsBootOfNetwork : ℕ → Net → List ℕ → Type 0
+IsBootOfNetwork seed net text = (outcome : Outcome) × IsOutcome net.equipment.rates net.set (length net.rows) outcome × IsBootedBy seed net outcome text
+
 -- the boot of the network that the tables and the EDS files say, by its plan
 pub record IsBootOf (seed : ℕ) (nodes pdos : List ℕ) (eds : List File) (text : List ℕ) : Type 0 where
   pub net : Net

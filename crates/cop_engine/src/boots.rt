@@ -9,7 +9,7 @@ ghost use Rattle.cop_plan.specs.Plans.{IsPlan};
 ghost use Rattle.cop_dcf.specs.Settings.{dictionary_of};
 ghost use Rattle.cop_boot.specs.Member.{unheard};
 ghost use Rattle.cop_engine.specs.Networks.{ExplainsNetwork};
-ghost use Rattle.cop_engine.specs.Boots.{device_nodes, managed, manager_of, device_at, boot_text, node_line, IsBooted, IsBootOf};
+ghost use Rattle.cop_engine.specs.Boots.{device_nodes, managed, manager_of, device_at, boot_text, node_line, IsBooted, IsBootOf, IsBootOfNetwork};
 
 use crate::faults::Fault;
 use crate::judgements::none_passes;
@@ -174,6 +174,17 @@ fn booted(
     boot_text(alloc, &manager, &nodes)
 }
 
+/// The boot of a network by what the planner answers for it.
+fn boot_of(alloc: Global, seed: u64, network: &Network<'_>) -> Result<Vec<u8>, AllocError>
+    requires { IsNetwork network.now }
+    ensures { IfOk result (λ text. IsBootOfNetwork seed network.now text.items) }
+{
+    match plan(alloc, network)? {
+        Outcome::Planned(plan) => booted(alloc, seed, network, &plan),
+        Outcome::Refused(_) => none_passes(alloc),
+    }
+}
+
 /// The boot of the network of some tables and EDS files by its plan: the settings of each node are sent to its device, as its
 /// EDS file describes it, by the turns that a seed draws; and what came of it: a line for each node, and whether they were
 /// started. Where no rate passes that is said. Otherwise the first rule that the network breaks, or want of memory.
@@ -189,8 +200,5 @@ pub fn boot_bytes(
     let nodes = read_nodes(alloc, nodes)?;
     let pdos = read_pdos(alloc, pdos)?;
     let network = network(alloc, &nodes, &pdos, eds_files)?;
-    match plan(alloc, &network)? {
-        Outcome::Planned(plan) => Ok(booted(alloc, seed, &network, &plan)?),
-        Outcome::Refused(_) => Ok(none_passes(alloc)?),
-    }
+    Ok(boot_of(alloc, seed, &network)?)
 }
