@@ -4,7 +4,7 @@
 usage: tools/gate_times.py [LOG]    at the top of a clean clone, with nothing else running on the machine; what the
                                     gate says goes to LOG (gate.log where none is given)
 
-The tests of a crate NAME are those inside it and those of the crate NAME_tests. Times are user and system time in
+What is proved of a crate of tests, whose name ends in _tests, counts as tests. Times are user and system time in
 seconds, read of each checker while it runs; the last line is that of the whole run as the system counts it.
 """
 import os
@@ -39,9 +39,7 @@ def checker(pid):
         return crate, "edits"
     if not f"{folder}/".startswith(f"{os.getcwd()}/"):
         return None
-    if crate.endswith("_tests"):
-        return crate.removesuffix("_tests"), "tests"
-    return crate, "tests" if "--test" in words else "library"
+    return crate, "tests" if crate.endswith("_tests") or "--test" in words else "library"
 
 
 def gate():

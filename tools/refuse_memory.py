@@ -20,7 +20,7 @@ HERE = os.path.dirname(os.path.dirname(os.path.realpath(__file__)))
 MEMORY = re.compile(rb"([Ee]rror|left): .*(Memory|Alloc|out of memory|84148229|5, 0, 4, 5\])")
 # Tests of an SDO service that ask for its answers with ample memory, so that the abort which says want of memory is a
 # wrong answer to them. What happens without, the tests named memory_refused_to.. of the same crate say.
-AMPLE = re.compile(r"each_first_byte|tests::downloads|tests::uploads")
+AMPLE = re.compile(r"each_first_byte|sdo::downloads|sdo::uploads")
 # The allocations of a process that fail in turn; above as many, these many spread over all.
 MOST = 20000
 

@@ -4,7 +4,7 @@ ghost use Rattle.std.specs.Prelude.{◌≡◌, ◌≤◌, ℕ, ◌+◌, ◌<◌,
 ghost use Rattle.cop_table.specs.Reading.{Gives};
 ghost use Rattle.cop_bus.specs.declared.steps.Step.{Step};
 ghost use Rattle.cop_bus.specs.Format.{text_of};
-ghost use Rattle.cop_bus.specs.Reading.{Told, AreWritable, refused_at, rows_in, ended, trace_of, told};
+ghost use Rattle.cop_bus.specs.Reading.{Told, AreWritable, refused_at, rows_in, ended, trace_from, trace_of, told};
 
 use crate::entries::{Entry, entry_in};
 use crate::faults::BusFault;
@@ -67,23 +67,37 @@ fn ended(
     Ok(Trace { until, steps })
 }
 
-#[tactic(auto, unfolding(crate::specs::Reading::trace_of), using(crate::proofs::TraceLemmas::goes_on, crate::proofs::TraceLemmas::stops, crate::proofs::TraceLemmas::fails, crate::proofs::TraceLemmas::nothing_left))]
+/// The trace of the records under the header, which are about so many.
+#[tactic(auto, using(crate::proofs::TraceLemmas::goes_on, crate::proofs::TraceLemmas::stops, crate::proofs::TraceLemmas::fails, crate::proofs::TraceLemmas::nothing_left))]
+fn trace_under(
+    alloc: Global,
+    rows: &mut Records<'_>,
+    row: &mut Record,
+    count: usize,
+) -> Result<Trace, BusFault>
+    requires { length rows.old + 1 < 2 ^ 64 }
+    ensures { Gives told refused_at result (trace_from 0 [] rows.old) }
+{
+    let mut steps = Vec::with_capacity(alloc, count)?;
+    let mut place = 0;
+    'rows: while rows.read(row)? {
+        place += 1;
+        match entry_in(row) {
+            Ok(Entry::Taken(step)) => push(&mut steps, step)?,
+            Ok(Entry::Until(until)) => return ended(rows, row, place, until, steps),
+            Err(_) => return Err(refused(place)),
+        }
+    }
+    Err(refused(place + 1))
+}
+
+#[tactic(auto, unfolding(crate::specs::Reading::trace_of))]
 fn trace_of(alloc: Global, bytes: &[u8]) -> Result<Trace, BusFault>
     ensures { Gives told refused_at result (trace_of bytes.now) }
 {
     let mut row = Record::new(alloc);
     let mut rows = rows_in(alloc, bytes, &mut row)?;
-    let mut steps = Vec::with_capacity(alloc, bytes.len() / BYTES_OF_RECORD)?;
-    let mut place = 0;
-    'rows: while rows.read(&mut row)? {
-        place += 1;
-        match entry_in(&row) {
-            Ok(Entry::Taken(step)) => push(&mut steps, step)?,
-            Ok(Entry::Until(until)) => return ended(&mut rows, &mut row, place, until, steps),
-            Err(_) => return Err(refused(place)),
-        }
-    }
-    Err(refused(place + 1))
+    trace_under(alloc, &mut rows, &mut row, bytes.len() / BYTES_OF_RECORD)
 }
 
 /// The trace of a text. A header that is another one or missing is refused with number 69 at place 0, a record that

@@ -15,7 +15,7 @@ use std::io::Write;
 const DIGITS: [u8; 16] = *b"0123456789ABCDEF";
 
 /// A record is not written: the writer failed. The text of a record takes no memory.
-#[derive(Clone, Copy, Debug)]
+#[derive(Clone, Copy)]
 pub(crate) struct NotWritten {}
 
 impl From<NotWritten> for AllocError {

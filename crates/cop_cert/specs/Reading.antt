@@ -127,10 +127,13 @@ after_version (first ∷ rows) =
     else if is_version first then Ok rows
     else refuse rules.Version 1
 
+-- the refusals of the records after that of the version, which count from 2
+abbrev pub refusals_in : List Fields → Result (List Refusal) Breach
+refusals_in rows = rows_from taken 2 None rows >>= ended (1 + length rows)
+
 -- the refusals of a text: its records count from 1, which is that of the version
 unfoldable pub refusals_of : List ℕ → Result (List Refusal) Breach
 refusals_of text = do
   rows ← rows_in text
   rows ← after_version rows
-  draft ← rows_from taken 2 None rows
-  ended (1 + length rows) draft
+  refusals_in rows

@@ -9,7 +9,7 @@ use cop_frame::Rate;
 use cop_table::{Record, number};
 
 /// What a record begins or adds to.
-#[derive(Clone, Copy, PartialEq, Eq, Debug)]
+#[derive(Clone, Copy)]
 pub(crate) enum Word {
     /// A member whose busy time is above the horizon.
     Long,
@@ -20,7 +20,7 @@ pub(crate) enum Word {
 }
 
 /// The lists of a member's evidence.
-#[derive(Clone, Copy, PartialEq, Eq, Debug)]
+#[derive(Clone, Copy)]
 pub(crate) enum Listed {
     Busy,
     Queue,

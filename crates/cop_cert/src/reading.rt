@@ -1,13 +1,13 @@
 //! Reading refusals from a table.
 
-ghost use Rattle.std.specs.Prelude.{◌≡◌, ◌≤◌, ◌+◌, length, IfOk, OnOk, List, Ok};
+ghost use Rattle.std.specs.Prelude.{◌≡◌, ◌≤◌, ◌+◌, ◌<◌, ◌^◌, length, IfOk, OnOk, List, Ok};
 ghost use Rattle.cop_cert.specs.declared.refusals.Refusal.{Refusal};
 ghost use Rattle.cop_cert.specs.Format.{text_of};
 ghost use Rattle.cop_cert.specs.Writable.{AreWritable};
 ghost use Rattle.cop_table.specs.Reading.{Gives};
 ghost use Rattle.cop_cert.specs.Faults.{breach_of};
 ghost use Rattle.cop_cert.specs.Steps.{fault_at};
-ghost use Rattle.cop_cert.specs.Reading.{taken, rows_in, after_version, refusals_of};
+ghost use Rattle.cop_cert.specs.Reading.{taken, rows_in, after_version, refusals_in, refusals_of};
 
 use crate::drafts::{self, Draft, StepFault};
 use crate::entries::{entry_in, is_version};
@@ -84,23 +84,36 @@ fn take(alloc: Global, draft: &mut Option<Draft>, place: u64, row: &Record) -> R
     }
 }
 
-#[tactic(auto, unfolding(crate::specs::Reading::refusals_of), using(cop_table::proofs::RowsLemmas::goes_on, cop_table::proofs::RowsLemmas::stops, cop_table::proofs::RowsLemmas::ends))]
+/// The refusals of the records after that of the version.
+#[tactic(auto, using(cop_table::proofs::RowsLemmas::goes_on, cop_table::proofs::RowsLemmas::stops, cop_table::proofs::RowsLemmas::ends))]
+fn refusals_in(
+    alloc: Global,
+    rows: &mut Records<'_>,
+    row: &mut Record,
+) -> Result<Vec<Refusal>, CertFault>
+    requires { length rows.old + 1 < 2 ^ 64 }
+    ensures { Gives (λ refusals. refusals.items) breach_of result (refusals_in rows.old) }
+{
+    let mut draft = None;
+    let mut place = 1;
+    'rows: while rows.read(row)? {
+        place += 1;
+        take(alloc, &mut draft, place, row)?;
+    }
+    match drafts::finished(alloc, draft) {
+        Ok(refusals) => Ok(refusals),
+        Err(fault) => Err(at(place, fault)),
+    }
+}
+
+#[tactic(auto, unfolding(crate::specs::Reading::refusals_of))]
 fn refusals_of(alloc: Global, bytes: &[u8]) -> Result<Vec<Refusal>, CertFault>
     ensures { Gives (λ refusals. refusals.items) breach_of result (refusals_of bytes.now) }
 {
     let mut row = Record::new(alloc);
     let mut rows = rows_in(alloc, bytes, &mut row)?;
     read_version(&mut rows, &mut row)?;
-    let mut draft = None;
-    let mut place = 1;
-    'rows: while rows.read(&mut row)? {
-        place += 1;
-        take(alloc, &mut draft, place, &row)?;
-    }
-    match drafts::finished(alloc, draft) {
-        Ok(refusals) => Ok(refusals),
-        Err(fault) => Err(at(place, fault)),
-    }
+    refusals_in(alloc, &mut rows, &mut row)
 }
 
 /// The refusals of a text. Of its records the first that breaks a rule counts, and of its rules the least.

@@ -23,7 +23,7 @@ use Rattle.cop_cert.specs.declared.refusals.Refusal as refused
 use Rattle.cop_cert.specs.Faults.{breach_of}
 use Rattle.cop_cert.specs.Reading.{refusals_of}
 use Rattle.cop_engine.specs.Reports.{lines_below}
-use Rattle.cop_engine.specs.Checks.{check_line_at, AreChecked, RuleOut, IsCheckOf, ExplainsCheck}
+use Rattle.cop_engine.specs.Checks.{AreChecked, AreLinesOf, RuleOut, IsCheckOf, ExplainsCheck}
 use Rattle.cop_engine.specs.Faults.{fault_of, fault_of_refusals}
 use Rattle.cop_engine.specs.Networks.{Found, network_in, ExplainsNetwork}
 use Rattle.cop_engine.specs.Plans.{AreFilesFor, AreFilesOf}
@@ -100,20 +100,16 @@ module _ (nodes pdos : List ℕ) (files : List File) where
       refusal_rules_out least_id streams pdos r (le_refl least_id) count ((checked.each k (at_inside refusals k r here) r here).0 holds)
 
   -- the check of the network's refusals is that of the files
-  pub check_is : (n : NodeLists) (rows : List PdoRow) (network : Net) (text lines : List ℕ) (refusals : List refused.Refusal) (answers : List Bool) (all : Bool)
+  pub check_is : (n : NodeLists) (rows : List PdoRow) (network : Net) (text lines : List ℕ) (refusals : List refused.Refusal) (all : Bool)
       → in_table Nodes (nodes_of nodes) ≡ Ok n → in_table Pdos (pdos_of pdos) ≡ Ok rows → network_of n rows files ≡ Ok (accepted network) → network.rows ≡ rows → refusals_of text ≡ Ok refusals
-      → AreChecked network.set (length network.rows) refusals answers (length refusals) → lines ≡ lines_below (check_line_at refusals answers) (length refusals)
-      → (IsTrue all ↔ All (λ answer. answer ≡ true) answers) → IsNetwork network → IsCheckOf nodes pdos files text lines all
-  check_is n rows network text lines refusals answers all read also e same told checked are hold is = record {
+      → AreLinesOf network.set (length network.rows) refusals lines all → IsNetwork network → IsCheckOf nodes pdos files text lines all
+  check_is n rows network text lines refusals all read also e same told answered is = record {
     found = record { nodes = n; rows = rows; network = accepted network };
     read = network_read n rows (accepted network) read also e;
     streams = network.set;
     streams_are = refl;
     refusals = refusals;
     refusals_are = told;
-    answers = answers;
-    checked = rw same at checked;
-    rules_out = rule_out network.set (length rows) refusals answers (rw same at is.streams.count) (rw same at checked);
-    lines_are = are;
-    all_hold = hold;
+    answered = rw same at answered;
+    rules_out = rule_out network.set (length rows) refusals (rw same at answered).answers (rw same at is.streams.count) (rw same at answered).checked;
   }

@@ -91,9 +91,9 @@ one_check nodes pdos eds text lines others all each x y =
     let streams : x.streams ≡ y.streams = streams_same x.streams y.streams entries in
     let refusals : x.refusals ≡ y.refusals = ok_once _ x.refusals y.refusals x.refusals_are y.refusals_are in
     let rows : length x.found.rows ≡ length y.found.rows = ap (λ (f : Found). length f.rows) found in
-    let there : AreChecked y.streams (length x.found.rows) x.refusals x.answers (length x.refusals) = subst (λ (s : List Stream). AreChecked s (length x.found.rows) x.refusals x.answers (length x.refusals)) streams x.checked in
-    let over : AreChecked y.streams (length y.found.rows) x.refusals x.answers (length x.refusals) = subst (λ (n : ℕ). AreChecked y.streams n x.refusals x.answers (length x.refusals)) rows there in
-    let mine : AreChecked y.streams (length y.found.rows) y.refusals x.answers (length y.refusals) = subst (λ (rs : List Refusal). AreChecked y.streams (length y.found.rows) rs x.answers (length rs)) refusals over in
-    let answers : x.answers ≡ y.answers = answers_same y.streams (length y.found.rows) y.refusals x.answers y.answers mine y.checked in
-    let text : lines_below (check_line_at x.refusals x.answers) (length x.refusals) ≡ lines_below (check_line_at y.refusals y.answers) (length y.refusals) = rw (refusals, answers) refl in
-    (x.lines_are ∙ text ∙ sym y.lines_are, all_same x.answers y.answers all each answers x.all_hold y.all_hold)
+    let there : AreChecked y.streams (length x.found.rows) x.refusals x.answered.answers (length x.refusals) = subst (λ (s : List Stream). AreChecked s (length x.found.rows) x.refusals x.answered.answers (length x.refusals)) streams x.answered.checked in
+    let over : AreChecked y.streams (length y.found.rows) x.refusals x.answered.answers (length x.refusals) = subst (λ (n : ℕ). AreChecked y.streams n x.refusals x.answered.answers (length x.refusals)) rows there in
+    let mine : AreChecked y.streams (length y.found.rows) y.refusals x.answered.answers (length y.refusals) = subst (λ (rs : List Refusal). AreChecked y.streams (length y.found.rows) rs x.answered.answers (length rs)) refusals over in
+    let answers : x.answered.answers ≡ y.answered.answers = answers_same y.streams (length y.found.rows) y.refusals x.answered.answers y.answered.answers mine y.answered.checked in
+    let text : lines_below (check_line_at x.refusals x.answered.answers) (length x.refusals) ≡ lines_below (check_line_at y.refusals y.answered.answers) (length y.refusals) = rw (refusals, answers) refl in
+    (x.answered.lines_are ∙ text ∙ sym y.answered.lines_are, all_same x.answered.answers y.answered.answers all each answers x.answered.all_hold y.answered.all_hold)

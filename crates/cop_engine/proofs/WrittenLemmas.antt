@@ -122,7 +122,7 @@ module _ (nodes pdos : List ℕ) (eds : List File) (files : Files) (f : AreFiles
       let over : All (IsGreatestRefusal c.streams (length c.found.rows)) (refusals_of f.planned.outcome) =
       subst (λ (n : ℕ). All (IsGreatestRefusal c.streams n) (refusals_of f.planned.outcome)) count there in
       let mine : All (IsGreatestRefusal c.streams (length c.found.rows)) c.refusals = subst (λ (rs : List Refusal). All (IsGreatestRefusal c.streams (length c.found.rows)) rs) refusals over in
-      c.all_hold.1 (all_answered c.streams (length c.found.rows) c.refusals c.answers c.checked mine)
+      c.answered.all_hold.1 (all_answered c.streams (length c.found.rows) c.refusals c.answered.answers c.answered.checked mine)
 
   -- nothing but want of memory keeps the check from reading it
   pub only_memory : (fault : Fault) → ExplainsCheck nodes pdos eds files.refusals.items fault → fault ≡ faults.Memory

@@ -13,7 +13,6 @@ use Rattle.cop_cert.specs.Reading.{refusals_of}
 use Rattle.cop_net.specs.declared.faults.Refusal as net
 use Rattle.cop_net.specs.Devices.{File}
 use Rattle.cop_net.specs.Faults.{number_of_rule}
-use Rattle.cop_net.specs.Network.{Net}
 use Rattle.cop_engine.specs.declared.faults.Fault.{Fault}
 use Rattle.cop_engine.specs.declared.faults.Fault.TheVariants as faults
 use Rattle.cop_engine.specs.Reports.{lines_below}
@@ -35,10 +34,10 @@ pub record AreChecked (streams : List Stream) (pdos : ℕ) (refusals : List Refu
   pub length_is : length answers ≡ count
   pub each : (k : ℕ) → k < count → (r : Refusal) → slice_get refusals k ≡ Some r → (get_or answers k false ≡ true ↔ IsRefusal least_id streams pdos r)
 
--- a line for each refusal against a network, and whether all hold
-pub record AreLinesOf (net : Net) (refusals : List Refusal) (lines : List ℕ) (all : Bool) : Type 0 where
+-- a line for each refusal, and whether all hold
+pub record AreLinesOf (streams : List Stream) (pdos : ℕ) (refusals : List Refusal) (lines : List ℕ) (all : Bool) : Type 0 where
   pub answers : List Bool
-  pub checked : AreChecked net.set (length net.rows) refusals answers (length refusals)
+  pub checked : AreChecked streams pdos refusals answers (length refusals)
   pub lines_are : lines ≡ lines_below (check_line_at refusals answers) (length refusals)
   pub all_hold : IsTrue all ↔ All (λ answer. answer ≡ true) answers
 
@@ -55,11 +54,8 @@ pub record IsCheckOf (nodes pdos : List ℕ) (eds : List File) (text : List ℕ)
   pub streams_are : map entry_of streams ≡ found.network.streams
   pub refusals : List Refusal
   pub refusals_are : refusals_of text ≡ Ok refusals
-  pub answers : List Bool
-  pub checked : AreChecked streams (length found.rows) refusals answers (length refusals)
-  pub rules_out : RuleOut streams (length found.rows) refusals answers
-  pub lines_are : lines ≡ lines_below (check_line_at refusals answers) (length refusals)
-  pub all_hold : IsTrue all ↔ All (λ answer. answer ≡ true) answers
+  pub answered : AreLinesOf streams (length found.rows) refusals lines all
+  pub rules_out : RuleOut streams (length found.rows) refusals answered.answers
 
 -- why there is none: the network, or else the refusal file
 abbrev pub ExplainsCheck : List ℕ → List ℕ → List File → List ℕ → Fault → Type 0

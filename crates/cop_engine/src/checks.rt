@@ -73,7 +73,7 @@ fn checked(
     network: &Network<'_>,
     refusals: &[Refusal],
 ) -> Result<(Vec<u8>, bool), AllocError>
-    ensures { IfOk result (λ found. AreLinesOf network.now refusals.now found.0.items found.1) }
+    ensures { IfOk result (λ found. AreLinesOf network.now.set (length network.now.rows) refusals.now found.0.items found.1) }
 {
     let answers = check_each(alloc, network.set(), network.pdos(), refusals)?;
     let text = checks_text(alloc, refusals, &answers)?;

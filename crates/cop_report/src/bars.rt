@@ -15,7 +15,7 @@ pub(crate) fn part(number: u64, all: u64) -> u64 {
 }
 
 /// A response against its deadline.
-#[derive(Clone, Copy, Debug)]
+#[derive(Clone, Copy)]
 pub(crate) struct ResponseBar {
     pub response: u64,
     pub deadline: u64,
@@ -35,7 +35,7 @@ impl fmt::Display for ResponseBar {
 }
 
 /// The load of the bus: what PDOs take, what fixed frames take, and where the bus is full, on a bar of some greatest load.
-#[derive(Clone, Copy, Debug)]
+#[derive(Clone, Copy)]
 pub(crate) struct LoadBar {
     pub pdos: u64,
     pub fixed: u64,

@@ -1,7 +1,7 @@
 //! The section of a page on the bus over time, as inline SVG: a lane for each identifier, one unit wide for each tick.
 
 use crate::script::SCRIPT;
-use crate::senders::sender_of;
+use crate::senders::{Sender, sender_of};
 use crate::timelines::{Lane, Timeline};
 use crate::units::{Count, Identifier, Micros};
 use cop_bus::Transfer;
@@ -13,7 +13,7 @@ use std::alloc::AllocError;
 const PARTS: u64 = 4;
 
 /// The part of a trace that is drawn: the moment at which it begins and how long it is, in ticks.
-#[derive(Clone, Copy, Debug)]
+#[derive(Clone, Copy)]
 struct Window {
     begin: u64,
     span: u64,
@@ -82,6 +82,25 @@ fn push_transfer(page: &mut String, window: Window, transfer: &Transfer) -> Resu
     )
 }
 
+/// Adds the head of a lane: its identifier, who sends it, and how many transfers it has.
+fn push_head(
+    page: &mut String,
+    sender: Sender<'_>,
+    span: u64,
+    lane: &Lane,
+) -> Result<(), AllocError> {
+    let id = Identifier(lane.id);
+    let count = Count {
+        number: lane.transfers.as_slice().len(),
+        thing: "transfer",
+    };
+    write!(
+        page,
+        "<div class=\"lane\"><div><b>{id}</b> {sender}</div>\
+<svg viewBox=\"0 0 {span} 20\" preserveAspectRatio=\"none\" role=\"img\" aria-label=\"{id}, {sender}: {count}\">\n"
+    )
+}
+
 /// Adds the lane of an identifier.
 fn push_lane(
     page: &mut String,
@@ -90,20 +109,8 @@ fn push_lane(
     window: Window,
     lane: &Lane,
 ) -> Result<(), AllocError> {
-    let transfers = lane.transfers.as_slice();
-    let id = Identifier(lane.id);
-    let sender = sender_of(network, plan, lane.id);
-    let count = Count {
-        number: transfers.len(),
-        thing: "transfer",
-    };
-    let span = window.span;
-    write!(
-        page,
-        "<div class=\"lane\"><div><b>{id}</b> {sender}</div>\
-<svg viewBox=\"0 0 {span} 20\" preserveAspectRatio=\"none\" role=\"img\" aria-label=\"{id}, {sender}: {count}\">\n"
-    )?;
-    for transfer in transfers {
+    push_head(page, sender_of(network, plan, lane.id), window.span, lane)?;
+    for transfer in lane.transfers.as_slice() {
         push_transfer(page, window, transfer)?;
     }
     page.push_str("</svg></div>\n")

@@ -5,7 +5,7 @@ use cop_net::{Consumer, Network, PdoRow};
 use std::{fmt, str};
 
 /// A device: its name and its node.
-#[derive(Clone, Copy, Debug)]
+#[derive(Clone, Copy)]
 pub(crate) struct Device<'a> {
     pub name: &'a str,
     pub node: u8,
@@ -33,7 +33,7 @@ pub(crate) fn device_of<'a>(network: &'a Network<'_>, node: u8) -> Device<'a> {
 }
 
 /// A PDO that a device sends or takes.
-#[derive(Clone, Copy, Debug)]
+#[derive(Clone, Copy)]
 pub(crate) struct Pdo<'a> {
     /// `TPDO` or `RPDO`.
     pub kind: &'a str,

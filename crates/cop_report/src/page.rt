@@ -50,17 +50,21 @@ fn push_title(page: &mut String, figures: &Figures) -> Result<(), AllocError> {
 }
 
 /// Adds what the page is about.
-fn push_lead(page: &mut String, report: Report<'_, '_>) -> Result<(), AllocError> {
+fn push_lead(
+    page: &mut String,
+    network: &Network<'_>,
+    figures: &Figures,
+) -> Result<(), AllocError> {
     let pdos = Count {
-        number: report.network.pdos(),
+        number: network.pdos(),
         thing: "PDO",
     };
     let devices = Count {
-        number: report.network.devices().len(),
+        number: network.devices().len(),
         thing: "device",
     };
     write!(page, "<p>{pdos} of {devices}. ")?;
-    if report.figures.rate.is_some() {
+    if figures.rate.is_some() {
         page.push_str(
             "This is the slowest rate that all devices support and at which some choice of identifiers passes the \
 response-time test of Davis, Burns, Bril and Lukkien (2007).</p>\n",
@@ -75,11 +79,15 @@ or devices with a faster rate can help.</p>\n",
 }
 
 /// Adds the tile of the tightest PDO.
-fn push_tightest(page: &mut String, report: Report<'_, '_>) -> Result<(), AllocError> {
-    let Some(times) = tightest(&report.figures.pdos) else {
+fn push_tightest(
+    page: &mut String,
+    network: &Network<'_>,
+    figures: &Figures,
+) -> Result<(), AllocError> {
+    let Some(times) = tightest(&figures.pdos) else {
         return Ok(());
     };
-    let Some(row) = report.network.rows().get(times.pdo) else {
+    let Some(row) = network.rows().get(times.pdo) else {
         return Ok(());
     };
     let margin = Micros(
@@ -89,7 +97,7 @@ fn push_tightest(page: &mut String, report: Report<'_, '_>) -> Result<(), AllocE
             .unwrap_or(0)
             .saturating_sub(times.response),
     );
-    let pdo = sent_by(report.network, row);
+    let pdo = sent_by(network, row);
     write!(
         page,
         "<div><b>{margin} µs</b>left at the tightest: {pdo}</div>\n"
@@ -108,14 +116,18 @@ fn push_planned_load(page: &mut String, figures: &Figures) -> Result<(), AllocEr
 }
 
 /// Adds what there is to know at first sight.
-fn push_header(page: &mut String, report: Report<'_, '_>) -> Result<(), AllocError> {
+fn push_header(
+    page: &mut String,
+    network: &Network<'_>,
+    figures: &Figures,
+) -> Result<(), AllocError> {
     page.push_str("<header>\n")?;
-    push_title(page, report.figures)?;
-    push_lead(page, report)?;
+    push_title(page, figures)?;
+    push_lead(page, network, figures)?;
     page.push_str("<div class=\"tiles\">\n")?;
-    push_tightest(page, report)?;
-    push_planned_load(page, report.figures)?;
-    let number = report.figures.refused.len();
+    push_tightest(page, network, figures)?;
+    push_planned_load(page, figures)?;
+    let number = figures.refused.len();
     let words = if number == 1 {
         "refused rate"
     } else {
@@ -142,22 +154,29 @@ fn push_plan(page: &mut String, alloc: Global, report: Report<'_, '_>) -> Result
     Ok(())
 }
 
-/// The page of a report. `Err` is want of memory.
-pub fn page_of(alloc: Global, report: Report<'_, '_>) -> Result<String, AllocError>
+/// Adds all of a page.
+fn push_page(page: &mut String, alloc: Global, report: Report<'_, '_>) -> Result<(), AllocError>
     requires { IsOutcome report.network.now.equipment.rates report.network.now.set (length report.network.now.rows) report.outcome.now }
 {
-    let mut page = String::new(alloc);
     page.push_str(
         "<!DOCTYPE html>\n<html lang=\"en\">\n<head>\n<meta charset=\"utf-8\">\n\
 <meta name=\"viewport\" content=\"width=device-width, initial-scale=1\">\n<title>CANopen plan</title>\n<style>",
     )?;
     page.push_str(STYLE)?;
     page.push_str("</style>\n</head>\n<body>\n<main>\n")?;
-    push_header(&mut page, report)?;
-    push_rates(&mut page, report.network, report.figures)?;
-    push_loads(&mut page, report.figures)?;
-    push_plan(&mut page, alloc, report)?;
-    push_inputs(&mut page, report.inputs)?;
-    page.push_str("<footer>Made by canplan.</footer>\n</main>\n</body>\n</html>\n")?;
+    push_header(page, report.network, report.figures)?;
+    push_rates(page, report.network, report.figures)?;
+    push_loads(page, report.figures)?;
+    push_plan(page, alloc, report)?;
+    push_inputs(page, report.inputs)?;
+    page.push_str("<footer>Made by canplan.</footer>\n</main>\n</body>\n</html>\n")
+}
+
+/// The page of a report. `Err` is want of memory.
+pub fn page_of(alloc: Global, report: Report<'_, '_>) -> Result<String, AllocError>
+    requires { IsOutcome report.network.now.equipment.rates report.network.now.set (length report.network.now.rows) report.outcome.now }
+{
+    let mut page = String::new(alloc);
+    push_page(&mut page, alloc, report)?;
     Ok(page)
 }

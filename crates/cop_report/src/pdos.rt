@@ -46,8 +46,8 @@ fn push_consumers(
     Ok(())
 }
 
-/// Adds the numbers of a PDO.
-fn push_times(page: &mut String, times: &PdoTimes, is_tightest: bool) -> Result<(), AllocError> {
+/// Adds what a PDO needs of the bus.
+fn push_stream(page: &mut String, times: &PdoTimes) -> Result<(), AllocError> {
     let bytes = times.stream.bytes;
     let period = Micros(times.stream.period);
     let jitter = Micros(times.stream.jitter);
@@ -55,7 +55,11 @@ fn push_times(page: &mut String, times: &PdoTimes, is_tightest: bool) -> Result<
     write!(
         page,
         "<td class=\"n\">{bytes}</td><td class=\"n\">{period}</td><td class=\"n\">{jitter}</td><td class=\"n\">{deadline}</td>"
-    )?;
+    )
+}
+
+/// Adds the response of a PDO against its deadline.
+fn push_response(page: &mut String, times: &PdoTimes, is_tightest: bool) -> Result<(), AllocError> {
     let response = Micros(times.response);
     let margin = Micros(deadline_of(times).saturating_sub(times.response));
     let bar = ResponseBar {
@@ -69,6 +73,28 @@ fn push_times(page: &mut String, times: &PdoTimes, is_tightest: bool) -> Result<
     )
 }
 
+/// Adds which PDO it is.
+fn push_sender(
+    page: &mut String,
+    network: &Network<'_>,
+    row: &PdoRow,
+    id: u16,
+    is_tightest: bool,
+) -> Result<(), AllocError> {
+    let (class, note) = if is_tightest {
+        (" class=\"tightest\"", " <em>tightest</em>")
+    } else {
+        ("", "")
+    };
+    let id = Identifier(id);
+    let device = device_of(network, row.node);
+    let tpdo = row.tpdo;
+    write!(
+        page,
+        "<tr{class}><th scope=\"row\">{id}</th><td>{device}{note}</td><td class=\"n\">{tpdo}</td>"
+    )
+}
+
 /// Adds the line of a PDO.
 fn push_pdo(
     page: &mut String,
@@ -77,19 +103,9 @@ fn push_pdo(
     times: &PdoTimes,
     is_tightest: bool,
 ) -> Result<(), AllocError> {
-    let (class, note) = if is_tightest {
-        (" class=\"tightest\"", " <em>tightest</em>")
-    } else {
-        ("", "")
-    };
-    let id = Identifier(times.stream.id);
-    let device = device_of(network, row.node);
-    let tpdo = row.tpdo;
-    write!(
-        page,
-        "<tr{class}><th scope=\"row\">{id}</th><td>{device}{note}</td><td class=\"n\">{tpdo}</td>"
-    )?;
-    push_times(page, times, is_tightest)?;
+    push_sender(page, network, row, times.stream.id, is_tightest)?;
+    push_stream(page, times)?;
+    push_response(page, times, is_tightest)?;
     page.push_str("<td class=\"taken\">")?;
     push_consumers(page, network, row.consumers.as_slice())?;
     page.push_str("</td></tr>\n")

@@ -6,7 +6,7 @@ use cop_plan::Plan;
 use std::fmt;
 
 /// Who sends an identifier, and what.
-#[derive(Clone, Copy, Debug)]
+#[derive(Clone, Copy)]
 pub(crate) enum Sender<'a> {
     Pdo(Pdo<'a>),
     /// A frame of a device, whose identifier is fixed: what it is to the device.

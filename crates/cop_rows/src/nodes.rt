@@ -1,9 +1,10 @@
 //! Reading the table of nodes.
 
-ghost use Rattle.std.specs.Prelude.{◌≡◌, ◌≤◌, IfOk, length};
+ghost use Rattle.std.specs.Prelude.{◌≡◌, ◌≤◌, ◌<◌, ◌^◌, IfOk, length};
 ghost use Rattle.cop_table.specs.Reading.{Gives};
+ghost use Rattle.cop_table.specs.Rows.{rows_from};
 ghost use Rattle.cop_rows.specs.Refusals.{broken, refusal};
-ghost use Rattle.cop_rows.specs.NodeReading.{is_device, kind_of, node_in, period_in, is_period, no_text, frame_in, device_in, row_in, added, rows_in, node_rows_of, nodes_of};
+ghost use Rattle.cop_rows.specs.NodeReading.{is_device, kind_of, node_in, period_in, is_period, no_text, frame_in, device_in, row_in, added, no_rows, rows_in, node_rows_of, nodes_of};
 ghost use Rattle.cop_rows.specs.NodeRows.{IsRow, IsDeviceRow, IsFrameRow};
 
 use crate::fields::number_within;
@@ -175,21 +176,30 @@ fn rows_in<'a>(alloc: Global, bytes: &'a [u8], row: &mut Record) -> Result<Recor
     }
 }
 
-#[tactic(auto, unfolding(crate::specs::NodeReading::node_rows_of), using(cop_table::proofs::RowsLemmas::goes_on, cop_table::proofs::RowsLemmas::stops, cop_table::proofs::RowsLemmas::ends))]
+#[tactic(auto, using(cop_table::proofs::RowsLemmas::goes_on, cop_table::proofs::RowsLemmas::stops, cop_table::proofs::RowsLemmas::ends))]
+/// The rows of the records under the header.
+fn rows_under(alloc: Global, rows: &mut Records<'_>, row: &mut Record) -> Result<NodeRows, RowFault>
+    requires { length rows.old < 2 ^ 64 }
+    ensures { Gives (λ rows. rows) refusal result (rows_from added 1 no_rows rows.old) }
+{
+    let mut nodes = NodeRows::new(alloc);
+    let mut place = 0;
+    'rows: while rows.read(row)? {
+        place += 1;
+        add(alloc, &mut nodes, place, row)?;
+    }
+    Ok(nodes)
+}
+
 /// The rows of a table, whose nodes may want their device rows. Of the records the first that breaks a rule counts,
 /// and of its rules the one of least number.
+#[tactic(auto, unfolding(crate::specs::NodeReading::node_rows_of))]
 fn read_rows(alloc: Global, bytes: &[u8]) -> Result<NodeRows, RowFault>
     ensures { Gives (λ rows. rows) refusal result (node_rows_of bytes.now) }
 {
     let mut row = Record::new(alloc);
     let mut rows = rows_in(alloc, bytes, &mut row)?;
-    let mut nodes = NodeRows::new(alloc);
-    let mut place = 0;
-    'rows: while rows.read(&mut row)? {
-        place += 1;
-        add(alloc, &mut nodes, place, &row)?;
-    }
-    Ok(nodes)
+    rows_under(alloc, &mut rows, &mut row)
 }
 
 /// The table of nodes. Of its records the first that breaks a rule counts, and of its rules the one of least number;

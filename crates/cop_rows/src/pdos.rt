@@ -1,7 +1,8 @@
 //! Reading the table of PDOs.
 
-ghost use Rattle.std.specs.Prelude.{◌≡◌, ◌≤◌, IfOk, length};
+ghost use Rattle.std.specs.Prelude.{◌≡◌, ◌≤◌, ◌<◌, ◌^◌, [], IfOk, length};
 ghost use Rattle.cop_table.specs.Reading.{Gives};
+ghost use Rattle.cop_table.specs.Rows.{rows_from};
 ghost use Rattle.cop_rows.specs.Refusals.{broken, refusal};
 ghost use Rattle.cop_rows.specs.PdoReading.{consumer_of, consumers_of, numbers_in, one_more, pdo_in, added, pdos_of, rows_in, IsNumbers};
 ghost use Rattle.cop_rows.specs.Pdos.{IsPdoRow};
@@ -149,18 +150,27 @@ fn rows_in<'a>(alloc: Global, bytes: &'a [u8], row: &mut Record) -> Result<Recor
     }
 }
 
-#[tactic(auto, unfolding(crate::specs::PdoReading::pdos_of), using(cop_table::proofs::RowsLemmas::goes_on, cop_table::proofs::RowsLemmas::stops, cop_table::proofs::RowsLemmas::ends))]
+#[tactic(auto, using(cop_table::proofs::RowsLemmas::goes_on, cop_table::proofs::RowsLemmas::stops, cop_table::proofs::RowsLemmas::ends))]
+/// The table of the records under the header.
+fn pdos_under(alloc: Global, rows: &mut Records<'_>, row: &mut Record) -> Result<PdoTable, RowFault>
+    requires { length rows.old < 2 ^ 64 }
+    ensures { Gives (λ table. table) refusal result (rows_from added 1 [] rows.old) }
+{
+    let mut pdos = PdoRows::new(alloc)?;
+    let mut place = 0;
+    'rows: while rows.read(row)? {
+        place += 1;
+        add(alloc, &mut pdos, place, row)?;
+    }
+    Ok(pdos.into_table())
+}
+
 /// The table of PDOs. Of its records the first that breaks a rule counts, and of its rules the one of least number.
+#[tactic(auto, unfolding(crate::specs::PdoReading::pdos_of))]
 pub fn read_pdos(alloc: Global, bytes: &[u8]) -> Result<PdoTable, RowFault>
     ensures { Gives (λ table. table) refusal result (pdos_of bytes.now) }
 {
     let mut row = Record::new(alloc);
     let mut rows = rows_in(alloc, bytes, &mut row)?;
-    let mut pdos = PdoRows::new(alloc)?;
-    let mut place = 0;
-    'rows: while rows.read(&mut row)? {
-        place += 1;
-        add(alloc, &mut pdos, place, &row)?;
-    }
-    Ok(pdos.into_table())
+    pdos_under(alloc, &mut rows, &mut row)
 }

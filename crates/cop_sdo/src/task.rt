@@ -3,7 +3,7 @@
 use crate::address::Address;
 use cop_frame::Frame;
 
-#[derive(Clone, Copy, Debug, PartialEq, Eq)]
+#[derive(Clone, Copy)]
 pub enum Task {
     Idle,
     /// A download with its bytes is out.
@@ -32,7 +32,7 @@ pub enum Task {
 }
 
 /// What comes of an answer, if the client doesn't abort.
-#[derive(Clone, Copy, Debug, PartialEq, Eq)]
+#[derive(Clone, Copy)]
 pub enum Reaction {
     Send([u8; 8]),
     Done,

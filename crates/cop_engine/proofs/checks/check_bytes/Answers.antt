@@ -30,9 +30,8 @@ returns-in_err-refusals c =
 
 pub returns : goal.returns
 returns c =
-    let said = rw c.deref.ensures.value at c.in_ok-checked.ensures in
     check_is c.args.nodes.now c.args.pdos.now _ c.in_ok-nodes.nodes c.in_ok-pdos.pdos c.in_ok-network.network c.args.refusals.now c.in_ok-checked.field-0.0.items
-    c.in_ok-refusals.refusals.items said.answers c.in_ok-checked.field-0.1
+    c.in_ok-refusals.refusals.items c.in_ok-checked.field-0.1
     c.in_ok-nodes.ensures c.in_ok-pdos.ensures c.in_ok-network.ensures.exact c.in_ok-network.ensures.tables.1 c.in_ok-refusals.ensures.read
-    said.checked said.lines_are said.all_hold
+    (rw c.deref.ensures.value at c.in_ok-checked.ensures)
     (subst IsNetwork c.network-2.view_is c.network-2.invariant.0)

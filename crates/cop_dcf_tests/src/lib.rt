@@ -1,5 +1,0 @@
-//! Tests of `cop_dcf`.
-#![tactic(auto)]
-
-#[cfg(test)]
-mod tests;

@@ -1,6 +1,0 @@
-//! Tests of the public items of `cop_dict`, in a crate of their own so that the library is proved once.
-
-#![tactic(auto)]
-
-#[cfg(test)]
-mod tests;

@@ -1,6 +1,0 @@
-//! Tests of the words that canplan says.
-
-#![tactic(auto)]
-
-#[cfg(test)]
-mod tests;

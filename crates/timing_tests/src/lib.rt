@@ -1,0 +1,15 @@
+//! Tests of the public items of the layers of time on the bus, from the response-time test to the simulator, in a
+//! crate of their own so that each library is proved once.
+
+#![tactic(auto)]
+
+#[cfg(test)]
+mod bus;
+#[cfg(test)]
+mod plans;
+#[cfg(test)]
+mod refusals;
+#[cfg(test)]
+mod response_times;
+#[cfg(test)]
+mod simulator;

@@ -1,0 +1,727 @@
+mod sinks;
+
+ghost use Rattle.std.specs.Prelude.{◌≤◌};
+
+use cop_bus::{Content, Step, Trace};
+use cop_frame::{Rate, RateSet};
+use cop_plan::{Count, Outcome, Plan, assign, can_assign};
+use cop_rta::{Stream, StreamSet, read_streams};
+use cop_sim::{Behaviour, Offer, Scripted, Seeded, SimFault, Steps, simulate, simulate_over};
+use std::alloc::{AllocError, Global};
+use std::collections::VecDeque;
+use std::test::Fail;
+
+/// The valve: a PDO, its emergency messages and its heartbeat, planned at 500 kbit/s.
+const VALVE: &[u8] =
+    b"id,bytes,period,jitter,deadline\n0x181,8,10000,0,670\n0x85,8,100000,0,\n0x705,1,100000,0,\n";
+
+/// Two PDOs at 1000 kbit/s, of which the second gets the lower identifier.
+const TWO: &[u8] =
+    b"id,bytes,period,jitter,deadline\n0x181,8,1350,1282,1600\n0x182,8,13500,0,330\n";
+
+/// The set of these rates.
+fn set_of(rates: &[Rate]) -> RateSet {
+    let mut set = RateSet::new();
+    for rate in rates {
+        set.insert(*rate);
+    }
+    set
+}
+
+/// The plan of streams of which so many are PDOs, if there is one.
+fn plan_for(
+    alloc: Global,
+    streams: &StreamSet,
+    pdos: usize,
+    rates: &RateSet,
+) -> Result<Option<Plan>, AllocError> {
+    if !can_assign(streams, pdos) {
+        return Ok(None);
+    }
+    let mut count = Count { trials: 0, busy: 0 };
+    match assign(alloc, streams, pdos, rates, &mut count)? {
+        Outcome::Planned(plan) => Ok(Some(plan)),
+        Outcome::Refused(_) => Ok(None),
+    }
+}
+
+/// The plan of a table of streams, of which so many are PDOs.
+fn plan_of(alloc: Global, table: &[u8], pdos: usize, rates: &[Rate]) -> Result<Plan, Fail> {
+    let streams = read_streams(alloc, table)?;
+    match plan_for(alloc, &streams, pdos, &set_of(rates))? {
+        Some(plan) => Ok(plan),
+        None => Err(Fail::new("no plan")),
+    }
+}
+
+pub fn valve(alloc: Global) -> Result<Plan, Fail> {
+    plan_of(
+        alloc,
+        VALVE,
+        1,
+        &[Rate::Kbit250, Rate::Kbit500, Rate::Kbit1000],
+    )
+}
+
+fn two(alloc: Global) -> Result<Plan, Fail> {
+    plan_of(alloc, TWO, 2, &[Rate::Kbit1000])
+}
+
+/// A frame of 8 bytes with the most stuff bits.
+const LONG: Content = Content {
+    bits: 135,
+    body: [0; 8],
+    len: 8,
+};
+
+/// A heartbeat with the most stuff bits.
+const BEAT: Content = Content {
+    bits: 65,
+    body: [5, 0, 0, 0, 0, 0, 0, 0],
+    len: 1,
+};
+
+/// The offers of a stream, and the starts that it joins.
+pub type Script = (&'static [Offer], &'static [u64]);
+
+/// These offers in order.
+fn queue_of(alloc: Global, offers: &[Offer]) -> Result<VecDeque<Offer>, AllocError> {
+    let mut queue = VecDeque::new(alloc);
+    for offer in offers {
+        queue.push_back(*offer)?;
+    }
+    Ok(queue)
+}
+
+pub fn scripted(alloc: Global, script: Script) -> Result<Scripted, AllocError> {
+    let (offers, yes) = script;
+    Ok(Scripted {
+        offers: queue_of(alloc, offers)?,
+        yes: Vec::from_slice(alloc, yes)?,
+    })
+}
+
+/// What the simulator answers to scripts of the plan's streams.
+fn simulated(
+    alloc: Global,
+    plan: &Plan,
+    scripts: &[Script],
+    until: u64,
+) -> Result<Result<Trace, SimFault>, AllocError>
+    requires { until ≤ 4000000000 }
+{
+    let mut behaviours = Vec::new(alloc);
+    for script in scripts {
+        let one: Box<dyn Behaviour> = Box::new(alloc, scripted(alloc, *script)?)?;
+        behaviours.push(one)?;
+    }
+    Ok(simulate(alloc, plan, behaviours, until))
+}
+
+/// Whether these are the steps of the play of scripts.
+fn are_steps(
+    alloc: Global,
+    plan: &Plan,
+    scripts: &[Script],
+    until: u64,
+    wanted: &[Step],
+) -> Result<bool, SimFault>
+    requires { until ≤ 4000000000 }
+{
+    let trace = simulated(alloc, plan, scripts, until)??;
+    Ok(trace.steps.as_slice() == wanted)
+}
+
+/// The fault of the simulation of scripts, if there is one.
+fn fault_of(
+    alloc: Global,
+    plan: &Plan,
+    scripts: &[Script],
+    until: u64,
+) -> Result<Option<SimFault>, AllocError>
+    requires { until ≤ 4000000000 }
+{
+    match simulated(alloc, plan, scripts, until)? {
+        Ok(_) => Ok(None),
+        Err(fault) => Ok(Some(fault)),
+    }
+}
+
+pub const VALVE_SCRIPTS: &[Script] = &[
+    (
+        &[Offer {
+            event: 1,
+            delay: 0,
+            frame: LONG,
+        }],
+        &[],
+    ),
+    (
+        &[Offer {
+            event: 1,
+            delay: 0,
+            frame: LONG,
+        }],
+        &[],
+    ),
+    (
+        &[Offer {
+            event: 0,
+            delay: 0,
+            frame: BEAT,
+        }],
+        &[],
+    ),
+];
+
+pub const VALVE_STEPS: &[Step] = &[
+    Step::Queue {
+        at: 0,
+        id: 0x705,
+        event: 0,
+        frame: BEAT,
+    },
+    Step::Start { at: 0, id: 0x705 },
+    Step::Queue {
+        at: 1,
+        id: 0x85,
+        event: 1,
+        frame: LONG,
+    },
+    Step::Queue {
+        at: 1,
+        id: 0x181,
+        event: 1,
+        frame: LONG,
+    },
+    Step::End { at: 520, id: 0x705 },
+    Step::Start { at: 520, id: 0x85 },
+    Step::End { at: 1600, id: 0x85 },
+    Step::Start {
+        at: 1600,
+        id: 0x181,
+    },
+    Step::End {
+        at: 2680,
+        id: 0x181,
+    },
+];
+
+#[test]
+fn the_valve_to_4000_ticks(rt: HostRuntime) -> Result<(), Fail> {
+    let plan = valve(rt.alloc())?;
+    assert!(rt; are_steps(rt.alloc(), &plan, VALVE_SCRIPTS, 4000, VALVE_STEPS)?);
+    Ok(())
+}
+
+/// The scripts of two PDOs with an end, and the steps of their play.
+const PLAYS: &[(&[Script], u64, &[Step])] = &[
+    // The lower identifier is queued two ticks after the start, and joins it.
+    (
+        &[
+            (
+                &[Offer {
+                    event: 100,
+                    delay: 0,
+                    frame: LONG,
+                }],
+                &[],
+            ),
+            (
+                &[Offer {
+                    event: 102,
+                    delay: 0,
+                    frame: LONG,
+                }],
+                &[100],
+            ),
+        ],
+        2000,
+        &[
+            Step::Queue {
+                at: 100,
+                id: 0x182,
+                event: 100,
+                frame: LONG,
+            },
+            Step::Start { at: 100, id: 0x181 },
+            Step::Queue {
+                at: 102,
+                id: 0x181,
+                event: 102,
+                frame: LONG,
+            },
+            Step::End { at: 640, id: 0x181 },
+            Step::Start { at: 640, id: 0x182 },
+            Step::End {
+                at: 1180,
+                id: 0x182,
+            },
+        ],
+    ),
+    // The same, where it does not join.
+    (
+        &[
+            (
+                &[Offer {
+                    event: 100,
+                    delay: 0,
+                    frame: LONG,
+                }],
+                &[],
+            ),
+            (
+                &[Offer {
+                    event: 102,
+                    delay: 0,
+                    frame: LONG,
+                }],
+                &[],
+            ),
+        ],
+        2000,
+        &[
+            Step::Queue {
+                at: 100,
+                id: 0x182,
+                event: 100,
+                frame: LONG,
+            },
+            Step::Start { at: 100, id: 0x182 },
+            Step::Queue {
+                at: 102,
+                id: 0x181,
+                event: 102,
+                frame: LONG,
+            },
+            Step::End { at: 640, id: 0x182 },
+            Step::Start { at: 640, id: 0x181 },
+            Step::End {
+                at: 1180,
+                id: 0x181,
+            },
+        ],
+    ),
+    // Two instances of one PDO wait at once, its ring's two places.
+    (
+        &[
+            (
+                &[
+                    Offer {
+                        event: 0,
+                        delay: 5128,
+                        frame: LONG,
+                    },
+                    Offer {
+                        event: 5400,
+                        delay: 0,
+                        frame: LONG,
+                    },
+                ],
+                &[],
+            ),
+            (
+                &[Offer {
+                    event: 5127,
+                    delay: 0,
+                    frame: LONG,
+                }],
+                &[],
+            ),
+        ],
+        7000,
+        &[
+            Step::Queue {
+                at: 5127,
+                id: 0x181,
+                event: 5127,
+                frame: LONG,
+            },
+            Step::Start {
+                at: 5127,
+                id: 0x181,
+            },
+            Step::Queue {
+                at: 5128,
+                id: 0x182,
+                event: 0,
+                frame: LONG,
+            },
+            Step::Queue {
+                at: 5400,
+                id: 0x182,
+                event: 5400,
+                frame: LONG,
+            },
+            Step::End {
+                at: 5667,
+                id: 0x181,
+            },
+            Step::Start {
+                at: 5667,
+                id: 0x182,
+            },
+            Step::End {
+                at: 6207,
+                id: 0x182,
+            },
+            Step::Start {
+                at: 6207,
+                id: 0x182,
+            },
+            Step::End {
+                at: 6747,
+                id: 0x182,
+            },
+        ],
+    ),
+    // Nothing starts at the end.
+    (
+        &[
+            (
+                &[Offer {
+                    event: 100,
+                    delay: 0,
+                    frame: LONG,
+                }],
+                &[],
+            ),
+            (&[], &[]),
+        ],
+        100,
+        &[Step::Queue {
+            at: 100,
+            id: 0x182,
+            event: 100,
+            frame: LONG,
+        }],
+    ),
+];
+
+#[test]
+fn plays_of_two(rt: HostRuntime) -> Result<(), Fail> {
+    let plan = two(rt.alloc())?;
+    for case in PLAYS {
+        let (scripts, until, wanted) = *case;
+        assert!(rt; are_steps(rt.alloc(), &plan, scripts, until.min(10000), wanted)?);
+    }
+    Ok(())
+}
+
+/// Scripts of the valve's streams that are no play, and the fault.
+const FAULTS: &[(&[Script], u64, Option<SimFault>)] = &[
+    (
+        &[
+            (
+                &[
+                    Offer {
+                        event: 1,
+                        delay: 0,
+                        frame: LONG,
+                    },
+                    Offer {
+                        event: 40000,
+                        delay: 0,
+                        frame: LONG,
+                    },
+                ],
+                &[],
+            ),
+            (
+                &[Offer {
+                    event: 1,
+                    delay: 0,
+                    frame: LONG,
+                }],
+                &[],
+            ),
+            (
+                &[Offer {
+                    event: 0,
+                    delay: 0,
+                    frame: BEAT,
+                }],
+                &[],
+            ),
+        ],
+        50000,
+        Some(SimFault::Disobeys {
+            stream: 0,
+            instance: 1,
+        }),
+    ),
+    (
+        &[
+            (
+                &[
+                    Offer {
+                        event: 1,
+                        delay: 0,
+                        frame: LONG,
+                    },
+                    Offer {
+                        event: 40001,
+                        delay: 0,
+                        frame: LONG,
+                    },
+                ],
+                &[],
+            ),
+            (
+                &[Offer {
+                    event: 1,
+                    delay: 0,
+                    frame: LONG,
+                }],
+                &[],
+            ),
+            (
+                &[Offer {
+                    event: 0,
+                    delay: 0,
+                    frame: BEAT,
+                }],
+                &[],
+            ),
+        ],
+        50000,
+        None,
+    ),
+    // A heartbeat of 8 bytes, and one that is late.
+    (
+        &[
+            (&[], &[]),
+            (&[], &[]),
+            (
+                &[Offer {
+                    event: 0,
+                    delay: 0,
+                    frame: LONG,
+                }],
+                &[],
+            ),
+        ],
+        100,
+        Some(SimFault::Disobeys {
+            stream: 2,
+            instance: 0,
+        }),
+    ),
+    (
+        &[
+            (&[], &[]),
+            (&[], &[]),
+            (
+                &[Offer {
+                    event: 0,
+                    delay: 1,
+                    frame: BEAT,
+                }],
+                &[],
+            ),
+        ],
+        100,
+        Some(SimFault::Disobeys {
+            stream: 2,
+            instance: 0,
+        }),
+    ),
+    (&[(&[], &[]), (&[], &[])], 100, Some(SimFault::Count)),
+];
+
+#[test]
+fn faults(rt: HostRuntime) -> Result<(), Fail> {
+    let plan = valve(rt.alloc())?;
+    for case in FAULTS {
+        let (scripts, until, wanted) = *case;
+        let fault = fault_of(rt.alloc(), &plan, scripts, until.min(50000))?;
+        assert!(rt; fault == wanted);
+    }
+    Ok(())
+}
+
+/// What a seed offers for a stream of period 40000 and jitter 99: the event and the delay in ticks,
+/// and the frame's bits.
+const SEEDED: &[(u64, u64, u32)] = &[(1783, 97, 135), (44499, 55, 127)];
+
+#[test]
+fn offers_of_a_seed(rt: HostRuntime) -> Result<(), Fail> {
+    let stream = Stream {
+        id: 0x36,
+        bytes: 8,
+        period: 40000,
+        jitter: 99,
+        deadline: None,
+    };
+    let mut seeded = Seeded::new(42, &stream);
+    for case in SEEDED {
+        let (event, delay, bits) = *case;
+        let frame = Content {
+            bits,
+            body: [0; 8],
+            len: 8,
+        };
+        let offer = Offer {
+            event,
+            delay,
+            frame,
+        };
+        assert!(rt; seeded.next() == Some(offer), "at {event}");
+    }
+    Ok(())
+}
+
+/// A PDO, and a frame of lower priority that is queued every 400 ticks and takes 540.
+const HURRIED: &[u8] = b"id,bytes,period,jitter,deadline\n0x181,8,10000,0,1000\n0x705,8,100,0,\n";
+
+/// The offers of the hurried frame, with 300 instances.
+fn hurried_offers(alloc: Global) -> Result<VecDeque<Offer>, AllocError> {
+    let mut offers = VecDeque::new(alloc);
+    for number in 0..300u64 {
+        offers.push_back(Offer {
+            event: 400 * number,
+            delay: 0,
+            frame: LONG,
+        })?;
+    }
+    Ok(offers)
+}
+
+/// The behaviours of the hurried frame, beside a PDO with no instances.
+fn hurried_behaviours(alloc: Global) -> Result<Vec<Scripted>, AllocError> {
+    let mut behaviours = Vec::new(alloc);
+    behaviours.push(scripted(alloc, (&[], &[]))?)?;
+    behaviours.push(Scripted {
+        offers: hurried_offers(alloc)?,
+        yes: Vec::new(alloc),
+    })?;
+    Ok(behaviours)
+}
+
+/// How the run of the hurried frame to this moment ends.
+fn hurried_to(alloc: Global, plan: &Plan, until: u64) -> Result<(), SimFault>
+    requires { until ≤ 4000000000 }
+{
+    let behaviours = hurried_behaviours(alloc)?;
+    simulate_over(alloc, plan, behaviours, until, &mut Steps::new(alloc))
+}
+
+// When instance 247, counted from 0, is queued at 98,800 ticks, 183 have started: 65 wait.
+#[test]
+fn more_than_64_instances_wait(rt: HostRuntime) -> Result<(), Fail> {
+    let plan = plan_of(rt.alloc(), HURRIED, 1, &[Rate::Kbit1000])?;
+    let backlog = SimFault::Backlog { id: 0x705 };
+    assert!(rt; hurried_to(rt.alloc(), &plan, 98_799) == Ok(()));
+    assert!(rt; hurried_to(rt.alloc(), &plan, 98_800) == Err(backlog));
+    Ok(())
+}
+
+/// Three PDOs whose second and third have deadlines of their periods at 125 kbit/s.
+const THREE: &[u8] =
+    b"id,bytes,period,jitter,deadline\n0x181,7,2500,0,2500\n0x182,7,3500,0,3500\n0x183,7,3500,0,3500\n";
+
+/// A frame of 7 bytes with the most stuff bits.
+const SEVEN: Content = Content {
+    bits: 125,
+    body: [0; 8],
+    len: 7,
+};
+
+const THREE_SCRIPTS: &[Script] = &[
+    (
+        &[
+            Offer {
+                event: 0,
+                delay: 0,
+                frame: SEVEN,
+            },
+            Offer {
+                event: 10000,
+                delay: 0,
+                frame: SEVEN,
+            },
+            Offer {
+                event: 20000,
+                delay: 0,
+                frame: SEVEN,
+            },
+        ],
+        &[],
+    ),
+    (
+        &[
+            Offer {
+                event: 0,
+                delay: 0,
+                frame: SEVEN,
+            },
+            Offer {
+                event: 14000,
+                delay: 0,
+                frame: SEVEN,
+            },
+        ],
+        &[],
+    ),
+    (
+        &[
+            Offer {
+                event: 0,
+                delay: 0,
+                frame: SEVEN,
+            },
+            Offer {
+                event: 14000,
+                delay: 0,
+                frame: SEVEN,
+            },
+        ],
+        &[],
+    ),
+];
+
+/// When the transfers of a run start, and of which identifiers.
+fn starts_of(alloc: Global, steps: &[Step]) -> Result<Vec<(u64, u16)>, AllocError> {
+    let mut starts = Vec::new(alloc);
+    for step in steps {
+        if let Step::Start { at, id } = step {
+            starts.push((*at, *id))?;
+        }
+    }
+    Ok(starts)
+}
+
+/// When the transfers of the three PDOs start, and of which identifiers.
+const STARTS: &[(u64, u16)] = &[
+    (0, 0x181),
+    (4000, 0x182),
+    (8000, 0x183),
+    (12000, 0x181),
+    (16000, 0x182),
+    (20000, 0x181),
+    (24000, 0x183),
+];
+
+/// Whether the run of the three PDOs to 28,000 ticks has these starts and this last step.
+fn runs_so(
+    alloc: Global,
+    plan: &Plan,
+    starts: &[(u64, u16)],
+    last: &Step,
+) -> Result<bool, SimFault> {
+    let trace = simulated(alloc, plan, THREE_SCRIPTS, 28_000)??;
+    let found = starts_of(alloc, &trace.steps)?;
+    Ok(found.as_slice() == starts && trace.steps.last() == Some(last))
+}
+
+// The second instance of the third PDO, of 14,000, ends at 28,000: its longest response.
+#[test]
+fn the_longest_response_is_reached(rt: HostRuntime) -> Result<(), Fail> {
+    let plan = plan_of(rt.alloc(), THREE, 3, &[Rate::Kbit125])?;
+    let last = Step::End {
+        at: 28_000,
+        id: 0x183,
+    };
+    assert!(rt; runs_so(rt.alloc(), &plan, STARTS, &last)?);
+    Ok(())
+}
