@@ -1,5 +1,5 @@
 -- The simulator between two steps.
-use Rattle.std.specs.Prelude.{◌≡◌, ◌≢◌, ℕ, ◌+◌, ◌-◌, ◌*◌, ◌<◌, ◌≤◌, ◌^◌, ◌⊎◌, List, [], ◌∷◌, ◌++◌, Option, None, Some, Bool, true, false, suc, length, map, drop, get_or, slice_get, slice_set, Result, Ok, Err}
+use Rattle.std.specs.Prelude.{◌≡◌, ◌≢◌, ℕ, ◌+◌, ◌-◌, ◌*◌, ◌<◌, ◌≤◌, ◌^◌, ◌⊎◌, List, [], ◌∷◌, ◌++◌, Option, None, Some, Bool, true, false, suc, length, map, drop, get_or, replicate, slice_get, slice_set, Result, Ok, Err}
 use Rattle.cop_frame.specs.Rate.{ticks_of}
 use Rattle.cop_rta.specs.declared.streams.Stream.{Stream}
 use Rattle.cop_rta.specs.Streams.{AreDistinct}
@@ -7,7 +7,7 @@ use Rattle.cop_bus.specs.declared.steps.Step.{Step}
 use Rattle.cop_bus.specs.declared.steps.Step.TheVariants.{Queue}
 use Rattle.cop_bus.specs.declared.bus.Instance.{Instance}
 use Rattle.cop_bus.specs.Trace.{is_queue, is_start, count_to, nth_that, running, now_of}
-use Rattle.cop_bus.specs.Rings.{RingValue, most_of}
+use Rattle.cop_bus.specs.Rings.{RingValue, most_of, rings_of}
 use Rattle.cop_plan.specs.Values.{PlanValue}
 use Rattle.cop_plan.specs.Planned.{IsPlanned}
 use Rattle.cop_sim.specs.declared.behaviours.Offer.{Offer}
@@ -34,6 +34,11 @@ pub record AtHand : Type 0 where
 
 abbrev pub at_hand : Stage → AtHand
 at_hand s = record { ids = s.offers.ids; next = s.offers.next; rings = s.waiting; queued = s.queued.items; running = s.running; joined = s.joined; now = s.now }
+
+-- what is at hand before the first step, by the first offers
+abbrev pub at_first : List Stream → List (Option Offer) → AtHand
+at_first streams next =
+    record { ids = map (λ k. k.id) streams; next = next; rings = rings_of streams; queued = replicate (length streams) 0; running = None; joined = None; now = 0 }
 
 -- one for each stream
 pub record AreSized (count : ℕ) (h : AtHand) : Type 0 where

@@ -1,29 +1,32 @@
-use Rattle.std.proofs.Common.{◌≡◌, List, replicate, length, rules, ap, subst, sym, ◌∙◌}
-use Rattle.std.specs.Prelude.{ℕ, Option, get_or, slice_get}
+use Rattle.std.proofs.Common.{List, [], replicate, length, map, refl, subst, sym}
+use Rattle.std.specs.Prelude.{Option}
+use Rattle.cop_bus.specs.Rings.{rings_of}
 use Rattle.cop_sim.specs.declared.behaviours.Offer.{Offer}
-use Rattle.cop_sim.specs.Hands.{OffersValue}
-use Rattle.cop_sim.specs.Stages.{AreFirst}
-use Rattle.cop_sim.proofs.Beginning.{begun-of, zeros-long, zeros-each, none-waits}
-use Rattle.cop_bus.specs.Rings.{RingValue}
+use Rattle.cop_sim.specs.declared.faults.SimFault.TheVariants.{Memory}
 use Rattle.cop_sim.specs.Hands.{IsEarly}
 use Rattle.cop_sim.specs.Seats.{next_at}
+use Rattle.cop_sim.specs.Stages.{AtHand, AreFirst, IsAt}
+use Rattle.cop_sim.proofs.Beginning.{begun-of, zeros-long, zeros-each, err-if}
 use Rattle.cop_sim.proofs.EarlyLemmas.{first-early}
 use Rattle.cop_sim.proofs.playing.first_stage.Goals as goal
 
-pub offers_of-requires-clause-early : goal.offers_of-requires-clause-early
-offers_of-requires-clause-early g c i =
+pub returns-in_err-next-clause-fault : goal.returns-in_err-next-clause-fault
+returns-in_err-next-clause-fault g c = err-if c.from_residual.result _ c.in_err-next.field-0.0 c.from_residual.ensures.1 c.in_err-next.ensures.fault
+
+pub stage_of-requires-clause-early : goal.stage_of-requires-clause-early
+stage_of-requires-clause-early g c i =
     subst (λ (xs : List (Option Offer)). IsEarly (next_at xs i)) (sym c.deref.ensures.value)
     (first-early g.B.Behaviour.offer g.B.Behaviour.agrees c.args.until c.args.streams.now c.args.behaviours.now.items c.first_offers.new.behaviours.items c.in_ok-next.next.items c.in_ok-next.ensures.first c.requires.count c.requires.until i)
 
-pub new-requires : goal.new-requires
-new-requires g c i r e = none-waits c.args.streams.now i r (ap (λ (rs : List RingValue). slice_get rs i) (sym c.in_ok-rings_of.ensures) ∙ e)
+pub returns-in_err-stage-clause-fault : goal.returns-in_err-stage-clause-fault
+returns-in_err-stage-clause-fault g c = err-if c.from_residual-in_err-stage.result _ Memory c.from_residual-in_err-stage.ensures.1 tt
 
 pub returns-clause-begun : goal.returns-clause-begun
 returns-clause-begun g c plan e planned distinct =
-    let q : c.in_ok-queued.queued.items ≡ replicate (length c.args.streams.now) 0 = c.in_ok-queued.ensures.items_if_clones_equal (search rules) in
-    let o = c.in_ok-offers.ensures in
-    let next : c.in_ok-offers.offers.next ≡ c.in_ok-next.next.items = ap (λ (v : OffersValue). v.next) o ∙ c.deref.ensures.value in
-    begun-of g.B.Behaviour.offer g.B.Behaviour.agrees plan c.args.until c.args.behaviours.now.items c.first_offers.new.behaviours.items c.in_ok-offers.offers.next c.in_ok-queued.queued.items c.args.streams.now c.in_ok-offers.offers.ids c.in_ok-waiting.waiting
+    let streams = c.args.streams.now in
+    let next : List (Option Offer) = c.deref.result.now in
+    subst (λ (h : AtHand). IsAt g.B.Behaviour.offer g.B.Behaviour.agrees plan c.args.until c.args.behaviours.now.items c.first_offers.new.behaviours.items h []) (sym c.in_ok-stage.ensures)
+    (begun-of g.B.Behaviour.offer g.B.Behaviour.agrees plan c.args.until c.args.behaviours.now.items c.first_offers.new.behaviours.items next (replicate (length streams) 0) streams (map (λ k. k.id) streams) (rings_of streams)
     e planned distinct c.requires.count
-    (subst (λ (xs : List (Option Offer)). AreFirst g.B.Behaviour.offer g.B.Behaviour.agrees c.args.until c.args.streams.now c.args.behaviours.now.items c.first_offers.new.behaviours.items xs (length c.args.streams.now)) (sym next) c.in_ok-next.ensures.first)
-    (ap (λ (v : OffersValue). v.ids) o) (c.in_ok-waiting.ensures ∙ c.in_ok-rings_of.ensures) (ap (λ (xs : List ℕ). length xs) q ∙ zeros-long (length c.args.streams.now)) (λ k. ap (λ (xs : List ℕ). get_or xs k 0) q ∙ zeros-each (length c.args.streams.now) k)
+    (subst (λ (xs : List (Option Offer)). AreFirst g.B.Behaviour.offer g.B.Behaviour.agrees c.args.until streams c.args.behaviours.now.items c.first_offers.new.behaviours.items xs (length streams)) (sym c.deref.ensures.value) c.in_ok-next.ensures.first)
+    refl refl (zeros-long (length streams)) (zeros-each (length streams)))
