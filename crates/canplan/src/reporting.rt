@@ -7,9 +7,10 @@ use crate::files::{Tables, beside, read_eds_files, read_file, read_tables, write
 use crate::judging::judge;
 use crate::orders::NetworkFiles;
 use cop_engine::{Fault, plan_status};
+use cop_figures::{Timeline, figures_of, timeline_of};
 use cop_net::{Network, network, read_nodes, read_pdos};
 use cop_plan::{Outcome, plan};
-use cop_report::{Input, Report, Timeline, figures_of, page_of, timeline_of};
+use cop_report::{Input, Report, page_of};
 use std::alloc::AllocError;
 
 /// The files that a page is made of.

@@ -2,9 +2,9 @@
 
 use crate::script::SCRIPT;
 use crate::senders::{Sender, sender_of};
-use crate::timelines::{Lane, Timeline};
 use crate::units::{Count, Identifier, Micros};
 use cop_bus::Transfer;
+use cop_figures::{Lane, Timeline};
 use cop_net::Network;
 use cop_plan::Plan;
 use std::alloc::AllocError;

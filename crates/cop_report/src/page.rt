@@ -5,14 +5,13 @@ ghost use Rattle.cop_plan.specs.Plans.{IsOutcome};
 
 use crate::bus::push_bus;
 use crate::devices::sent_by;
-use crate::figures::Figures;
 use crate::nodes::push_nodes;
 use crate::pdos::{push_pdos, tightest};
 use crate::premises::{push_inputs, push_premises};
 use crate::rates::{push_loads, push_rates};
 use crate::style::STYLE;
-use crate::timelines::Timeline;
 use crate::units::{Count, Micros, Percent};
+use cop_figures::{Figures, Timeline};
 use cop_net::Network;
 use cop_plan::Outcome;
 use std::alloc::{AllocError, Global};

@@ -2,9 +2,8 @@
 
 use crate::bars::ResponseBar;
 use crate::devices::{device_of, taken_by};
-use crate::figures::Figures;
-use crate::times::PdoTimes;
 use crate::units::{Identifier, Micros};
+use cop_figures::{Figures, PdoTimes};
 use cop_net::{Consumer, Network, PdoRow};
 use std::alloc::AllocError;
 

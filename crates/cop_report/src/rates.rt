@@ -2,10 +2,8 @@
 
 use crate::bars::LoadBar;
 use crate::devices::sent_by;
-use crate::figures::Figures;
-use crate::loads::Load;
-use crate::refused::{Failing, RefusedRate};
 use crate::units::{Micros, Percent};
+use cop_figures::{Failing, Figures, Load, RefusedRate};
 use cop_frame::Rate;
 use cop_net::Network;
 use cop_rta::Verdict;

@@ -3,9 +3,10 @@
 ghost use Rattle.std.specs.Prelude.{length};
 ghost use Rattle.cop_plan.specs.Plans.{IsOutcome};
 
+use cop_figures::{Figures, Timeline, figures_of, timeline_of};
 use cop_net::{Network, NodeTable, PdoTable, network, read_nodes, read_pdos};
 use cop_plan::{Outcome, Plan, plan};
-use cop_report::{Figures, Input, Report, Timeline, figures_of, page_of, timeline_of};
+use cop_report::{Input, Report, page_of};
 use std::alloc::{AllocError, Global};
 use std::test::Fail;
 

@@ -2,7 +2,7 @@
 
 use crate::reports::networks::{PDOS, planned, report};
 use cop_bus::{BusFault, Transfer};
-use cop_report::{MOST_SHOWN, timeline_of};
+use cop_figures::{MOST_SHOWN, timeline_of};
 use std::alloc::{AllocError, Global};
 use std::test::Fail;
 

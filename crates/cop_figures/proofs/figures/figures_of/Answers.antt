@@ -1,0 +1,42 @@
+use Rattle.std.proofs.Common.{◌≡◌, ◌≤◌, length, refl, ap, ◌∙◌, Some}
+use Rattle.cop_plan.specs.Plans.{IsPlan, AreAllRefused}
+use Rattle.cop_figures.proofs.ReasonLemmas.{all_measured, all_tested}
+use Rattle.cop_figures.proofs.figures.figures_of.Goals as goal
+
+pub all_refused-requires : goal.all_refused-requires
+all_refused-requires c =
+    let is : IsPlan c.args.network.now.equipment.rates c.args.network.now.set (length c.args.network.now.rows) c.in-Planned.plan = rw c.in-Planned.is at c.requires in
+    rw (c.refusals.ensures, c.streams-streams.ensures.items, c.set.ensures.set)
+    (all_measured c.args.network.now.set (length c.args.network.now.rows) c.set.ensures.network.streams.count c.in-Planned.plan.refusals is.refused.each)
+
+pub all_refused-requires-in-Refused : goal.all_refused-requires-in-Refused
+all_refused-requires-in-Refused c =
+    let is : AreAllRefused c.args.network.now.equipment.rates c.args.network.now.set (length c.args.network.now.rows) c.in-Refused.refusals = rw c.in-Refused.is at c.requires in
+    rw (c.as_slice.ensures, c.streams-streams.ensures.items, c.set.ensures.set)
+    (all_measured c.args.network.now.set (length c.args.network.now.rows) c.set.ensures.network.streams.count c.in-Refused.refusals is.refused.each)
+
+pub returns-in_ok-all_refused-in-Planned : goal.returns-in_ok-all_refused-in-Planned
+returns-in_ok-all_refused-in-Planned c =
+    let is : IsPlan c.args.network.now.equipment.rates c.args.network.now.set (length c.args.network.now.rows) c.in-Planned.plan = rw c.in-Planned.is at c.requires in
+    rw c.in-Planned.is (
+      ap (λ r. Some r) c.rate.ensures,
+      c.in_ok-times_of-in-Planned.ensures,
+      c.in_ok-loads.ensures,
+      record {
+        shown_are = rw (c.refusals.ensures, c.streams-streams.ensures.items, c.set.ensures.set) at c.in_ok-all_refused-in-Planned.ensures;
+        tested = all_tested c.args.network.now.set (length c.args.network.now.rows) c.set.ensures.network.streams.count c.in-Planned.plan.refusals is.refused.each;
+      },
+    )
+
+pub returns-in_ok-all_refused-in-Refused : goal.returns-in_ok-all_refused-in-Refused
+returns-in_ok-all_refused-in-Refused c =
+    let is : AreAllRefused c.args.network.now.equipment.rates c.args.network.now.set (length c.args.network.now.rows) c.in-Refused.refusals = rw c.in-Refused.is at c.requires in
+    rw c.in-Refused.is (
+      refl,
+      c.new.ensures.items,
+      c.in_ok-loads.ensures,
+      record {
+        shown_are = rw (c.as_slice.ensures, c.streams-streams.ensures.items, c.set.ensures.set) at c.in_ok-all_refused-in-Refused.ensures;
+        tested = all_tested c.args.network.now.set (length c.args.network.now.rows) c.set.ensures.network.streams.count c.in-Refused.refusals is.refused.each;
+      },
+    )

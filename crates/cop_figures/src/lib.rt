@@ -1,0 +1,14 @@
+//! The numbers of a plan's report: loads, times, refused rates and the bus over time.
+#![tactic(auto)]
+
+mod figures;
+mod loads;
+mod refused;
+mod timelines;
+mod times;
+
+pub use figures::{Figures, figures_of};
+pub use loads::Load;
+pub use refused::{Failing, RefusedRate};
+pub use timelines::{Lane, MOST_SHOWN, Timeline, timeline_of};
+pub use times::PdoTimes;

@@ -1,0 +1,63 @@
+//! The times of the PDOs under a plan.
+
+ghost use Rattle.std.specs.Prelude.{◌≡◌, ◌<◌, ◌≤◌, IfOk, Some, length, get_or, slice_get};
+ghost use Rattle.cop_rta.specs.declared.verdicts.Verdict.TheVariants.{Long};
+ghost use Rattle.cop_rta.specs.Test.{place_by_id};
+ghost use Rattle.cop_rta.specs.Verdict.{IsJudged, IsPass, PassesBy};
+ghost use Rattle.cop_plan.specs.Planned.{IsPlanned};
+ghost use Rattle.cop_figures.specs.Figures.{IsTimed, AreTimes};
+
+use cop_plan::Plan;
+use cop_rta::{Stream, Verdict, verdicts_by_id};
+use std::alloc::{AllocError, Global};
+
+/// A PDO under a plan. Times are in ticks of 250 ns.
+#[derive(Clone, Copy, PartialEq, Eq, Debug)]
+pub struct PdoTimes {
+    /// Its number: the place of its row in the table of PDOs, from 0 on.
+    pub pdo: usize,
+    /// Its stream, under the identifier of the plan.
+    pub stream: Stream,
+    /// Its greatest response: from the event to the end of the transfer.
+    pub response: u64,
+}
+
+/// The greatest response of a stream that passes.
+fn response_of(verdict: Verdict) -> u64
+    ensures { IsPass verdict → verdict ≡ Verdict.Pass result }
+{
+    match verdict {
+        Verdict::Pass { response } => response,
+        Verdict::Late { .. } => 0,
+        Verdict::Long => 0,
+    }
+}
+
+/// A PDO of a plan, whose streams have these verdicts.
+fn time_of(plan: &Plan, verdicts: &[Verdict], pdo: usize) -> PdoTimes
+    requires pdo { pdo < length plan.now.ids }
+    requires verdicts { length verdicts.now ≡ length plan.now.streams }
+    requires judged { IsJudged (place_by_id plan.now.streams pdo plan.now.rate) (get_or verdicts.now pdo Long) }
+    ensures pdo { result.pdo ≡ pdo }
+    ensures timed { IsTimed plan.now result }
+{
+    let streams = plan.streams().streams();
+    PdoTimes {
+        pdo,
+        stream: streams[pdo],
+        response: response_of(verdicts[pdo]),
+    }
+}
+
+/// The times of the PDOs of a plan, that with the lowest identifier first.
+pub(crate) fn times_of(alloc: Global, plan: &Plan) -> Result<Vec<PdoTimes>, AllocError>
+    ensures { IfOk result (λ times. AreTimes plan.now times.items) }
+{
+    let verdicts = verdicts_by_id(alloc, plan.streams(), plan.rate())?;
+    let order = plan.order();
+    let mut times = Vec::new(alloc);
+    for pdo in order {
+        times.push(time_of(plan, &verdicts, *pdo))?;
+    }
+    Ok(times)
+}

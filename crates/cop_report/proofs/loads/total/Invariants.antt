@@ -1,9 +1,0 @@
-use Rattle.std.proofs.Common.{◌≡◌, ◌*◌, ◌^◌, ◌≤◌, take, sum_by}
-use Rattle.cop_report.specs.Loads.{share_of}
-use Rattle.cop_report.proofs.loads.total.Given as goal
-
-abbrev pub invariant-loop-stream : goal.invariant-loop-stream
-invariant-loop-stream l = record {
-  sum : l.total ≡ sum_by (share_of l.rate) (take l.stream-index l.streams);
-  most : l.total ≤ l.stream-index * 2 ^ 38;
-}

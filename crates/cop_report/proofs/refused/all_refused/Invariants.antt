@@ -1,6 +1,0 @@
-use Rattle.std.proofs.Common.{◌≡◌, map, take}
-use Rattle.cop_report.specs.Reasons.{refused_of}
-use Rattle.cop_report.proofs.refused.all_refused.Given as goal
-
-abbrev pub invariant-loop-refusal : goal.invariant-loop-refusal
-invariant-loop-refusal l = l.rates.items ≡ map (refused_of l.streams) (take l.refusal-index l.refusals)

@@ -1,9 +1,0 @@
-use Rattle.std.proofs.Common.{◌≡◌, map, take, All}
-use Rattle.cop_report.specs.Figures.{IsTimed}
-use Rattle.cop_report.proofs.times.times_of.Given as goal
-
-abbrev pub invariant-loop-pdo : goal.invariant-loop-pdo
-invariant-loop-pdo l = record {
-  pdos : map (λ t. t.pdo) l.times.items ≡ take l.pdo-index l.order;
-  each : All (IsTimed l.plan) l.times.items;
-}
