@@ -15,3 +15,7 @@ loop-turn-preserved c =
 pub returns : goal.returns
 returns c =
     none_left c.args.nodes.now (turns_drawn c.args.seed c.args.nodes.now) c.loop-turn.turns.items c.loop-turn.now (4000 * kinds c.args.nodes.now - c.loop-turn._turn) c.loop-turn.generator (omega (arith, c.loop-turn-test.false)) c.loop-turn.invariant.1
+
+-- written here so that a body that breaks it is refused at once
+pub loop-turn-init : goal.loop-turn-init
+loop-turn-init c = search rules
