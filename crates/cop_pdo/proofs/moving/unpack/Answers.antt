@@ -1,4 +1,4 @@
-use Rattle.std.proofs.Common.{◌≡◌, ◌∙◌, take, sym}
+use Rattle.std.proofs.Common.{rules, ◌≡◌, ◌∙◌, take, sym}
 use Rattle.cop_dict.specs.Mapping.{total_bits}
 use Rattle.cop_pdo.specs.Bits.{bits_of_bytes, bytes_for}
 use Rattle.cop_pdo.proofs.UnpackLemmas.{bytes_number}
@@ -10,3 +10,10 @@ returns-clause-ok c =
     rw (← count, ← c.entries.ensures.entries, ← c.direction.ensures)
     (c.store_all.ensures.value (bits_of_bytes (take c.from-count.result c.args.body.now))
     (bytes_number (take c.from-count.result c.args.body.now) (rw c.number.ensures.value at c.number.ensures.bound) ∙ sym c.number.ensures.value))
+
+-- written here so that a body that breaks it is refused at once
+pub slice_bounds-number-end : goal.slice_bounds-number-end
+slice_bounds-number-end c = search rules
+
+pub returns-clause-short : goal.returns-clause-short
+returns-clause-short c = search rules

@@ -45,3 +45,7 @@ judge_next-swept-requires-clause-row c =
     rw (c.deref.ensures.value, c.in_ok-push.ensures.items, c.deref_mut.ensures.value) (row_more c.args.set.now c.loop-id.above.items c.loop-id.row.items c.paces.result.now c.in-Some.index c.index-paces-index.result c.paces.ensures.paces c.loop-id.invariant.swept.size c.in-Some.ensures.within c.index-paces-index.is
     (not_yet c.args.rate c.args.set.now c.loop-id.above.items c.loop-id.verdicts.items c.loop-id.id c.loop-id.invariant.swept (rw c.streams-count.ensures.items at c.streams-count.ensures.distinct) c.in-Some.index (rw c.in-Some.is at (sym c.place_of.ensures.place)) c.in-Some.ensures.within)
     c.loop-id.invariant.row)
+
+-- written here so that a body that breaks it is refused at once
+pub returns-clause-judged : goal.returns-clause-judged
+returns-clause-judged c = search rules
