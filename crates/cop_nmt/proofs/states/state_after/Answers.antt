@@ -1,4 +1,4 @@
-use Rattle.std.proofs.Common.{sym, ◌∙◌}
+use Rattle.std.proofs.Common.{rules, sym, ◌∙◌}
 use Rattle.cop_nmt.proofs.StateLemmas.{one_more, none_left, last_counts}
 use Rattle.cop_nmt.proofs.states.state_after.Goals as goal
 
@@ -13,3 +13,7 @@ returns-clause-fold c =
 
 pub returns-clause-last : goal.returns-clause-last
 returns-clause-last c = returns-clause-fold c ∙ last_counts c.args.node c.args.start c.args.frames.now
+
+-- written here so that a body that breaks it is refused at once
+pub loop-frame-init : goal.loop-frame-init
+loop-frame-init c = search rules

@@ -1,0 +1,6 @@
+use Rattle.std.proofs.Common.{rules}
+use Rattle.cop_sdo.proofs.server.Server.new.Goals as goal
+
+-- written here so that a body that breaks it is refused at once
+pub returns : goal.returns
+returns c = search rules
