@@ -1,4 +1,4 @@
-use Rattle.std.proofs.Common.{ℕ, ◌≤◌, arith}
+use Rattle.std.proofs.Common.{rules, ℕ, ◌≤◌, arith}
 use Rattle.cop_rta.specs.Test.{horizon}
 use Rattle.cop_cert.proofs.ChainLemmas.{chain_one, chain_more}
 use Rattle.cop_cert.proofs.making.chain.Goals as goal
@@ -14,3 +14,7 @@ loop-last-preserved g c =
     chain_more f horizon c.args.from c.loop-last.last c.at-next.result c.loop-last.numbers c.push-in-loop-last.new.self c.loop-last.invariant
     c.in_ok-push-2.ensures.ok (omega arith) c.if-next-last.false c.at-next.ensures (omega arith)
     (g.met.D.Demand.never_falls c.args.demand.now c.loop-last.last c.at-next.result up (omega (arith)))
+
+-- written here so that a body that breaks it is refused at once
+pub returns : goal.returns
+returns c = search rules
