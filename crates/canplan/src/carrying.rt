@@ -13,7 +13,7 @@ use cop_frame::Rate;
 use cop_plan::{Outcome, Plan};
 use cop_words::{late_words, rule_words};
 use std::fs::File;
-use std::io::Write;
+use std::io::{BufWriter, Write};
 
 /// The test of the streams of a table. What does not pass is told in words where that is wanted.
 fn test(rt: &HostRuntime, rate: Rate, file: &str, explain: bool) -> Result<u8, Fault> {
@@ -69,6 +69,21 @@ fn boot(rt: &HostRuntime, seed: u64, network: NetworkFiles<'_>) -> Result<u8, Fa
     Ok(text_status(&text))
 }
 
+/// How many bytes of a trace are handed to the system at once. Its records come in pieces of 8 KiB.
+const TRACE_BUFFER: usize = 256 * 1024;
+
+/// A new file for a trace.
+fn trace_file(rt: &HostRuntime, trace: &str) -> Result<BufWriter<File>, Fault> {
+    let file = match File::create(rt, trace) {
+        Ok(file) => file,
+        Err(error) => return Err(file_fault(rt, trace, &error)),
+    };
+    match BufWriter::with_capacity(rt.alloc(), TRACE_BUFFER, file) {
+        Ok(file) => Ok(file),
+        Err(_) => Err(Fault::Memory),
+    }
+}
+
 /// Runs a plan by a seed, and writes the trace into a file as it goes: what is said of the run.
 fn run_into(
     rt: &HostRuntime,
@@ -77,10 +92,7 @@ fn run_into(
     until: u64,
     trace: &str,
 ) -> Result<Vec<u8>, Fault> {
-    let file = match File::create(rt, trace) {
-        Ok(file) => file,
-        Err(error) => return Err(file_fault(rt, trace, &error)),
-    };
+    let file = trace_file(rt, trace)?;
     match run_plan(rt.alloc(), plan, seed, until.min(MOST_UNTIL), file) {
         Ok((text, _file)) => Ok(text),
         Err(RunFault::Trace) => Err(Fault::File(String::from_str(rt.alloc(), trace)?)),
