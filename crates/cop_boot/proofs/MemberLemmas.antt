@@ -16,6 +16,7 @@ use Rattle.cop_sdo.specs.Exchange.{IsDownloading}
 use Rattle.cop_sdo.specs.Client.{Asking, Calling, Called, called, concluded, reacted, request, same_address, is_idle, done, resting}
 use Rattle.cop_sdo.specs.Calls.{Started, downloading, given, is_short}
 use Rattle.cop_sdo.specs.declared.fault.ClientFault.{ClientFault}
+use Rattle.cop_sdo.proofs.Confirmed.{started_so}
 use Rattle.cop_sdo.specs.declared.address.Address.{Address}
 use Rattle.cop_dcf.specs.declared.setting.Setting.{Setting}
 use Rattle.cop_boot.specs.declared.«end».Phase.TheVariants.{Sending, Over}
@@ -50,15 +51,6 @@ short_so s h = by_four (s.bytes == 4) refl h
     by_four true e h = rw (eqb-true s.bytes 4 e) refl
     by_four false e h = by_two (s.bytes == 2) refl h
 
-pub starts_so : (client : Calling) (at : Address) (bytes : List ℕ) → is_idle client.asking.task ≡ true → is_short bytes ≡ true
-    → downloading client at bytes ≡ Ok (given client.node at bytes)
-starts_so client at bytes h short =
-    let few : nat_lt 65535 (length bytes) ≡ false = not_many (length bytes) short in
-    rw (h, few, short) refl
-  where
-    not_many : (n : ℕ) → (nat_lt 0 n && nat_le n 4) ≡ true → nat_lt 65535 n ≡ false
-    not_many n h = grind (arith, nat_tests)
-
 pub few_bytes : (bytes : List ℕ) → is_short bytes ≡ true → (1 ≤ length bytes) × (length bytes ≤ 4)
 few_bytes bytes h = (least (length bytes) h, most (length bytes) h)
   where
@@ -80,7 +72,7 @@ downloads client new s bytes frame idle short is call =
     let same : bytes ≡ bytes_of s = is ∙ taken_bytes s short in
     let few : is_short bytes ≡ true = ap is_short same ∙ short_so s short in
     let size = few_bytes bytes few in
-    let e = sym (starts_so client (address_of s) bytes idle few) ∙ call size.0 size.1 in
+    let e = sym (started_so client (address_of s) bytes idle few) ∙ call size.0 size.1 in
     let g : given client.node (address_of s) bytes ≡ record { client = new; frame = frame } = cc in
     record {
       client_is = sym (ap (λ x. x.client) g);
@@ -119,7 +111,7 @@ never_refused client new s bytes fault idle short is call =
     let same : bytes ≡ bytes_of s = is ∙ taken_bytes s short in
     let few : is_short bytes ≡ true = ap is_short same ∙ short_so s short in
     let size = few_bytes bytes few in
-    let e : Ok (given client.node (address_of s) bytes) ≡ Err fault = sym (starts_so client (address_of s) bytes idle few) ∙ (call size.0 size.1).0 in
+    let e : Ok (given client.node (address_of s) bytes) ≡ Err fault = sym (started_so client (address_of s) bytes idle few) ∙ (call size.0 size.1).0 in
     cc
 
 pub moves_on : (node : Node) (done now : ℕ) (s : Setting) (frame : Message) → slice_get node.settings done ≡ Some s → frame ≡ request_of node.number s

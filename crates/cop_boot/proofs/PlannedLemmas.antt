@@ -5,6 +5,7 @@ use Rattle.std.specs.Prelude.{ℤ, pos, option_map}
 use Rattle.std.specs.List.{filter_map, cons_option}
 use Rattle.std.specs.Option.{option_and_then}
 use Rattle.std.specs.Ordering.{int_eq}
+use Rattle.std.proofs.Math.Bool.{and-false}
 use Rattle.std.proofs.lemmas.Bool.{eqb-true}
 use Rattle.std.proofs.lemmas.Bool.Decides.{nat_tests}
 use Rattle.cop_dict.specs.Types.{is_unsigned32}
@@ -61,17 +62,13 @@ has_word e v n h small = rw (is_32 e v h, word_number n small) refl
 keeps_type : (e : Entry) (v n : ℕ) → unsigned32_of e ≡ Some v → unsigned32_of (valued (word n) e) ≡ Some (number (word n))
 keeps_type e v n h = rw (is_32 e v h) refl
 
-and_false : (b : Bool) → (b && false) ≡ false
-and_false true = refl
-and_false false = refl
-
 beat_elsewhere : (time index : ℕ) (o : Option ℤ) → IsElsewhere index 1 (time_set time o)
 beat_elsewhere time index None = tt
 beat_elsewhere time index (Some now) = by_test (int_eq now (pos time))
   where
     by_test : (b : Bool) → IsElsewhere index 1 (cond b [] (heartbeat_set time ∷ []))
     by_test true = tt
-    by_test false = (and_false (0x1017 == index), tt)
+    by_test false = (and-false (0x1017 == index), tt)
 
 -- a COB-ID after it is switched on, where it is
 abbrev switched : Option ℕ → ℕ → Option Entry → Option Entry

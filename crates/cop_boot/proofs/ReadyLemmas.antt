@@ -5,6 +5,7 @@ use Rattle.std.specs.Prelude.{option_map, option_and_then, if◌then◌else◌}
 use Rattle.std.proofs.lemmas.Bool.Decides.{nat_tests}
 use Rattle.cop_dict.specs.Find.{Entry}
 use Rattle.cop_sdo.specs.Message.{Message}
+use Rattle.cop_sdo.proofs.Confirmed.{same_number}
 use Rattle.cop_dcf.specs.declared.setting.Setting.{Setting}
 use Rattle.cop_boot.specs.declared.turn.Turn.{Turn}
 use Rattle.cop_boot.specs.declared.turn.Turn.TheVariants.{ToNode, FromNode, Moment}
@@ -14,7 +15,7 @@ use Rattle.cop_boot.specs.Device.{Attached}
 use Rattle.cop_boot.specs.Booted.{CanBoot, MomentsBelow, round_trips, StandAmong, ReadyInTime}
 use Rattle.cop_boot.specs.Schedule.{Line, World, line_of, Delivers, DeliversTo, heard_on, heard_from, Takes, TakesAll, begins, Boots}
 use Rattle.cop_boot.proofs.DriveLemmas.{heard_begun, passed_begun, starting_so}
-use Rattle.cop_boot.proofs.StageLemmas.{Plan, Stage, Resetting, Booting, Asked, Confirmed, Done, Lost, IsAt, goes_stage, after_to, after_from, after_moment, no_front, same_number}
+use Rattle.cop_boot.proofs.StageLemmas.{Plan, Stage, Resetting, Booting, Asked, Confirmed, Done, Lost, IsAt, goes_stage, after_to, after_from, after_moment, no_front}
 use Rattle.cop_boot.proofs.WorldLemmas.{ArePlans, Holds, Stands, same_line, moment_stands, frame_stands, to_stands, turn_holds}
 use Rattle.cop_boot.proofs.BootLemmas.{plan, plans_of, good, begun, first_stands}
 

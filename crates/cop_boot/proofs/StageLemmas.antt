@@ -23,7 +23,7 @@ use Rattle.cop_sdo.specs.Request.{is_heard}
 use Rattle.cop_sdo.specs.Request as requests
 use Rattle.cop_sdo.specs.Server as acts
 use Rattle.cop_sdo.specs.Server.{Moved as Act, short_of_memory}
-use Rattle.cop_sdo.proofs.Confirmed.{served_so, request_again}
+use Rattle.cop_sdo.proofs.Confirmed.{same_number, served_so, request_again}
 use Rattle.cop_dcf.specs.declared.setting.Setting.{Setting}
 use Rattle.cop_boot.specs.declared.«end».End.{End}
 use Rattle.cop_boot.specs.declared.«end».End.TheVariants.{Ready, Silent}
@@ -37,9 +37,6 @@ use Rattle.cop_boot.specs.Manager.{heard_by, is_boot_up, reset_all, start_all, i
 use Rattle.cop_boot.specs.Device.{Attached, Responded, MayRespond, MayServeIn, boot_up, stepped_by, reset_to, served_as, ignores, MayRespondTo}
 use Rattle.cop_boot.specs.Schedule.{Line}
 use Rattle.cop_boot.specs.Booted.{EachSetting, CanBeSet}
-
-pub same_number : (n : ℕ) → (n == n) ≡ true
-same_number n = grind (arith, nat_tests)
 
 -- numbers of different kinds of frames
 no_nmt : (n : ℕ) → (0x600 + n == 0) ≡ false

@@ -9,6 +9,7 @@ use Rattle.std.proofs.lemmas.List.Elements.{filter-append}
 use Rattle.cop_sdo.specs.Message.{Message}
 use Rattle.cop_sdo.specs.Reply.{Reply, Confirm, ConfirmSegment, Value, Size, Segment, Abort, Other, reply_of, is_answer}
 use Rattle.cop_sdo.specs.declared.address.Address.{Address}
+use Rattle.cop_sdo.proofs.Confirmed.{same_number}
 use Rattle.cop_dcf.specs.declared.setting.Setting.{Setting}
 use Rattle.cop_boot.specs.declared.«end».End.TheVariants.{Silent, Restarting}
 use Rattle.cop_boot.specs.declared.«end».Phase.{Phase}
@@ -23,7 +24,7 @@ use Rattle.cop_boot.specs.Booted.{Apart}
 use Rattle.cop_boot.specs.Ends.{BootUp, Answer, Reached}
 use Rattle.cop_boot.specs.Schedule.{Line, World, line_of, is_for, takes, posted, with_line, Delivers, DeliversTo, heard_on, heard_from, Takes, TakesAll}
 use Rattle.cop_boot.proofs.DriveLemmas.{found_map, heard_begun, passed_begun, met_keeps}
-use Rattle.cop_boot.proofs.StageLemmas.{Plan, IsSound, Stage, Done, IsAt, IfThere, ComesFrom, Each, sent_to, delivered, came, comes, started_at, waited, numbered, after_to, after_from, after_moment, nothing_sent, no_front, ready_line, same_number}
+use Rattle.cop_boot.proofs.StageLemmas.{Plan, IsSound, Stage, Done, IsAt, IfThere, ComesFrom, Each, sent_to, delivered, came, comes, started_at, waited, numbered, after_to, after_from, after_moment, nothing_sent, no_front, ready_line}
 
 -- what a line of a number is after a change of each line
 pub lines_map : (f : Line → Line) → ((line : Line) → (f line).number ≡ line.number) → (lines : List Line) (n : ℕ) → line_of (map f lines) n ≡ option_map f (line_of lines n)

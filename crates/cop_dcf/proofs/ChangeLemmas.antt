@@ -4,6 +4,7 @@ use Rattle.std.proofs.Common.{◌≡◌, ◌≤◌, ◌<◌, ◌+◌, ◌-◌, �
 use Rattle.std.specs.List.{list_all, list_any, cons_option}
 use Rattle.std.specs.Option.{option_map, option_map_or}
 use Rattle.std.specs.Str.Parse.{IsNumeral, AllDigits}
+use Rattle.std.proofs.lemmas.Bool.{or_parts}
 use Rattle.std.proofs.lemmas.Bool.Decides.{nat_tests}
 use Rattle.std.proofs.lemmas.Fmt.{decimal_is_IsNumeral}
 use Rattle.std.proofs.lemmas.Str.Parse.{digit_from_value}
@@ -169,38 +170,30 @@ module _ (file device node : ℕ) (eds_name name : List ℕ) (rate : Rate) where
     (node_line device (decimal node) (decimal_plain node small), (name_line device name n, (rate_line device (decimal (kbits_of rate)) (rate_plain rate), tt))),
   )
 
-or_left : (a b : Bool) → a || b ≡ false → a ≡ false
-or_left true b e = cc
-or_left false b e = refl
-
-or_right : (a b : Bool) → a || b ≡ false → b ≡ false
-or_right true b e = cc
-or_right false b e = e
-
 module _ (key : List ℕ) (none : is_set key ≡ false) where
   four : ((same_name (codes "ParameterValue") key || same_name (codes "LastEDS") key) || same_name (codes "NodeID") key) || same_name (codes "NodeName") key ≡ false
-  four = or_left _ _ none
+  four = (or_parts _ _ none).0
 
   three : (same_name (codes "ParameterValue") key || same_name (codes "LastEDS") key) || same_name (codes "NodeID") key ≡ false
-  three = or_left _ _ four
+  three = (or_parts _ _ four).0
 
   two : same_name (codes "ParameterValue") key || same_name (codes "LastEDS") key ≡ false
-  two = or_left _ _ three
+  two = (or_parts _ _ three).0
 
   pub no_value : same_name (codes "ParameterValue") key ≡ false
-  no_value = or_left _ _ two
+  no_value = (or_parts _ _ two).0
 
   no_origin : same_name (codes "LastEDS") key ≡ false
-  no_origin = or_right _ _ two
+  no_origin = (or_parts _ _ two).1
 
   no_node : same_name (codes "NodeID") key ≡ false
-  no_node = or_right _ _ three
+  no_node = (or_parts _ _ three).1
 
   no_name : same_name (codes "NodeName") key ≡ false
-  no_name = or_right _ _ four
+  no_name = (or_parts _ _ four).1
 
   no_rate : same_name (codes "Baudrate") key ≡ false
-  no_rate = or_right _ _ none
+  no_rate = (or_parts _ _ none).1
 
 places_ours : (file device node : ℕ) (eds_name name : List ℕ) (rate : Rate) → AreOurs (places_set file eds_name device node name rate)
 unfolding AreOurs

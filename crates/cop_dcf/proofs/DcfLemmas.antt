@@ -3,6 +3,7 @@ use Rattle.std.proofs.Common.{◌≡◌, ◌≢◌, ◌<◌, ◌≤◌, ℕ, ◌
 use Rattle.std.specs.Prelude.{slice_index}
 use Rattle.std.specs.List.{list_any}
 use Rattle.std.specs.Option.{option_map, option_map_or}
+use Rattle.std.proofs.Math.Bool.{or-false}
 use Rattle.std.proofs.lemmas.Bool.{ne_eqb}
 use Rattle.std.proofs.lemmas.Bool.Decides.{nat_tests}
 use Rattle.std.proofs.lemmas.List.Folds.{list_any-append}
@@ -356,10 +357,6 @@ key_found text section key n (line ∷ lines) = by_test (has_key section key (ro
     by_test true later = refl
     by_test false later = later
 
-or_false : (b : Bool) → b || false ≡ b
-or_false true = refl
-or_false false = refl
-
 newline_some : (rows : List Row) → (length (newline_of rows) == 0) ≡ false
 newline_some [] = refl
 newline_some (row ∷ rows) = by_test (length row.ending == 0) refl
@@ -450,7 +447,7 @@ pieces_are_dcf text cs table are =
     let keys : (section : ℕ) (key : List ℕ) → not (list_any (has_key section key) (with_sections (rows_of text))) ≡ is_wanting text (record { section = section; key = key; value = [] }) = λ section key.
     ap not (ap (list_any (has_key section key)) whole ∙ list_any-append (has_key section key) rows appended
     ∙ ap (λ b. list_any (has_key section key) rows || b) (keys_appended file device newline count section key)
-    ∙ or_false (list_any (has_key section key) rows) ∙ sym (key_found text section key 1 (lines_of text))) in
+    ∙ or-false (list_any (has_key section key) rows) ∙ sym (key_found text section key 1 (lines_of text))) in
     let behind : IsBehind text all cs table newline count appended = record { some = newline_some rows; by_section = are; keys = keys; high = λ section le. high_appended file device newline count section le } in
     ap (λ n. take (mark_len text) text ++ bytes_of_rows (closed n (with_keys cs all))) line
     ∙ ap (λ n. take (mark_len text) text ++ bytes_of_rows (closed newline (rewritten all cs n all))) own

@@ -42,11 +42,11 @@ use Rattle.cop_dcf.proofs.SettingsLemmas.{short_time}
 use Rattle.cop_dcf.proofs.NumberLemmas.{all_numbers}
 use Rattle.cop_dcf.proofs.RoundLemmas.{round}
 
-accepted_by : {A : Type 0} (place : ℕ) (r : Result A eds.Refusal) (x : A) → refused_at place r ≡ Ok x → r ≡ Ok x
+pub accepted_by : {A : Type 0} (place : ℕ) (r : Result A eds.Refusal) (x : A) → refused_at place r ≡ Ok x → r ≡ Ok x
 accepted_by place (Ok y) x h = let e : y ≡ x = cc in ap Ok e
 accepted_by place (Err e) x h = cc
 
-text_is : (place : ℕ) (o : Option (List ℕ)) (x : List ℕ) → text_at place o ≡ Ok x → o ≡ Some x
+pub text_is : (place : ℕ) (o : Option (List ℕ)) (x : List ℕ) → text_at place o ≡ Ok x → o ≡ Some x
 text_is place None x h = cc
 text_is place (Some y) x h = let e : y ≡ x = cc in ap Some e
 

@@ -1,5 +1,5 @@
 -- The identifiers of the PDOs that use a node's communication records.
-use Rattle.std.proofs.Common.{◌≡◌, ◌≢◌, ◌<◌, ◌≤◌, ℕ, zero, suc, ◌+◌, ◌-◌, Bool, true, false, ◌||◌, ◌==◌, cond, List, [], ◌∷◌, length, take, get_or, Option, Some, None, All, IfSome, refl, sym, ap, ◌∙◌, arith, add-one}
+use Rattle.std.proofs.Common.{◌≡◌, ◌<◌, ◌≤◌, ℕ, zero, suc, ◌+◌, Bool, true, false, ◌||◌, ◌==◌, cond, List, [], ◌∷◌, length, take, get_or, Option, Some, None, All, IfSome, refl, sym, ap, ◌∙◌, arith, add-one}
 use Rattle.std.specs.Option.{option_or}
 use Rattle.std.proofs.lemmas.Bool.Decides.{nat_tests}
 use Rattle.cop_rows.specs.declared.pdo_table.PdoRow.{PdoRow}
@@ -33,10 +33,6 @@ pub noted_alike : (now before : List (Option ℕ)) (p q : ℕ → Bool) (id : �
 noted_alike now before p q id same h = record {
   each = λ place lt. h.each place lt ∙ ap (λ b. option_or (get_or before place None) (cond b (Some id) None)) (same (0x1400 + place));
 }
-
-or_false : (b : Bool) → b || false ≡ b
-or_false true = refl
-or_false false = refl
 
 -- the records of a row: the sender's is the node's, or it is another's
 pub own_row : (now between before : List (Option ℕ)) (row : PdoRow) (node id : ℕ) → row.node ≡ node → IsNoted between before (λ i. 0x17FF + row.tpdo == i) id

@@ -18,6 +18,7 @@ use Rattle.std.proofs.lemmas.List.{get_or_default}
 use Rattle.cop_dcf.specs.Settings.{dictionary_of, node_settings, IsFit}
 use Rattle.cop_dcf.proofs.SettingsLemmas.{all_fit_in}
 use Rattle.cop_boot.specs.declared.«end».Phase.TheVariants.{Waiting}
+use Rattle.cop_boot.proofs.PlanLemmas.{Plans}
 use Rattle.cop_boot.specs.Settings.{is_short_value}
 use Rattle.cop_boot.specs.Member.{unheard, is_managed, CanManage}
 use Rattle.cop_boot.specs.Node.{Node}
@@ -128,9 +129,6 @@ pub push_behind : (dict items copy : List Entry) (i : ℕ) (object added : Entry
 push_behind dict items copy i object added same sorted lt here is index sub =
     let behind = stands_behind dict copy i object sorted (subst (λ (xs : List Entry). i < length xs) same lt) (here ∙ ap (λ (xs : List Entry). get_or xs i object) same) is in
     rw (index, sub) behind
-
-abbrev pub Plans : Type 0
-Plans = List (ℕ × Vec Setting)
 
 -- what is put behind all others
 insert_last : (es : Plans) (k : ℕ) (v : Vec Setting) → All (λ e. e.0 < k) es → insert_entry nat_cmp es k v ≡ es ++ (k, v) ∷ []

@@ -14,6 +14,7 @@ use Rattle.cop_net.specs.Steps.{folded}
 use Rattle.cop_net.specs.Network.{Net, Accepted, streams_of, network_of}
 use Rattle.cop_rows.proofs.RangeLemmas.{bind_ok}
 use Rattle.cop_net.proofs.TextLemmas.{read_as_itself}
+use Rattle.cop_dcf.proofs.DeviceLemmas.{accepted_by, text_is}
 use Rattle.cop_plan.specs.Values.{PlanValue}
 use Rattle.cop_engine.specs.Dcfs.{eds_text, dcf_file, device_row, dcf_at, dcfs_below, HasText, HaveTexts}
 
@@ -24,14 +25,6 @@ dcfs_more eds net plan node = rw (add-one node) refl
 pub dcfs_none : (eds : List File) (net : Net) (plan : PlanValue) → dcfs_below eds net plan 0 ≡ []
 unfolding dcfs_below
 dcfs_none eds net plan = refl
-
-accepted_by : (place : ℕ) (r : Result (List ℕ) eds.Refusal) (x : List ℕ) → refused_at place r ≡ Ok x → r ≡ Ok x
-accepted_by place (Ok y) x h = let e : y ≡ x = cc in ap Ok e
-accepted_by place (Err e) x h = cc
-
-text_is : (place : ℕ) (o : Option (List ℕ)) (x : List ℕ) → text_at place o ≡ Ok x → o ≡ Some x
-text_is place None x h = cc
-text_is place (Some y) x h = let e : y ≡ x = cc in ap Some e
 
 -- the device of a row has a text that is accepted
 row_text : (files : List File) (found more : Equipment) (row : DeviceRow) → device_added (text_of files) found row ≡ Ok more

@@ -39,10 +39,6 @@ use Rattle.cop_engine.proofs.OnePlan.{ok_once}
 
 -- ---- a table has at most 512 PDOs
 
-bound : {A B F : Type 0} (r : Result A F) (f : A → Result B F) (x : B) → (r >>= f) ≡ Ok x → (a : A) × (r ≡ Ok a) × (f a ≡ Ok x)
-bound (Ok a) f x h = (a, refl, h)
-bound (Err e) f x h = cc
-
 was_placed : {A : Type 0} (place : ℕ) (r : Result A Rule) (x : A) → placed place r ≡ Ok x → r ≡ Ok x
 was_placed place (Ok a) x h = let same : a ≡ x = cc in rw same refl
 was_placed place (Err rule) x h = absurd (cc)
@@ -58,14 +54,14 @@ from_few : (place : ℕ) (found more : List PdoRow) (texts : List (List (List �
 unfolding rows_from
 from_few place found more [] few h = let same : found ≡ more = cc in subst (λ (rows : List PdoRow). length rows ≤ 512) same few
 from_few place found more (text ∷ texts) few h =
-    let p = bound (added place found text) _ more h in
-    let q = bound (pdo_in text) (pushed found) p.0 (was_placed place _ p.0 p.1) in
+    let p = bind_ok (added place found text) _ more h in
+    let q = bind_ok (pdo_in text) (pushed found) p.0 (was_placed place _ p.0 p.1) in
     from_few (place + 1) p.0 more texts (pushed_few found p.0 q.0 few q.2) p.2
 
 table_few : (text : List ℕ) (found : List PdoRow) → pdos_of text ≡ Ok found → length found ≤ 512
 unfolding pdos_of
 table_few text found h =
-    let p = bound (rows_in text) _ found h in
+    let p = bind_ok (rows_in text) _ found h in
     from_few 1 [] found p.0 (omega arith) p.2
 
 pub few_rows : (nodes pdos : List ℕ) (files : List File) (found : Found) → network_in nodes pdos files ≡ Ok found → length found.rows ≤ 512

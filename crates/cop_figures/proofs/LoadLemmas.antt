@@ -9,12 +9,9 @@ use Rattle.cop_frame.specs.Rate.{kbits_of, place_of}
 use Rattle.cop_frame.proofs.RateSetLemmas.{place_below}
 use Rattle.cop_net.specs.Network.{Net}
 use Rattle.cop_plan.proofs.RateLemmas.{rate_at, at_place, place_at, kbits_rise}
+use Rattle.cop_plan.proofs.AssignLemmas.{IsEarlier}
 use Rattle.cop_figures.specs.declared.loads.Load.{Load}
 use Rattle.cop_figures.specs.Loads.{IsLoadOf, AreLoads}
-
--- a rate that all devices support, of the first i rates
-abbrev pub IsEarlier : List Rate → ℕ → Rate → Type 0
-IsEarlier rates i rate = Contains rates rate × (place_of rate < i)
 
 -- the loads at those of the first i rates that all devices support
 pub record AreFirst (net : Net) (i : ℕ) (loads : List Load) : Type 0 where

@@ -7,7 +7,7 @@ use Rattle.cop_bus.specs.declared.steps.Step.{Step}
 use Rattle.cop_bus.specs.declared.steps.Step.TheVariants.{Start, End}
 use Rattle.cop_bus.specs.Trace.{is_queue, is_start, count_to, nth_that, step_at, running, after, at_of}
 use Rattle.cop_bus.specs.Judge.{id_of, stream_of, last_event, is_in_order, not_before, is_period_later, is_queued_in_time, is_of_length, fits_transfer, has_one_to_send, is_lowest, is_not_idle, broken_by, any_waits}
-use Rattle.cop_sim.specs.Going.{AreFine}
+use Rattle.cop_bus.specs.Growing.{KeepTheRules}
 use Rattle.cop_bus.proofs.Verdict.{Keeps}
 use Rattle.cop_bus.proofs.Found.{pass}
 use Rattle.cop_bus.proofs.Grows.{step_at-more, nth_that-more, none-broken-there, running-more, any_waits-more, no-more, nth_that-between}
@@ -26,8 +26,8 @@ finds-between steps x y apart i at id l e v h = nth_that-between (is_queue id) (
 
 -- One step more keeps the rules, if it does itself and each start finds the same instance.
 pub fine-one : (tau : ℕ) (streams : List Stream) (until : ℕ) (steps ahead more : List Step) (x : Step) →
-    FindsTheSame steps ahead (x ∷ more) → AreFine tau streams until steps ahead → broken_by tau streams until (steps ++ x ∷ more) (length steps) x ≡ None →
-    AreFine tau streams until (steps ++ x ∷ []) more
+    FindsTheSame steps ahead (x ∷ more) → KeepTheRules tau streams until steps ahead → broken_by tau streams until (steps ++ x ∷ more) (length steps) x ≡ None →
+    KeepTheRules tau streams until (steps ++ x ∷ []) more
 fine-one tau streams until steps ahead more x look fine last i l = elim (cases_lt i (length steps)) [
   | inl k ↦ (let h = none-broken-there tau streams until until steps ahead (x ∷ more) (omega arith) look fine i k in
       subst (λ t. broken_by tau streams until t i (step_at (steps ++ x ∷ []) i) ≡ None) (sym (one-more steps x more))
@@ -40,11 +40,11 @@ fine-one tau streams until steps ahead more x look fine last i l = elim (cases_l
 
 -- what runs is the same with one step more behind
 pub running-kept : (tau : ℕ) (streams : List Stream) (until : ℕ) (steps ahead more : List Step) →
-    FindsTheSame steps ahead more → AreFine tau streams until steps ahead → running tau (steps ++ more) (length steps) ≡ running tau (steps ++ ahead) (length steps)
+    FindsTheSame steps ahead more → KeepTheRules tau streams until steps ahead → running tau (steps ++ more) (length steps) ≡ running tau (steps ++ ahead) (length steps)
 running-kept tau streams until steps ahead more look fine = running-more tau streams until until steps ahead more (omega arith) look fine (length steps) (omega arith)
 
 pub running-one : (tau : ℕ) (streams : List Stream) (until : ℕ) (steps ahead more : List Step) (x : Step) →
-    FindsTheSame steps ahead (x ∷ more) → AreFine tau streams until steps ahead →
+    FindsTheSame steps ahead (x ∷ more) → KeepTheRules tau streams until steps ahead →
     running tau ((steps ++ x ∷ []) ++ more) (length (steps ++ x ∷ [])) ≡ after tau (steps ++ x ∷ more) (length steps) x (running tau (steps ++ ahead) (length steps))
 running-one tau streams until steps ahead more x look fine =
     ap (λ t. running tau t (length (steps ++ x ∷ []))) (one-more steps x more)

@@ -10,6 +10,7 @@ use Rattle.cop_rta.specs.Streams.{AreDistinct}
 use Rattle.cop_bus.specs.declared.steps.Step.{Step}
 use Rattle.cop_bus.specs.Trace.{is_queue, step_at, running, after, at_of, IsLegalTrace, now_of, last_of}
 use Rattle.cop_bus.specs.Run.{IsObeying}
+use Rattle.cop_bus.specs.Growing.{KeepTheRules}
 use Rattle.cop_bus.specs.Judge.{is_in_order, not_before, fits_transfer, is_not_idle, broken_by, broken_at_end, at_step, first_broken_from, first_broken, is_unfinished}
 use Rattle.cop_bus.proofs.Demand.{and-left, and-right, and-true}
 use Rattle.cop_bus.proofs.Work.{true-le, le-true, lt-true}
@@ -22,7 +23,7 @@ use Rattle.cop_bus.proofs.Grows.{no-more}
 use Rattle.cop_bus.proofs.Appended.{step_at-here, length-one, now-one}
 use Rattle.cop_sim.proofs.Going.{keeps-none}
 use Rattle.cop_sim.proofs.Kept.{at-cases, next-is}
-use Rattle.cop_sim.specs.Going.{Goes, AreFine}
+use Rattle.cop_sim.specs.Going.{Goes}
 use Rattle.cop_sim.proofs.Queued.{by-now}
 
 -- a trace of which each step keeps the rules, and the end too
@@ -51,7 +52,7 @@ pub fine-by-now : (tau : ℕ) (streams : List Stream) (until : ℕ) (steps : Lis
     (i : ℕ) → i < length steps → broken_by tau streams (now_of steps) steps i (step_at steps i) ≡ None
 fine-by-now tau streams until steps fine i l =
     let k = keeps tau streams until steps i (step_at steps i) (fine i l) in
-    let f : AreFine tau streams until steps [] = λ j m. subst (λ t. broken_by tau streams until t j (step_at steps j) ≡ None) (sym (no-more steps)) (fine j m) in
+    let f : KeepTheRules tau streams until steps [] = λ j m. subst (λ t. broken_by tau streams until t j (step_at steps j) ≡ None) (sym (no-more steps)) (fine j m) in
     let b = by-now tau streams until steps [] f (length steps - suc i) i (omega arith) in
     keeps-none tau streams (now_of steps) steps i (step_at steps i) (record {
       order = order-by until (now_of steps) steps i (step_at steps i) b k.order;

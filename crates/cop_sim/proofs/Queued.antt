@@ -6,6 +6,7 @@ use Rattle.cop_rta.specs.declared.streams.Stream.{Stream}
 use Rattle.cop_bus.specs.declared.steps.Step.{Step}
 use Rattle.cop_bus.specs.declared.steps.Step.TheVariants.{Queue}
 use Rattle.cop_bus.specs.Trace.{is_queue, is_start, count_to, step_at, running, at_of, now_of}
+use Rattle.cop_bus.specs.Growing.{KeepTheRules}
 use Rattle.cop_bus.specs.Judge.{stream_of, last_event, is_in_order, not_before, is_period_later, is_queued_in_time, is_of_length, fits_transfer, is_not_idle, broken_by}
 use Rattle.cop_bus.proofs.Demand.{and-left, and-right, and-true}
 use Rattle.cop_bus.proofs.Work.{true-le, le-true, lt-true, true-eq, eq-true}
@@ -18,11 +19,11 @@ use Rattle.cop_bus.proofs.Grows.{step_at-more, last_event-more}
 use Rattle.cop_bus.proofs.Appended.{step_at-here, length-one, one-more, now-one, last-one, count_to-one, last_event-here}
 use Rattle.cop_sim.proofs.Going.{FindsTheSame, finds-more, finds-between, fine-one, running-kept, running-one, keeps-none, order-more, idle-more, runs-idle}
 use Rattle.cop_sim.proofs.Kept.{at-cases, next-is, count-kept, next-kept, before-kept, before-one, offers-one, rising-one, starts-one, lowest-one}
-use Rattle.cop_sim.specs.Going.{IsNext, queued_ahead, Goes, AreFine}
+use Rattle.cop_sim.specs.Going.{IsNext, queued_ahead, Goes}
 use Rattle.cop_sim.proofs.Goes.{order-end, not-before}
 
 -- no step comes after the last
-pub by-now : (tau : ℕ) (streams : List Stream) (until : ℕ) (steps ahead : List Step) → AreFine tau streams until steps ahead → (d i : ℕ) → i + suc d ≡ length steps → at_of (step_at steps i) ≤ now_of steps
+pub by-now : (tau : ℕ) (streams : List Stream) (until : ℕ) (steps ahead : List Step) → KeepTheRules tau streams until steps ahead → (d i : ℕ) → i + suc d ≡ length steps → at_of (step_at steps i) ≤ now_of steps
 by-now tau streams until steps ahead fine zero i e = let q : length steps - 1 ≡ i = omega arith in subst (λ n. at_of (step_at steps i) ≤ at_of (step_at steps n)) (sym q) (omega arith)
 by-now tau streams until steps ahead fine (suc d) i e =
     let l : suc i < length steps = omega arith in

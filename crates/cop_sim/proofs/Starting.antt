@@ -12,6 +12,7 @@ use Rattle.cop_bus.specs.declared.bus.Instance.{Instance}
 use Rattle.cop_bus.specs.Trace.{is_queue, is_start, count_to, nth_that, running, bits_of}
 use Rattle.cop_bus.specs.Judge.{stream_of, any_waits}
 use Rattle.cop_bus.specs.Rings.{RingValue, any_in}
+use Rattle.cop_bus.specs.Bus.{without_first}
 use Rattle.cop_bus.proofs.Work.{eq-true}
 use Rattle.cop_bus.proofs.Grows.{count_to-more, nth_that-more}
 use Rattle.cop_bus.proofs.Appended.{now-one}
@@ -22,7 +23,7 @@ use Rattle.cop_sim.specs.declared.choosing.Sent.{Sent}
 use Rattle.cop_sim.specs.Play.{Actor, actors_of, streams_of, queued_at, queue_step, next_offer, Competes, Joins, IsSentAhead}
 use Rattle.cop_sim.specs.Going.{Goes}
 use Rattle.cop_sim.specs.Seats.{next_at, IsDueSoFar, IsChosen}
-use Rattle.cop_sim.specs.Stages.{AtHand, starts, IsHeld, IsSeat, flipped, IsAwaited, IsAt, without_first, IsStarted}
+use Rattle.cop_sim.specs.Stages.{AtHand, starts, IsHeld, IsSeat, flipped, IsAwaited, IsAt, IsStarted}
 use Rattle.cop_sim.proofs.Kept.{count-kept, count-raised}
 use Rattle.cop_sim.proofs.Going.{finds-more, running-one}
 use Rattle.cop_sim.proofs.Held.{held-waits, held-none, held-started, held-joiner}

@@ -1,17 +1,13 @@
 -- A partial play that can go on.
 use Rattle.std.specs.Prelude.{◌≡◌, ℕ, ◌+◌, ◌≤◌, ◌<◌, ◌⊎◌, List, [], ◌∷◌, ◌++◌, None, Some, true, false, length, is_some, Contains}
-use Rattle.cop_rta.specs.declared.streams.Stream.{Stream}
 use Rattle.cop_bus.specs.declared.steps.Step.{Step}
 use Rattle.cop_bus.specs.declared.steps.Content.{Content}
 use Rattle.cop_bus.specs.declared.steps.Step.TheVariants.{Queue}
 use Rattle.cop_bus.specs.Trace.{is_queue, is_start, count_to, step_at, running, last_of, now_of}
 use Rattle.cop_bus.specs.Judge.{stream_of, last_event, is_in_order, broken_by}
+use Rattle.cop_bus.specs.Growing.{KeepTheRules}
 use Rattle.cop_sim.specs.declared.behaviours.Offer.{Offer}
 use Rattle.cop_sim.specs.Play.{Actor, streams_of, queued_at, queue_step, next_offer, QueuesItsOffers, SendsTheLowest, QueuesRise, StartsBefore, IsSentAhead, obeys, answer_before, event_of}
-
--- each of the steps keeps the rules, with what is ahead behind them
-abbrev pub AreFine : ℕ → List Stream → ℕ → List Step → List Step → Type 0
-AreFine tau streams until steps ahead = (i : ℕ) → i < length steps → broken_by tau streams until (steps ++ ahead) i (step_at steps i) ≡ None
 
 -- An actor's next offer, which obeys, comes in turn after the steps.
 pub record IsNext (until : ℕ) (steps : List Step) (a : Actor) (o : Offer) : Type 0 where
@@ -25,7 +21,7 @@ queued_ahead k ahead = count_to (is_queue k) ahead (length ahead)
 
 -- A partial play that can go on: what runs has not ended, and each next offer that obeys is as it should be.
 pub record Goes (tau : ℕ) (actors : List Actor) (until : ℕ) (steps ahead : List Step) : Type 0 where
-  pub fine : AreFine tau (streams_of actors) until steps ahead
+  pub fine : KeepTheRules tau (streams_of actors) until steps ahead
   pub ahead_fine : (y : Step) → ahead ≡ y ∷ [] → broken_by tau (streams_of actors) until (steps ++ ahead) (length steps) y ≡ None
   pub sent : (ahead ≡ []) ⊎ ((a : Actor) × Contains actors a × IsSentAhead steps a × ((o : Offer) × (next_offer until steps (length steps) a ≡ Some o) × (ahead ≡ queue_step a.stream.id o ∷ [])))
   pub clear : running tau (steps ++ ahead) (length steps) ≡ None → ahead ≡ []

@@ -1,5 +1,5 @@
 -- The simulator between two steps.
-use Rattle.std.specs.Prelude.{◌≡◌, ◌≢◌, ℕ, ◌+◌, ◌-◌, ◌*◌, ◌<◌, ◌≤◌, ◌^◌, ◌⊎◌, List, [], ◌∷◌, ◌++◌, Option, None, Some, Bool, true, false, suc, length, map, drop, get_or, replicate, slice_get, slice_set, Result, Ok, Err}
+use Rattle.std.specs.Prelude.{◌≡◌, ◌≢◌, ℕ, ◌+◌, ◌-◌, ◌*◌, ◌<◌, ◌≤◌, ◌^◌, ◌⊎◌, List, [], ◌∷◌, ◌++◌, Option, None, Some, Bool, true, false, suc, length, map, get_or, replicate, slice_get, slice_set, Result, Ok, Err}
 use Rattle.cop_frame.specs.Rate.{ticks_of}
 use Rattle.cop_rta.specs.declared.streams.Stream.{Stream}
 use Rattle.cop_rta.specs.Streams.{AreDistinct}
@@ -8,6 +8,7 @@ use Rattle.cop_bus.specs.declared.steps.Step.TheVariants.{Queue}
 use Rattle.cop_bus.specs.declared.bus.Instance.{Instance}
 use Rattle.cop_bus.specs.Trace.{is_queue, is_start, count_to, nth_that, running, now_of}
 use Rattle.cop_bus.specs.Rings.{RingValue, most_of, rings_of}
+use Rattle.cop_bus.specs.Bus.{without_first}
 use Rattle.cop_plan.specs.Values.{PlanValue}
 use Rattle.cop_plan.specs.Planned.{IsPlanned}
 use Rattle.cop_sim.specs.declared.behaviours.Offer.{Offer}
@@ -118,12 +119,9 @@ pub record IsFault {S : Type 0} (takes : S → Step → S → Type 0) (plan : Pl
 abbrev pub instance_of : Due → Instance
 instance_of d = record { at = queued_at d.offer; id = d.id; event = d.offer.event; frame = d.offer.frame }
 
--- the ring with an instance behind the others, and without the first
+-- the ring with an instance behind the others
 abbrev pub with_last : RingValue → Instance → RingValue
 with_last r y = record { id = r.id; waiting = r.waiting ++ y ∷ []; most = r.most }
-
-abbrev pub without_first : RingValue → RingValue
-without_first r = record { id = r.id; waiting = drop 1 r.waiting; most = r.most }
 
 -- an instance waits in the ring of its place, unless it is the joiner's that was sent
 abbrev pub IsPut : List RingValue → Option ℕ → ℕ → Instance → List RingValue → Option ℕ → Type 0
