@@ -30,14 +30,18 @@ use Rattle.cop_net.specs.Faults.{at_node}
 use Rattle.cop_net.specs.Heartbeats.{heartbeat_of}
 use Rattle.cop_net.specs.Network.{Net, IsNetwork, accepted, has_stray, settable, all_settable, streams_of, network_of}
 use Rattle.cop_net.specs.Pdos.{Traffic, laid_out, unless, transmitted_by, received_by, sent_by, taken_by, consumer_added, pdo_added, no_traffic, pdos_of}
-use Rattle.cop_net.specs.Settings.{word, goes_off, takes, passes_from, takes_each, is_usable, stays_on, beats}
+use Rattle.cop_net.specs.declared.pdos.Sent.{Sent}
+use Rattle.cop_net.specs.declared.signals.Signals.{Signals}
+use Rattle.cop_net.specs.Signals.{signals_of, ranges_where, ranges_of, IsPdoId}
+use Rattle.cop_net.specs.Settings.{word, goes_off, takes, is_usable, stays_on, beats}
+use Rattle.cop_net.proofs.SettingLemmas.{usable_takes, small_id}
 use Rattle.cop_net.specs.Steps.{folded}
 use Rattle.cop_net.specs.Uses.{is_record, is_used}
 use Rattle.cop_rows.proofs.RangeLemmas.{bind_ok}
 use Rattle.cop_dcf.specs.Identifiers.{id_at, uses}
 use Rattle.cop_dcf.specs.Settings.{dictionary_of}
 use Rattle.cop_dcf.proofs.DeviceLemmas.{IsDevice, equipped, others, device, dictionary, beating}
-use Rattle.cop_boot.specs.PlanSettings.{Admits, IsPdoId}
+use Rattle.cop_boot.specs.PlanSettings.{Admits}
 use Rattle.cop_boot.proofs.PlanInTurn.{sub_of}
 
 not_both : (a b : Bool) → (a && not b) ≡ false → b ≡ false → a ≡ false
@@ -50,7 +54,8 @@ not_both false b h e = refl
 record IsUsableAt (devices : List (Option Device)) (node index : ℕ) : Type 0 where
   own : Device
   there : get_or devices node None ≡ Some own
-  usable : is_usable own.dictionary index ≡ true
+  second : Bool
+  usable : is_usable own.dictionary index (ranges_where second) ≡ true
 
 abbrev AreUsable : List (Option Device) → List Used → Type 0
 AreUsable devices used = All (λ u. IsUsableAt devices u.node u.index) used
@@ -59,22 +64,22 @@ unless_ok : {A : Type 0} (rule : Rule) (place : ℕ) (b : Bool) (x y : A) → un
 unless_ok rule place true x y h = refl
 unless_ok rule place false x y h = cc
 
-transmitted_usable : (devices : List (Option Device)) (node place tpdo : ℕ) (o : Option Device) (sent : Layout) → get_or devices node None ≡ o → transmitted_by place tpdo o ≡ Ok sent
-    → IsUsableAt devices node (communication_of directions.Transmit tpdo)
-transmitted_usable devices node place tpdo None sent there h = cc
-transmitted_usable devices node place tpdo (Some d) sent there h =
-    let p = bind_ok (laid_out rules.Transmit place directions.Transmit (payload_of d.dictionary directions.Transmit tpdo)) _ sent h in
-    let q = bind_ok (unless rules.CobId place (is_usable d.dictionary (communication_of directions.Transmit tpdo)) p.0) _ sent p.2 in
-    record { own = d; there = there; usable = unless_ok rules.CobId place (is_usable d.dictionary (communication_of directions.Transmit tpdo)) p.0 q.0 q.1 }
+transmitted_usable : (devices : List (Option Device)) (signals : Signals) (node place : ℕ) (row : PdoRow) (o : Option Device) (sent : Sent) → get_or devices node None ≡ o
+    → transmitted_by signals place row o ≡ Ok sent → IsUsableAt devices node (communication_of directions.Transmit row.tpdo)
+transmitted_usable devices signals node place row None sent there h = cc
+transmitted_usable devices signals node place row (Some d) sent there h =
+    let p = bind_ok (laid_out rules.Transmit place directions.Transmit (payload_of d.dictionary directions.Transmit row.tpdo)) _ sent h in
+    let q = bind_ok (unless rules.CobId place (is_usable d.dictionary (communication_of directions.Transmit row.tpdo) (ranges_of signals)) p.0) _ sent p.2 in
+    record { own = d; there = there; second = signals.is_second_open; usable = unless_ok rules.CobId place (is_usable d.dictionary (communication_of directions.Transmit row.tpdo) (ranges_of signals)) p.0 q.0 q.1 }
 
-received_usable : (devices : List (Option Device)) (node place rpdo : ℕ) (is_taken : Bool) (sent layout : Layout) (o : Option Device) → get_or devices node None ≡ o → received_by place rpdo is_taken sent o ≡ Ok layout
+received_usable : (devices : List (Option Device)) (signals : Signals) (node place rpdo : ℕ) (is_taken : Bool) (sent layout : Layout) (o : Option Device) → get_or devices node None ≡ o → received_by signals place rpdo is_taken sent o ≡ Ok layout
     → IsUsableAt devices node (communication_of directions.Receive rpdo)
-received_usable devices node place rpdo is_taken sent layout None there h = cc
-received_usable devices node place rpdo is_taken sent layout (Some d) there h =
+received_usable devices signals node place rpdo is_taken sent layout None there h = cc
+received_usable devices signals node place rpdo is_taken sent layout (Some d) there h =
     let p = bind_ok (laid_out rules.Receive place directions.Receive (payload_of d.dictionary directions.Receive rpdo)) _ layout h in
     let q = bind_ok (unless (rules.Receive None) place (not is_taken) p.0) _ layout p.2 in
     let r = bind_ok (unless (rules.Receive None) place (is_same_layout sent q.0) q.0) _ layout q.2 in
-    record { own = d; there = there; usable = unless_ok rules.CobId place (is_usable d.dictionary (communication_of directions.Receive rpdo)) r.0 layout r.2 }
+    record { own = d; there = there; second = signals.is_second_open; usable = unless_ok rules.CobId place (is_usable d.dictionary (communication_of directions.Receive rpdo) (ranges_of signals)) r.0 layout r.2 }
 
 -- ---- each record that the tables use
 
@@ -84,44 +89,44 @@ IsUsed devices u = IsUsableAt devices u.node u.index
 pushed : (devices : List (Option Device)) (used : List Used) (u : Used) → AreUsable devices used → IsUsed devices u → AreUsable devices (used ++ u ∷ [])
 pushed devices used u all one = All-append (IsUsed devices) used (u ∷ []) all (All-cons (IsUsed devices) u [] one (All-nil (IsUsed devices)))
 
-consumer_usable : (devices : List (Option Device)) (place : ℕ) (sent : Layout) (used more : List Used) (consumer : Consumer) → consumer_added devices place sent used consumer ≡ Ok more
+consumer_usable : (devices : List (Option Device)) (signals : Signals) (place : ℕ) (sent : Layout) (used more : List Used) (consumer : Consumer) → consumer_added devices signals place sent used consumer ≡ Ok more
     → IsUsed devices (taken_by consumer) × (used ++ taken_by consumer ∷ [] ≡ more)
-consumer_usable devices place sent used more consumer h =
+consumer_usable devices signals place sent used more consumer h =
     let taken : Bool = is_used used consumer.node (communication_of directions.Receive consumer.rpdo) in
-    let p = bind_ok (received_by place consumer.rpdo taken sent (get_or devices consumer.node None)) _ more h in
+    let p = bind_ok (received_by signals place consumer.rpdo taken sent (get_or devices consumer.node None)) _ more h in
     let made : ◌≡◌ {A = Result (List Used) Refusal} (Ok (used ++ taken_by consumer ∷ [])) (Ok more) = p.2 in
-    (received_usable devices consumer.node place consumer.rpdo taken sent p.0 (get_or devices consumer.node None) refl p.1, cc)
+    (received_usable devices signals consumer.node place consumer.rpdo taken sent p.0 (get_or devices consumer.node None) refl p.1, cc)
 
-consumers_usable : (devices : List (Option Device)) (place : ℕ) (sent : Layout) (used more : List Used) (consumers : List Consumer)
-    → folded (consumer_added devices place sent) used consumers ≡ Ok more → AreUsable devices used → AreUsable devices more × AreUsable devices (map taken_by consumers)
+consumers_usable : (devices : List (Option Device)) (signals : Signals) (place : ℕ) (sent : Layout) (used more : List Used) (consumers : List Consumer)
+    → folded (consumer_added devices signals place sent) used consumers ≡ Ok more → AreUsable devices used → AreUsable devices more × AreUsable devices (map taken_by consumers)
 unfolding folded
-consumers_usable devices place sent used more [] h all = let same : used ≡ more = cc in (subst (AreUsable devices) same all, All-nil (IsUsed devices))
-consumers_usable devices place sent used more (c ∷ cs) h all =
-    let p = bind_ok (consumer_added devices place sent used c) (λ next. folded (consumer_added devices place sent) next cs) more h in
-    let one = consumer_usable devices place sent used p.0 c p.1 in
-    let rest = consumers_usable devices place sent p.0 more cs p.2 (subst (AreUsable devices) one.1 (pushed devices used (taken_by c) all one.0)) in
+consumers_usable devices signals place sent used more [] h all = let same : used ≡ more = cc in (subst (AreUsable devices) same all, All-nil (IsUsed devices))
+consumers_usable devices signals place sent used more (c ∷ cs) h all =
+    let p = bind_ok (consumer_added devices signals place sent used c) (λ next. folded (consumer_added devices signals place sent) next cs) more h in
+    let one = consumer_usable devices signals place sent used p.0 c p.1 in
+    let rest = consumers_usable devices signals place sent p.0 more cs p.2 (subst (AreUsable devices) one.1 (pushed devices used (taken_by c) all one.0)) in
     (rest.0, All-cons (IsUsed devices) (taken_by c) (map taken_by cs) one.0 rest.1)
 
 -- what a row of the table of PDOs uses is usable, and so is all that was used before and after it
-row_usable : (devices : List (Option Device)) (found more : Traffic) (row : PdoRow) → pdo_added devices found row ≡ Ok more → AreUsable devices found.used
+row_usable : (devices : List (Option Device)) (signals : Signals) (found more : Traffic) (row : PdoRow) → pdo_added devices signals found row ≡ Ok more → AreUsable devices found.used
     → AreUsable devices more.used × AreUsable devices (sent_by row ∷ map taken_by row.consumers)
-row_usable devices found more row h all =
-    let p = bind_ok (transmitted_by (length found.streams + 1) row.tpdo (get_or devices row.node None)) _ more h in
-    let own = transmitted_usable devices row.node (length found.streams + 1) row.tpdo (get_or devices row.node None) p.0 refl p.1 in
-    let q = bind_ok (folded (consumer_added devices (length found.streams + 1) p.0) (found.used ++ sent_by row ∷ []) row.consumers) _ more p.2 in
-    let c = consumers_usable devices (length found.streams + 1) p.0 (found.used ++ sent_by row ∷ []) q.0 row.consumers q.1 (pushed devices found.used (sent_by row) all own) in
+row_usable devices signals found more row h all =
+    let p = bind_ok (transmitted_by signals (length found.streams + 1) row (get_or devices row.node None)) _ more h in
+    let own = transmitted_usable devices signals row.node (length found.streams + 1) row (get_or devices row.node None) p.0 refl p.1 in
+    let q = bind_ok (folded (consumer_added devices signals (length found.streams + 1) p.0.mapping) (found.used ++ sent_by row ∷ []) row.consumers) _ more p.2 in
+    let c = consumers_usable devices signals (length found.streams + 1) p.0.mapping (found.used ++ sent_by row ∷ []) q.0 row.consumers q.1 (pushed devices found.used (sent_by row) all own) in
     let used : q.0 ≡ more.used = by_field q.2 in
     (subst (AreUsable devices) used c.0, All-cons (IsUsed devices) (sent_by row) (map taken_by row.consumers) own c.1)
   where
     by_field : {streams : List _} {used : List Used} → ◌≡◌ {A = Result Traffic Refusal} (Ok (record { streams = streams; used = used })) (Ok more) → used ≡ more.used
     by_field {streams} {used} e = let same : record { streams = streams; used = used } ≡ more = cc in ap (λ (t : Traffic). t.used) same
 
-all_usable : (devices : List (Option Device)) (rows : List PdoRow) (found more : Traffic) → folded (pdo_added devices) found rows ≡ Ok more → AreUsable devices found.used → AreUsable devices more.used
+all_usable : (devices : List (Option Device)) (signals : Signals) (rows : List PdoRow) (found more : Traffic) → folded (pdo_added devices signals) found rows ≡ Ok more → AreUsable devices found.used → AreUsable devices more.used
 unfolding folded
-all_usable devices [] found more h all = let same : found ≡ more = cc in subst (λ (t : Traffic). AreUsable devices t.used) same all
-all_usable devices (row ∷ rows) found more h all =
-    let p = bind_ok (pdo_added devices found row) (λ t. folded (pdo_added devices) t rows) more h in
-    all_usable devices rows p.0 more p.2 (row_usable devices found p.0 row p.1 all).0
+all_usable devices signals [] found more h all = let same : found ≡ more = cc in subst (λ (t : Traffic). AreUsable devices t.used) same all
+all_usable devices signals (row ∷ rows) found more h all =
+    let p = bind_ok (pdo_added devices signals found row) (λ t. folded (pdo_added devices signals) t rows) more h in
+    all_usable devices signals rows p.0 more p.2 (row_usable devices signals found p.0 row p.1 all).0
 
 used_usable : (devices : List (Option Device)) (used : List Used) (node index : ℕ) → AreUsable devices used → is_used used node index ≡ true → IsUsableAt devices node index
 used_usable devices [] node index all h = absurd (true≢false (sym h))
@@ -137,39 +142,23 @@ used_usable devices (u ∷ rest) node index all h = by_test (is_record node inde
     by_test false t k later = later k
 
 -- what has an identifier is usable, and the identifier is one of those given
-id_usable : (devices : List (Option Device)) (rows : List PdoRow) (found more : Traffic) → folded (pdo_added devices) found rows ≡ Ok more → AreUsable devices found.used
+id_usable : (devices : List (Option Device)) (signals : Signals) (rows : List PdoRow) (found more : Traffic) → folded (pdo_added devices signals) found rows ≡ Ok more → AreUsable devices found.used
     → (ids : List ℕ) → All IsPdoId ids → (node index id : ℕ) → id_at rows ids node index ≡ Some id → IsUsableAt devices node index × IsPdoId id
 unfolding folded
-id_usable devices [] found more h all ids range node index id e = cc
-id_usable devices (row ∷ rows) found more h all [] range node index id e = cc
-id_usable devices (row ∷ rows) found more h all (i ∷ ids) range node index id e =
-    let p = bind_ok (pdo_added devices found row) (λ t. folded (pdo_added devices) t rows) more h in
-    let r = row_usable devices found p.0 row p.1 all in
+id_usable devices signals [] found more h all ids range node index id e = cc
+id_usable devices signals (row ∷ rows) found more h all [] range node index id e = cc
+id_usable devices signals (row ∷ rows) found more h all (i ∷ ids) range node index id e =
+    let p = bind_ok (pdo_added devices signals found row) (λ t. folded (pdo_added devices signals) t rows) more h in
+    let r = row_usable devices signals found p.0 row p.1 all in
     by_test (uses row node index) refl e (used_usable devices (sent_by row ∷ map taken_by row.consumers) node index r.1)
-    (id_usable devices rows p.0 more p.2 r.0 ids (All-tail IsPdoId i ids range) node index id)
+    (id_usable devices signals rows p.0 more p.2 r.0 ids (All-tail IsPdoId i ids range) node index id)
   where
     by_test : (b : Bool) → uses row node index ≡ b → cond b (Some i) (id_at rows ids node index) ≡ Some id → (uses row node index ≡ true → IsUsableAt devices node index)
         → (id_at rows ids node index ≡ Some id → IsUsableAt devices node index × IsPdoId id) → IsUsableAt devices node index × IsPdoId id
     by_test true t k here later = let same : i ≡ id = cc in (here t, subst IsPdoId same (All-head IsPdoId i ids range))
     by_test false t k here later = later k
 
--- ---- usable is: it takes each identifier
-
-passes_at : (test : ℕ → Bool) (first count k : ℕ) → passes_from test first count ≡ true → first ≤ k → k < first + count → test k ≡ true
-unfolding passes_from
-passes_at test first zero k h low high = absurd (omega arith)
-passes_at test first (suc count) k h low high = by_place (cases_eq first k) (and_parts (test first) _ h).0 (passes_at test (first + 1) count k (and_parts (test first) _ h).1)
-  where
-    by_place : (first ≡ k) ⊎ (first ≢ k) → test first ≡ true → (first + 1 ≤ k → k < first + 1 + count → test k ≡ true) → test k ≡ true
-    by_place (inl e) here later = subst (λ (n : ℕ). test n ≡ true) e here
-    by_place (inr apart) here later = later (omega arith) (omega arith)
-
-usable_takes : (entries : List Entry) (e : Entry) (cob_id id : ℕ) → entry_at entries e.index 1 ≡ Some e → unsigned32_of e ≡ Some cob_id → is_usable entries e.index ≡ true → IsPdoId id → takes entries e.index cob_id id ≡ true
-unfolding takes_each
-usable_takes entries e cob_id id there is usable range =
-    let has : option_and_then unsigned32_of (entry_at entries e.index 1) ≡ Some cob_id = rw there is in
-    let each : takes_each entries e.index cob_id ≡ true = rw has at usable in
-    passes_at (takes entries e.index cob_id) 0x181 1023 id each range.0 (let r = range.1 in omega arith)
+-- ---- what takes an identifier goes off
 
 first_ok : {A B : Type 0} (r : Result A Abort) (f : A → Result B Abort) → is_ok (r >>= f) ≡ true → is_ok r ≡ true
 first_ok (Ok x) f h = refl
@@ -219,17 +208,21 @@ stray_at frames used first (suc k) (x ∷ xs) own h e =
 
 -- ---- a network's devices
 
+-- what a network's table of nodes says for its PDOs
+abbrev said : Net → Signals
+said net = signals_of net.nodes.frames (length net.rows)
+
 -- what the PDOs of a network use, and its devices take
 record IsTravelled (net : Net) : Type 0 where
   traffic : Traffic
-  found : folded (pdo_added net.equipment.devices) no_traffic net.rows ≡ Ok traffic
+  found : folded (pdo_added net.equipment.devices (said net)) no_traffic net.rows ≡ Ok traffic
   settled : all_settable net.nodes.frames traffic.used 0 net.equipment.devices ≡ Ok tt
 
 travelled : (net : Net) (files : List File) → network_of net.nodes net.rows files ≡ Ok (accepted net) → IsTravelled net
 unfolding streams_of pdos_of
 travelled net files made =
     let s = (equipped net.nodes net.rows files (accepted net) made).streams in
-    let p = bind_ok (pdos_of net.equipment.devices net.rows) _ (accepted net).streams s in
+    let p = bind_ok (pdos_of net.equipment.devices (said net) net.rows) _ (accepted net).streams s in
     let q = bind_ok (all_settable net.nodes.frames p.0.used 0 net.equipment.devices) _ (accepted net).streams p.2 in
     record { traffic = p.0; found = p.1; settled = q.1 }
 
@@ -278,11 +271,11 @@ module _ (net : Net) (is : IsNetwork net) (ids : List ℕ) (range : All IsPdoId 
   moves = travelled net is.files is.made
 
   -- a usable record of the node is usable in its dictionary
-  usable_here : (index : ℕ) → IsUsableAt net.equipment.devices node index → is_usable entries index ≡ true
+  usable_here : (index : ℕ) (u : IsUsableAt net.equipment.devices node index) → is_usable entries index (ranges_where u.second) ≡ true
   usable_here index u =
       let both : ◌≡◌ {A = Option Device} (Some u.own) (Some own_device.0) = sym u.there ∙ own_device.1 in
       let one : u.own ≡ own_device.0 = cc in
-      subst (λ (d : List Entry). is_usable d index ≡ true) (ap (λ (d : Device). d.dictionary) one ∙ own_device.2) u.usable
+      subst (λ (d : List Entry). is_usable d index (ranges_where u.second) ≡ true) (ap (λ (d : Device). d.dictionary) one ∙ own_device.2) u.usable
 
   at_own : (e : Entry) → Contains entries e → is_cob_id e ≡ true → entry_at entries e.index 1 ≡ Some e
   at_own e inside cob = ap (entry_at entries e.index) (sym (sub_of e cob)) ∙ own_place entries e sorted inside
@@ -299,16 +292,16 @@ module _ (net : Net) (is : IsNetwork net) (ids : List ℕ) (range : All IsPdoId 
       by_use : (b : Bool) → is_used moves.traffic.used node e.index ≡ b → goes_off entries e.index cob_id ≡ true
       by_use true u =
           let at : IsUsableAt net.equipment.devices node e.index =
-          used_usable net.equipment.devices moves.traffic.used node e.index (all_usable net.equipment.devices net.rows no_traffic moves.traffic moves.found (All-nil (IsUsed net.equipment.devices))) u in
-          takes_goes_off entries e.index cob_id 0x181 (usable_takes entries e cob_id 0x181 (at_own e inside cob) is_32 (usable_here e.index at) (omega arith, omega arith))
+          used_usable net.equipment.devices moves.traffic.used node e.index (all_usable net.equipment.devices (said net) net.rows no_traffic moves.traffic moves.found (All-nil (IsUsed net.equipment.devices))) u in
+          takes_goes_off entries e.index cob_id 0x181 (usable_takes entries e.index e cob_id 0x181 at.second (at_own e inside cob) cob is_32 (usable_here e.index at) (inl (omega arith, omega arith)))
       by_use false u =
           off_unless_on entries e cob_id cob is_32 ex
           (not_both (stays_on entries e) (is_used moves.traffic.used node e.index) (none_of moves.traffic.used node entries entries e no_stray inside) u)
 
   used_takes : (e : Entry) (cob_id id : ℕ) → Contains entries e → is_cob_id e ≡ true → unsigned32_of e ≡ Some cob_id → id_at net.rows ids node e.index ≡ Some id → takes entries e.index cob_id id ≡ true
   used_takes e cob_id id inside cob is_32 own =
-      let u = id_usable net.equipment.devices net.rows no_traffic moves.traffic moves.found (All-nil (IsUsed net.equipment.devices)) ids range node e.index id own in
-      usable_takes entries e cob_id id (at_own e inside cob) is_32 (usable_here e.index u.0) u.1
+      let u = id_usable net.equipment.devices (said net) net.rows no_traffic moves.traffic moves.found (All-nil (IsUsed net.equipment.devices)) ids range node e.index id own in
+      usable_takes entries e.index e cob_id id u.0.second (at_own e inside cob) cob is_32 (usable_here e.index u.0) u.1
 
   pub network_admits : Admits entries (id_at net.rows ids node) (heartbeat_of net.nodes.frames node)
   unfolding described
@@ -331,7 +324,7 @@ module _ (net : Net) (is : IsNetwork net) (ids : List ℕ) (range : All IsPdoId 
       no_number : unsigned32_of e ≡ None → (b : Bool) → is_used moves.traffic.used node e.index ≡ b → ⊥
       no_number none true u =
           let at : IsUsableAt net.equipment.devices node e.index =
-          used_usable net.equipment.devices moves.traffic.used node e.index (all_usable net.equipment.devices net.rows no_traffic moves.traffic moves.found (All-nil (IsUsed net.equipment.devices))) u in
+          used_usable net.equipment.devices moves.traffic.used node e.index (all_usable net.equipment.devices (said net) net.rows no_traffic moves.traffic moves.found (All-nil (IsUsed net.equipment.devices))) u in
           let has : option_and_then unsigned32_of (entry_at entries e.index 1) ≡ None = rw (at_own e inside cob) none in
           let never : false ≡ true = rw has at (usable_here e.index at) in
           true≢false (sym never)
@@ -347,14 +340,13 @@ module _ (net : Net) (is : IsNetwork net) (ids : List ℕ) (range : All IsPdoId 
 
   pub ids_low : (index id : ℕ) → id_at net.rows ids node index ≡ Some id → id < 2 ^ 11
   ids_low index id own =
-      let u = id_usable net.equipment.devices net.rows no_traffic moves.traffic moves.found (All-nil (IsUsed net.equipment.devices)) ids range node index id own in
-      let high = u.1.1 in
-      omega (arith, high)
+      let u = id_usable net.equipment.devices (said net) net.rows no_traffic moves.traffic moves.found (All-nil (IsUsed net.equipment.devices)) ids range node index id own in
+      small_id id u.1
 
   -- a record that a plan uses has a COB-ID
   pub used_there : (index id : ℕ) → id_at net.rows ids node index ≡ Some id → entry_at entries index 1 ≡ None → ⊥
   used_there index id own none =
-      let u = id_usable net.equipment.devices net.rows no_traffic moves.traffic moves.found (All-nil (IsUsed net.equipment.devices)) ids range node index id own in
+      let u = id_usable net.equipment.devices (said net) net.rows no_traffic moves.traffic moves.found (All-nil (IsUsed net.equipment.devices)) ids range node index id own in
       let has : option_and_then unsigned32_of (entry_at entries index 1) ≡ None = rw none refl in
       let never : false ≡ true = rw has at (usable_here index u.0) in
       true≢false (sym never)

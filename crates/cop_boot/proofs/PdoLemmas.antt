@@ -23,7 +23,7 @@ use Rattle.cop_boot.specs.declared.«end».End.TheVariants.{Ready}
 use Rattle.cop_boot.specs.Manager.{Managing, end_at}
 use Rattle.cop_boot.specs.Device.{Attached}
 use Rattle.cop_boot.specs.Bus.{Made}
-use Rattle.cop_boot.specs.PlanSettings.{IsPdoId}
+use Rattle.cop_net.specs.Signals.{IsPdoId}
 use Rattle.cop_boot.specs.PlannedPdos.{IsAsPlanned, IsRecordAsPlanned, HasPlannedPdos}
 use Rattle.cop_boot.specs.NetworkBoot.{IsPlanOf, HavePlannedPdos, HasWhatItsDcfSays}
 use Rattle.cop_boot.proofs.NetworkAdmits.{network_admits, network_plain, ids_low, used_there}

@@ -19,7 +19,7 @@ use Rattle.cop_dict.specs.Pdo.{is_cob_id, is_communication, is_mapping, exists_b
 use Rattle.cop_dict.specs.Dict.{written, valued, refused_alone}
 use Rattle.cop_dict.proofs.DictLemmas.{own_place, found_inside}
 use Rattle.cop_pdo.specs.CobIds as pdo
-use Rattle.cop_net.specs.Settings.{word, beats_by, has_or_takes, time_of, is_unsigned16}
+use Rattle.cop_net.specs.Settings.{word, beats_by, has_or_takes, whole_of, is_unsigned16}
 use Rattle.cop_dcf.specs.declared.setting.Setting.{Setting}
 use Rattle.cop_dcf.specs.Settings.{cob_id_set, off_set, on_set, set_of, time_set, heartbeat_set, settings_of}
 use Rattle.cop_dcf.specs.Dcf.{bytes_of}
@@ -216,7 +216,7 @@ module _ (dict : List Entry) (ids : ℕ → Option ℕ) (time : ℕ) (can : Admi
       (λ k d lt. on_taken (planned dict (filter_map (set_of off_set ids) dict)) (get_or dict k d) (inside k d lt) (values_of (set_of off_set ids) (off_own ids) dict (planned dict (filter_map (set_of off_set ids) dict)) dict have k d lt)))
 
   -- and so is the heartbeat's time
-  time_accepted : (new : List Entry) → entry_at new 0x1017 0 ≡ entry_at dict 0x1017 0 → AcceptsInTurn new (time_set time (option_and_then time_of (entry_at dict 0x1017 0)))
+  time_accepted : (new : List Entry) → entry_at new 0x1017 0 ≡ entry_at dict 0x1017 0 → AcceptsInTurn new (time_set time (option_and_then whole_of (entry_at dict 0x1017 0)))
   time_accepted new same = by_entry (entry_at dict 0x1017 0) refl can.beats
     where
       by_free : (n : ℕ) → n ≡ 0x1017 → is_mapping n ≡ false
@@ -240,16 +240,16 @@ module _ (dict : List Entry) (ids : ℕ → Option ℕ) (time : ℕ) (can : Admi
       by_time e at None h = tt
       by_time e at (Some now) h = by_now e at now (int_eq now (pos time)) h
 
-      by_entry : (o : Option Entry) → entry_at dict 0x1017 0 ≡ o → beats_by dict time o ≡ true → AcceptsInTurn new (time_set time (option_and_then time_of o))
+      by_entry : (o : Option Entry) → entry_at dict 0x1017 0 ≡ o → beats_by dict time o ≡ true → AcceptsInTurn new (time_set time (option_and_then whole_of o))
       by_entry None at h = tt
-      by_entry (Some e) at h = by_time e at (time_of e) h
+      by_entry (Some e) at h = by_time e at (whole_of e) h
 
   pub plan_accepted : AcceptsInTurn dict (settings_of dict ids time)
   plan_accepted =
       let same : entry_at (planned (planned dict (filter_map (set_of off_set ids) dict)) (filter_map (set_of on_set ids) dict)) 0x1017 0 ≡ entry_at dict 0x1017 0 =
       kept_by_all (filter_map (set_of on_set ids) dict) (planned dict (filter_map (set_of off_set ids) dict)) 0x1017 0 (no_beat (set_of on_set ids) (on_own ids) dict)
       ∙ kept_by_all (filter_map (set_of off_set ids) dict) dict 0x1017 0 (no_beat (set_of off_set ids) (off_own ids) dict) in
-      both (filter_map (set_of off_set ids) dict) (filter_map (set_of on_set ids) dict) (time_set time (option_and_then time_of (entry_at dict 0x1017 0))) offs_accepted ons_accepted
+      both (filter_map (set_of off_set ids) dict) (filter_map (set_of on_set ids) dict) (time_set time (option_and_then whole_of (entry_at dict 0x1017 0))) offs_accepted ons_accepted
       (time_accepted (planned (planned dict (filter_map (set_of off_set ids) dict)) (filter_map (set_of on_set ids) dict)) same)
     where
       both : (a b t : List Setting) → AcceptsInTurn dict a → AcceptsInTurn (planned dict a) b → AcceptsInTurn (planned (planned dict a) b) t → AcceptsInTurn dict ((a ++ b) ++ t)

@@ -16,7 +16,7 @@ use Rattle.cop_dict.specs.Dict.{valued}
 use Rattle.cop_dict.proofs.DictLemmas.{own_place}
 use Rattle.cop_dict.proofs.PatternLemmas.{own_number}
 use Rattle.cop_pdo.specs.CobIds as pdo
-use Rattle.cop_net.specs.Settings.{word, time_of}
+use Rattle.cop_net.specs.Settings.{word, whole_of}
 use Rattle.cop_dcf.specs.declared.setting.Setting.{Setting}
 use Rattle.cop_dcf.specs.Settings.{cob_id_set, off_set, on_set, set_of, time_set, heartbeat_set, settings_of}
 use Rattle.cop_dcf.specs.Dcf.{bytes_of}
@@ -109,7 +109,7 @@ module _ (dict : List Entry) (ids : ℕ → Option ℕ) (time : ℕ) (can : Admi
   ons = filter_map (set_of on_set ids) dict
 
   abbrev beat : List Setting
-  beat = time_set time (option_and_then time_of (entry_at dict 0x1017 0))
+  beat = time_set time (option_and_then whole_of (entry_at dict 0x1017 0))
 
   all_inside : All (Contains dict) dict
   all_inside = λ k d lt. (k, lt, get_or_default dict k (get_or dict k d) d lt)
@@ -141,7 +141,7 @@ module _ (dict : List Entry) (ids : ℕ → Option ℕ) (time : ℕ) (can : Admi
   at_end : (e : Entry) → entry_at (planned dict (settings_of dict ids time)) e.index 1 ≡ entry_at (planned (planned dict offs) ons) e.index 1
   at_end e =
       ap (λ (d : List Entry). entry_at d e.index 1) (planned_append (offs ++ ons) beat dict ∙ ap (λ (d : List Entry). planned d beat) (planned_append offs ons dict))
-      ∙ kept_by_all beat (planned (planned dict offs) ons) e.index 1 (beat_elsewhere time e.index (option_and_then time_of (entry_at dict 0x1017 0)))
+      ∙ kept_by_all beat (planned (planned dict offs) ons) e.index 1 (beat_elsewhere time e.index (option_and_then whole_of (entry_at dict 0x1017 0)))
 
   pub as_planned : (e : Entry) (v : ℕ) → Contains dict e → is_cob_id e ≡ true → unsigned32_of e ≡ Some v
       → IsAsPlanned (ids e.index) (option_and_then unsigned32_of (entry_at (planned dict (settings_of dict ids time)) e.index 1))

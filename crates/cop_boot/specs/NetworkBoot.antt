@@ -15,7 +15,7 @@ use Rattle.cop_boot.specs.Node.{Node}
 use Rattle.cop_boot.specs.Manager.{Managing, node_of, end_at}
 use Rattle.cop_boot.specs.Device.{Attached}
 use Rattle.cop_boot.specs.Booted.{device_of}
-use Rattle.cop_boot.specs.PlanSettings.{IsPdoId}
+use Rattle.cop_net.specs.Signals.{IsPdoId}
 use Rattle.cop_boot.specs.PlannedPdos.{HasPlannedPdos}
 
 -- the nodes of a manager have the settings of a plan with these identifiers for an accepted network, and the dictionary that was

@@ -1,12 +1,8 @@
 -- When a dictionary admits what a plan sets in it.
-use Rattle.std.specs.Prelude.{◌≡◌, ◌≤◌, ℕ, true, List, Contains, Option, Some}
+use Rattle.std.specs.Prelude.{◌≡◌, ℕ, true, List, Contains, Option, Some}
 use Rattle.cop_dict.specs.Find.{Entry, unsigned32_of, IsSorted}
 use Rattle.cop_dict.specs.Pdo.{is_cob_id, exists_by}
 use Rattle.cop_net.specs.Settings.{takes, goes_off, beats}
-
--- an identifier that a PDO may get
-abbrev pub IsPdoId : ℕ → Type 0
-IsPdoId id = (0x181 ≤ id) × (id ≤ 0x57F)
 
 -- each PDO that is used can be switched off and then on with its identifier, each other that exists can be switched off, and the
 -- heartbeat can have its time

@@ -22,7 +22,8 @@ ghost use Rattle.cop_boot.specs.NetworkBoot.{IsPlanOf, HasWhatItsDcfSays};
 ghost use Rattle.cop_boot.specs.Settings.{AcceptsInTurn};
 ghost use Rattle.cop_dcf.specs.Identifiers.{id_at};
 ghost use Rattle.cop_dcf.specs.Settings.{settings_of, node_settings, dictionary_of};
-ghost use Rattle.cop_boot.specs.PlanSettings.{Admits, IsPdoId};
+ghost use Rattle.cop_net.specs.Signals.{IsPdoId};
+ghost use Rattle.cop_boot.specs.PlanSettings.{Admits};
 ghost use Rattle.cop_boot.specs.PlannedPdos.{IsAsPlanned, HasPlannedPdos};
 ghost use Rattle.cop_boot.specs.Accepts.{AreApart, IsElsewhere, TakesEach, HaveValues};
 
@@ -47,7 +48,7 @@ pub fn plan_is_accepted()
 {}
 
 /// The device of each node of an accepted network admits what a plan sets in it, so its settings, written in their order to
-/// its dictionary, are all accepted, whatever identifiers from 181h to 57Fh the plan gives.
+/// its dictionary, are all accepted, whatever identifiers from 181h to 57Fh and from 680h to 6DFh the plan gives.
 pub fn networks_take_their_settings()
     ensures admitted { (net : Net) (ids : List ℕ) (node : ℕ) (dict : List Entry) → IsNetwork net → All IsPdoId ids → dictionary_of net node ≡ Some dict
         → Admits dict (id_at net.rows ids node) (heartbeat_of net.nodes.frames node) }

@@ -7,15 +7,17 @@ use Rattle.cop_rta.specs.declared.streams.Stream.{Stream}
 use Rattle.cop_bus.specs.declared.steps.Step.{Step}
 use Rattle.cop_bus.specs.declared.steps.Content.{Content}
 use Rattle.cop_bus.specs.declared.steps.Step.TheVariants.{Queue, Start, End}
-use Rattle.cop_bus.specs.Run.{least_bits, worst_bits}
-use Rattle.cop_bus.proofs.Whole.{IsWhole, IsInstanceOf}
+use Rattle.cop_bus.specs.declared.anchors.Anchor.{Anchor}
+use Rattle.cop_bus.specs.Run.{least_bits, worst_bits, HasLengthOf, IsKnown, gap_of}
 use Rattle.cop_bus.specs.Trace.{is_queue, is_start, count_to, nth_that, step_at, running, at_of, rank_of, instance}
 use Rattle.cop_bus.proofs.Indexed.{WaitsAfter, Obeys}
-use Rattle.cop_bus.specs.Judge.{stream_of, last_event, event_or, not_before, is_period_later, is_queued_in_time, is_of_length, fits_transfer, is_not_idle, broken_by, broken_at_end, at_step, first_broken_from, first_broken, any_waits, lower_waits, waits_after, is_unfinished}
+use Rattle.cop_bus.specs.Ends.{anchor_of}
+use Rattle.cop_bus.specs.Judge.{stream_of, are_apart, last_event, event_or, not_before, is_period_later, is_queued_in_time, is_of_length, fits_transfer, is_not_idle, broken_by, broken_at_end, at_step, first_broken_from, first_broken, any_waits, lower_waits, waits_after, is_unfinished}
 use Rattle.cop_bus.proofs.Totals.{Pairs, Pairs-from_AllPairs, Each-map}
 use Rattle.cop_bus.proofs.Demand.{and-left, and-right, and-true}
 use Rattle.cop_bus.proofs.Work.{true-lt, true-le, true-eq, eq-true, lt-true}
 use Rattle.cop_bus.proofs.StepLemmas.{bool_cases, nth_before, queue_shape, nth_that-some}
+use Rattle.cop_bus.proofs.AnchorLemmas.{time-found, apart-found, anchor_stays}
 use Rattle.cop_bus.proofs.Verdict.{Keeps, keeps, passed, drop-at, drop-all, soon-some}
 
 abbrev pub AreDistinct : List Stream → Type 0
@@ -177,58 +179,80 @@ module _ (tau : ℕ) (streams : List Stream) (until : ℕ) (steps : List Step) (
   by-end zero l = true-le (at_of (step_at steps 0)) until (kept zero l).order
   by-end (suc i) l = true-le (at_of (step_at steps (suc i))) until (and-left (nat_le (at_of (step_at steps (suc i))) until) (not_before (step_at steps i) (step_at steps (suc i))) (kept (suc i) l).order)
 
-  pub known : (i at id event : ℕ) (frame : Content) → i < length steps → step_at steps i ≡ Queue id at event frame → IsWhole streams (instance steps i at id event frame)
+  pub known : (i at id event : ℕ) (frame : Content) → i < length steps → step_at steps i ≡ Queue id at event frame → IsKnown streams (instance steps i at id event frame)
   known i at id event frame l e =
       let k = kept-as i (Queue id at event frame) l e in
       let s = some_stream (stream_of streams id) k.known in
-      let q : (nat_le event at && nat_le at (event + s.0.jitter)) ≡ true = sym (ap (λ o. is_queued_in_time o (Queue id at event frame)) s.1) ∙ k.in_time in
       let b : (nat_le (least_bits s.0.bytes) frame.bits && nat_le frame.bits (worst_bits s.0.bytes) && (frame.len == s.0.bytes)) ≡ true = sym (ap (λ o. is_of_length o (Queue id at event frame)) s.1) ∙ k.of_length in
       record {
         some_stream = (stream-found streams id s.0 s.1).0;
-        obeys = of-found streams id s.0 (λ s. IsInstanceOf s (instance steps i at id event frame)) distinct s.1 (record {
-          after_event = true-le _ _ (and-left (nat_le event at) (nat_le at (event + s.0.jitter)) q);
-          within_jitter = true-le _ _ (and-right (nat_le event at) (nat_le at (event + s.0.jitter)) q);
+        length = of-found streams id s.0 (λ s. HasLengthOf s (instance steps i at id event frame)) distinct s.1 (record {
           not_shorter = true-le _ _ (and-left (nat_le (least_bits s.0.bytes) frame.bits) (nat_le frame.bits (worst_bits s.0.bytes)) (and-left (nat_le (least_bits s.0.bytes) frame.bits && nat_le frame.bits (worst_bits s.0.bytes)) (frame.len == s.0.bytes) b));
           not_longer = true-le _ _ (and-right (nat_le (least_bits s.0.bytes) frame.bits) (nat_le frame.bits (worst_bits s.0.bytes)) (and-left (nat_le (least_bits s.0.bytes) frame.bits && nat_le frame.bits (worst_bits s.0.bytes)) (frame.len == s.0.bytes) b));
           same_bytes = true-eq _ _ (and-right (nat_le (least_bits s.0.bytes) frame.bits && nat_le frame.bits (worst_bits s.0.bytes)) (frame.len == s.0.bytes) b);
         });
       }
 
-  -- an event is a period or more after the last one
-  pub period-later : (j at id event : ℕ) (frame : Content) → j < length steps → step_at steps j ≡ Queue id at event frame → (e : ℕ) → last_event id steps j ≡ Some e →
-      (k : Stream) × (stream_of streams id ≡ Some k) × (e + k.period ≤ event)
-  period-later j at id event frame l s e f =
+  -- the stream of a step that queues an instance, and what the instance hangs on
+  pub hangs : (j at id event : ℕ) (frame : Content) → j < length steps → step_at steps j ≡ Queue id at event frame →
+      (k : Stream) × (stream_of streams id ≡ Some k) × (e : Anchor) × (anchor_of k steps j event ≡ Some e) × (e.from ≤ at) × (at ≤ e.from + k.jitter)
+  hangs j at id event frame l s =
       let k = kept-as j (Queue id at event frame) l s in
       let o = some_stream (stream_of streams id) k.known in
-      let p : nat_le (e + o.0.period) event ≡ true = sym (ap (λ v. is_period_later v (last_event id steps j) (Queue id at event frame)) o.1 ∙ ap (λ v. is_period_later (Some o.0) v (Queue id at event frame)) f) ∙ k.period in
-      (o.0, o.1, true-le _ _ p)
+      let t = time-found o.0.jitter (anchor_of o.0 steps j event) at (sym (ap (λ v. is_queued_in_time v steps j (Queue id at event frame)) o.1) ∙ k.in_time) in
+      (o.0, o.1, t.0, t.1, t.2, t.3)
 
-  -- the last event is not less than one before it
-  pub last-upto : (i at id event : ℕ) (frame : Content) → step_at steps i ≡ Queue id at event frame → (j : ℕ) → i < j → j ≤ length steps → (e : ℕ) × (last_event id steps j ≡ Some e) × (event ≤ e)
-  last-upto i at id event frame q zero l m = absurd (omega arith)
-  last-upto i at id event frame q (suc j) l m = elim (cases_lt i j) [
-    | inr k ↦ (let e : i ≡ j = omega arith in
-        let s : step_at steps j ≡ Queue id at event frame = sym (ap (step_at steps) e) ∙ q in
-        (event, ap (λ x. event_or id x (last_event id steps j)) s ∙ ap (λ b. cond b (Some event) (last_event id steps j)) (eq-true id id refl), omega arith))
-    | inl k ↦ go (step_at steps j) refl (last-upto i at id event frame q j k (omega arith))
+  -- of two steps of one stream that come after each other the marks are a gap apart
+  pub period-later : (j at id event : ℕ) (frame : Content) → j < length steps → step_at steps j ≡ Queue id at event frame → (k : Stream) → stream_of streams id ≡ Some k → (v : ℕ) → last_event id steps j ≡ Some v →
+      (d e : Anchor) → anchor_of k steps j v ≡ Some d → anchor_of k steps j event ≡ Some e → d.mark + gap_of k ≤ e.mark
+  period-later j at id event frame l s k o v f d e g h =
+      let p = (kept-as j (Queue id at event frame) l s).period in
+      let q : are_apart (gap_of k) (anchor_of k steps j v) (anchor_of k steps j event) ≡ true =
+      sym (ap (λ w. is_period_later w (last_event id steps j) steps j (Queue id at event frame)) o ∙ ap (λ w. is_period_later (Some k) w steps j (Queue id at event frame)) f) ∙ p in
+      apart-found (gap_of k) (anchor_of k steps j v) (anchor_of k steps j event) d e q g h
+
+  -- the mark of the last event is not less than one before it
+  pub last-upto : (i at id event : ℕ) (frame : Content) → step_at steps i ≡ Queue id at event frame → (k : Stream) → stream_of streams id ≡ Some k → (d : Anchor) → anchor_of k steps i event ≡ Some d →
+      (j : ℕ) → i < j → j ≤ length steps → (v : ℕ) × (e : Anchor) × (last_event id steps j ≡ Some v) × (anchor_of k steps j v ≡ Some e) × (d.mark ≤ e.mark)
+  last-upto i at id event frame q k o d h zero l m = absurd (omega arith)
+  last-upto i at id event frame q k o d h (suc j) l m = elim (cases_lt i j) [
+    | inr n ↦ (let e : i ≡ j = omega arith in
+        let s : step_at steps j ≡ Queue id at event frame = sym (ap (step_at steps) e) ∙ q in (
+          event,
+          d,
+          ap (λ x. event_or id x (last_event id steps j)) s ∙ ap (λ b. cond b (Some event) (last_event id steps j)) (eq-true id id refl),
+          anchor_stays k steps i (suc j) event d (omega arith) h,
+          omega arith,
+        ))
+    | inl n ↦ go (step_at steps j) refl (last-upto i at id event frame q k o d h j n (omega arith))
   ]
     where
-      go : (x : Step) → step_at steps j ≡ x → ((e : ℕ) × (last_event id steps j ≡ Some e) × (event ≤ e)) → (e : ℕ) × (last_event id steps (suc j) ≡ Some e) × (event ≤ e)
-      go (Start id' at') s r = (r.0, ap (λ x. event_or id x (last_event id steps j)) s ∙ r.1, r.2)
-      go (End id' at') s r = (r.0, ap (λ x. event_or id x (last_event id steps j)) s ∙ r.1, r.2)
+      go : (x : Step) → step_at steps j ≡ x → ((v : ℕ) × (e : Anchor) × (last_event id steps j ≡ Some v) × (anchor_of k steps j v ≡ Some e) × (d.mark ≤ e.mark)) →
+          (v : ℕ) × (e : Anchor) × (last_event id steps (suc j) ≡ Some v) × (anchor_of k steps (suc j) v ≡ Some e) × (d.mark ≤ e.mark)
+      go (Start id' at') s r = (r.0, r.1, ap (λ x. event_or id x (last_event id steps j)) s ∙ r.2, anchor_stays k steps j (suc j) r.0 r.1 (omega arith) r.3, r.4)
+      go (End id' at') s r = (r.0, r.1, ap (λ x. event_or id x (last_event id steps j)) s ∙ r.2, anchor_stays k steps j (suc j) r.0 r.1 (omega arith) r.3, r.4)
       go (Queue id' at' event' frame') s r = elim (bool_cases (id' == id)) [
-        | inr f ↦ (r.0, ap (λ x. event_or id x (last_event id steps j)) s ∙ ap (λ b. cond b (Some event') (last_event id steps j)) f ∙ r.1, r.2)
+        | inr f ↦ (r.0, r.1, ap (λ x. event_or id x (last_event id steps j)) s ∙ ap (λ b. cond b (Some event') (last_event id steps j)) f ∙ r.2, anchor_stays k steps j (suc j) r.0 r.1 (omega arith) r.3, r.4)
         | inl t ↦ (let e : id' ≡ id = true-eq id' id t in
-            let p = period-later j at' id' event' frame' (omega arith) s r.0 (ap (λ n. last_event n steps j) e ∙ r.1) in
-            (event', ap (λ x. event_or id x (last_event id steps j)) s ∙ ap (λ b. cond b (Some event') (last_event id steps j)) t, omega (arith, p.2, r.2)))
+            let s' : step_at steps j ≡ Queue id at' event' frame' = s ∙ ap (λ n. Queue n at' event' frame') e in
+            let w = hangs j at' id event' frame' (omega arith) s' in
+            let same : w.0 ≡ k = same_stream w.0 k (sym w.1 ∙ o) in
+            let g : anchor_of k steps j event' ≡ Some w.2 = subst (λ k. anchor_of k steps j event' ≡ Some w.2) same w.3 in
+            let p = period-later j at' id event' frame' (omega arith) s' k o r.0 r.2 r.1 w.2 r.3 g in (
+              event',
+              w.2,
+              ap (λ x. event_or id x (last_event id steps j)) s ∙ ap (λ b. cond b (Some event') (last_event id steps j)) t,
+              anchor_stays k steps j (suc j) event' w.2 (omega arith) g,
+              omega (arith, p, r.4),
+            ))
       ]
 
-  pub period-apart : (i j at at' id event event' : ℕ) (frame : Content) (frame' : Content) → i < j → j < length steps → step_at steps i ≡ Queue id at event frame → step_at steps j ≡ Queue id at' event' frame' →
-      All (λ k. k.id ≡ id → event + k.period ≤ event') streams
-  period-apart i j at at' id event event' frame frame' l m e f =
-      let u = last-upto i at id event frame e j l (omega arith) in
-      let p = period-later j at' id event' frame' m f u.0 u.1 in
-      of-found streams id p.0 (λ k. event + k.period ≤ event') distinct p.1 (omega (arith, u.2, p.2))
+  pub far-apart : (i j at at' id event event' : ℕ) (frame : Content) (frame' : Content) → i < j → j < length steps → step_at steps i ≡ Queue id at event frame → step_at steps j ≡ Queue id at' event' frame' →
+      (k : Stream) → stream_of streams id ≡ Some k → (d e : Anchor) → anchor_of k steps i event ≡ Some d → anchor_of k steps j event' ≡ Some e → d.mark + gap_of k ≤ e.mark
+  far-apart i j at at' id event event' frame frame' l m f g k o d e h n =
+      let u = last-upto i at id event frame f k o d h j l (omega arith) in
+      let p = period-later j at' id event' frame' m g k o u.0 u.2 u.1 e u.3 n in
+      omega (arith, u.4, p)
 
   -- who waits is of a stream of the set
   pub waits-known : (i k : ℕ) → WaitsAfter steps i k → Any (λ s. s.id ≡ k) streams
@@ -274,7 +298,6 @@ module _ (tau : ℕ) (streams : List Stream) (until : ℕ) (steps : List Step) (
     ordered = ordered;
     by_end = by-end;
     known = known;
-    period_apart = period-apart;
     start_free = λ i at id l e. fits-start at id (running tau steps i) (kept-as i (Start id at) l e).transfer;
     end_due = λ i at id l e. fits-end at id (running tau steps i) (kept-as i (End id at) l e).transfer;
     none_missing = λ i id at l r. fits-running id at (step_at steps i) (sym (ap (λ o. fits_transfer o (step_at steps i)) r) ∙ (kept i l).transfer);

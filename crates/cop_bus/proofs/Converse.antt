@@ -4,18 +4,17 @@ use Rattle.std.specs.Option.{ForSome}
 use Rattle.std.proofs.lemmas.Bool.{cases_lt, cases_order}
 use Rattle.std.proofs.lemmas.List.Elements.{All-from_recursion, All-contains}
 use Rattle.cop_rta.specs.declared.streams.Stream.{Stream}
-use Rattle.cop_bus.specs.Run.{Instance, Runs, Waits}
-use Rattle.cop_bus.proofs.Whole.{IsWhole, IsBefore}
+use Rattle.cop_bus.specs.Run.{Instance, Runs, Waits, IsKnown}
 use Rattle.cop_bus.specs.declared.steps.Step.{Step}
 use Rattle.cop_bus.specs.declared.steps.Content.{Content}
 use Rattle.cop_bus.specs.Trace.{at_of, rank_of, is_queue, is_start, count_to, nth_that, step_at, after, running, instance, instances}
-use Rattle.cop_bus.proofs.Indexed.{WaitsAfter, Obeys, IsWholeTrace}
+use Rattle.cop_bus.proofs.Indexed.{WaitsAfter, Obeys, IsTraceOf}
 use Rattle.cop_bus.specs.declared.steps.Step.TheVariants.{Queue, Start, End}
 use Rattle.cop_bus.proofs.Totals.{Pairs-from_AllPairs}
-use Rattle.cop_bus.proofs.Whole.{takes-time}
+use Rattle.cop_bus.proofs.Sound.{takes-time}
 use Rattle.cop_bus.proofs.StepLemmas.{end_at, end_there, running_started, started-at, starts-there, in-steps, count_to-past, nth_that-at, nth_before, queue_shape, start_shape, is_queue-of, is_start-of, each_instance, instance_in, pairs_at}
 
-module _ (tau : ℕ) (streams : List Stream) (until : ℕ) (steps : List Step) (tick : 1 ≤ tau) (ok : IsWholeTrace tau streams until steps) where
+module _ (tau : ℕ) (streams : List Stream) (until : ℕ) (steps : List Step) (tick : 1 ≤ tau) (ok : IsTraceOf tau streams until steps) where
   abbrev pub queues : ℕ → ℕ → ℕ
   queues id i = count_to (is_queue id) steps i
 
@@ -47,7 +46,7 @@ module _ (tau : ℕ) (streams : List Stream) (until : ℕ) (steps : List Step) (
   sooner i j l k o = elim (cases_lt i j) [ inl v ↦ v | inr v ↦ absurd (let z = later j i v l in omega arith) ]
 
   pub takes : (a q id event : ℕ) (frame : Content) → a < length steps → step_at steps a ≡ Queue id q event frame → 1 ≤ frame.bits * tau
-  takes a q id event frame l h = takes-time tau streams (instance steps a q id event frame) tick (All-contains (IsWhole streams) (instances steps) (instance steps a q id event frame) ok.legal.known (here a q id event frame l h))
+  takes a q id event frame l h = takes-time tau streams (instance steps a q id event frame) tick (All-contains (IsKnown streams) (instances steps) (instance steps a q id event frame) ok.legal.known (here a q id event frame l h))
 
   -- a start is of an instance
   pub paired : (b at id : ℕ) → b < length steps → step_at steps b ≡ Start id at →
@@ -340,9 +339,7 @@ module _ (tau : ℕ) (streams : List Stream) (until : ℕ) (steps : List Step) (
   obeys = record {
     ordered = ok.ordered;
     by_end = ok.by_end;
-    known = λ i at id event frame l h. All-contains (IsWhole streams) (instances steps) (instance steps i at id event frame) ok.legal.known (here i at id event frame l h);
-    period_apart = λ i j at at' id event event' frame frame' l k h g. (
-        pairs_at steps 0 steps (in-steps steps) (λ y z. y.id ≡ z.id → IsBefore streams y z) (Pairs-from_AllPairs (λ y z. y.id ≡ z.id → IsBefore streams y z) (instances steps) ok.legal.in_order) i at id event frame j at' id event' frame' (omega arith) l (omega arith) h g refl).period_apart;
+    known = λ i at id event frame l h. All-contains (IsKnown streams) (instances steps) (instance steps i at id event frame) ok.legal.known (here i at id event frame l h);
     start_free = start_free;
     end_due = end_due;
     none_missing = none_missing;

@@ -1,21 +1,27 @@
 use Rattle.std.proofs.Common.{◌&&◌, ◌≡◌, ℕ, ◌+◌, ◌≤◌, ◌<◌, ◌⊎◌, inl, inr, List, [], ◌∷◌, length, refl, sym, ◌∙◌, ap, subst, arith, suc, zero, Bool, true, false, cond, not, drop, ◌||◌, nat_lt, nat_le}
-use Rattle.std.specs.Prelude.{Option, None, Some, is_some, Any, ◌==◌}
+use Rattle.std.specs.Prelude.{Option, None, Some, is_some, All, Any, ◌==◌}
+use Rattle.std.proofs.lemmas.Bool.{cases_lt}
 use Rattle.std.proofs.lemmas.List.Elements.{All-from_recursion, recursion_from_All, All-contains}
 use Rattle.std.specs.List.{AllByRecursion as Each}
 use Rattle.cop_rta.specs.declared.streams.Stream.{Stream}
 use Rattle.cop_bus.specs.declared.steps.Step.{Step}
 use Rattle.cop_bus.specs.declared.steps.Content.{Content}
 use Rattle.cop_bus.specs.declared.steps.Step.TheVariants.{Queue, Start, End}
-use Rattle.cop_bus.specs.Run.{least_bits, worst_bits}
-use Rattle.cop_bus.proofs.Whole.{IsInstanceOf}
-use Rattle.cop_bus.specs.Trace.{is_queue, is_start, count_to, nth_that, step_at, running, at_of, rank_of, instance}
+use Rattle.cop_bus.specs.declared.anchors.Anchor.{Anchor}
+use Rattle.cop_bus.specs.Run.{least_bits, worst_bits, HasLengthOf, IsKnown, IsAnchor, IsQueuedInTime, ComesBefore, IsObeying, gap_of}
+use Rattle.cop_bus.specs.Trace.{is_queue, is_start, count_to, nth_that, step_at, running, at_of, rank_of, instance, instances}
+use Rattle.cop_bus.specs.Ends.{anchor_of}
 use Rattle.cop_bus.proofs.Indexed.{WaitsAfter, Obeys}
 use Rattle.cop_bus.specs.Judge.{id_of, stream_of, last_event, event_or, is_in_order, not_before, is_period_later, is_queued_in_time, is_of_length, fits_transfer, has_one_to_send, is_lowest, is_not_idle, broken_by, broken_at_end, at_step, first_broken_from, first_broken, any_waits, lower_waits, is_soon_queued, is_unfinished}
 use Rattle.cop_bus.proofs.Demand.{and-true}
 use Rattle.cop_bus.proofs.Work.{true-eq, eq-true, lt-true, le-true}
-use Rattle.cop_bus.proofs.StepLemmas.{bool_cases, nth_before, queue_shape, nth_that-some, same_some, running_started}
+use Rattle.cop_bus.proofs.StepLemmas.{bool_cases, nth_before, queue_shape, nth_that-some, same_some, running_started, each_instance, instance_in, in-steps, pairs_at}
+use Rattle.cop_bus.proofs.AnchorLemmas.{own_anchor, anchor_async, ended_anchor, time-true, apart-true}
+use Rattle.cop_bus.proofs.Hanging.{AreRising, rising, one_anchor, anchor_is}
+use Rattle.cop_bus.proofs.SyncEnds.{sync_is_ended}
+use Rattle.cop_bus.proofs.Totals.{Each-map, Pairs-from_AllPairs}
 use Rattle.cop_bus.proofs.Verdict.{drop-at, drop-all}
-use Rattle.cop_bus.proofs.Accepts.{IsOrdered, stream-head, stream-rest, same_stream, none-there, any-some, any-none, lower-some}
+use Rattle.cop_bus.proofs.Accepts.{IsOrdered, stream-head, stream-rest, same_stream, stream-found, none-there, any-some, any-none, lower-some}
 
 pub or-left : (a b : Bool) → a ≡ true → (a || b) ≡ true
 or-left true b e = refl
@@ -70,8 +76,8 @@ last-from steps k (suc j) e h = go (step_at steps j) refl h (last-from steps k j
       | inr f ↦ (let r = ih (sym (ap (λ b. cond b (Some event) (last_event k steps j)) f) ∙ g) in (r.0, r.1, r.2, omega (arith, r.3), r.4))
     ]
 
--- In a trace that breaks no rule no broken rule is found.
-module _ (tau : ℕ) (streams : List Stream) (until : ℕ) (steps : List Step) (ok : Obeys tau streams until steps) where
+-- In a trace that breaks no rule, and whose streams obey, no broken rule is found.
+module _ (tau : ℕ) (streams : List Stream) (until : ℕ) (steps : List Step) (tick : 1 ≤ tau) (ok : Obeys tau streams until steps) (obeying : All (IsObeying tau until (instances steps)) streams) where
   pub order-kept : (i : ℕ) → i < length steps → is_in_order until steps i (step_at steps i) ≡ true
   order-kept zero l = le-true (at_of (step_at steps 0)) until (ok.by_end 0 l)
   order-kept (suc i) l = and-true (nat_le (at_of (step_at steps (suc i))) until) (not_before (step_at steps i) (step_at steps (suc i))) (le-true (at_of (step_at steps (suc i))) until (ok.by_end (suc i) l))
@@ -94,11 +100,21 @@ module _ (tau : ℕ) (streams : List Stream) (until : ℕ) (steps : List Step) (
           subst (λ x. Any (λ s. s.id ≡ id_of x) streams) (sym e) (start-known b.0 b.1 id (omega (arith, b.2)) b.3)
 
   -- of the stream that is found
-  pub instance-found : (i at id event : ℕ) (frame : Content) → i < length steps → step_at steps i ≡ Queue id at event frame → (k : Stream) → stream_of streams id ≡ Some k → IsInstanceOf k (instance steps i at id event frame)
-  instance-found i at id event frame l e k f =
-      at-found streams id k (λ s. IsInstanceOf s (instance steps i at id event frame)) (recursion_from_All (λ s. s.id ≡ id → IsInstanceOf s (instance steps i at id event frame)) streams (ok.known i at id event frame l e).obeys) f
+  pub length-found : (i at id event : ℕ) (frame : Content) → i < length steps → step_at steps i ≡ Queue id at event frame → (k : Stream) → stream_of streams id ≡ Some k → HasLengthOf k (instance steps i at id event frame)
+  length-found i at id event frame l e k f =
+      at-found streams id k (λ s. HasLengthOf s (instance steps i at id event frame)) (recursion_from_All (λ s. s.id ≡ id → HasLengthOf s (instance steps i at id event frame)) streams (ok.known i at id event frame l e).length) f
 
-  pub period-kept : (i : ℕ) (x : Step) → i < length steps → step_at steps i ≡ x → (o : Option Stream) → stream_of streams (id_of x) ≡ o → (v : Option ℕ) → last_event (id_of x) steps i ≡ v → is_period_later o v x ≡ true
+  obeying-found : (id : ℕ) (k : Stream) → stream_of streams id ≡ Some k → IsObeying tau until (instances steps) k
+  obeying-found id k f = at-found streams id k (IsObeying tau until (instances steps)) (Each-map (IsObeying tau until (instances steps)) (λ s. s.id ≡ id → IsObeying tau until (instances steps) s) streams (λ s o e. o) (recursion_from_All (IsObeying tau until (instances steps)) streams obeying)) f
+
+  its-id : (id : ℕ) (k : Stream) → stream_of streams id ≡ Some k → id ≡ k.id
+  its-id id k f = sym (stream-found streams id k f).1
+
+  rises : AreRising (instances steps)
+  rises = rising tau until (instances steps) streams
+      (All-from_recursion (IsKnown streams) (instances steps) (each_instance steps 0 steps (in-steps steps) (IsKnown streams) (λ a at id event frame l m e. ok.known a at id event frame (omega arith) e))) obeying
+
+  pub period-kept : (i : ℕ) (x : Step) → i < length steps → step_at steps i ≡ x → (o : Option Stream) → stream_of streams (id_of x) ≡ o → (v : Option ℕ) → last_event (id_of x) steps i ≡ v → is_period_later o v steps i x ≡ true
   period-kept i (Start id at) l e None f v g = refl
   period-kept i (Start id at) l e (Some k) f None g = refl
   period-kept i (Start id at) l e (Some k) f (Some w) g = refl
@@ -109,18 +125,36 @@ module _ (tau : ℕ) (streams : List Stream) (until : ℕ) (steps : List Step) (
   period-kept i (Queue id at event frame) l e (Some k) f None g = refl
   period-kept i (Queue id at event frame) l e (Some k) f (Some w) g =
       let b = last-from steps id i w g in
-      let p = ok.period_apart b.0 i b.1 at id w event b.2 frame b.3 l b.4 e in
-      le-true (w + k.period) event (at-found streams id k (λ s. w + s.period ≤ event) (recursion_from_All (λ s. s.id ≡ id → w + s.period ≤ event) streams p) f)
+      let y = instance steps b.0 b.1 id w b.2 in
+      let z = instance steps i at id event frame in
+      let n = its-id id k f in
+      apart-true (gap_of k) (anchor_of k steps i w) (anchor_of k steps i event) (λ c d h j.
+      (pairs_at steps 0 steps (in-steps steps) (λ y z. y.id ≡ k.id → z.id ≡ k.id → ComesBefore tau until (instances steps) k y z)
+      (Pairs-from_AllPairs (λ y z. y.id ≡ k.id → z.id ≡ k.id → ComesBefore tau until (instances steps) k y z) (instances steps) (obeying-found id k f).in_order) b.0 b.1 id w b.2 i at id event frame (omega arith) b.3 (omega arith) b.4 e n n).far
+      c d (anchor_is tau streams until steps tick ok k i y c h) (anchor_is tau streams until steps tick ok k i z d j))
 
-  pub time-kept : (i : ℕ) (x : Step) → i < length steps → step_at steps i ≡ x → (o : Option Stream) → stream_of streams (id_of x) ≡ o → is_queued_in_time o x ≡ true
+  pub time-kept : (i : ℕ) (x : Step) → i < length steps → step_at steps i ≡ x → (o : Option Stream) → stream_of streams (id_of x) ≡ o → is_queued_in_time o steps i x ≡ true
   time-kept i (Start id at) l e None f = refl
   time-kept i (Start id at) l e (Some k) f = refl
   time-kept i (End id at) l e None f = refl
   time-kept i (End id at) l e (Some k) f = refl
   time-kept i (Queue id at event frame) l e None f = refl
   time-kept i (Queue id at event frame) l e (Some k) f =
-      let y = instance-found i at id event frame l e k f in
-      and-true (nat_le event at) (nat_le at (event + k.jitter)) (le-true event at y.after_event) (le-true at (event + k.jitter) y.within_jitter)
+      let y = instance steps i at id event frame in
+      let c = instance_in steps 0 steps (in-steps steps) i at id event frame (omega arith) (omega arith) e in
+      let t = All-contains (λ y. y.id ≡ k.id → IsQueuedInTime tau until (instances steps) k y) (instances steps) y (obeying-found id k f).in_time c (its-id id k f) in
+      let a = found t.anchor t.is_anchor t.after_anchor in
+      let same = one_anchor tau until (instances steps) rises k y a.0 t.anchor (anchor_is tau streams until steps tick ok k i y a.0 a.1) t.is_anchor in
+      let g = t.after_anchor in
+      let h = t.within_jitter in
+      time-true k.jitter (anchor_of k steps i event) at a.0 a.1 (omega (arith, same.1, g)) (omega (arith, same.1, h))
+    where
+      found : (d : Anchor) → IsAnchor tau until (instances steps) k (instance steps i at id event frame) d → d.from ≤ at → (a : Anchor) × (anchor_of k steps i event ≡ Some a)
+      found d h after' = elim (cases_lt 0 k.every) [
+        | inr z ↦ (own_anchor event, anchor_async k steps i event (omega arith))
+        | inl s ↦ ended_anchor k steps i d.mark event d.from s
+            (sync_is_ended tau streams until steps tick ok i d.mark event d.from l (ap rank_of e) (let m : at_of (step_at steps i) ≡ at = ap at_of e in omega (arith, m, after')) (h.by_sync s))
+      ]
 
   pub length-kept : (i : ℕ) (x : Step) → i < length steps → step_at steps i ≡ x → (o : Option Stream) → stream_of streams (id_of x) ≡ o → is_of_length o x ≡ true
   length-kept i (Start id at) l e None f = refl
@@ -129,7 +163,7 @@ module _ (tau : ℕ) (streams : List Stream) (until : ℕ) (steps : List Step) (
   length-kept i (End id at) l e (Some k) f = refl
   length-kept i (Queue id at event frame) l e None f = refl
   length-kept i (Queue id at event frame) l e (Some k) f =
-      let y = instance-found i at id event frame l e k f in
+      let y = length-found i at id event frame l e k f in
       and-true (nat_le (least_bits k.bytes) frame.bits && nat_le frame.bits (worst_bits k.bytes)) (frame.len == k.bytes)
       (and-true (nat_le (least_bits k.bytes) frame.bits) (nat_le frame.bits (worst_bits k.bytes)) (le-true (least_bits k.bytes) frame.bits y.not_shorter) (le-true frame.bits (worst_bits k.bytes) y.not_longer))
       (eq-true frame.len k.bytes y.same_bytes)
@@ -183,8 +217,8 @@ module _ (tau : ℕ) (streams : List Stream) (until : ℕ) (steps : List Step) (
       let x = step_at steps i in
       pass (is_in_order until steps i x) 60 _ (order-kept i l)
       (pass (is_some (stream_of streams (id_of x))) 61 _ (there-some streams (id_of x) (id-known i l))
-      (pass (is_period_later (stream_of streams (id_of x)) (last_event (id_of x) steps i) x) 62 _ (period-kept i x l refl (stream_of streams (id_of x)) refl (last_event (id_of x) steps i) refl)
-      (pass (is_queued_in_time (stream_of streams (id_of x)) x) 63 _ (time-kept i x l refl (stream_of streams (id_of x)) refl)
+      (pass (is_period_later (stream_of streams (id_of x)) (last_event (id_of x) steps i) steps i x) 62 _ (period-kept i x l refl (stream_of streams (id_of x)) refl (last_event (id_of x) steps i) refl)
+      (pass (is_queued_in_time (stream_of streams (id_of x)) steps i x) 63 _ (time-kept i x l refl (stream_of streams (id_of x)) refl)
       (pass (is_of_length (stream_of streams (id_of x)) x) 64 _ (length-kept i x l refl (stream_of streams (id_of x)) refl)
       (pass (fits_transfer (running tau steps i) x) 65 _ (transfer-kept i x l refl (running tau steps i) refl)
       (pass (has_one_to_send tau streams steps i x) 66 _ (send-kept i x l refl)

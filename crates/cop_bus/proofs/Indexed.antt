@@ -1,4 +1,4 @@
--- The rules of a trace by indexes, over records that join what a run and its instances owe.
+-- The rules of a trace by indexes, but for those by which the streams obey.
 use Rattle.std.specs.Prelude.{◌≡◌, ℕ, ◌+◌, ◌*◌, ◌≤◌, ◌<◌, ◌⊎◌, List, None, Some, suc, length, All, Any}
 use Rattle.std.specs.Option.{ForSome}
 use Rattle.cop_rta.specs.declared.streams.Stream.{Stream}
@@ -6,23 +6,20 @@ use Rattle.cop_bus.specs.declared.steps.Step.{Step}
 use Rattle.cop_bus.specs.declared.steps.Content.{Content}
 use Rattle.cop_bus.specs.declared.steps.Step.TheVariants.{Queue, Start, End}
 use Rattle.cop_bus.specs.Trace.{at_of, rank_of, is_queue, is_start, count_to, nth_that, step_at, running, instance, instances}
-use Rattle.cop_bus.proofs.Whole.{IsWhole, IsWholeRun}
+use Rattle.cop_bus.specs.Run.{IsKnown, IsLegal}
 
 -- an instance of the stream waits after the first i steps
 abbrev pub WaitsAfter : List Step → ℕ → ℕ → Type 0
 WaitsAfter steps i id = count_to (is_start id) steps i < count_to (is_queue id) steps i
 
--- The rules, by steps.
+-- The rules, by steps, but for 62 and 63.
 pub record Obeys (tau : ℕ) (streams : List Stream) (until : ℕ) (steps : List Step) : Type 0 where
   -- 60: moments don't fall, none is after the end; ends, then queues, then starts
   pub ordered : (i j : ℕ) → i < j → j < length steps →
       (at_of (step_at steps i) < at_of (step_at steps j)) ⊎ ((at_of (step_at steps i) ≡ at_of (step_at steps j)) × (rank_of (step_at steps i) ≤ rank_of (step_at steps j)))
   pub by_end : (i : ℕ) → i < length steps → at_of (step_at steps i) ≤ until
-  -- 61, 63, 64: of a stream, queued in time, of a length of the stream
-  pub known : (i at id event : ℕ) (frame : Content) → i < length steps → step_at steps i ≡ Queue id at event frame → IsWhole streams (instance steps i at id event frame)
-  -- 62: events a period apart
-  pub period_apart : (i j at at' id event event' : ℕ) (frame : Content) (frame' : Content) → i < j → j < length steps → step_at steps i ≡ Queue id at event frame → step_at steps j ≡ Queue id at' event' frame' →
-      All (λ k. k.id ≡ id → event + k.period ≤ event') streams
+  -- 61, 64: of a stream, of a length of the stream
+  pub known : (i at id event : ℕ) (frame : Content) → i < length steps → step_at steps i ≡ Queue id at event frame → IsKnown streams (instance steps i at id event frame)
   -- 65: a start only where no transfer runs, an end only of the one that runs and at its moment, and none is missing
   pub start_free : (i at id : ℕ) → i < length steps → step_at steps i ≡ Start id at → running tau steps i ≡ None
   pub end_due : (i at id : ℕ) → i < length steps → step_at steps i ≡ End id at → running tau steps i ≡ Some (id, at)
@@ -41,7 +38,7 @@ pub record Obeys (tau : ℕ) (streams : List Stream) (until : ℕ) (steps : List
 
 -- A trace is the steps, in order, of a legal run: each start is of an instance, and the ends are those
 -- of the instances that end by the last moment, each once.
-pub record IsWholeTrace (tau : ℕ) (streams : List Stream) (until : ℕ) (steps : List Step) : Type 0 where
+pub record IsTraceOf (tau : ℕ) (streams : List Stream) (until : ℕ) (steps : List Step) : Type 0 where
   pub ordered : (i j : ℕ) → i < j → j < length steps →
       (at_of (step_at steps i) < at_of (step_at steps j)) ⊎ ((at_of (step_at steps i) ≡ at_of (step_at steps j)) × (rank_of (step_at steps i) ≤ rank_of (step_at steps j)))
   pub by_end : (i : ℕ) → i < length steps → at_of (step_at steps i) ≤ until
@@ -50,4 +47,4 @@ pub record IsWholeTrace (tau : ℕ) (streams : List Stream) (until : ℕ) (steps
       Any (λ y. (y.id ≡ id) × ((s : ℕ) × (y.start ≡ Some s) × (s + y.bits * tau ≡ at))) (instances steps)
   pub each_end : All (λ y. ForSome y.start (λ s. s + y.bits * tau ≤ until → (i : ℕ) × (i < length steps) × (step_at steps i ≡ End y.id (s + y.bits * tau)))) (instances steps)
   pub ends_once : (i j at at' id id' : ℕ) → i < j → j < length steps → step_at steps i ≡ End id at → step_at steps j ≡ End id' at' → at < at'
-  pub legal : IsWholeRun tau streams until (instances steps)
+  pub legal : IsLegal tau streams until (instances steps)

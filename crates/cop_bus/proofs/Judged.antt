@@ -4,15 +4,14 @@ use Rattle.std.specs.Option.{ForSome}
 use Rattle.std.proofs.lemmas.Bool.{cases_lt, cases_order}
 use Rattle.std.proofs.lemmas.List.Elements.{All-from_recursion}
 use Rattle.cop_rta.specs.declared.streams.Stream.{Stream}
-use Rattle.cop_bus.specs.Run.{Instance, Runs, Waits}
-use Rattle.cop_bus.proofs.Whole.{IsWhole, IsBefore, IsWholeRun}
+use Rattle.cop_bus.specs.Run.{Instance, Runs, Waits, IsKnown, IsSentBefore, IsLegal}
 use Rattle.cop_bus.specs.declared.steps.Step.{Step}
 use Rattle.cop_bus.specs.declared.steps.Content.{Content}
 use Rattle.cop_bus.specs.Trace.{at_of, rank_of, is_queue, is_start, count_to, nth_that, step_at, moment_of, bits_of, after, running, instance, instances}
-use Rattle.cop_bus.proofs.Indexed.{WaitsAfter, Obeys, IsWholeTrace}
+use Rattle.cop_bus.proofs.Indexed.{WaitsAfter, Obeys, IsTraceOf}
 use Rattle.cop_bus.specs.declared.steps.Step.TheVariants.{Queue, Start, End}
 use Rattle.cop_bus.proofs.Totals.{AllPairs-from_Pairs}
-use Rattle.cop_bus.proofs.Whole.{takes-time}
+use Rattle.cop_bus.proofs.Sound.{takes-time}
 use Rattle.cop_bus.proofs.Work.{start_cases}
 use Rattle.cop_bus.proofs.StepLemmas as Steps
 use Rattle.cop_bus.proofs.StepLemmas.{same_some, moment-some, count_to-past, nth_that-some, nth_that-at, nth_before, queue_shape, start_shape, is_queue-of, is_start-of, IsRest, each_instance, pairs_instances, instance_in}
@@ -229,23 +228,22 @@ module _ (tau : ℕ) (streams : List Stream) (until : ℕ) (steps : List Step) (
             | inr f ↦ (let q : suc k ≡ length steps = omega arith in let x = obeys.last_missing p.0 p.1 (subst (λ n. running tau steps n ≡ Some (p.0, p.1)) q e) in runs-at u (suc k) p.0 p.1 b before e (omega arith))
           ]
 
-  -- of two instances of one stream the earlier is queued and sent first
-  pub comes-before : (a q id event : ℕ) (frame : Content) (b q' id' event' : ℕ) (frame' : Content) → a < b → b < length steps → step_at steps a ≡ Queue id q event frame → step_at steps b ≡ Queue id' q' event' frame' →
-      id ≡ id' → IsBefore streams (instance steps a q id event frame) (instance steps b q' id' event' frame')
-  comes-before a q id event frame b q' id' event' frame' l m h g e =
-      let g' : step_at steps b ≡ Queue id q' event' frame' = subst (λ i. step_at steps b ≡ Queue i q' event' frame') (sym e) g in
-      record {
-        period_apart = obeys.period_apart a b q q' id event event' frame frame' l m h g';
-        queued_first = (let o = later a b (omega arith) m in let x : at_of (step_at steps a) ≡ q = ap at_of h in let y : at_of (step_at steps b) ≡ q' = ap at_of g in omega arith);
-        sent_first = λ t f. (
-            let f' : (instance steps b q' id event' frame').start ≡ Some t = subst (λ i. (instance steps b q' i event' frame').start ≡ Some t) (sym e) f in
-            let v = started_at b q' id event' frame' t f' in
-            let p = count_to-past (is_queue id) steps a b l (omega arith) (is_queue-of id (step_at steps a) q event frame h) in
-            let n = nth_before (is_start id) steps v.0 (queues id a) (omega (arith, v.3)) in
-            let s = start_shape id (step_at steps n.0) n.3 in
-            let x = starts_apart n.0 v.0 s.0 t id id n.1 v.1 s.1 v.2 in
-            (s.0, starts_there a n.0 q s.0 id event frame n.2 s.1 (sym n.4), x.1));
-      }
+  -- of two instances of one stream the earlier is queued first
+  pub queued_first : (a q id event : ℕ) (frame : Content) (b q' id' event' : ℕ) (frame' : Content) → a < b → b < length steps → step_at steps a ≡ Queue id q event frame → step_at steps b ≡ Queue id' q' event' frame' → q ≤ q'
+  queued_first a q id event frame b q' id' event' frame' l m h g =
+      let o = later a b (omega arith) m in let x : at_of (step_at steps a) ≡ q = ap at_of h in let y : at_of (step_at steps b) ≡ q' = ap at_of g in omega arith
+
+  -- and sent first
+  pub sent_first : (a q id event : ℕ) (frame : Content) (b q' id' event' : ℕ) (frame' : Content) → a < b → b < length steps → step_at steps a ≡ Queue id q event frame → step_at steps b ≡ Queue id' q' event' frame' →
+      id ≡ id' → IsSentBefore (instance steps a q id event frame) (instance steps b q' id' event' frame')
+  sent_first a q id event frame b q' id' event' frame' l m h g e t f =
+      let f' : (instance steps b q' id event' frame').start ≡ Some t = subst (λ i. (instance steps b q' i event' frame').start ≡ Some t) (sym e) f in
+      let v = started_at b q' id event' frame' t f' in
+      let p = count_to-past (is_queue id) steps a b l (omega arith) (is_queue-of id (step_at steps a) q event frame h) in
+      let n = nth_before (is_start id) steps v.0 (queues id a) (omega (arith, v.3)) in
+      let s = start_shape id (step_at steps n.0) n.3 in
+      let x = starts_apart n.0 v.0 s.0 t id id n.1 v.1 s.1 v.2 in
+      (s.0, starts_there a n.0 q s.0 id event frame n.2 s.1 (sym n.4), x.1)
 
   pub length_there : (a b q id event : ℕ) (frame : Content) (at : ℕ) → a < length steps → b < length steps → step_at steps a ≡ Queue id q event frame → step_at steps b ≡ Start id at → queues id a ≡ starts id b → end_of b at id ≡ at + frame.bits * tau
   length_there a b q id event frame at l m h g e = Steps.end_there tau steps a b q id event frame at l h e
@@ -270,10 +268,10 @@ module _ (tau : ℕ) (streams : List Stream) (until : ℕ) (steps : List Step) (
       ]
 
   -- THE RULES BY STEPS MAKE A LEGAL RUN
-  pub legal : IsWholeRun tau streams until (instances steps)
+  pub legal : IsLegal tau streams until (instances steps)
   legal = record {
-    known = from (IsWhole streams) (λ a q id event frame l h. obeys.known a q id event frame l h);
-    in_order = two (λ y z. y.id ≡ z.id → IsBefore streams y z) (λ a q id event frame b q' id' event' frame' l m h g e. comes-before a q id event frame b q' id' event' frame' l m h g e);
+    known = from (IsKnown streams) (λ a q id event frame l h. obeys.known a q id event frame l h);
+    in_order = two (λ y z. y.id ≡ z.id → IsSentBefore y z) sent_first;
     one_at_a_time = two (λ y z. (x : ℕ) → Runs tau y x → Runs tau z x → ⊥) one-at-a-time;
     asked_for = from (λ y. ForSome y.start (λ s. Any (λ z. Waits z s) (instances steps))) (λ a q id event frame l h s e.
         let v = started_at a q id event frame s e in let w = obeys.start_asked v.0 s id v.1 v.2 in waits-step v.0 w.0 s id v.1 v.2 w.1);
@@ -315,7 +313,7 @@ module _ (tau : ℕ) (streams : List Stream) (until : ℕ) (steps : List Step) (
       let y : at_of (step_at steps r.0) ≡ r.1 = ap at_of r.3 in
       omega (arith, p.8, r.4)
 
-  pub legal_trace : IsWholeTrace tau streams until steps
+  pub legal_trace : IsTraceOf tau streams until steps
   legal_trace = record {
     ordered = obeys.ordered;
     by_end = obeys.by_end;

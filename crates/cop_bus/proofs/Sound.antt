@@ -1,5 +1,5 @@
 use Rattle.std.proofs.Common.{◌≡◌, ℕ, ◌+◌, ◌*◌, ◌≤◌, ◌<◌, ◌⊎◌, inl, inr, List, [], ◌∷◌, ◌++◌, refl, sym, ◌∙◌, ap, subst, append_assoc, arith, suc, Bool, true, cond}
-use Rattle.std.specs.Prelude.{Contains, Any, All, filter, nat_lt, nat_le, ◌==◌, ◌&&◌, Some, slice_get}
+use Rattle.std.specs.Prelude.{Contains, Any, All, filter, nat_lt, nat_le, ◌==◌, ◌&&◌, Option, Some, slice_get}
 use Rattle.std.specs.Option.{ForSome}
 use Rattle.std.specs.List.{AllByRecursion as Each}
 use Rattle.std.proofs.Math.Nat.{mul-le-mul}
@@ -10,8 +10,9 @@ use Rattle.cop_frame.specs.declared.rates.Rate.{Rate}
 use Rattle.cop_frame.specs.Rate.{ticks_of}
 use Rattle.cop_rta.proofs.QueueLemmas.{ticks_pos}
 use Rattle.cop_rta.specs.declared.streams.Stream.{Stream}
-use Rattle.cop_bus.proofs.Test.{longest, load, blocking, busy_value, queue_value, Meets, meets}
-use Rattle.cop_bus.specs.Run.{Instance, Runs, Waits, IsKnown, HasLengthOf, IsQueuedInTime, IsSentBefore, ComesBefore, IsObeying, IsLegal, IsOnTime, IsRunAbove, PassesById}
+use Rattle.cop_bus.proofs.Test.{longest, load, blocking, busy_value, queue_value, Meets}
+use Rattle.cop_bus.specs.Run.{Instance, Runs, Waits, IsKnown, HasLengthOf, IsSentBefore, IsLegal, IsOnTime}
+use Rattle.cop_bus.specs.Spread.{IsQueuedWithin, IsApart, IsSpread}
 use Rattle.cop_bus.proofs.Totals.{total, total-le, total-add, total-append, total-more, total-split, Pairs, Pairs-from_AllPairs, Pairs-map, Pairs-of_two, Pairs-across, Pairs-append_left, Pairs-append_right, Each-map, Each-map2, Each-from_Contains, Each-append_left, Each-append_right, Contains-head}
 use Rattle.cop_bus.proofs.Counts.{number, among, among-le, number-before}
 use Rattle.cop_bus.proofs.Work.{done, asked, upper, covered, low-block, last_within, pending, start_cases, done-unstarted, asked-not, true-le, true-eq, eq-true, le-true, done-le, upper-is, upper-not}
@@ -28,9 +29,9 @@ takes-time tau streams y tick w =
     omega arith
 
 -- One instance x of the stream m of a legal run, with those before and after it.
-module _ (tau until : ℕ) (streams : List Stream) (pre : List Instance) (x : Instance) (post : List Instance) (m : Stream)
+module _ (J : Stream → ℕ) (tau until : ℕ) (streams : List Stream) (pre : List Instance) (x : Instance) (post : List Instance) (m : Stream)
     (tick : 1 ≤ tau) (periods : All (λ k. 1 ≤ k.period) streams) (legal : IsLegal tau streams until (pre ++ (x ∷ post)))
-    (obeying : All (λ k. k.id ≤ m.id → IsObeying (pre ++ (x ∷ post)) k) streams) (in_set : Contains streams m) (its : x.id ≡ m.id) where
+    (obeying : All (λ k. k.id ≤ m.id → IsSpread J (pre ++ (x ∷ post)) k) streams) (in_set : Contains streams m) (its : x.id ≡ m.id) where
   abbrev pub run : List Instance
   run = pre ++ (x ∷ post)
 
@@ -43,17 +44,17 @@ module _ (tau until : ℕ) (streams : List Stream) (pre : List Instance) (x : In
   pub sent_order : Pairs (λ y z. y.id ≡ z.id → IsSentBefore y z) run
   sent_order = Pairs-from_AllPairs (λ y z. y.id ≡ z.id → IsSentBefore y z) run legal.in_order
 
-  pub own_obeys : IsObeying run m
-  own_obeys = All-contains (λ k. k.id ≤ m.id → IsObeying run k) streams m obeying in_set (omega arith)
+  pub own_obeys : IsSpread J run m
+  own_obeys = All-contains (λ k. k.id ≤ m.id → IsSpread J run k) streams m obeying in_set (omega arith)
 
-  pub in_time_each : Each (λ y. y.id ≡ m.id → IsQueuedInTime m y) run
-  in_time_each = recursion_from_All (λ y. y.id ≡ m.id → IsQueuedInTime m y) run own_obeys.in_time
+  pub in_time_each : Each (λ y. y.id ≡ m.id → IsQueuedWithin (J m) y) run
+  in_time_each = recursion_from_All (λ y. y.id ≡ m.id → IsQueuedWithin (J m) y) run own_obeys.in_time
 
-  pub x_in_time : IsQueuedInTime m x
-  x_in_time = All-contains (λ y. y.id ≡ m.id → IsQueuedInTime m y) run x own_obeys.in_time x_in its
+  pub x_in_time : IsQueuedWithin (J m) x
+  x_in_time = All-contains (λ y. y.id ≡ m.id → IsQueuedWithin (J m) y) run x own_obeys.in_time x_in its
 
-  pub order : Pairs (λ y z. y.id ≡ m.id → z.id ≡ m.id → ComesBefore m y z) run
-  order = Pairs-from_AllPairs (λ y z. y.id ≡ m.id → z.id ≡ m.id → ComesBefore m y z) run own_obeys.in_order
+  pub order : Pairs (λ y z. y.id ≡ m.id → z.id ≡ m.id → IsApart m.period y z) run
+  order = Pairs-from_AllPairs (λ y z. y.id ≡ m.id → z.id ≡ m.id → IsApart m.period y z) run own_obeys.in_order
 
   pub known : Each (IsKnown streams) run
   known = recursion_from_All (IsKnown streams) run legal.known
@@ -158,23 +159,23 @@ module _ (tau until : ℕ) (streams : List Stream) (pre : List Instance) (x : In
   known_pre = Each-append_left (IsKnown streams) pre (x ∷ post) known
 
   -- as many periods as instances of m there before x lie between that moment and the event of x
-  pub own_events : (lo : ℕ) → lo ≤ x.queued → lo + number (late lo) pre * m.period ≤ x.event + m.jitter
+  pub own_events : (lo : ℕ) → lo ≤ x.queued → lo + number (late lo) pre * m.period ≤ x.event + J m
   own_events lo h =
       let a = x_in_time.within_jitter in
-      number-before m.period m.jitter x.event (late lo) lo pre (omega arith)
-      (Each-map2 (λ y. y.id ≡ m.id → IsQueuedInTime m y) (λ y. y.id ≡ m.id → x.id ≡ m.id → ComesBefore m y x) (λ y. late lo y ≡ true → (lo ≤ y.event + m.jitter) × (y.event + m.period ≤ x.event)) pre one
-      (Each-append_left (λ y. y.id ≡ m.id → IsQueuedInTime m y) pre (x ∷ post) in_time_each)
-      (Pairs-across (λ y z. y.id ≡ m.id → z.id ≡ m.id → ComesBefore m y z) pre (x ∷ post) x (Contains-head x post) order))
-      (Pairs-map (λ y z. y.id ≡ m.id → z.id ≡ m.id → ComesBefore m y z) (λ y z. late lo y ≡ true → late lo z ≡ true → y.event + m.period ≤ z.event) pre two
-      (Pairs-append_left (λ y z. y.id ≡ m.id → z.id ≡ m.id → ComesBefore m y z) pre (x ∷ post) order))
+      number-before m.period (J m) x.event (late lo) lo pre (omega arith)
+      (Each-map2 (λ y. y.id ≡ m.id → IsQueuedWithin (J m) y) (λ y. y.id ≡ m.id → x.id ≡ m.id → IsApart m.period y x) (λ y. late lo y ≡ true → (lo ≤ y.event + J m) × (y.event + m.period ≤ x.event)) pre one
+      (Each-append_left (λ y. y.id ≡ m.id → IsQueuedWithin (J m) y) pre (x ∷ post) in_time_each)
+      (Pairs-across (λ y z. y.id ≡ m.id → z.id ≡ m.id → IsApart m.period y z) pre (x ∷ post) x (Contains-head x post) order))
+      (Pairs-map (λ y z. y.id ≡ m.id → z.id ≡ m.id → IsApart m.period y z) (λ y z. late lo y ≡ true → late lo z ≡ true → y.event + m.period ≤ z.event) pre two
+      (Pairs-append_left (λ y z. y.id ≡ m.id → z.id ≡ m.id → IsApart m.period y z) pre (x ∷ post) order))
     where
-      one : (y : Instance) → (y.id ≡ m.id → IsQueuedInTime m y) → (y.id ≡ m.id → x.id ≡ m.id → ComesBefore m y x) → late lo y ≡ true → (lo ≤ y.event + m.jitter) × (y.event + m.period ≤ x.event)
+      one : (y : Instance) → (y.id ≡ m.id → IsQueuedWithin (J m) y) → (y.id ≡ m.id → x.id ≡ m.id → IsApart m.period y x) → late lo y ≡ true → (lo ≤ y.event + J m) × (y.event + m.period ≤ x.event)
       one y w f e =
           let l = late-is lo y e in
           let b = (w l.0).within_jitter in
           (omega (arith, l.1), (f l.0 its).period_apart)
 
-      two : (y z : Instance) → (y.id ≡ m.id → z.id ≡ m.id → ComesBefore m y z) → late lo y ≡ true → late lo z ≡ true → y.event + m.period ≤ z.event
+      two : (y z : Instance) → (y.id ≡ m.id → z.id ≡ m.id → IsApart m.period y z) → late lo y ≡ true → late lo z ≡ true → y.event + m.period ≤ z.event
       two y z f e g = (f (late-is lo y e).0 (late-is lo z g).0).period_apart
 
   -- and they take no longer than as many of the longest
@@ -184,7 +185,7 @@ module _ (tau until : ℕ) (streams : List Stream) (pre : List Instance) (x : In
 
   -- LAW 3, in the queue: what is done up to a moment before x starts
   pub in_queue : (lo w : ℕ) → ForSome x.start (λ s. lo + suc w ≤ s) →
-      done_by (lo + suc w) ≤ asked_by lo + (total (load tau (w + tau)) above + number (late lo) pre * longest tau m)
+      done_by (lo + suc w) ≤ asked_by lo + (total (load J tau (w + tau)) above + number (late lo) pre * longest tau m)
   in_queue lo w unsent =
       let front : total (upper m.id (done tau (lo + suc w))) pre ≤ total (λ y. upper m.id (asked tau lo) y + (hp y + cond (late lo y) (y.bits * tau) 0)) pre =
       total-le (upper m.id (done tau (lo + suc w))) (λ y. upper m.id (asked tau lo) y + (hp y + cond (late lo y) (y.bits * tau) 0)) pre
@@ -206,7 +207,7 @@ module _ (tau until : ℕ) (streams : List Stream) (pre : List Instance) (x : In
       let s1 = total-append (upper m.id (done tau (lo + suc w))) pre (x ∷ post) in
       let s2 = total-append (upper m.id (asked tau lo)) pre (x ∷ post) in
       let s3 = total-append hp pre (x ∷ post) in
-      let l = above-load tau (w + tau) lo m.id streams run periods known obeying in
+      let l = above-load J tau (w + tau) lo m.id streams run periods known obeying in
       let o = own_work lo in
       omega (arith, front, back, a1, a2, a3, s1, s2, s3, l, o)
     where
@@ -224,15 +225,15 @@ module _ (tau until : ℕ) (streams : List Stream) (pre : List Instance) (x : In
       later y f i s e = let g = f (its ∙ sym i) s e in let k = unsent g.0 g.1 in omega (arith, g.2)
 
   -- LAW 3, in the busy period: what is asked for within it
-  pub in_busy : (lo t : ℕ) → asked_by (lo + t) ≤ asked_by lo + (total (load tau t) above + load tau t m)
+  pub in_busy : (lo t : ℕ) → asked_by (lo + t) ≤ asked_by lo + (total (load J tau t) above + load J tau t m)
   in_busy lo t =
       let p : total (upper m.id (asked tau (lo + t))) run ≤ total (λ y. upper m.id (asked tau lo) y + (hp y + own y)) run =
       total-le (upper m.id (asked tau (lo + t))) (λ y. upper m.id (asked tau lo) y + (hp y + own y)) run
       (Each-from_Contains (λ y. upper m.id (asked tau (lo + t)) y ≤ upper m.id (asked tau lo) y + (hp y + own y)) run (λ y c. asked-point tau m.id lo t y)) in
       let a1 = total-add (upper m.id (asked tau lo)) (λ y. hp y + own y) run in
       let a2 = total-add hp own run in
-      let l = above-load tau t lo m.id streams run periods known obeying in
-      let k = stream-load tau t lo streams run m (All-contains (λ k. 1 ≤ k.period) streams m periods in_set) in_set known own_obeys in
+      let l = above-load J tau t lo m.id streams run periods known obeying in
+      let k = stream-load J tau t lo streams run m (All-contains (λ k. 1 ≤ k.period) streams m periods in_set) in_set known own_obeys in
       omega (arith, p, a1, a2, l, k)
     where
       hp : Instance → ℕ
@@ -250,9 +251,9 @@ module _ (tau until : ℕ) (streams : List Stream) (pre : List Instance) (x : In
 
   -- LAW 4, first half: x's number is within the busy period
   pub number_within : (lo t : ℕ) → (lo + t ≤ x.event → lo + t ≤ until) → lo ≤ x.queued → asked_by lo ≤ done_by lo → Behind lo →
-      1 ≤ t → busy_value tau above below m t ≤ t →
-      number (late lo) pre * m.period < t + m.jitter
-  number_within lo t ends within quiet behind pos solves = elim (cases_lt (number (late lo) pre * m.period) (t + m.jitter)) [
+      1 ≤ t → busy_value J tau above below m t ≤ t →
+      number (late lo) pre * m.period < t + J m
+  number_within lo t ends within quiet behind pos solves = elim (cases_lt (number (late lo) pre * m.period) (t + J m)) [
     | inl l ↦ l
     | inr l ↦ (let e = own_events lo within in
         let a = x_in_time.after_event in
@@ -265,7 +266,7 @@ module _ (tau until : ℕ) (streams : List Stream) (pre : List Instance) (x : In
 
   -- LAW 4, second half: x starts at most w after that moment, or the run ends before
   pub starts_within : (lo w : ℕ) → lo ≤ x.queued → asked_by lo ≤ done_by lo → Busy lo → (ForSome x.start (λ s. lo + suc w ≤ s) → lo + w < until) →
-      queue_value tau above below m (number (late lo) pre) w ≤ w →
+      queue_value J tau above below m (number (late lo) pre) w ≤ w →
       (s : ℕ) × (x.start ≡ Some s) × (s ≤ lo + w)
   starts_within lo w within quiet behind ends solves = elim (start_cases x.start) [
     | inl n ↦ absurd (late_start (λ s e. absurd (cc)))
@@ -287,12 +288,12 @@ module _ (tau until : ℕ) (streams : List Stream) (pre : List Instance) (x : In
           omega (arith, a, i, solves)
 
   -- x starts in time: after q and w are found
-  pub from_number : Meets tau above below m → (d : ℕ) → m.deadline ≡ Some d → (lo : ℕ) → lo ≤ x.queued → asked_by lo ≤ done_by lo → Busy lo → (t : ℕ) →
-      number (late lo) pre * m.period < t + m.jitter → ((q : ℕ) → q * m.period < t + m.jitter →
-      (w : ℕ) × (queue_value tau above below m q w ≤ w) × ForSome m.deadline (λ d. m.jitter + w + longest tau m ≤ d + q * m.period)) →
+  pub from_number : (due : Option ℕ) → Meets J tau above below m due → (d : ℕ) → due ≡ Some d → (lo : ℕ) → lo ≤ x.queued → asked_by lo ≤ done_by lo → Busy lo → (t : ℕ) →
+      number (late lo) pre * m.period < t + J m → ((q : ℕ) → q * m.period < t + J m →
+      (w : ℕ) × (queue_value J tau above below m q w ≤ w) × ForSome due (λ d. J m + w + longest tau m ≤ d + q * m.period)) →
       ((w : ℕ) → lo + w + longest tau m ≤ x.event + d → ForSome x.start (λ s. lo + suc w ≤ s) → lo + w < until) →
       (s : ℕ) × (x.start ≡ Some s) × (s + x.bits * tau ≤ x.event + d)
-  from_number passes d e lo within quiet busy t small in_time ends =
+  from_number due passes d e lo within quiet busy t small in_time ends =
       let v = in_time (number (late lo) pre) small in
       let w = v.0 in
       let f = v.2 d e in
@@ -303,22 +304,22 @@ module _ (tau until : ℕ) (streams : List Stream) (pre : List Instance) (x : In
       (s.0, s.1, omega (arith, s.2, fits, long))
 
   -- the theorem, at x
-  pub on_time : Meets tau above below m → IsOnTime tau until m.deadline x
-  on_time passes d e ends =
+  pub on_time : (due : Option ℕ) → Meets J tau above below m due → IsOnTime tau until due x
+  on_time due passes d e ends =
       let r = reference in
       let q = number_within r.0 passes.busy (λ l. omega arith) r.1 r.2 r.3 passes.from_on passes.closed in
       let long = not-longer tau m x (of_m x (known_at x x_in) its) in
       let pos = takes x (known_at x x_in) in
-      from_number passes d e r.0 r.1 r.2 (busy_behind r.0 r.3) passes.busy q passes.in_time (λ w fits u. omega (arith, long, pos))
+      from_number due passes d e r.0 r.1 r.2 (busy_behind r.0 r.3) passes.busy q passes.in_time (λ w fits u. omega (arith, long, pos))
 
   -- the same of one that starts by the end of the run, wherever its deadline falls
-  pub started_on_time : Meets tau above below m → ForSome m.deadline (λ d. ForSome x.start (λ s. s ≤ until → s + x.bits * tau ≤ x.event + d))
-  started_on_time passes d e s g ends =
+  pub started_on_time : (due : Option ℕ) → Meets J tau above below m due → ForSome due (λ d. ForSome x.start (λ s. s ≤ until → s + x.bits * tau ≤ x.event + d))
+  started_on_time due passes d e s g ends =
       let r = reference in
       let long = not-longer tau m x (of_m x (known_at x x_in) its) in
       let go : (r.0 + passes.busy ≤ x.event → r.0 + passes.busy ≤ until) → s + x.bits * tau ≤ x.event + d = λ h. (
       let q = number_within r.0 passes.busy h r.1 r.2 r.3 passes.from_on passes.closed in
-      let v = from_number passes d e r.0 r.1 r.2 (busy_behind r.0 r.3) passes.busy q passes.in_time (λ w fits u. (let k = u s g in omega arith)) in
+      let v = from_number due passes d e r.0 r.1 r.2 (busy_behind r.0 r.3) passes.busy q passes.in_time (λ w fits u. (let k = u s g in omega arith)) in
       let same : Some s ≡ Some v.0 = sym g ∙ v.1 in
       let t : s ≡ v.0 = cc in
       omega (arith, v.2)) in
@@ -342,15 +343,17 @@ pub each_by_place : {X : Type 0} (P : X → Type 0) (front xs : List X) → ((pr
 each_by_place P front [] h = tt
 each_by_place P front (x ∷ xs) h = (h front x xs refl, each_by_place P (front ++ (x ∷ [])) xs (λ pre y post e. h pre y post (sym (append_assoc front (x ∷ []) xs) ∙ e)))
 
-module _ (rate : Rate) (streams : List Stream) (until : ℕ) (run : List Instance) (index : ℕ) (m : Stream) (legal : IsRunAbove rate streams until run index m) (passes : PassesById rate streams index) where
-  pub sound : All (λ y. y.id ≡ m.id → IsOnTime (ticks_of rate) until m.deadline y) run
-  sound = All-from_recursion (λ y. y.id ≡ m.id → IsOnTime (ticks_of rate) until m.deadline y) run
-      (each_by_place (λ y. y.id ≡ m.id → IsOnTime (ticks_of rate) until m.deadline y) [] run
-      (λ pre x post e its. let r = subst (λ r. IsRunAbove rate streams until r index m) e legal in
-      on_time (ticks_of rate) until streams pre x post m (ticks_pos rate) (periods_pos streams) r.legal r.obeying (in_streams streams index m r.stream) its (meets streams index rate m r.stream passes)))
+module _ (J : Stream → ℕ) (rate : Rate) (streams : List Stream) (until : ℕ) (run : List Instance) (m : Stream) (legal : IsLegal (ticks_of rate) streams until run)
+    (spread : All (λ k. k.id ≤ m.id → IsSpread J run k) streams) (in_set : Contains streams m) (due : Option ℕ)
+    (meets : Meets J (ticks_of rate) (filter (λ k. nat_lt k.id m.id) streams) (filter (λ k. nat_lt m.id k.id) streams) m due) where
+  pub sound_by : All (λ y. y.id ≡ m.id → IsOnTime (ticks_of rate) until due y) run
+  sound_by = All-from_recursion (λ y. y.id ≡ m.id → IsOnTime (ticks_of rate) until due y) run
+      (each_by_place (λ y. y.id ≡ m.id → IsOnTime (ticks_of rate) until due y) [] run
+      (λ pre x post e its. on_time J (ticks_of rate) until streams pre x post m (ticks_pos rate) (periods_pos streams)
+      (subst (λ r. IsLegal (ticks_of rate) streams until r) e legal) (subst (λ r. All (λ k. k.id ≤ m.id → IsSpread J r k) streams) e spread) in_set its due meets))
 
-  pub started_sound : All (λ y. y.id ≡ m.id → ForSome m.deadline (λ d. ForSome y.start (λ s. s ≤ until → s + y.bits * ticks_of rate ≤ y.event + d))) run
-  started_sound = All-from_recursion (λ y. y.id ≡ m.id → ForSome m.deadline (λ d. ForSome y.start (λ s. s ≤ until → s + y.bits * ticks_of rate ≤ y.event + d))) run
-      (each_by_place (λ y. y.id ≡ m.id → ForSome m.deadline (λ d. ForSome y.start (λ s. s ≤ until → s + y.bits * ticks_of rate ≤ y.event + d))) [] run
-      (λ pre x post e its. let r = subst (λ r. IsRunAbove rate streams until r index m) e legal in
-      started_on_time (ticks_of rate) until streams pre x post m (ticks_pos rate) (periods_pos streams) r.legal r.obeying (in_streams streams index m r.stream) its (meets streams index rate m r.stream passes)))
+  pub started_sound_by : All (λ y. y.id ≡ m.id → ForSome due (λ d. ForSome y.start (λ s. s ≤ until → s + y.bits * ticks_of rate ≤ y.event + d))) run
+  started_sound_by = All-from_recursion (λ y. y.id ≡ m.id → ForSome due (λ d. ForSome y.start (λ s. s ≤ until → s + y.bits * ticks_of rate ≤ y.event + d))) run
+      (each_by_place (λ y. y.id ≡ m.id → ForSome due (λ d. ForSome y.start (λ s. s ≤ until → s + y.bits * ticks_of rate ≤ y.event + d))) [] run
+      (λ pre x post e its. started_on_time J (ticks_of rate) until streams pre x post m (ticks_pos rate) (periods_pos streams)
+      (subst (λ r. IsLegal (ticks_of rate) streams until r) e legal) (subst (λ r. All (λ k. k.id ≤ m.id → IsSpread J r k) streams) e spread) in_set its due meets))

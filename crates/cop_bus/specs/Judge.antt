@@ -5,8 +5,10 @@ use Rattle.cop_bus.specs.declared.steps.Step.{Step}
 use Rattle.cop_bus.specs.declared.steps.Step.TheVariants.{Queue, Start, End}
 use Rattle.cop_bus.specs.declared.faults.BusFault.{BusFault}
 use Rattle.cop_bus.specs.declared.faults.BusFault.TheVariants.{Refused, Memory}
-use Rattle.cop_bus.specs.Run.{least_bits, worst_bits}
+use Rattle.cop_bus.specs.declared.anchors.Anchor.{Anchor}
+use Rattle.cop_bus.specs.Run.{least_bits, worst_bits, gap_of}
 use Rattle.cop_bus.specs.Trace.{at_of, rank_of, is_queue, is_start, count_to, nth_that, step_at, running}
+use Rattle.cop_bus.specs.Ends.{anchor_of}
 
 abbrev pub id_of : Step → ℕ
 id_of (Queue id at event frame) = id
@@ -53,20 +55,30 @@ abbrev pub is_in_order : ℕ → List Step → ℕ → Step → Bool
 is_in_order until steps zero x = nat_le (at_of x) until
 is_in_order until steps (suc i) x = nat_le (at_of x) until && not_before (step_at steps i) x
 
--- 62: the event is a period or more after that of the stream's instance before
-abbrev pub is_period_later : Option Stream → Option ℕ → Step → Bool
-is_period_later (Some k) (Some before) (Queue id at event frame) = nat_le (before + k.period) event
-is_period_later (Some k) None x = true
-is_period_later None before x = true
-is_period_later (Some k) (Some before) (Start id at) = true
-is_period_later (Some k) (Some before) (End id at) = true
+-- 62: the event is a period or more after that of the stream's instance before; of a synchronous stream its SYNC is so many
+-- numbers after. What hangs on no ended SYNC breaks 63 alone.
+abbrev pub are_apart : ℕ → Option Anchor → Option Anchor → Bool
+are_apart gap None anchor = true
+are_apart gap (Some before) None = true
+are_apart gap (Some before) (Some anchor) = nat_le (before.mark + gap) anchor.mark
 
--- 63: queued from the event to the jitter after it
-abbrev pub is_queued_in_time : Option Stream → Step → Bool
-is_queued_in_time (Some k) (Queue id at event frame) = nat_le event at && nat_le at (event + k.jitter)
-is_queued_in_time (Some k) (Start id at) = true
-is_queued_in_time (Some k) (End id at) = true
-is_queued_in_time None x = true
+abbrev pub is_period_later : Option Stream → Option ℕ → List Step → ℕ → Step → Bool
+is_period_later (Some k) (Some before) steps i (Queue id at event frame) = are_apart (gap_of k) (anchor_of k steps i before) (anchor_of k steps i event)
+is_period_later (Some k) None steps i x = true
+is_period_later None before steps i x = true
+is_period_later (Some k) (Some before) steps i (Start id at) = true
+is_period_later (Some k) (Some before) steps i (End id at) = true
+
+-- 63: queued from the event to the jitter after it; of a synchronous stream from its SYNC's end to the latency after that
+abbrev pub is_in_time : ℕ → Option Anchor → ℕ → Bool
+is_in_time jitter None at = false
+is_in_time jitter (Some anchor) at = nat_le anchor.from at && nat_le at (anchor.from + jitter)
+
+abbrev pub is_queued_in_time : Option Stream → List Step → ℕ → Step → Bool
+is_queued_in_time (Some k) steps i (Queue id at event frame) = is_in_time k.jitter (anchor_of k steps i event) at
+is_queued_in_time (Some k) steps i (Start id at) = true
+is_queued_in_time (Some k) steps i (End id at) = true
+is_queued_in_time None steps i x = true
 
 -- 64: of a length that a frame of the stream can have, and of its number of bytes
 abbrev pub is_of_length : Option Stream → Step → Bool
@@ -120,8 +132,8 @@ abbrev pub broken_by : ℕ → List Stream → ℕ → List Step → ℕ → Ste
 broken_by tau streams until steps i x =
     if not (is_in_order until steps i x) then Some 60 else
     if not (is_some (stream_of streams (id_of x))) then Some 61 else
-    if not (is_period_later (stream_of streams (id_of x)) (last_event (id_of x) steps i) x) then Some 62 else
-    if not (is_queued_in_time (stream_of streams (id_of x)) x) then Some 63 else
+    if not (is_period_later (stream_of streams (id_of x)) (last_event (id_of x) steps i) steps i x) then Some 62 else
+    if not (is_queued_in_time (stream_of streams (id_of x)) steps i x) then Some 63 else
     if not (is_of_length (stream_of streams (id_of x)) x) then Some 64 else
     broken_in_turn tau streams steps i (running tau steps i) x
 

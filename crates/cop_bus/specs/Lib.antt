@@ -1,4 +1,6 @@
 pub mod Run
+pub mod Spread
+pub mod Ends
 pub mod Period
 pub mod Trace
 pub mod Judge

@@ -1,7 +1,12 @@
-use Rattle.std.specs.Prelude.{◌≡◌, ℕ, ◌≤◌, ◌<◌, List, Option, None, Some, Bool, true, suc, length, slice_index, slice_index_or, slice_set, is_some, false, ◌==◌}
+use Rattle.std.specs.Prelude.{◌≡◌, ℕ, ◌+◌, ◌≤◌, ◌<◌, List, All, Option, None, Some, Bool, true, suc, length, slice_index, slice_index_or, slice_set, is_some, false, ◌==◌}
 use Rattle.cop_bus.specs.declared.steps.Step.{Step}
 use Rattle.cop_bus.specs.declared.steps.Step.TheVariants.{Queue, Start, End}
-use Rattle.cop_bus.specs.Trace.{is_queue, is_start, count_to, step_at}
+use Rattle.cop_bus.specs.declared.ends.Syncs.{Syncs}
+use Rattle.cop_bus.specs.declared.judging.Tables.{Tables}
+use Rattle.cop_bus.specs.Trace.{is_queue, is_start, count_to, nth_that, step_at, running}
+use Rattle.cop_bus.specs.Ends.{is_end, event_in, sync_anchor, runs_of}
+use Rattle.cop_rta.specs.Test.{sync_id}
+use Rattle.std.specs.BTreeMap.{get}
 use Rattle.cop_bus.specs.Judge.{last_event, waits_after, stream_of}
 use Rattle.cop_rta.specs.declared.streams.Stream.{Stream}
 use Rattle.std.specs.BTreeSet.{BTreeSet, contains}
@@ -49,6 +54,24 @@ pub record IsLast (steps : List Step) (i : ℕ) (last : List (Option ℕ)) : Typ
 pub record IsWaiting (streams : List Stream) (steps : List Step) (i : ℕ) (waiting : BTreeSet ℕ) : Type 0 where
   pub those : (id : ℕ) → contains nat_cmp waiting id ≡ waits_after steps i id
   pub known : (id : ℕ) → waits_after steps i id ≡ true → is_some (stream_of streams id) ≡ true
+
+-- What the judge knows of the SYNCs: how many have ended, the anchor of each event, and the event of the one that is sent.
+pub record AreSyncs (tau : ℕ) (steps : List Step) (i : ℕ) (syncs : Syncs) : Type 0 where
+  pub number : syncs.number ≡ count_to (is_end sync_id) steps i
+  pub anchors : (event : ℕ) → get nat_cmp syncs.anchors event ≡ sync_anchor steps i event
+  pub sent : runs_of sync_id (running tau steps i) ≡ 1 → event_in (nth_that (is_queue sync_id) syncs.number steps) ≡ Some syncs.sent
+  pub balanced : count_to (is_start sync_id) steps i ≡ count_to (is_end sync_id) steps i + runs_of sync_id (running tau steps i)
+
+-- where a stream is synchronous the judge knows the anchor of each event
+abbrev pub AreAnchors : Stream → List Step → ℕ → Syncs → Type 0
+AreAnchors k steps i syncs = 1 ≤ k.every → (event : ℕ) → get nat_cmp syncs.anchors event ≡ sync_anchor steps i event
+
+-- what the judge knows after the first i steps, beside the transfer that runs
+pub record AreTables (tau : ℕ) (streams : List Stream) (steps : List Step) (i : ℕ) (tables : Tables) : Type 0 where
+  pub last : IsLast steps i tables.last.items
+  pub unsent : IsUnsent steps i tables.unsent.items
+  pub waiting : IsWaiting streams steps i tables.waiting
+  pub syncs : All (λ k. 1 ≤ k.every → AreSyncs tau steps i tables.syncs) streams
 
 -- how the tables change at a step
 abbrev pub ahead_after : Step → ℕ → List ℕ → List ℕ

@@ -106,4 +106,4 @@ pub record IsLegalTrace (tau : ℕ) (streams : List Stream) (until : ℕ) (steps
   pub each_end : All (λ y. ForSome y.start (λ s. s + y.bits * tau ≤ until → (i : ℕ) × (i < length steps) × (step_at steps i ≡ End y.id (s + y.bits * tau)))) (instances steps)
   pub ends_once : (i j at at' id id' : ℕ) → i < j → j < length steps → step_at steps i ≡ End id at → step_at steps j ≡ End id' at' → at < at'
   pub legal : IsLegal tau streams until (instances steps)
-  pub obeying : All (IsObeying (instances steps)) streams
+  pub obeying : All (IsObeying tau until (instances steps)) streams

@@ -1,14 +1,15 @@
 //! The judge of a trace.
 
-ghost use Rattle.std.specs.Prelude.{◌≡◌, ◌<◌, ◌≤◌, ℕ, List, Some, None, length, slice_index, OnOk, IfOk, IfErr};
+ghost use Rattle.std.specs.Prelude.{◌≡◌, ◌<◌, ◌≤◌, ℕ, List, All, Any, Some, None, true, false, suc, length, slice_index, OnOk, IfOk, IfErr};
 ghost use Rattle.cop_frame.specs.Rate.{ticks_of};
 ghost use Rattle.cop_rta.specs.declared.streams.Stream.{Stream};
 ghost use Rattle.cop_bus.specs.declared.steps.Step.{Step};
 ghost use Rattle.cop_bus.specs.Judge.{IsFaultOf, first_broken, stream_of, id_of, is_in_order, has_one_to_send, is_lowest, is_not_idle, broken_in_turn, broken_by, broken_at_end};
 ghost use Rattle.cop_bus.specs.Trace.{IsLegalTrace, running as running_spec, after, step_at, nth_that, is_queue, is_start, count_to};
-ghost use Rattle.cop_bus.specs.Tables.{IsWaiting, IsUnsent, IsNext, IsLast, ahead_after, next_after, unsent_after, links_after, last_after};
+ghost use Rattle.cop_bus.specs.Tables.{AreSyncs, AreTables, IsWaiting, IsUnsent, IsNext, IsLast, ahead_after, next_after, unsent_after, links_after, last_after};
 ghost use Rattle.cop_bus.specs.Late.{IsSent};
 
+use crate::ends::Syncs;
 use crate::faults::BusFault;
 use crate::pending::{any_waits, lower_waits, note_waiting};
 use crate::rules::{
@@ -25,13 +26,17 @@ use std::collections::BTreeSet;
 // How many identifiers a trace can name.
 const IDS: usize = 65536;
 
+const SYNC: u16 = 0x80;
+
 /// Takes a trace that breaks none of the rules of legal runs. Its steps stand by moment; of one moment ends come
 /// first, then queues, then starts. The rules:
 ///
 /// - 60: moments don't fall, none is after the end, and the order of one moment
 /// - 61: the identifier is in the set
-/// - 62: each event of a stream is a period at least after the one before
-/// - 63: an instance is queued from its event to the jitter after it
+/// - 62: each event of a stream is a period at least after the one before; of a synchronous stream the SYNC that has the
+///   event is so many numbers at least after the one before
+/// - 63: an instance is queued from its event to the jitter after it; of a synchronous stream from the end of the SYNC that
+///   has its event to the latency after that. An event that no ended SYNC has breaks this rule alone
 /// - 64: its frame has a length, and the number of data bytes, of a frame of the stream
 /// - 65: no start while a transfer runs; each end is of the transfer that runs and at its moment; none is missing
 /// - 66: at a start some instance waits, and the stream has one to send, queued less than a bit time after it
@@ -79,32 +84,48 @@ fn check_steps(
 {
     let linked = link_all(alloc, steps)?;
     let mut links = linked.next;
-    let mut unsent = linked.first;
-    let mut waiting = BTreeSet::new(alloc);
-    let mut last = no_events(alloc)?;
     let mut running = None;
+    let mut tables = Tables {
+        last: no_events(alloc)?,
+        unsent: linked.first,
+        waiting: BTreeSet::new(alloc),
+        syncs: Syncs::new(alloc),
+    };
+    let is_synced = is_any_synchronous(streams.streams());
     for i in 0..steps.len() {
-        match broken_by(
-            streams, ticks, until, steps, i, running, &last, &unsent, &waiting,
-        ) {
+        match broken_by(streams, ticks, until, steps, i, running, &tables) {
             Some(number) => return Err(BusFault::Refused {
                 place: i + 1,
                 number,
             }),
             None => {}
         }
-        running = running_after(steps, i, ticks, running, &unsent);
-        note_event(&steps[i], &mut last);
-        send(&steps[i], i, &mut links, &mut unsent);
-        note_waiting(&steps[i], &unsent, i, &mut waiting)?;
+        note_transfer(steps, i, ticks, &tables.unsent, &mut running);
+        note_event(&steps[i], &mut tables.last);
+        note_sync(is_synced, steps, i, &tables.unsent, &mut tables.syncs)?;
+        send(&steps[i], i, &mut links, &mut tables.unsent);
+        note_waiting(&steps[i], &tables.unsent, i, &mut tables.waiting)?;
     }
-    match broken_at_end(until, steps, running, &waiting) {
+    match broken_at_end(until, steps, running, &tables.waiting) {
         Some(number) => Err(BusFault::Refused {
             place: steps.len() + 1,
             number,
         }),
         None => Ok(links),
     }
+}
+
+// What the judge knows after the steps so far, beside the transfer that runs.
+#[derive(Drop)]
+struct Tables {
+    // Each stream's last event.
+    last: Vec<Option<u64>>,
+    // The place of each stream's first instance that is not sent.
+    unsent: Vec<usize>,
+    // The identifiers of which an instance waits.
+    waiting: BTreeSet<u16>,
+    // Which SYNCs have ended. Where no stream is synchronous nothing is noted there.
+    syncs: Syncs,
 }
 
 // For each identifier the place of its first queue step, and for each queue step that of the stream's next;
@@ -166,6 +187,67 @@ fn note_event(step: &Step, last: &mut Vec<Option<u64>>)
     }
 }
 
+// Whether some stream is synchronous.
+fn is_any_synchronous(streams: &[Stream]) -> bool
+    ensures none { result ≡ false → All (λ k. k.every ≡ 0) streams.now }
+    ensures some { result ≡ true → Any (λ k. 1 ≤ k.every) streams.now }
+{
+    for stream in streams {
+        if 0 < stream.every {
+            return true;
+        }
+    }
+    false
+}
+
+// Notes what step number `i`, which breaks no rule, does to SYNC, where some stream is synchronous.
+fn note_sync(
+    is_synced: bool,
+    steps: &[Step],
+    i: usize,
+    unsent: &[usize],
+    syncs: &mut Syncs,
+) -> Result<(), AllocError>
+    requires i { i < length steps.now }
+    requires unsent { IsUnsent steps.now i unsent.now }
+    requires number { is_synced ≡ true → syncs.old.number < 18446744073709551615 }
+    ensures { (tau : ℕ) (streams : List Stream) (until : ℕ) → is_synced ≡ true → broken_by tau streams until steps.now i (step_at steps.now i) ≡ None → AreSyncs tau steps.now i syncs.old
+        → OnOk result (AreSyncs tau steps.now (suc i) syncs.new) }
+{
+    if is_synced {
+        note_sync_step(steps, i, unsent, syncs)
+    } else {
+        Ok(())
+    }
+}
+
+// The same where one is. Traces without synchronous streams are judged faster where this is no part of the judge's loop.
+#[cold]
+#[inline(never)]
+fn note_sync_step(
+    steps: &[Step],
+    i: usize,
+    unsent: &[usize],
+    syncs: &mut Syncs,
+) -> Result<(), AllocError>
+    requires i { i < length steps.now }
+    requires unsent { IsUnsent steps.now i unsent.now }
+    requires number { syncs.old.number < 18446744073709551615 }
+    ensures { (tau : ℕ) (streams : List Stream) (until : ℕ) → broken_by tau streams until steps.now i (step_at steps.now i) ≡ None → AreSyncs tau steps.now i syncs.old
+        → OnOk result (AreSyncs tau steps.now (suc i) syncs.new) }
+{
+    match steps[i] {
+        Step::Queue { .. } => Ok(()),
+        Step::Start { id, .. } => {
+            if id == SYNC {
+                syncs.send(unsent_of(steps, unsent, SYNC));
+            }
+            Ok(())
+        }
+        Step::End { id, at } => { if id == SYNC { syncs.end(at) } else { Ok(()) } }
+    }
+}
+
 // Notes that a start, which is step number `i`, sends its stream's first unsent instance: this one is linked to the
 // start, and the next one it was linked to is now the first.
 fn send(step: &Step, i: usize, links: &mut Vec<usize>, unsent: &mut Vec<usize>)
@@ -199,25 +281,25 @@ fn unsent_of(steps: &[Step], unsent: &[usize], id: u16) -> Option<Step>
     }
 }
 
-// The transfer that runs after step number `i`, by that which ran before it.
-fn running_after(
+// Notes the transfer that runs after step number `i`.
+fn note_transfer(
     steps: &[Step],
     i: usize,
     ticks: u32,
-    running: Option<(u16, u128)>,
     unsent: &[usize],
-) -> Option<(u16, u128)>
+    running: &mut Option<(u16, u128)>,
+)
     requires i { i < length steps.now }
     requires unsent { IsUnsent steps.now i unsent.now }
-    ensures { result ≡ after ticks steps.now i (step_at steps.now i) running }
+    ensures { running.new ≡ after ticks steps.now i (step_at steps.now i) running.old }
 {
     match steps[i] {
-        Step::Queue { .. } => running,
+        Step::Queue { .. } => {}
         Step::Start { at, id } => {
             let bits = bits(unsent_of(steps, unsent, id));
-            Some((id, u128::from(at) + u128::from(bits) * u128::from(ticks)))
+            *running = Some((id, u128::from(at) + u128::from(bits) * u128::from(ticks)));
         }
-        Step::End { .. } => None,
+        Step::End { .. } => *running = None,
     }
 }
 
@@ -318,15 +400,11 @@ fn broken_by(
     steps: &[Step],
     i: usize,
     running: Option<(u16, u128)>,
-    last: &[Option<u64>],
-    unsent: &[usize],
-    waiting: &BTreeSet<u16>,
+    tables: &Tables,
 ) -> Option<u8>
     requires i { i < length steps.now }
     requires running { running ≡ running_spec ticks steps.now i }
-    requires last { IsLast steps.now i last.now }
-    requires unsent { IsUnsent steps.now i unsent.now }
-    requires waiting { IsWaiting streams.now steps.now i waiting.now }
+    requires tables { AreTables ticks streams.now steps.now i tables.now }
     ensures least { result ≡ broken_by ticks streams.now until steps.now i (step_at steps.now i) }
     ensures fits { id_of (step_at steps.now i) < 65536 }
 {
@@ -337,14 +415,14 @@ fn broken_by(
         Some(60)
     } else if stream.is_none() {
         Some(61)
-    } else if !is_period_later(stream, last[usize::from(id)], step) {
+    } else if !is_period_later(stream, tables.last[usize::from(id)], &tables.syncs, step) {
         Some(62)
-    } else if !is_queued_in_time(stream, step) {
+    } else if !is_queued_in_time(stream, &tables.syncs, step) {
         Some(63)
     } else if !is_of_length(stream, step) {
         Some(64)
     } else {
-        broken_in_turn(ticks, steps, i, running, unsent, waiting)
+        broken_in_turn(ticks, steps, i, running, &tables.unsent, &tables.waiting)
     }
 }
 

@@ -1,7 +1,9 @@
 //! Runs of the bus and their traces, and what the response-time test says of them.
 #![tactic(auto)]
 
+mod anchors;
 mod bus;
+mod ends;
 mod entries;
 mod faults;
 mod judging;
@@ -16,9 +18,11 @@ mod rings;
 mod rules;
 mod runs;
 mod steps;
+mod syncs;
 mod transfers;
 mod writing;
 
+pub use anchors::Anchor;
 pub use bus::{Bus, Instance, Started};
 pub use faults::BusFault;
 pub use judging::judge;
@@ -34,5 +38,6 @@ pub use reading::read_trace;
 pub use rings::{Full, Ring, most_of, rings_of};
 pub use runs::{Run, Trace};
 pub use steps::{Content, Step};
+pub use syncs::{ended_syncs_are_of_the_run, numbers_apart, spread_by_sync, syncs_respond};
 pub use transfers::{Transfer, transfers_of};
 pub use writing::write_trace;

@@ -1,11 +1,12 @@
 //! The instances that wait on a bus, in rings.
 
-ghost use Rattle.std.specs.Prelude.{◌≡◌, ◌≢◌, ℕ, ◌+◌, ◌<◌, ◌≤◌, ◌∷◌, ◌++◌, [], ◌↔◌, All, IfSome, IfNone, IfOk, OnOk, OnErr, IsOk, IsSome, Some, None, drop, length, slice_get, slice_set, map};
-ghost use Rattle.cop_bus.specs.Rings.{most_of, rings_of, any_in, RingValue};
+ghost use Rattle.std.specs.Prelude.{◌≡◌, ◌≢◌, ℕ, ◌+◌, ◌<◌, ◌≤◌, ◌∷◌, ◌++◌, [], ◌↔◌, All, IfSome, IfNone, IfOk, OnOk, OnErr, IsOk, IsSome, Some, None, drop, length, slice_get, slice_set, map, ◌||◌};
+ghost use Rattle.cop_rta.specs.Ranges.{first_range, second_range};
+ghost use Rattle.cop_bus.specs.Rings.{is_within, most_of, rings_of, any_in, RingValue};
 
 use crate::bus::Instance;
 use circular_buffer::HeapCircularBuffer;
-use cop_rta::Stream;
+use cop_rta::{IdRange, Stream};
 use std::alloc::{AllocError, Global};
 use std::marker::Model;
 
@@ -80,11 +81,19 @@ impl Ring {
     }
 }
 
-/// How many instances of a stream may wait.
+// Whether an identifier is one that a PDO may have.
+fn is_pdo_id(id: u16) -> bool
+    ensures { result ≡ (is_within first_range id || is_within second_range id) }
+{
+    IdRange::FIRST.contains(id) || IdRange::SECOND.contains(id)
+}
+
+/// How many instances of a stream may wait: of one with a PDO's identifier, of either range, and a deadline as many as periods
+/// begin within it; of any other 64.
 pub fn most_of(stream: &Stream) -> usize
     ensures { result ≡ most_of stream.now }
 {
-    if 0x181 <= stream.id && stream.id <= 0x57F {
+    if is_pdo_id(stream.id) {
         match stream.deadline {
             Some(deadline) => deadline.div_ceil(stream.period) as usize,
             None => 64,

@@ -1,9 +1,12 @@
 //! The rules of a trace, each as a test of one step.
 
-ghost use Rattle.std.specs.Prelude.{◌≡◌, ℕ, ◌<◌, ◌≤◌};
+ghost use Rattle.std.specs.Prelude.{◌≡◌, ℕ, ◌<◌, ◌≤◌, IfSome, List};
+ghost use Rattle.cop_bus.specs.declared.steps.Step.{Step};
+ghost use Rattle.cop_bus.specs.Tables.{AreAnchors};
 ghost use Rattle.cop_bus.specs.Trace.{at_of, rank_of, bits_of};
 ghost use Rattle.cop_bus.specs.Judge.{is_period_later, is_queued_in_time, is_of_length, fits_transfer, not_before, id_of, is_soon_queued, is_unfinished};
 
+use crate::ends::Syncs;
 use crate::steps::Step;
 use cop_frame::{least_bits, worst_bits};
 use cop_rta::Stream;
@@ -57,14 +60,23 @@ pub(crate) fn not_before(x: &Step, y: &Step) -> bool
     at_of(x) < at_of(y) || (at_of(x) == at_of(y) && rank_of(x) <= rank_of(y))
 }
 
-pub(crate) fn is_period_later(stream: Option<Stream>, before: Option<u64>, step: &Step) -> bool
-    ensures { result ≡ is_period_later stream before step.now }
+pub(crate) fn is_period_later(
+    stream: Option<Stream>,
+    before: Option<u64>,
+    syncs: &Syncs,
+    step: &Step,
+) -> bool
+    ensures { (steps : List Step) (i : ℕ) → IfSome stream (λ k. AreAnchors k steps i syncs.now) → result ≡ is_period_later stream before steps i step.now }
 {
     match stream {
         Some(stream) => match before {
             Some(before) => match step {
                 Step::Queue { event, .. } => {
-                    u128::from(before) + u128::from(stream.period) <= u128::from(*event)
+                    if stream.every == 0 {
+                        u128::from(before) + u128::from(stream.period) <= u128::from(*event)
+                    } else {
+                        syncs.are_apart(stream.every, before, *event)
+                    }
                 }
                 Step::Start { .. } => true,
                 Step::End { .. } => true,
@@ -75,13 +87,18 @@ pub(crate) fn is_period_later(stream: Option<Stream>, before: Option<u64>, step:
     }
 }
 
-pub(crate) fn is_queued_in_time(stream: Option<Stream>, step: &Step) -> bool
-    ensures { result ≡ is_queued_in_time stream step.now }
+pub(crate) fn is_queued_in_time(stream: Option<Stream>, syncs: &Syncs, step: &Step) -> bool
+    ensures { (steps : List Step) (i : ℕ) → IfSome stream (λ k. AreAnchors k steps i syncs.now) → result ≡ is_queued_in_time stream steps i step.now }
 {
     match stream {
         Some(stream) => match step {
             Step::Queue { at, event, .. } => {
-                *event <= *at && u128::from(*at) <= u128::from(*event) + u128::from(stream.jitter)
+                if stream.every == 0 {
+                    *event <= *at
+                        && u128::from(*at) <= u128::from(*event) + u128::from(stream.jitter)
+                } else {
+                    syncs.is_in_time(stream.jitter, *event, *at)
+                }
             }
             Step::Start { .. } => true,
             Step::End { .. } => true,

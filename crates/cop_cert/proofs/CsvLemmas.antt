@@ -8,7 +8,13 @@ use Rattle.csv.specs.declared.parser.State.TheVariants as st
 use Rattle.csv.proofs.RoundTrip.{read-write-many}
 use Rattle.cop_table.specs.Records.{records_of}
 use Rattle.cop_frame.specs.declared.rates.Rate.{Rate}
-use Rattle.cop_cert.specs.Format.{Fields, line, lines, header, text_of, rows_of, refusal_rows, member_rows, evidence_rows, fields_of, version}
+use Rattle.cop_cert.specs.Format.{Fields, line, lines, header, text_of, rows_of, refusal_rows, cause_rows, member_rows, long_word, late_word, evidence_rows, fields_of, version, version_of}
+use Rattle.cop_cert.specs.declared.entries.Side.{Side}
+use Rattle.cop_cert.specs.declared.entries.Side.TheVariants as sides
+use Rattle.cop_cert.specs.declared.entries.Version.{Version}
+use Rattle.cop_cert.specs.declared.entries.Version.TheVariants.{First, Second}
+use Rattle.cop_cert.specs.declared.refusals.Cause.{Cause}
+use Rattle.cop_cert.specs.declared.refusals.Cause.TheVariants.{Places, Sync, Sdo}
 use Rattle.cop_cert.specs.declared.refusals.Evidence.{Evidence}
 use Rattle.cop_cert.specs.declared.refusals.Evidence.TheVariants.{Long, Late}
 use Rattle.cop_cert.specs.declared.refusals.Member.{Member}
@@ -56,19 +62,30 @@ wide_mapped : (rate : Rate) (pdo : ℕ) (what : List ℕ) (numbers : List ℕ) �
 wide_mapped rate pdo what [] = tt
 wide_mapped rate pdo what (n ∷ numbers) = (lit< tt, wide_mapped rate pdo what numbers)
 
-wide_evidence : (rate : Rate) (pdo : ℕ) (evidence : Evidence) → AreWide (evidence_rows rate pdo evidence)
-wide_evidence rate pdo (Long busy) = (lit< tt, wide_mapped rate pdo (codes "busy") busy)
-wide_evidence rate pdo (Late q busy queue) = (lit< tt, wide_append _ _ (wide_mapped rate pdo (codes "busy") busy) (wide_mapped rate pdo (codes "queue") queue))
+wide_evidence : (rate : Rate) (number : ℕ) (long late : List ℕ) (evidence : Evidence) → AreWide (evidence_rows rate number long late evidence)
+wide_evidence rate number long late (Long busy) = (lit< tt, wide_mapped rate number (codes "busy") busy)
+wide_evidence rate number long late (Late q busy queue) =
+    (lit< tt, wide_append _ _ (wide_mapped rate number (codes "busy") busy) (wide_mapped rate number (codes "queue") queue))
 
-wide_members : (rate : Rate) (members : List Member) → AreWide (flat_map (member_rows rate) members)
-wide_members rate [] = tt
-wide_members rate (m ∷ members) = wide_append _ _ (wide_evidence rate m.pdo m.evidence) (wide_members rate members)
+wide_members : (side : Side) (rate : Rate) (members : List Member) → AreWide (flat_map (member_rows side rate) members)
+wide_members side rate [] = tt
+wide_members side rate (m ∷ members) = wide_append _ _ (wide_evidence rate (m.pdo + 1) (long_word side) (late_word side) m.evidence) (wide_members side rate members)
+
+wide_cause : (rate : Rate) (cause : Cause) → AreWide (cause_rows rate cause)
+wide_cause rate (Places members) = wide_members sides.Place rate members
+wide_cause rate (Sync busy) = (lit< tt, wide_mapped rate 0 (codes "busy") busy)
+wide_cause rate (Sdo up id evidence) =
+    wide_append _ _ (wide_members sides.Up rate up) (lit< tt, wide_evidence rate 0 (codes "long") (codes "late") evidence)
 
 wide_refusals : (refusals : List Refusal) → AreWide (flat_map refusal_rows refusals)
 wide_refusals [] = tt
-wide_refusals (r ∷ refusals) = wide_append _ _ (wide_members r.rate r.members) (wide_refusals refusals)
+wide_refusals (r ∷ refusals) = wide_append _ _ (wide_cause r.rate r.cause) (wide_refusals refusals)
+
+wide_version : (v : Version) → 1 < length (version v)
+wide_version First = lit< tt
+wide_version Second = lit< tt
 
 -- the text of refusals has their records
 pub text_read : (refusals : List Refusal) → records_of (text_of refusals) ≡ rows_of refusals
 unfolding text_of
-text_read refusals = table_read (version ∷ flat_map refusal_rows refusals) (lit< tt, wide_refusals refusals)
+text_read refusals = table_read (version (version_of refusals) ∷ flat_map refusal_rows refusals) (wide_version (version_of refusals), wide_refusals refusals)

@@ -10,7 +10,7 @@ use Rattle.cop_frame.proofs.RateLemmas.{ticks_least}
 use Rattle.cop_rta.specs.declared.streams.Stream.{Stream}
 use Rattle.cop_rta.specs.CeilLemmas.{div_ceil-mono, div_ceil_above}
 use Rattle.cop_rta.specs.Sums.{sum_where}
-use Rattle.cop_rta.specs.Test.{StreamPlace, of_stream, is_above, cost_of, load_of, blocking, interference, busy_at, queueing_at, cost_at, horizon}
+use Rattle.cop_rta.specs.Test.{StreamPlace, of_stream, is_above, cost_of, jitter_of, load_of, blocking, interference, busy_at, queueing_at, cost_at, horizon}
 use Rattle.std.proofs.lemmas.Option.{slice_get_cases}
 use Rattle.cop_cert.specs.declared.refusals.Evidence.{Evidence}
 use Rattle.cop_cert.specs.declared.refusals.Evidence.TheVariants.{Long, Late}
@@ -48,11 +48,11 @@ times_gap m n c h le = record {
       (cases_lt m n);
 }
 
-load_gap : (rate : Rate) (x y : ℕ) → x ≤ y → (o : Option Stream) → HasGap (option_map_or (load_of rate x) o 0) (option_map_or (load_of rate y) o 0)
-load_gap rate x y h None = gap_same 0
-load_gap rate x y h (Some s) =
-    times_gap (div_ceil (x + s.jitter) s.period) (div_ceil (y + s.jitter) s.period) (cost_of rate s) (cost_220 rate s)
-    (div_ceil-mono (x + s.jitter) (y + s.jitter) s.period (omega (arith, s.period_least)) (omega arith))
+load_gap : (rate : Rate) (ahead x y : ℕ) → x ≤ y → (o : Option Stream) → HasGap (option_map_or (load_of rate ahead x) o 0) (option_map_or (load_of rate ahead y) o 0)
+load_gap rate ahead x y h None = gap_same 0
+load_gap rate ahead x y h (Some s) =
+    times_gap (div_ceil (x + jitter_of ahead s) s.period) (div_ceil (y + jitter_of ahead s) s.period) (cost_of rate s) (cost_220 rate s)
+    (div_ceil-mono (x + jitter_of ahead s) (y + jitter_of ahead s) s.period (omega (arith, s.period_least)) (omega arith))
 
 choice_gap : (b : Bool) (m n : ℕ) → HasGap m n → HasGap (if b then m else 0) (if b then n else 0)
 choice_gap true m n h = h
@@ -65,11 +65,11 @@ sum_gap p f g (suc n) h = gap_add (sum_where p f n) (sum_where p g n) _ _ (sum_g
 
 interference_gap : (p : StreamPlace) (x y : ℕ) → x ≤ y → HasGap (interference p x) (interference p y)
 interference_gap p x y h =
-    sum_gap (is_above p) (of_stream (load_of p.rate x) p.streams) (of_stream (load_of p.rate y) p.streams) (length p.streams) (λ k. load_gap p.rate x y h (slice_get p.streams k))
+    sum_gap (is_above p) (of_stream (load_of p.rate p.ahead x) p.streams) (of_stream (load_of p.rate p.ahead y) p.streams) (length p.streams) (λ k. load_gap p.rate p.ahead x y h (slice_get p.streams k))
 
 pub busy_gap : (p : StreamPlace) (x y : ℕ) → x ≤ y → HasGap (busy_at p x) (busy_at p y)
 unfolding busy_at
-busy_gap p x y h = gap_add _ _ _ _ (gap_same (blocking p)) (gap_add _ _ _ _ (load_gap p.rate x y h (slice_get p.streams p.index)) (interference_gap p x y h))
+busy_gap p x y h = gap_add _ _ _ _ (gap_same (blocking p)) (gap_add _ _ _ _ (load_gap p.rate p.ahead x y h (slice_get p.streams p.index)) (interference_gap p x y h))
 
 pub queueing_gap : (p : StreamPlace) (q x y : ℕ) → x ≤ y → HasGap (queueing_at p q x) (queueing_at p q y)
 unfolding queueing_at
@@ -99,9 +99,9 @@ module _ (f : ℕ → ℕ) (limit : ℕ) (gaps : (x y : ℕ) → x ≤ y → Has
       count_after a b rest top high c.follows.2 c.follows.1 c.follows.3
 
 -- a load that is not 0 is a frame at least
-load_some : (rate : Rate) (x : ℕ) (o : Option Stream) → HasGap 0 (option_map_or (load_of rate x) o 0)
-load_some rate x None = gap_same 0
-load_some rate x (Some s) = rw (zero-mul (cost_of rate s)) at (times_gap 0 (div_ceil (x + s.jitter) s.period) (cost_of rate s) (cost_220 rate s) zero-le)
+load_some : (rate : Rate) (ahead x : ℕ) (o : Option Stream) → HasGap 0 (option_map_or (load_of rate ahead x) o 0)
+load_some rate ahead x None = gap_same 0
+load_some rate ahead x (Some s) = rw (zero-mul (cost_of rate s)) at (times_gap 0 (div_ceil (x + jitter_of ahead s) s.period) (cost_of rate s) (cost_220 rate s) zero-le)
 
 choice_some : (b : Bool) (n : ℕ) → HasGap 0 n → HasGap 0 (if b then n else 0)
 choice_some true n h = h
@@ -116,14 +116,14 @@ queue_first : (p : StreamPlace) (q : ℕ) → blocking p + q * cost_at p < queue
 unfolding queueing_at
 queue_first p q up =
     let x : ℕ = blocking p + q * cost_at p + ticks_of p.rate in
-    omega (arith, (sum_some (is_above p) (of_stream (load_of p.rate x) p.streams) (length p.streams) (λ k. load_some p.rate x (slice_get p.streams k))).gap (omega arith))
+    omega (arith, (sum_some (is_above p) (of_stream (load_of p.rate p.ahead x) p.streams) (length p.streams) (λ k. load_some p.rate p.ahead x (slice_get p.streams k))).gap (omega arith))
 
 busy_first : (p : StreamPlace) (s : Stream) → slice_get p.streams p.index ≡ Some s → 220 ≤ busy_at p 1
 unfolding busy_at
 busy_first p s is =
-    let some : 0 < div_ceil (1 + s.jitter) s.period = div_ceil_above 0 (1 + s.jitter) s.period (omega (arith, s.period_least)) (omega arith) in
-    let own : of_stream (load_of p.rate 1) p.streams p.index ≡ load_of p.rate 1 s = rw is refl in
-    let one : 1 * cost_of p.rate s ≤ div_ceil (1 + s.jitter) s.period * cost_of p.rate s = mul-le-mul_right (cost_of p.rate s) some in
+    let some : 0 < div_ceil (1 + jitter_of p.ahead s) s.period = div_ceil_above 0 (1 + jitter_of p.ahead s) s.period (omega (arith, s.period_least)) (omega arith) in
+    let own : of_stream (load_of p.rate p.ahead 1) p.streams p.index ≡ load_of p.rate p.ahead 1 s = rw is refl in
+    let one : 1 * cost_of p.rate s ≤ div_ceil (1 + jitter_of p.ahead s) s.period * cost_of p.rate s = mul-le-mul_right (cost_of p.rate s) some in
     omega (arith, own, one, cost_220 p.rate s)
 
 pub count_busy : (p : StreamPlace) (numbers : List ℕ) → p.index < length p.streams → IsChain (busy_at p) 1 horizon numbers → length numbers ≤ 181820

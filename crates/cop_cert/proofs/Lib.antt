@@ -10,9 +10,13 @@ pub mod ClimbLemmas
 pub mod RisingLemmas
 pub mod MemberLemmas
 pub mod CheckLemmas
+pub mod FrameLemmas
 pub mod ChainLemmas
 pub mod MakeLemmas
 pub mod GapLemmas
 pub mod MadeLemmas
 pub mod TrialLemmas
 pub mod ReadableLemmas
+pub mod RangeLemmas
+pub mod LongSync
+pub mod CauseLemmas

@@ -4,11 +4,13 @@ use Rattle.std.proofs.Common.{Result, Ok, Err, IfOk, ◌≡◌, ℕ, ◌+◌, �
 use Rattle.std.proofs.lemmas.Bool.{cases_lt}
 use Rattle.std.proofs.lemmas.Option.{slice_get_cases}
 use Rattle.cop_rta.specs.declared.streams.Stream.{Stream}
-use Rattle.cop_rta.specs.Test.{StreamPlace, busy_at, queueing_at, blocking, cost_at, horizon, IsBusyTime, IsQueuedWithin}
+use Rattle.cop_rta.specs.Test.{StreamPlace, jitter_of, busy_at, queueing_at, blocking, cost_at, horizon, IsBusyTime, IsQueuedWithin}
 use Rattle.cop_rta.specs.TestLemmas.{busy_at-mono, queueing_at-mono}
 use Rattle.cop_rta.specs.Verdict.{IsLong, IsFirstLate}
 use Rattle.cop_rta.proofs.LeastLemmas.{same_least}
+use Rattle.cop_rta.specs.Paces.{most_ahead}
 use Rattle.cop_rta.proofs.QueueLemmas.{wait_exists_at}
+use Rattle.cop_rta.proofs.BoundLemmas.{jitter_most}
 use Rattle.cop_cert.specs.Evidence.{Climbs, IsClimb, first_of, last_after, last_of}
 use Rattle.cop_cert.specs.Chains.{Follows, IsRun, IsChain, IsWholeChain, EndsAbove, EndsSolved, IsQueueOf}
 use Rattle.cop_cert.proofs.EvidenceLemmas.{climb_below}
@@ -44,15 +46,15 @@ end_solves f limit last (inl above) h = absurd (omega arith)
 end_solves f limit last (inr e) h = e
 
 -- few instances are queued within the horizon
-few_queued : (p : StreamPlace) (t q : ℕ) → p.index < length p.streams → t ≤ horizon → IsQueuedWithin p t q → q ≤ 2 ^ 20
-few_queued p t q inside within queued = go (slice_get_cases p.streams p.index).1
+few_queued : (p : StreamPlace) (t q : ℕ) → p.index < length p.streams → p.ahead ≤ most_ahead → t ≤ horizon → IsQueuedWithin p t q → q ≤ 2 ^ 21
+few_queued p t q inside small within queued = go (slice_get_cases p.streams p.index).1
   where
     go : ((s : Stream) × (p.index < length p.streams) × (slice_get p.streams p.index ≡ Some s) × (get_or p.streams p.index s ≡ s)) ⊎ ((length p.streams ≤ p.index) × (slice_get p.streams p.index ≡ None))
-        → q ≤ 2 ^ 20
+        → q ≤ 2 ^ 21
     go (inl s) =
-        let low : q * s.0.period < t + s.0.jitter = rw s.2 at queued in
+        let low : q * s.0.period < t + jitter_of p.ahead s.0 = rw s.2 at queued in
         let more : q * 400 ≤ q * s.0.period = mul-le-mul_left q s.0.period_least in
-        omega (arith, more, low, within, s.0.jitter_in_range)
+        omega (arith, more, low, within, jitter_most p.ahead s.0 small)
     go (inr past) = absurd (omega (arith, past.0, inside))
 
 -- where the chain of the busy equation ends at a solution, that is the busy time
@@ -94,8 +96,8 @@ module _ (p : StreamPlace) where
     unfolding queueing_at
     start_rises = omega arith
 
-    pub few_instances : q ≤ 2 ^ 20
-    few_instances = few_queued p late.time q inside late.within late.queued
+    pub few_instances : p.ahead ≤ most_ahead → q ≤ 2 ^ 21
+    few_instances small = few_queued p late.time q inside small late.within late.queued
 
     queue_made : (numbers : List ℕ) → IsWholeChain (queueing_at p q) (blocking p + q * cost_at p) horizon numbers → IsQueueOf p q numbers
     queue_made numbers whole =

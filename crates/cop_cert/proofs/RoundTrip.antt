@@ -1,17 +1,27 @@
 -- What is written is read again.
-use Rattle.std.proofs.Common.{◌≡◌, ℕ, suc, ◌+◌, ◌<◌, ◌≤◌, ◌^◌, true, false, ◌==◌, List, [], ◌∷◌, ◌++◌, length, All, map, Result, Ok, Err, Option, Some, None, codes, refl, ◌∙◌, arith, add-zero, append-nil, append_assoc, length-append, AllPairs, lit<}
-use Rattle.std.specs.List.{flat_map}
-use Rattle.std.proofs.lemmas.Bool.{lt-ltb, le-ltb, lt-leb, ne_eqb, eq-eqb}
+use Rattle.std.proofs.Common.{◌≡◌, ℕ, zero, suc, ◌+◌, ◌<◌, ◌≤◌, ◌^◌, true, false, ◌==◌, List, [], ◌∷◌, ◌++◌, ◌-◌, ◌&&◌, ◌||◌, ◌⊎◌, inl, inr, Bool, nat_le, if◌then◌else◌, get_or, length, All, map, Result, Ok, Err, Option, Some, None, codes, refl, ◌∙◌, arith, add-zero, append-nil, append_assoc, length-append, AllPairs, lit<}
+use Rattle.std.specs.List.{flat_map, list_all}
+use Rattle.std.proofs.lemmas.Bool.{and_parts, le-leb, lt-ltb, le-ltb, lt-leb, ne_eqb, eq-eqb}
 use Rattle.std.proofs.lemmas.List.Elements.{All-head, All-tail}
 use Rattle.cop_table.specs.Reading.{◌>>=◌}
 use Rattle.cop_table.specs.Rows.{rows_from}
 use Rattle.cop_frame.specs.declared.rates.Rate.{Rate}
 use Rattle.cop_frame.specs.Rate.{kbits_of}
-use Rattle.cop_cert.specs.Format.{Fields, fields_of, evidence_rows, member_rows, refusal_rows, text_of}
-use Rattle.cop_cert.specs.Entries.{word_of}
-use Rattle.cop_cert.specs.Reading.{taken, next, longer, with_number, begun, begin, refusal_of, is_complete, finished, ended, refusals_of}
-use Rattle.cop_cert.specs.Writable.{IsWritableEvidence, IsWritableRefusal, AreWritable}
+use Rattle.cop_cert.specs.Assignments.{IsSdo}
+use Rattle.cop_cert.specs.Format.{Fields, fields_of, numbers_rows, evidence_rows, long_word, late_word, member_rows, frame_rows, cause_rows, refusal_rows, is_by_places, version, version_of, text_of}
+use Rattle.cop_cert.specs.Entries.{least_number, word_of, is_sdo, is_number_of}
+use Rattle.cop_cert.specs.Reading.{taken, next, longer, with_number, with_more, is_of_number, is_same_side, begun, begin, cause_of, refused_at, closed, is_complete, finished, ended, after_version, refusals_of}
+use Rattle.cop_cert.specs.Writable.{IsWritableList, IsWritableEvidence, AreWritableMembers, IsWritableCause, IsWritableRefusal, AreWritable}
 use Rattle.cop_cert.specs.declared.drafts.Draft.{Draft}
+use Rattle.cop_cert.specs.declared.drafts.Part.{Part}
+use Rattle.cop_cert.specs.declared.drafts.Part.TheVariants as parts
+use Rattle.cop_cert.specs.declared.entries.Side.{Side}
+use Rattle.cop_cert.specs.declared.entries.Side.TheVariants as sides
+use Rattle.cop_cert.specs.declared.entries.Version.{Version}
+use Rattle.cop_cert.specs.declared.entries.Version.TheVariants.{First, Second}
+use Rattle.cop_cert.specs.declared.faults.Rule.{Rule}
+use Rattle.cop_cert.specs.declared.refusals.Cause.{Cause}
+use Rattle.cop_cert.specs.declared.refusals.Cause.TheVariants.{Places, Sync, Sdo}
 use Rattle.cop_cert.specs.declared.entries.Word.{Word}
 use Rattle.cop_cert.specs.declared.entries.Word.TheVariants as words
 use Rattle.cop_cert.specs.declared.entries.Listed.{Listed}
@@ -21,73 +31,50 @@ use Rattle.cop_cert.specs.declared.refusals.Evidence.{Evidence}
 use Rattle.cop_cert.specs.declared.refusals.Evidence.TheVariants.{Long, Late}
 use Rattle.cop_cert.specs.declared.refusals.Member.{Member}
 use Rattle.cop_cert.specs.declared.refusals.Refusal.{Refusal}
-use Rattle.cop_cert.proofs.RowLemmas.{entry_is}
+use Rattle.cop_cert.proofs.RowLemmas.{entry_is, least_small}
 use Rattle.cop_cert.proofs.CsvLemmas.{text_read}
 
--- records lead from one draft to another, wherever they stand
-record Leads (a : Option Draft) (rows : List Fields) (b : Option Draft) : Type 0 where
-  leads : (place : ℕ) → rows_from taken place a rows ≡ Ok b
+module _ (v : Version) where
+  -- records lead from one draft to another, wherever they stand
+  pub record Leads (a : Option Draft) (rows : List Fields) (b : Option Draft) : Type 0 where
+    pub leads : (place : ℕ) → rows_from (taken v) place a rows ≡ Ok b
 
-leads_none : (a : Option Draft) → Leads a [] a
-unfolding rows_from
-leads_none a = record { leads = λ place. refl }
+  leads_none : (a : Option Draft) → Leads a [] a
+  unfolding rows_from
+  leads_none a = record { leads = λ place. refl }
 
-leads_cons : (a b c : Option Draft) (row : Fields) (rows : List Fields) → ((place : ℕ) → taken place a row ≡ Ok b) → Leads b rows c → Leads a (row ∷ rows) c
-unfolding rows_from
-leads_cons a b c row rows h k = record { leads = λ place. rw (h place) (k.leads (place + 1)) }
+  leads_cons : (a b c : Option Draft) (row : Fields) (rows : List Fields) → ((place : ℕ) → taken v place a row ≡ Ok b) → Leads b rows c → Leads a (row ∷ rows) c
+  unfolding rows_from
+  leads_cons a b c row rows h k = record { leads = λ place. rw (h place) (k.leads (place + 1)) }
 
-appended : (r : Result (Option Draft) Breach) (f g : Option Draft → Result (Option Draft) Breach) (h : Option Draft → Result (Option Draft) Breach)
-    → ((d : Option Draft) → f d ≡ (g d >>= h)) → (r >>= f) ≡ ((r >>= g) >>= h)
-appended (Ok d) f g h e = e d
-appended (Err b) f g h e = refl
+  appended : (r : Result (Option Draft) Breach) (f g : Option Draft → Result (Option Draft) Breach) (h : Option Draft → Result (Option Draft) Breach)
+      → ((d : Option Draft) → f d ≡ (g d >>= h)) → (r >>= f) ≡ ((r >>= g) >>= h)
+  appended (Ok d) f g h e = e d
+  appended (Err b) f g h e = refl
 
-rows_from-append : (place : ℕ) (a : Option Draft) (rows more : List Fields) → rows_from taken place a (rows ++ more) ≡ (rows_from taken place a rows >>= λ b. rows_from taken (place + length rows) b more)
-unfolding rows_from
-rows_from-append place a [] more = rw (add-zero place) refl
-rows_from-append place a (row ∷ rows) more =
-    let e : place + length (row ∷ rows) ≡ place + 1 + length rows = omega arith in
-    rw e (appended (taken place a row) (λ d. rows_from taken (place + 1) d (rows ++ more)) (λ d. rows_from taken (place + 1) d rows) (λ b. rows_from taken (place + 1 + length rows) b more)
-    (λ d. rows_from-append (place + 1) d rows more))
+  rows_from-append : (place : ℕ) (a : Option Draft) (rows more : List Fields) → rows_from (taken v) place a (rows ++ more) ≡ (rows_from (taken v) place a rows >>= λ b. rows_from (taken v) (place + length rows) b more)
+  unfolding rows_from
+  rows_from-append place a [] more = rw (add-zero place) refl
+  rows_from-append place a (row ∷ rows) more =
+      let e : place + length (row ∷ rows) ≡ place + 1 + length rows = omega arith in
+      rw e (appended (taken v place a row) (λ d. rows_from (taken v) (place + 1) d (rows ++ more)) (λ d. rows_from (taken v) (place + 1) d rows) (λ b. rows_from (taken v) (place + 1 + length rows) b more)
+      (λ d. rows_from-append (place + 1) d rows more))
 
-leads_append : (a b c : Option Draft) (rows more : List Fields) → Leads a rows b → Leads b more c → Leads a (rows ++ more) c
-leads_append a b c rows more h k = record { leads = λ place. rows_from-append place a rows more ∙ rw (h.leads place) (k.leads (place + length rows)) }
+  leads_append : (a b c : Option Draft) (rows more : List Fields) → Leads a rows b → Leads b more c → Leads a (rows ++ more) c
+  leads_append a b c rows more h k = record { leads = λ place. rows_from-append place a rows more ∙ rw (h.leads place) (k.leads (place + length rows)) }
 
 -- ---- the numbers of a list
 
-list_word : Listed → List ℕ
+pub list_word : Listed → List ℕ
 list_word lists.Busy = codes "busy"
 list_word lists.Queue = codes "queue"
 
-list_known : (list : Listed) → word_of (list_word list) ≡ Some (words.Number list)
+list_known : (v : Version) (list : Listed) → word_of v (list_word list) ≡ Some (words.Number list)
 unfolding list_word
-list_known lists.Busy = refl
-list_known lists.Queue = refl
-
-module _ (done : List Refusal) (rate : Rate) (members : List Member) (pdo : ℕ) (small : pdo < 512) (list : Listed) (f : List ℕ → Evidence) where
-  abbrev pub at : Evidence → Option Draft
-  at evidence = Some (record { done = done; rate = rate; members = members; member = record { pdo = pdo; evidence = evidence } })
-
-  one_number : (numbers : List ℕ) (value : ℕ) → with_number list (f numbers) value ≡ (longer numbers value >>= λ more. Ok (f more)) → length numbers < 200000 → value < 2 ^ 64
-      → (place : ℕ) → taken place (at (f numbers)) (fields_of rate pdo (list_word list) value) ≡ Ok (at (f (numbers ++ value ∷ [])))
-  unfolding next
-  one_number numbers value puts room fits place =
-      rw (entry_is rate pdo value (list_word list) (words.Number list) small fits (list_known list) refl, eq-eqb (kbits_of rate) (kbits_of rate) refl, eq-eqb pdo pdo refl, puts, lt-ltb (length numbers) 200000 room) refl
-
-  all_numbers : (numbers more : List ℕ) → ((xs : List ℕ) (x : ℕ) → with_number list (f xs) x ≡ (longer xs x >>= λ ys. Ok (f ys))) → length numbers + length more ≤ 200000 → All (λ n. n < 2 ^ 64) more
-      → Leads (at (f numbers)) (map (fields_of rate pdo (list_word list)) more) (at (f (numbers ++ more)))
-  all_numbers numbers [] puts room fit = rw (append-nil numbers) (leads_none (at (f numbers)))
-  all_numbers numbers (n ∷ more) puts room fit =
-      let rest = all_numbers (numbers ++ n ∷ []) more puts (simp length-append (omega arith)) (All-tail (λ n. n < 2 ^ 64) n more fit) in
-      leads_cons (at (f numbers)) (at (f (numbers ++ n ∷ []))) (at (f (numbers ++ n ∷ more))) _ _
-      (one_number numbers n (puts numbers n) (omega arith) (All-head (λ n. n < 2 ^ 64) n more fit))
-      (rw append_assoc at rest)
-
--- ---- a member
-
--- a record that begins a member of this rate and PDO is taken, after these refusals and members
-abbrev Begins : Option Draft → List Refusal → Rate → List Member → ℕ → Type 0
-Begins a done rate members pdo =
-    (word : Word) (value : ℕ) (evidence : Evidence) → begin a (record { rate = rate; pdo = pdo; word = word; value = value }) evidence ≡ Ok (begun done members (record { rate = rate; pdo = pdo; word = word; value = value }) evidence)
+list_known First lists.Busy = refl
+list_known First lists.Queue = refl
+list_known Second lists.Busy = refl
+list_known Second lists.Queue = refl
 
 not_empty : (n : ℕ) → 0 < n → (n == 0) ≡ false
 not_empty n h = ne_eqb n 0 (λ e. omega arith)
@@ -96,130 +83,329 @@ complete_is : (evidence : Evidence) → IsWritableEvidence evidence → is_compl
 complete_is (Long busy) h = rw (not_empty (length busy) h.some) refl
 complete_is (Late q busy queue) h = rw (not_empty (length busy) h.1.some, not_empty (length queue) h.2.some) refl
 
-module _ (a : Option Draft) (done : List Refusal) (rate : Rate) (members : List Member) (pdo : ℕ) (small : pdo < 512) (begins : Begins a done rate members pdo) where
-  abbrev draft_of : Evidence → Option Draft
-  draft_of evidence = Some (record { done = done; rate = rate; members = members; member = record { pdo = pdo; evidence = evidence } })
+module _ (v : Version) (done : List Refusal) (rate : Rate) (members : List Member) (number : ℕ) (low : least_number v ≤ number) (high : number ≤ 512) where
+  abbrev pub at : Part → Option Draft
+  at part = Some (begun done rate members part)
 
-  long_begins : (place : ℕ) → taken place a (fields_of rate pdo (codes "long") 0) ≡ Ok (draft_of (Long []))
+  -- the numbers of a list of a part
+  module _ (list : Listed) (f : List ℕ → Part) (its : (xs : List ℕ) → is_of_number (f xs) number ≡ true)
+      (puts : (xs : List ℕ) (x : ℕ) → with_more list (f xs) x ≡ (longer xs x >>= λ ys. Ok (f ys))) where
+    one_number : (numbers : List ℕ) (value : ℕ) → length numbers < 200000 → value < 2 ^ 64
+        → (place : ℕ) → taken v place (at (f numbers)) (fields_of rate number (list_word list) value) ≡ Ok (at (f (numbers ++ value ∷ [])))
+    unfolding next
+    one_number numbers value room fits place =
+        rw (
+          entry_is v rate number value (list_word list) (words.Number list) low high fits (list_known v list) refl refl,
+          eq-eqb (kbits_of rate) (kbits_of rate) refl,
+          its numbers,
+          puts numbers value,
+          lt-ltb (length numbers) 200000 room,
+        ) refl
+
+    pub all_numbers : (numbers more : List ℕ) → length numbers + length more ≤ 200000 → All (λ n. n < 2 ^ 64) more
+        → Leads v (at (f numbers)) (numbers_rows rate number (list_word list) more) (at (f (numbers ++ more)))
+    all_numbers numbers [] room fit = rw (append-nil numbers) (leads_none v (at (f numbers)))
+    all_numbers numbers (n ∷ more) room fit =
+        let rest = all_numbers (numbers ++ n ∷ []) more (simp length-append (omega arith)) (All-tail (λ n. n < 2 ^ 64) n more fit) in
+        leads_cons v (at (f numbers)) (at (f (numbers ++ n ∷ []))) (at (f (numbers ++ n ∷ more))) _ _
+        (one_number numbers n (omega arith) (All-head (λ n. n < 2 ^ 64) n more fit))
+        (rw append_assoc at rest)
+
+  -- evidence of a part, whose first record begins it
+  module _ (a : Option Draft) (long late : List ℕ) (g : Evidence → Part) (its : (e : Evidence) → is_of_number (g e) number ≡ true)
+      (puts : (list : Listed) (e : Evidence) (x : ℕ) → with_more list (g e) x ≡ (with_number list e x >>= λ e. Ok (g e)))
+      (long_begins : (place : ℕ) → taken v place a (fields_of rate number long 0) ≡ Ok (at (g (Long []))))
+      (late_begins : (q : ℕ) → q < 2 ^ 64 → (place : ℕ) → taken v place a (fields_of rate number late q) ≡ Ok (at (g (Late q [] [])))) where
+    through : (list : Listed) (f : List ℕ → Evidence) (xs : List ℕ) (x : ℕ) → with_number list (f xs) x ≡ (longer xs x >>= λ ys. Ok (f ys))
+        → with_more list (g (f xs)) x ≡ (longer xs x >>= λ ys. Ok (g (f ys)))
+    through list f xs x e = puts list (f xs) x ∙ rw e (go (longer xs x))
+      where
+        go : (r : Result (List ℕ) Rule) → ((r >>= λ ys. Ok (f ys)) >>= λ e. Ok (g e)) ≡ (r >>= λ ys. Ok (g (f ys)))
+        go (Ok ys) = refl
+        go (Err rule) = refl
+
+    pub evidence_leads : (evidence : Evidence) → IsWritableEvidence evidence → Leads v a (evidence_rows rate number long late evidence) (at (g evidence))
+    unfolding list_word
+    evidence_leads (Long busy) h =
+        leads_cons v a (at (g (Long []))) (at (g (Long busy))) _ _ long_begins
+        (all_numbers lists.Busy (λ xs. g (Long xs)) (λ xs. its (Long xs)) (λ xs x. through lists.Busy Long xs x refl) [] busy (omega (arith, h.count)) h.fit)
+    evidence_leads (Late q busy queue) h =
+        leads_cons v a (at (g (Late q [] []))) (at (g (Late q busy queue))) _ _ (late_begins q h.0)
+        (leads_append v (at (g (Late q [] []))) (at (g (Late q busy []))) (at (g (Late q busy queue))) _ _
+        (all_numbers lists.Busy (λ xs. g (Late q xs [])) (λ xs. its (Late q xs [])) (λ xs x. through lists.Busy (λ ys. Late q ys []) xs x refl) [] busy (omega (arith, h.1.count)) h.1.fit)
+        (all_numbers lists.Queue (λ xs. g (Late q busy xs)) (λ xs. its (Late q busy xs))
+        (λ xs x. through lists.Queue (λ ys. Late q busy ys) xs x (rw (not_empty (length busy) h.1.some) refl)) [] queue (omega (arith, h.2.count)) h.2.fit))
+
+-- ---- members
+
+-- the words of the members of a side are known in a version
+pub record KnowsSide (v : Version) (side : Side) : Type 0 where
+  pub long : word_of v (long_word side) ≡ Some (words.Long side)
+  pub late : word_of v (late_word side) ≡ Some (words.Late side)
+
+knows_place : (v : Version) → KnowsSide v sides.Place
+knows_place First = record { long = refl; late = refl }
+knows_place Second = record { long = refl; late = refl }
+
+knows_up : KnowsSide Second sides.Up
+knows_up = record { long = refl; late = refl }
+
+placed_long : (side : Side) (pdo : ℕ) → is_number_of (words.Long side) (pdo + 1) ≡ true
+placed_long sides.Place pdo = refl
+placed_long sides.Up pdo = le-leb 1 (pdo + 1) (omega arith)
+
+placed_late : (side : Side) (pdo : ℕ) → is_number_of (words.Late side) (pdo + 1) ≡ true
+placed_late sides.Place pdo = refl
+placed_late sides.Up pdo = le-leb 1 (pdo + 1) (omega arith)
+
+abbrev member_part : Side → ℕ → Evidence → Part
+member_part side pdo evidence = parts.Member side (record { pdo = pdo; evidence = evidence })
+
+module _ (v : Version) (side : Side) (known : KnowsSide v side) (a : Option Draft) (done : List Refusal) (rate : Rate) (before : List Member) (pdo : ℕ) (small : pdo < 512)
+    (begins : (evidence : Evidence) → begin a rate (member_part side pdo evidence) ≡ Ok (begun done rate before (member_part side pdo evidence))) where
+  member_leads : (evidence : Evidence) → IsWritableEvidence evidence
+      → Leads v a (evidence_rows rate (pdo + 1) (long_word side) (late_word side) evidence) (Some (begun done rate before (member_part side pdo evidence)))
   unfolding next
-  long_begins place = rw (entry_is rate pdo 0 (codes "long") words.Long small (omega arith) refl refl, begins words.Long 0 (Long [])) refl
+  member_leads =
+      let low : least_number v ≤ pdo + 1 = omega (arith, least_small v) in
+      let some : (pdo + 1 == 0) ≡ false = not_empty (pdo + 1) (omega arith) in
+      let same : pdo + 1 - 1 ≡ pdo = omega arith in
+      evidence_leads v done rate before (pdo + 1) low (omega arith) a (long_word side) (late_word side) (member_part side pdo)
+      (λ e. rw (lt-ltb 0 (pdo + 1) (omega arith), same, eq-eqb pdo pdo refl) refl)
+      (λ list e x. refl)
+      (λ place. rw (entry_is v rate (pdo + 1) 0 (long_word side) (words.Long side) low (omega arith) (omega arith) known.long refl (placed_long side pdo), some, same, begins (Long [])) refl)
+      (λ q fits place. rw (entry_is v rate (pdo + 1) q (late_word side) (words.Late side) low (omega arith) fits known.late refl (placed_late side pdo), some, same, begins (Late q [] [])) refl)
 
-  late_begins : (q : ℕ) → q < 2 ^ 64 → (place : ℕ) → taken place a (fields_of rate pdo (codes "late") q) ≡ Ok (draft_of (Late q [] []))
-  unfolding next
-  late_begins q fits place = rw (entry_is rate pdo q (codes "late") words.Late small fits refl refl, begins words.Late q (Late q [] [])) refl
+-- records lead to a draft of all these members, of which the last is at hand
+record MembersEnd (v : Version) (side : Side) (a : Option Draft) (rows : List Fields) (done : List Refusal) (rate : Rate) (all : List Member) : Type 0 where
+  before : List Member
+  last : Member
+  leads : Leads v a rows (Some (begun done rate before (parts.Member side last)))
+  complete : is_complete last.evidence ≡ true
+  all_are : before ++ last ∷ [] ≡ all
 
-  evidence_leads : (evidence : Evidence) → IsWritableEvidence evidence → Leads a (evidence_rows rate pdo evidence) (draft_of evidence)
-  unfolding list_word
-  evidence_leads (Long busy) h =
-      leads_cons a (draft_of (Long [])) (draft_of (Long busy)) _ _ long_begins
-      (all_numbers done rate members pdo small lists.Busy Long [] busy (λ xs x. refl) (omega (arith, h.count)) h.fit)
-  evidence_leads (Late q busy queue) h =
-      leads_cons a (draft_of (Late q [] [])) (draft_of (Late q busy queue)) _ _ (late_begins q h.0)
-      (leads_append (draft_of (Late q [] [])) (draft_of (Late q busy [])) (draft_of (Late q busy queue)) _ _
-      (all_numbers done rate members pdo small lists.Busy (λ xs. Late q xs []) [] busy (λ xs x. refl) (omega (arith, h.1.count)) h.1.fit)
-      (all_numbers done rate members pdo small lists.Queue (λ xs. Late q busy xs) [] queue (λ xs x. rw (not_empty (length busy) h.1.some) refl) (omega (arith, h.2.count)) h.2.fit))
+same_side : (side : Side) → is_same_side side side ≡ true
+same_side sides.Place = refl
+same_side sides.Up = refl
 
--- ---- the members of a refusal
-
--- the records lead to the draft of this refusal after those, and it is complete
-record Ends (a : Option Draft) (rows : List Fields) (done : List Refusal) (refusal : Refusal) : Type 0 where
-  draft : Draft
-  leads : Leads a rows (Some draft)
-  complete : is_complete draft.member.evidence ≡ true
-  done_is : draft.done ≡ done
-  refusal_is : refusal_of draft ≡ refusal
-
-same_rate_begins : (d : Draft) (pdo : ℕ) → is_complete d.member.evidence ≡ true → d.member.pdo < pdo → Begins (Some d) d.done d.rate (d.members ++ d.member ∷ []) pdo
-same_rate_begins d pdo complete rises word value evidence =
-    rw (le-ltb (kbits_of d.rate) (kbits_of d.rate) (omega arith), eq-eqb (kbits_of d.rate) (kbits_of d.rate) refl, lt-leb pdo d.member.pdo rises, complete) refl
+next_member_begins : (side : Side) (done : List Refusal) (rate : Rate) (before : List Member) (m : Member) (pdo : ℕ) → is_complete m.evidence ≡ true → m.pdo < pdo → (evidence : Evidence)
+    → begin (Some (begun done rate before (parts.Member side m))) rate (member_part side pdo evidence) ≡ Ok (begun done rate (before ++ m ∷ []) (member_part side pdo evidence))
+next_member_begins side done rate before m pdo complete rises evidence =
+    rw (le-ltb (kbits_of rate) (kbits_of rate) (omega arith), eq-eqb (kbits_of rate) (kbits_of rate) refl, same_side side, lt-leb pdo m.pdo rises, complete) refl
 
 pairs_on : {A : Type 0} (R : A → A → Type 0) (x : A) (rest : List A) → AllPairs R (x ∷ rest) → AllPairs R rest
 pairs_on R x rest h = λ i j d lt below. h (suc i) (suc j) d (omega arith) (omega arith)
 
-members_end : (d : Draft) (rest : List Member) → is_complete d.member.evidence ≡ true → AllPairs (λ m n. m.pdo < n.pdo) (d.member ∷ rest) → All (λ m. m.pdo < 512) rest
-    → All (λ m. IsWritableEvidence m.evidence) rest → Ends (Some d) (flat_map (member_rows d.rate) rest) d.done (record { rate = d.rate; members = d.members ++ d.member ∷ rest })
-members_end d [] complete rise inside fine = record { draft = d; leads = leads_none (Some d); complete = complete; done_is = refl; refusal_is = refl }
-members_end d (m ∷ rest) complete rise inside fine =
-    let rises : d.member.pdo < m.pdo = rise 0 1 m (lit< tt) (omega arith) in
-    let whole = All-head (λ m. IsWritableEvidence m.evidence) m rest fine in
-    let first = evidence_leads (Some d) d.done d.rate (d.members ++ d.member ∷ []) m.pdo (All-head (λ m. m.pdo < 512) m rest inside) (same_rate_begins d m.pdo complete rises) m.evidence whole in
-    let then = members_end (record { done = d.done; rate = d.rate; members = d.members ++ d.member ∷ []; member = m }) rest (complete_is m.evidence whole) (pairs_on (λ m n. m.pdo < n.pdo) d.member (m ∷ rest) rise)
-    (All-tail (λ m. m.pdo < 512) m rest inside) (All-tail (λ m. IsWritableEvidence m.evidence) m rest fine) in
-    record {
-      draft = then.draft;
-      leads = leads_append (Some d) _ (Some then.draft) (evidence_rows d.rate m.pdo m.evidence) (flat_map (member_rows d.rate) rest) first then.leads;
-      complete = then.complete;
-      done_is = then.done_is;
-      refusal_is = then.refusal_is ∙ rw (append_assoc d.members (d.member ∷ []) (m ∷ rest)) refl;
-    }
+module _ (v : Version) (side : Side) (known : KnowsSide v side) (done : List Refusal) (rate : Rate) where
+  members_end : (before : List Member) (m : Member) (rest : List Member) → is_complete m.evidence ≡ true → AllPairs (λ m n. m.pdo < n.pdo) (m ∷ rest) → All (λ m. m.pdo < 512) rest
+      → All (λ m. IsWritableEvidence m.evidence) rest
+      → MembersEnd v side (Some (begun done rate before (parts.Member side m))) (flat_map (member_rows side rate) rest) done rate (before ++ m ∷ rest)
+  members_end before m [] complete rise inside fine = record { before = before; last = m; leads = leads_none v _; complete = complete; all_are = refl }
+  members_end before m (n ∷ rest) complete rise inside fine =
+      let here = Some (begun done rate before (parts.Member side m)) in
+      let rises : m.pdo < n.pdo = rise 0 1 n (lit< tt) (omega arith) in
+      let whole = All-head (λ m. IsWritableEvidence m.evidence) n rest fine in
+      let first = member_leads v side known here done rate (before ++ m ∷ []) n.pdo (All-head (λ m. m.pdo < 512) n rest inside) (next_member_begins side done rate before m n.pdo complete rises) n.evidence whole in
+      let later = members_end (before ++ m ∷ []) n rest (complete_is n.evidence whole) (pairs_on (λ m n. m.pdo < n.pdo) m (n ∷ rest) rise)
+      (All-tail (λ m. m.pdo < 512) n rest inside) (All-tail (λ m. IsWritableEvidence m.evidence) n rest fine) in
+      record {
+        before = later.before;
+        last = later.last;
+        leads = leads_append v here _ _ (evidence_rows rate (n.pdo + 1) (long_word side) (late_word side) n.evidence) (flat_map (member_rows side rate) rest) first later.leads;
+        complete = later.complete;
+        all_are = later.all_are ∙ append_assoc before (m ∷ []) (n ∷ rest);
+      }
+
+  -- from where any part begins a refusal of the rate
+  first_members : (a : Option Draft) (m : Member) (rest : List Member) → ((part : Part) → begin a rate part ≡ Ok (begun done rate [] part)) → AreWritableMembers (m ∷ rest)
+      → MembersEnd v side a (flat_map (member_rows side rate) (m ∷ rest)) done rate (m ∷ rest)
+  first_members a m rest begins h =
+      let whole = All-head (λ m. IsWritableEvidence m.evidence) m rest h.evidence in
+      let first = member_leads v side known a done rate [] m.pdo (All-head (λ m. m.pdo < 512) m rest h.inside) (λ e. begins (member_part side m.pdo e)) m.evidence whole in
+      let later = members_end [] m rest (complete_is m.evidence whole) h.rise (All-tail (λ m. m.pdo < 512) m rest h.inside) (All-tail (λ m. IsWritableEvidence m.evidence) m rest h.evidence) in
+      record {
+        before = later.before;
+        last = later.last;
+        leads = leads_append v a _ _ (evidence_rows rate (m.pdo + 1) (long_word side) (late_word side) m.evidence) (flat_map (member_rows side rate) rest) first later.leads;
+        complete = later.complete;
+        all_are = later.all_are;
+      }
+
+-- ---- a refusal
+
+-- records lead to the draft of this refusal after those, and none of it is missing
+record Ends (v : Version) (a : Option Draft) (rows : List Fields) (done : List Refusal) (rate : Rate) (cause : Cause) : Type 0 where
+  members : List Member
+  part : Part
+  leads : Leads v a rows (Some (begun done rate members part))
+  whole : cause_of members part ≡ Some cause
+
+sdo_is : (id : ℕ) → IsSdo id → is_sdo id ≡ true
+sdo_is id (inl h) = rw (le-leb 0x581 id h.0, le-leb id 0x5FF h.1) refl
+sdo_is id (inr h) = let low : nat_le id 0x5FF ≡ false = lt-leb id 0x5FF (omega (arith, h.0)) in
+    rw (low, le-leb 0x601 id h.0, le-leb id 0x67F h.1) (go (nat_le 0x581 id))
+  where
+    go : (b : Bool) → ((b && false) || true) ≡ true
+    go true = refl
+    go false = refl
+
+sdo_small : (id : ℕ) → IsSdo id → id < 65536
+sdo_small id (inl h) = omega (arith, h.1)
+sdo_small id (inr h) = omega (arith, h.1)
+
+-- the versions that have words for a cause
+Knows : Version → Cause → Type 0
+Knows v (Places members) = Unit {0}
+Knows v (Sync busy) = v ≡ Second
+Knows v (Sdo up id evidence) = v ≡ Second
+
+module _ (a : Option Draft) (done : List Refusal) (rate : Rate) (begins : (part : Part) → begin a rate part ≡ Ok (begun done rate [] part)) where
+  sync_begins : (place : ℕ) → taken Second place a (fields_of rate 0 (codes "sync") 0) ≡ Ok (Some (begun done rate [] (parts.Sync [])))
+  unfolding next
+  sync_begins place = rw (entry_is Second rate 0 0 (codes "sync") words.Sync (omega arith) (omega arith) (omega arith) refl refl refl, begins (parts.Sync [])) refl
+
+  sync_ends : (busy : List ℕ) → IsWritableList busy → Ends Second a (cause_rows rate (Sync busy)) done rate (Sync busy)
+  unfolding list_word
+  sync_ends busy h = record {
+    members = [];
+    part = parts.Sync busy;
+    leads = leads_cons Second a (Some (begun done rate [] (parts.Sync []))) _ _ _ sync_begins
+        (all_numbers Second done rate [] 0 (omega arith) (omega arith) lists.Busy (λ xs. parts.Sync xs) (λ xs. refl) (λ xs x. refl) [] busy (omega (arith, h.count)) h.fit);
+    whole = rw (not_empty (length busy) h.some) refl;
+  }
+
+  -- the frame's record, from where a frame may be named
+  module _ (b : Option Draft) (up : List Member) (id : ℕ) (sdo : IsSdo id) (names : begin b rate (parts.Named id) ≡ Ok (begun done rate up (parts.Named id))) where
+    frame_named : (place : ℕ) → taken Second place b (fields_of rate 0 (codes "sdo") id) ≡ Ok (Some (begun done rate up (parts.Named id)))
+    unfolding next
+    frame_named place =
+        rw (entry_is Second rate 0 id (codes "sdo") words.Sdo (omega arith) (omega arith) (let small = sdo_small id sdo in omega (arith, small)) refl (sdo_is id sdo) refl, lt-ltb id 65536 (sdo_small id sdo), names) refl
+
+    frame_leads : (evidence : Evidence) → IsWritableEvidence evidence → Leads Second b (frame_rows rate id evidence) (Some (begun done rate up (parts.Frame id evidence)))
+    unfolding next
+    frame_leads evidence h =
+        let named = Some (begun done rate up (parts.Named id)) in
+        let same = eq-eqb (kbits_of rate) (kbits_of rate) refl in
+        leads_cons Second b named (Some (begun done rate up (parts.Frame id evidence))) _ _ frame_named
+        (evidence_leads Second done rate up 0 (omega arith) (omega arith) named (codes "long") (codes "late") (λ e. parts.Frame id e) (λ e. refl) (λ list e x. refl)
+        (λ place. rw (entry_is Second rate 0 0 (codes "long") (words.Long sides.Place) (omega arith) (omega arith) (omega arith) refl refl refl, same) refl)
+        (λ q fits place. rw (entry_is Second rate 0 q (codes "late") (words.Late sides.Place) (omega arith) (omega arith) fits refl refl refl, same) refl)
+        evidence h)
+
+  named_after : (before : List Member) (last : Member) (id : ℕ) → is_complete last.evidence ≡ true
+      → begin (Some (begun done rate before (parts.Member sides.Up last))) rate (parts.Named id) ≡ Ok (begun done rate (before ++ last ∷ []) (parts.Named id))
+  named_after before last id complete = rw (le-ltb (kbits_of rate) (kbits_of rate) (omega arith), eq-eqb (kbits_of rate) (kbits_of rate) refl, complete) refl
+
+  sdo_ends : (up : List Member) (id : ℕ) (evidence : Evidence) → AreWritableMembers up → IsSdo id → IsWritableEvidence evidence → Ends Second a (cause_rows rate (Sdo up id evidence)) done rate (Sdo up id evidence)
+  sdo_ends [] id evidence h sdo fine = record {
+    members = [];
+    part = parts.Frame id evidence;
+    leads = frame_leads a [] id sdo (begins (parts.Named id)) evidence fine;
+    whole = rw (complete_is evidence fine) refl;
+  }
+  sdo_ends (m ∷ rest) id evidence h sdo fine =
+      let up = first_members Second sides.Up knows_up done rate a m rest begins h in
+      let at_last = Some (begun done rate up.before (parts.Member sides.Up up.last)) in
+      let names = named_after up.before up.last id up.complete in
+      let frame = frame_leads at_last (up.before ++ up.last ∷ []) id sdo names evidence fine in
+      record {
+        members = m ∷ rest;
+        part = parts.Frame id evidence;
+        leads = leads_append Second a at_last _ (flat_map (member_rows sides.Up rate) (m ∷ rest)) (frame_rows rate id evidence) up.leads (rw up.all_are at frame);
+        whole = rw (complete_is evidence fine) refl;
+      }
+
+  places_end : (v : Version) (members : List Member) → 0 < length members → AreWritableMembers members → Ends v a (cause_rows rate (Places members)) done rate (Places members)
+  places_end v [] some h = absurd (omega (arith, some))
+  places_end v (m ∷ rest) some h =
+      let all = first_members v sides.Place (knows_place v) done rate a m rest begins h in
+      record { members = all.before; part = parts.Member sides.Place all.last; leads = all.leads; whole = rw (all.complete, all.all_are) refl }
+
+  refusal_ends : (v : Version) (cause : Cause) → Knows v cause → IsWritableCause cause → Ends v a (cause_rows rate cause) done rate cause
+  unfolding Knows
+  refusal_ends v (Places members) known h = places_end v members h.0 h.1
+  refusal_ends v (Sync busy) known h = rw known (sync_ends busy h)
+  refusal_ends v (Sdo up id evidence) known h = rw known (sdo_ends up id evidence h.0 h.1 h.2)
+
+next_rate_begins : (d : Draft) (rate : Rate) (cause : Cause) → cause_of d.members d.part ≡ Some cause → kbits_of d.rate < kbits_of rate → (part : Part)
+    → begin (Some d) rate part ≡ Ok (begun (d.done ++ refused_at d.rate cause ∷ []) rate [] part)
+next_rate_begins d rate cause whole rises part =
+    rw (le-ltb (kbits_of rate) (kbits_of d.rate) (omega arith), ne_eqb (kbits_of rate) (kbits_of d.rate) (λ e. omega arith), whole) refl
 
 -- ---- the refusals
 
-refusal_ends : (a : Option Draft) (done : List Refusal) (rate : Rate) (members : List Member) → IsWritableRefusal (record { rate = rate; members = members }) → ((pdo : ℕ) → Begins a done rate [] pdo)
-    → Ends a (flat_map (member_rows rate) members) done (record { rate = rate; members = members })
-refusal_ends a done rate [] h begins = absurd (omega (arith, h.some))
-refusal_ends a done rate (m ∷ rest) h begins =
-    let whole = All-head (λ m. IsWritableEvidence m.evidence) m rest h.evidence in
-    let first = evidence_leads a done rate [] m.pdo (All-head (λ m. m.pdo < 512) m rest h.inside) (begins m.pdo) m.evidence whole in
-    let then = members_end (record { done = done; rate = rate; members = []; member = m }) rest (complete_is m.evidence whole) h.rise
-    (All-tail (λ m. m.pdo < 512) m rest h.inside) (All-tail (λ m. IsWritableEvidence m.evidence) m rest h.evidence) in
-    record {
-      draft = then.draft;
-      leads = leads_append a _ (Some then.draft) (evidence_rows rate m.pdo m.evidence) (flat_map (member_rows rate) rest) first then.leads;
-      complete = then.complete;
-      done_is = then.done_is;
-      refusal_is = then.refusal_is;
-    }
-
-next_rate_begins : (d : Draft) (rate : Rate) (pdo : ℕ) → is_complete d.member.evidence ≡ true → kbits_of d.rate < kbits_of rate → Begins (Some d) (d.done ++ refusal_of d ∷ []) rate [] pdo
-next_rate_begins d rate pdo complete rises word value evidence =
-    rw (le-ltb (kbits_of rate) (kbits_of d.rate) (omega arith), ne_eqb (kbits_of rate) (kbits_of d.rate) (λ e. omega arith), complete) refl
-
 -- the records lead to these refusals
-record Reaches (a : Option Draft) (rows : List Fields) (found : List Refusal) : Type 0 where
+record Reaches (v : Version) (a : Option Draft) (rows : List Fields) (found : List Refusal) : Type 0 where
   draft : Draft
-  leads : Leads a rows (Some draft)
-  complete : is_complete draft.member.evidence ≡ true
-  found_is : draft.done ++ refusal_of draft ∷ [] ≡ found
+  leads : Leads v a rows (Some draft)
+  closes : closed draft ≡ Ok found
 
-refusals_reach : (d : Draft) (rs : List Refusal) → is_complete d.member.evidence ≡ true → AllPairs (λ r s. kbits_of r.rate < kbits_of s.rate) (refusal_of d ∷ rs) → All IsWritableRefusal rs
-    → Reaches (Some d) (flat_map refusal_rows rs) (d.done ++ refusal_of d ∷ rs)
-refusals_reach d [] complete rise fine = record { draft = d; leads = leads_none (Some d); complete = complete; found_is = refl }
-refusals_reach d (r ∷ rs) complete rise fine =
-    let rises : kbits_of d.rate < kbits_of r.rate = rise 0 1 r (lit< tt) (omega arith) in
-    let first = refusal_ends (Some d) (d.done ++ refusal_of d ∷ []) r.rate r.members (All-head IsWritableRefusal r rs fine) (λ pdo. next_rate_begins d r.rate pdo complete rises) in
-    let on = pairs_on (λ r s. kbits_of r.rate < kbits_of s.rate) (refusal_of d) (r ∷ rs) rise in
-    let then = refusals_reach first.draft rs first.complete (rw first.refusal_is on) (All-tail IsWritableRefusal r rs fine) in
-    let same : first.draft.done ++ refusal_of first.draft ∷ rs ≡ d.done ++ refusal_of d ∷ (r ∷ rs) =
-    rw (first.refusal_is, first.done_is, append_assoc d.done (refusal_of d ∷ []) (r ∷ rs)) refl in
-    record {
-      draft = then.draft;
-      leads = leads_append (Some d) (Some first.draft) (Some then.draft) (refusal_rows r) (flat_map refusal_rows rs) first.leads then.leads;
-      complete = then.complete;
-      found_is = then.found_is ∙ same;
-    }
+module _ (v : Version) where
+  refusals_reach : (d : Draft) (cause : Cause) (rs : List Refusal) → cause_of d.members d.part ≡ Some cause → AllPairs (λ r s. kbits_of r.rate < kbits_of s.rate) (refused_at d.rate cause ∷ rs)
+      → All (λ r. Knows v r.cause) rs → All IsWritableRefusal rs → Reaches v (Some d) (flat_map refusal_rows rs) (d.done ++ refused_at d.rate cause ∷ rs)
+  refusals_reach d cause [] whole rise known fine = record { draft = d; leads = leads_none v (Some d); closes = rw whole refl }
+  refusals_reach d cause (r ∷ rs) whole rise known fine =
+      let rises : kbits_of d.rate < kbits_of r.rate = rise 0 1 r (lit< tt) (omega arith) in
+      let done = d.done ++ refused_at d.rate cause ∷ [] in
+      let first = refusal_ends (Some d) done r.rate (next_rate_begins d r.rate cause whole rises) v r.cause (All-head (λ r. Knows v r.cause) r rs known) (All-head IsWritableRefusal r rs fine) in
+      let on = pairs_on (λ r s. kbits_of r.rate < kbits_of s.rate) (refused_at d.rate cause) (r ∷ rs) rise in
+      let next = begun done r.rate first.members first.part in
+      let later = refusals_reach next r.cause rs first.whole on (All-tail (λ r. Knows v r.cause) r rs known) (All-tail IsWritableRefusal r rs fine) in
+      record {
+        draft = later.draft;
+        leads = leads_append v (Some d) (Some next) (Some later.draft) (refusal_rows r) (flat_map refusal_rows rs) first.leads later.leads;
+        closes = later.closes ∙ rw (append_assoc d.done (refused_at d.rate cause ∷ []) (r ∷ rs)) refl;
+      }
 
-first_begins : (rate : Rate) (pdo : ℕ) → Begins None [] rate [] pdo
-first_begins rate pdo word value evidence = refl
+  finish : (found : List Refusal) (rows : List Fields) (place last : ℕ) → Reaches v None rows found → (rows_from (taken v) place None rows >>= ended last) ≡ Ok found
+  unfolding finished
+  finish found rows place last h = rw (h.leads.leads place, h.closes) refl
 
-finish : (found : List Refusal) (rows : List Fields) (place last : ℕ) → Reaches None rows found → (rows_from taken place None rows >>= ended last) ≡ Ok found
-unfolding finished
-finish found rows place last h = rw (h.leads.leads place, h.complete, h.found_is) refl
+  all_read : (rs : List Refusal) (place last : ℕ) → All (λ r. Knows v r.cause) rs → AreWritable rs → (rows_from (taken v) place None (flat_map refusal_rows rs) >>= ended last) ≡ Ok rs
+  unfolding rows_from finished
+  all_read [] place last known h = refl
+  all_read (r ∷ rs) place last known h =
+      let first = refusal_ends None [] r.rate (λ part. refl) v r.cause (All-head (λ r. Knows v r.cause) r rs known) (All-head IsWritableRefusal r rs h.each) in
+      let next = begun [] r.rate first.members first.part in
+      let later = refusals_reach next r.cause rs first.whole h.rise (All-tail (λ r. Knows v r.cause) r rs known) (All-tail IsWritableRefusal r rs h.each) in
+      finish (r ∷ rs) (flat_map refusal_rows (r ∷ rs)) place last (record {
+        draft = later.draft;
+        leads = leads_append v None (Some next) (Some later.draft) (refusal_rows r) (flat_map refusal_rows rs) first.leads later.leads;
+        closes = later.closes;
+      })
 
-all_read : (rs : List Refusal) (place last : ℕ) → AreWritable rs → (rows_from taken place None (flat_map refusal_rows rs) >>= ended last) ≡ Ok rs
-unfolding rows_from finished
-all_read [] place last h = refl
-all_read (r ∷ rs) place last h =
-    let first = refusal_ends None [] r.rate r.members (All-head IsWritableRefusal r rs h.each) (first_begins r.rate) in
-    let then = refusals_reach first.draft rs first.complete (rw first.refusal_is h.rise) (All-tail IsWritableRefusal r rs h.each) in
-    finish (r ∷ rs) (flat_map refusal_rows (r ∷ rs)) place last (record {
-      draft = then.draft;
-      leads = leads_append None (Some first.draft) (Some then.draft) (refusal_rows r) (flat_map refusal_rows rs) first.leads then.leads;
-      complete = then.complete;
-      found_is = then.found_is ∙ rw (first.refusal_is, first.done_is) refl;
-    })
+-- ---- the version
+
+knows_second : (cause : Cause) → Knows Second cause
+unfolding Knows
+knows_second (Places members) = tt
+knows_second (Sync busy) = refl
+knows_second (Sdo up id evidence) = refl
+
+knows_first : (cause : Cause) → is_by_places cause ≡ true → Knows First cause
+unfolding Knows
+knows_first (Places members) e = tt
+knows_first (Sync busy) e = cc
+knows_first (Sdo up id evidence) e = cc
+
+all_at : {X : Type 0} (p : X → Bool) (xs : List X) → list_all p xs ≡ true → (k : ℕ) (d : X) → k < length xs → p (get_or xs k d) ≡ true
+all_at p [] e k d below = absurd (omega (arith, below))
+all_at p (x ∷ xs) e zero d below = (and_parts (p x) (list_all p xs) e).0
+all_at p (x ∷ xs) e (suc k) d below = all_at p xs (and_parts (p x) (list_all p xs) e).1 k d (omega (arith, below))
+
+all_known : (rs : List Refusal) → All (λ r. Knows (version_of rs) r.cause) rs
+all_known rs = go (list_all (λ r. is_by_places r.cause) rs) refl
+  where
+    go : (b : Bool) → list_all (λ r. is_by_places r.cause) rs ≡ b → All (λ r. Knows (if b then First else Second) r.cause) rs
+    go true e = λ k d below. knows_first (get_or rs k d).cause (all_at (λ (r : Refusal). is_by_places r.cause) rs e k d below)
+    go false e = λ k d below. knows_second (get_or rs k d).cause
+
+version_read : (v : Version) (rows : List Fields) → after_version (version v ∷ rows) ≡ Ok (v, rows)
+version_read First rows = refl
+version_read Second rows = refl
 
 -- the text of refusals that a file holds reads as these
 pub written_is_read : (rs : List Refusal) → AreWritable rs → refusals_of (text_of rs) ≡ Ok rs
 unfolding refusals_of
-written_is_read rs h = rw (text_read rs) (all_read rs 2 (1 + length (flat_map refusal_rows rs)) h)
+written_is_read rs h =
+    rw (text_read rs, version_read (version_of rs) (flat_map refusal_rows rs)) (all_read (version_of rs) rs 2 (1 + length (flat_map refusal_rows rs)) (all_known rs) h)

@@ -1,5 +1,5 @@
 -- A record of the format, read.
-use Rattle.std.proofs.Common.{◌≡◌, ℕ, ◌+◌, ◌-◌, ◌<◌, ◌^◌, true, List, [], ◌∷◌, length, Ok, Some, refl, arith, lit<, nat_lt, nat_le, decimal}
+use Rattle.std.proofs.Common.{◌≡◌, ℕ, ◌+◌, ◌-◌, ◌<◌, ◌≤◌, ◌^◌, true, List, [], ◌∷◌, length, Ok, Some, refl, arith, lit<, nat_lt, nat_le, decimal}
 use Rattle.std.proofs.lemmas.Bool.{le-leb, lt-ltb}
 use Rattle.std.specs.List.{list_all}
 use Rattle.std.specs.Char.{is_digit, digit_value}
@@ -11,7 +11,9 @@ use Rattle.cop_frame.specs.declared.rates.Rate.{Rate}
 use Rattle.cop_frame.specs.declared.rates.Rate.TheVariants.{Kbit10, Kbit20, Kbit50, Kbit125, Kbit250, Kbit500, Kbit800, Kbit1000}
 use Rattle.cop_frame.specs.Rate.{kbits_of}
 use Rattle.cop_cert.specs.Format.{fields_of}
-use Rattle.cop_cert.specs.Entries.{rate_of, pdo_of, word_of, is_value_of, entry_in}
+use Rattle.cop_cert.specs.Entries.{rate_of, least_number, word_of, is_value_of, is_number_of, entry_in}
+use Rattle.cop_cert.specs.declared.entries.Version.{Version}
+use Rattle.cop_cert.specs.declared.entries.Version.TheVariants.{First, Second}
 use Rattle.cop_cert.specs.declared.entries.Word.{Word}
 
 all_digits : (ds : List ℕ) → AllDigits 10 ds → list_all (λ c. is_digit c 10) ds ≡ true
@@ -47,15 +49,23 @@ rate_small Kbit500 = lit< tt
 rate_small Kbit800 = lit< tt
 rate_small Kbit1000 = lit< tt
 
-pdo_known : (pdo : ℕ) → pdo < 512 → pdo_of (pdo + 1) ≡ Some pdo
-pdo_known pdo h =
-    let low : nat_le 1 (pdo + 1) ≡ true = grind (arith, nat_tests) in
-    let high : nat_le (pdo + 1) 512 ≡ true = grind (arith, nat_tests) in
-    let same : pdo + 1 - 1 ≡ pdo = omega arith in
-    rw (low, high, same) refl
+pub least_small : (v : Version) → least_number v ≤ 1
+least_small First = omega arith
+least_small Second = omega arith
 
-pub entry_is : (rate : Rate) (pdo value : ℕ) (what : List ℕ) (word : Word) → pdo < 512 → value < 2 ^ 64 → word_of what ≡ Some word → is_value_of word value ≡ true
-    → entry_in (fields_of rate pdo what value) ≡ Ok (record { rate = rate; pdo = pdo; word = word; value = value })
+pub entry_is : (v : Version) (rate : Rate) (number value : ℕ) (what : List ℕ) (word : Word) → least_number v ≤ number → number ≤ 512 → value < 2 ^ 64 → word_of v what ≡ Some word
+    → is_value_of word value ≡ true → is_number_of word number ≡ true
+    → entry_in v (fields_of rate number what value) ≡ Ok (record { rate = rate; number = number; word = word; value = value })
 unfolding entry_in
-entry_is rate pdo value what word small fits known good =
-    rw (number_decimal (kbits_of rate) (rate_small rate), rate_known rate, number_decimal (pdo + 1) (omega arith), pdo_known pdo small, number_decimal value fits, known, good) refl
+entry_is v rate number value what word low high fits known good placed =
+    rw (
+      number_decimal (kbits_of rate) (rate_small rate),
+      rate_known rate,
+      number_decimal number (omega arith),
+      le-leb (least_number v) number low,
+      le-leb number 512 high,
+      number_decimal value fits,
+      known,
+      good,
+      placed,
+    ) refl

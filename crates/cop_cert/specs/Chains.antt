@@ -2,14 +2,19 @@
 use Rattle.std.specs.Prelude.{◌≡◌, ℕ, ◌+◌, ◌-◌, ◌*◌, ◌^◌, ◌<◌, ◌≤◌, ◌⊎◌, Bool, List, [], ◌∷◌, All, AllPairs, length}
 use Rattle.cop_frame.specs.declared.rates.Rate.{Rate}
 use Rattle.cop_rta.specs.declared.streams.Stream.{Stream}
-use Rattle.cop_rta.specs.Test.{StreamPlace, Passes, busy_at, queueing_at, blocking, cost_at, jitter_at, period_at, horizon}
+use Rattle.cop_rta.specs.Ranges.{first_range, second_range}
+use Rattle.cop_rta.specs.Test.{place_among, StreamPlace, Passes, busy_at, queueing_at, blocking, cost_at, jitter_at, period_at, horizon}
 use Rattle.cop_rta.specs.Verdict.{IsFirstLate}
 use Rattle.cop_cert.specs.declared.refusals.Evidence.{Evidence}
 use Rattle.cop_cert.specs.declared.refusals.Evidence.TheVariants.{Long, Late}
+use Rattle.cop_cert.specs.declared.refusals.Cause.{Cause}
+use Rattle.cop_cert.specs.declared.refusals.Cause.TheVariants.{Places, Sync, Sdo}
 use Rattle.cop_cert.specs.declared.refusals.Member.{Member}
 use Rattle.cop_cert.specs.declared.refusals.Refusal.{Refusal}
-use Rattle.cop_cert.specs.Sets.{is_in_trial}
-use Rattle.cop_cert.specs.Evidence.{first_of, last_of, is_listed, pdos_of}
+use Rattle.cop_cert.specs.Assignments.{id_at, IsTested}
+use Rattle.cop_cert.specs.Causes.{IsSync, sync_trial, kept}
+use Rattle.cop_cert.specs.Sets.{is_in_trial, trial}
+use Rattle.cop_cert.specs.Evidence.{first_of, last_of, is_listed, pdos_of, is_member}
 
 -- after a number within the limit comes the equation's value at it, which is greater
 unfoldable pub Follows : (ℕ → ℕ) → ℕ → ℕ → List ℕ → Type 0
@@ -64,11 +69,10 @@ HasAtMost count (Late q busy queue) = (length busy ≤ count) × (length queue �
 
 -- each of some streams fails where a test says what is above
 abbrev pub AllFail : List Stream → Rate → List ℕ → (ℕ → Bool) → Type 0
-AllFail streams rate members above = All (λ m. Passes (record { streams = streams; above = above; index = m; rate = rate }) → ⊥) members
+AllFail streams rate members above = All (λ m. Passes (place_among streams above m rate) → ⊥) members
 
--- PDOs, one at least, that rise and each of which fails in their trial
+-- PDOs that rise and each of which fails in their trial
 pub record FailTogether (bound : ℕ) (streams : List Stream) (pdos : ℕ) (rate : Rate) (members : List ℕ) : Type 0 where
-  pub some : 0 < length members
   pub rise : AllPairs (λ m n. m < n) members
   pub inside : All (λ m. m < pdos) members
   pub fail : AllFail streams rate members (is_in_trial bound streams pdos (is_listed members))
@@ -76,9 +80,27 @@ pub record FailTogether (bound : ℕ) (streams : List Stream) (pdos : ℕ) (rate
 -- members for some PDOs, with the whole chains of each where a test says what is above
 pub record AreMade (streams : List Stream) (above : ℕ → Bool) (rate : Rate) (pdos : List ℕ) (members : List Member) : Type 0 where
   pub pdos_are : pdos_of members ≡ pdos
-  pub whole : All (λ m. IsWholeEvidence (record { streams = streams; above = above; index = m.pdo; rate = rate }) m.evidence) members
+  pub whole : All (λ m. IsWholeEvidence (place_among streams above m.pdo rate) m.evidence) members
 
--- the refusal of some PDOs at a rate
-pub record IsMade (bound : ℕ) (streams : List Stream) (pdos : ℕ) (rate : Rate) (members : List ℕ) (r : Refusal) : Type 0 where
-  pub rate_is : r.rate ≡ rate
-  pub members_are : AreMade streams (is_in_trial bound streams pdos (is_listed members)) rate members r.members
+-- the members of a trial of some PDOs
+abbrev pub AreMadeOf : ℕ → List Stream → ℕ → Rate → List ℕ → List Member → Type 0
+AreMadeOf bound streams pdos rate pdos_listed members =
+    AreMade streams (is_in_trial bound streams pdos (is_listed pdos_listed)) rate pdos_listed members
+
+-- whole chains: those of the members, of SYNC, and of an SDO frame
+abbrev pub IsMadeCause : Rate → List Stream → ℕ → Cause → Type 0
+IsMadeCause rate streams pdos (Places members) = AreMadeOf first_range.least streams pdos rate (pdos_of members) members
+IsMadeCause rate streams pdos (Sync busy) =
+    (sync : ℕ) × IsSync streams pdos sync × EndsAbove (busy_at (sync_trial rate streams pdos sync)) 1 horizon busy
+IsMadeCause rate streams pdos (Sdo up id evidence) =
+    AreMadeOf second_range.least streams pdos rate (pdos_of up) up
+    × (f : ℕ) × IsTested streams pdos f × (id_at streams f ≡ id) × IsWholeEvidence (trial id rate streams pdos (kept pdos (is_member up)) f) evidence
+
+abbrev pub IsMade : List Stream → ℕ → Refusal → Type 0
+IsMade streams pdos r = IsMadeCause r.rate streams pdos r.cause
+
+-- no list of a cause has more numbers
+abbrev pub IsShort : ℕ → Cause → Type 0
+IsShort count (Places members) = All (λ m. HasAtMost count m.evidence) members
+IsShort count (Sync busy) = length busy ≤ count
+IsShort count (Sdo up id evidence) = All (λ m. HasAtMost count m.evidence) up × HasAtMost count evidence

@@ -1,11 +1,11 @@
 -- Lists of numbers that show that a stream fails.
 use Rattle.std.specs.Prelude.{◌≡◌, ℕ, ◌+◌, ◌-◌, ◌*◌, ◌<◌, ◌≤◌, ◌==◌, ◌||◌, Bool, false, List, [], ◌∷◌, length, map, All, AllPairs, Option, MatchOption}
+use Rattle.cop_frame.specs.declared.rates.Rate.{Rate}
 use Rattle.cop_rta.specs.declared.streams.Stream.{Stream}
 use Rattle.cop_rta.specs.Test.{StreamPlace, busy_at, queueing_at, blocking, cost_at, jitter_at, period_at, horizon, IsQueuedWithin, IsLate}
 use Rattle.cop_cert.specs.declared.refusals.Evidence.{Evidence}
 use Rattle.cop_cert.specs.declared.refusals.Evidence.TheVariants.{Long, Late}
 use Rattle.cop_cert.specs.declared.refusals.Member.{Member}
-use Rattle.cop_cert.specs.declared.refusals.Refusal.{Refusal}
 use Rattle.cop_cert.specs.Sets.{trial}
 
 -- after a number the list goes on strictly upwards, each number at most the equation's value at the one before
@@ -78,9 +78,8 @@ pdos_of members = map (λ m. m.pdo) members
 abbrev pub is_member : List Member → ℕ → Bool
 is_member members = is_listed (pdos_of members)
 
--- members, one at least, that rise, are PDOs, and have evidence in the trial of the members
-pub record IsRefusal (bound : ℕ) (streams : List Stream) (pdos : ℕ) (r : Refusal) : Type 0 where
-  pub some : 0 < length r.members
-  pub rise : AllPairs (λ m n. m < n) (pdos_of r.members)
-  pub inside : All (λ m. m < pdos) (pdos_of r.members)
-  pub evidence : All (λ m. IsEvidence (trial bound r.rate streams pdos (is_member r.members) m.pdo) m.evidence) r.members
+-- members that rise, are PDOs, and have evidence in the trial of the members
+pub record AreFailing (bound : ℕ) (rate : Rate) (streams : List Stream) (pdos : ℕ) (members : List Member) : Type 0 where
+  pub rise : AllPairs (λ m n. m < n) (pdos_of members)
+  pub inside : All (λ m. m < pdos) (pdos_of members)
+  pub evidence : All (λ m. IsEvidence (trial bound rate streams pdos (is_member members) m.pdo) m.evidence) members

@@ -10,3 +10,4 @@ pub mod Sets
 pub mod Evidence
 pub mod Rising
 pub mod Chains
+pub mod Causes

@@ -1,25 +1,41 @@
-//! What holds of refusal sets, whatever the streams are.
+//! What holds of refusals, whatever the streams are.
 
-ghost use Rattle.std.specs.Prelude.{◌≡◌, ℕ, ◌≤◌, Bool, List, length, Ok};
+ghost use Rattle.std.specs.Prelude.{◌≡◌, ℕ, ◌<◌, ◌≤◌, true, Bool, List, length, Ok};
 ghost use Rattle.cop_frame.specs.declared.rates.Rate.{Rate};
 ghost use Rattle.cop_rta.specs.declared.streams.Stream.{Stream};
+ghost use Rattle.cop_rta.specs.Ranges.{first_range};
 ghost use Rattle.cop_rta.specs.Test.{Passes, StreamPlace};
 ghost use Rattle.cop_cert.specs.declared.refusals.Evidence.{Evidence};
 ghost use Rattle.cop_cert.specs.declared.refusals.Refusal.{Refusal};
-ghost use Rattle.cop_cert.specs.Assignments.{least_id, NoAssignmentPasses};
+ghost use Rattle.cop_cert.specs.Assignments.{AllPass, IsAssignment, NoAssignmentPasses, place_under};
+ghost use Rattle.cop_cert.specs.Causes.{IsSyncLong, IsRefusal};
 ghost use Rattle.cop_cert.specs.Chains.{IsMade};
-ghost use Rattle.cop_cert.specs.Evidence.{IsEvidence, IsRefusal, pdos_of};
+ghost use Rattle.cop_cert.specs.Evidence.{IsEvidence};
 ghost use Rattle.cop_cert.specs.Format.{text_of};
 ghost use Rattle.cop_cert.specs.Reading.{refusals_of};
-ghost use Rattle.cop_cert.specs.Sets.{IsRefusalSet};
+ghost use Rattle.cop_cert.specs.Sets.{IsStuckSet, IsRefusalSet};
 ghost use Rattle.cop_cert.specs.Writable.{IsWritableRefusal, AreWritable};
 
 pub use cop_rta::more_above_asks_no_less;
 
-/// Where some PDOs each fail with the rest of them and the fixed frames below 181h above it, no assignment passes.
+/// Where some PDOs, one at least, each fail with the rest of them and the fixed frames below 181h above it, no assignment passes.
 pub fn refusal_sets_rule_out()
     ensures { (rate : Rate) (streams : List Stream) (pdos : ℕ) (members : ℕ → Bool) → pdos ≤ length streams
-        → IsRefusalSet least_id rate streams pdos members → NoAssignmentPasses rate streams pdos }
+        → IsRefusalSet first_range.least rate streams pdos members → NoAssignmentPasses rate streams pdos }
+{}
+
+/// Where some PDOs each fail with the rest of them and the fixed frames below a bound above it, each of them has an identifier below
+/// that bound wherever distinct identifiers pass.
+pub fn stuck_sets_stay_below()
+    ensures { (bound : ℕ) (rate : Rate) (streams : List Stream) (pdos : ℕ) (members : ℕ → Bool) (ids : ℕ → ℕ) → pdos ≤ length streams
+        → IsStuckSet bound rate streams pdos members → ((p r : ℕ) → p < pdos → r < pdos → ids p ≡ ids r → p ≡ r) → AllPass rate streams pdos ids
+        → (p : ℕ) → p < pdos → members p ≡ true → ids p < bound }
+{}
+
+/// Where SYNC's busy time is past the horizon, no PDO passes under any assignment. So no assignment passes where one PDO is synchronous.
+pub fn long_sync_rules_out()
+    ensures { (rate : Rate) (streams : List Stream) (pdos : ℕ) → pdos ≤ length streams → IsSyncLong rate streams pdos → (ids : ℕ → ℕ) → IsAssignment pdos ids
+        → (p : ℕ) → p < pdos → Passes (place_under rate streams pdos ids p) → ⊥ }
 {}
 
 /// Evidence that a stream fails and that it passes exclude one another.
@@ -30,13 +46,13 @@ pub fn evidence_excludes_passing()
 /// Where a refusal holds, no assignment of identifiers passes at its rate: this is what a check that says so means.
 pub fn refusals_rule_out()
     ensures { (streams : List Stream) (pdos : ℕ) (r : Refusal) → pdos ≤ length streams
-        → IsRefusal least_id streams pdos r → NoAssignmentPasses r.rate streams pdos }
+        → IsRefusal streams pdos r → NoAssignmentPasses r.rate streams pdos }
 {}
 
-/// A refusal of at most 512 PDOs that [`make`](crate::make) gives is one that a file holds.
+/// A refusal of at most 512 PDOs with whole chains, as [`make`](crate::make) and its like give it, is one that a file holds.
 pub fn made_refusals_are_writable()
-    ensures { (streams : List Stream) (pdos : ℕ) (r : Refusal) → pdos ≤ length streams → pdos ≤ 512 → IsRefusal least_id streams pdos r
-        → IsMade least_id streams pdos r.rate (pdos_of r.members) r → IsWritableRefusal r }
+    ensures { (streams : List Stream) (pdos : ℕ) (r : Refusal) → pdos ≤ length streams → pdos ≤ 512 → IsRefusal streams pdos r
+        → IsMade streams pdos r → IsWritableRefusal r }
 {}
 
 /// Refusals that a file holds are read from the text that is written of them.

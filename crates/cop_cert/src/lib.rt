@@ -17,10 +17,12 @@ pub use checking::check;
 pub use faults::{Breach, CertFault, Rule};
 pub use items::Items;
 pub use laws::{
-    evidence_excludes_passing, made_refusals_are_writable, more_above_asks_no_less,
-    refusal_sets_rule_out, refusals_rule_out, written_refusals_are_read,
+    evidence_excludes_passing, long_sync_rules_out, made_refusals_are_writable,
+    more_above_asks_no_less, refusal_sets_rule_out, refusals_rule_out, stuck_sets_stay_below,
+    written_refusals_are_read,
 };
-pub use making::{fail_together, make};
+pub use making::{fail_together, make, make_for_sdo, make_for_sync};
 pub use reading::read;
-pub use refusals::{Evidence, Member, Refusal};
+pub use refusals::{Cause, Evidence, Member, Refusal};
+pub use trials::{is_sync_long, is_tested};
 pub use writing::write;

@@ -10,7 +10,7 @@ ghost use Rattle.cop_cert.specs.Steps.{fault_at};
 ghost use Rattle.cop_cert.specs.Reading.{taken, rows_in, after_version, refusals_in, refusals_of};
 
 use crate::drafts::{self, Draft, StepFault};
-use crate::entries::{entry_in, is_version};
+use crate::entries::{Version, entry_in, version_in};
 use crate::faults::{Breach, CertFault, Rule};
 use crate::refusals::Refusal;
 use cop_table::{Record, Records, TableError, under_header};
@@ -45,36 +45,44 @@ fn rows_in<'a>(alloc: Global, bytes: &'a [u8], row: &mut Record) -> Result<Recor
 }
 
 /// Reads the record of the version.
-fn read_version(rows: &mut Records<'_>, row: &mut Record) -> Result<(), CertFault>
-    ensures rows { Gives (λ _. rows.new) breach_of result (after_version rows.old) }
+fn read_version(rows: &mut Records<'_>, row: &mut Record) -> Result<Version, CertFault>
+    ensures rows { Gives (λ version. (version, rows.new)) breach_of result (after_version rows.old) }
     ensures count { OnOk result (length rows.old ≡ length rows.new + 1) }
 {
+    let (fields, version) = (Rule::Fields, Rule::Version);
+    let place = 1;
     if !rows.read(row)? {
         return Err(CertFault::Refused(Breach {
-            rule: Rule::Version,
-            place: 1,
+            rule: version,
+            place,
         }));
     }
     if row.len() != 4 {
         return Err(CertFault::Refused(Breach {
-            rule: Rule::Fields,
-            place: 1,
+            rule: fields,
+            place,
         }));
     }
-    if !is_version(row) {
-        return Err(CertFault::Refused(Breach {
-            rule: Rule::Version,
-            place: 1,
-        }));
+    match version_in(row) {
+        Some(version) => Ok(version),
+        None => Err(CertFault::Refused(Breach {
+            rule: version,
+            place,
+        })),
     }
-    Ok(())
 }
 
 /// Takes a record into the draft of those before it. After an `Err` the draft is not to be used.
-fn take(alloc: Global, draft: &mut Option<Draft>, place: u64, row: &Record) -> Result<(), CertFault>
-    ensures { Gives (λ _. draft.new) breach_of result (taken place draft.old row.now) }
+fn take(
+    alloc: Global,
+    version: Version,
+    draft: &mut Option<Draft>,
+    place: u64,
+    row: &Record,
+) -> Result<(), CertFault>
+    ensures { Gives (λ _. draft.new) breach_of result (taken version place draft.old row.now) }
 {
-    let entry = match entry_in(row) {
+    let entry = match entry_in(version, row) {
         Ok(entry) => entry,
         Err(rule) => return Err(CertFault::Refused(Breach { rule, place })),
     };
@@ -88,17 +96,18 @@ fn take(alloc: Global, draft: &mut Option<Draft>, place: u64, row: &Record) -> R
 #[tactic(auto, using(cop_table::proofs::RowsLemmas::goes_on, cop_table::proofs::RowsLemmas::stops, cop_table::proofs::RowsLemmas::ends))]
 fn refusals_in(
     alloc: Global,
+    version: Version,
     rows: &mut Records<'_>,
     row: &mut Record,
 ) -> Result<Vec<Refusal>, CertFault>
     requires { length rows.old + 1 < 2 ^ 64 }
-    ensures { Gives (λ refusals. refusals.items) breach_of result (refusals_in rows.old) }
+    ensures { Gives (λ refusals. refusals.items) breach_of result (refusals_in version rows.old) }
 {
     let mut draft = None;
     let mut place = 1;
     'rows: while rows.read(row)? {
         place += 1;
-        take(alloc, &mut draft, place, row)?;
+        take(alloc, version, &mut draft, place, row)?;
     }
     match drafts::finished(alloc, draft) {
         Ok(refusals) => Ok(refusals),
@@ -112,8 +121,8 @@ fn refusals_of(alloc: Global, bytes: &[u8]) -> Result<Vec<Refusal>, CertFault>
 {
     let mut row = Record::new(alloc);
     let mut rows = rows_in(alloc, bytes, &mut row)?;
-    read_version(&mut rows, &mut row)?;
-    refusals_in(alloc, &mut rows, &mut row)
+    let version = read_version(&mut rows, &mut row)?;
+    refusals_in(alloc, version, &mut rows, &mut row)
 }
 
 /// The refusals of a text. Of its records the first that breaks a rule counts, and of its rules the least.

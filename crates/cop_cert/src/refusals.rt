@@ -6,7 +6,7 @@ ghost use Rattle.cop_cert.specs.Evidence.{busy_list_of};
 use crate::items::Items;
 use cop_frame::Rate;
 
-/// What shows that a PDO fails the response-time test. Numbers are ticks of 250 ns.
+/// What shows that a stream fails the response-time test. Numbers are ticks of 250 ns.
 #[derive(Drop)]
 pub enum Evidence {
     /// The busy time is above the horizon: a busy list ends there.
@@ -32,7 +32,7 @@ impl Evidence {
     }
 }
 
-/// A PDO that fails where the other members and the lowest fixed frames are above it, and what shows that.
+/// A PDO that fails where the other members and the fixed frames below a range of identifiers are above it, and what shows that.
 #[derive(Drop)]
 pub struct Member {
     /// The PDO's number from 0 on.
@@ -40,10 +40,29 @@ pub struct Member {
     pub evidence: Evidence,
 }
 
-/// PDOs of which none can have the lowest priority among them, so that no assignment passes at the rate.
+/// Why no assignment of identifiers passes at a rate.
+#[derive(Drop)]
+pub enum Cause {
+    /// PDOs of which none can have the lowest priority among them, by rising PDO number.
+    Places {
+        members: Items<Member>,
+    },
+    /// SYNC's busy time is above the horizon, so nothing bounds what a synchronous PDO waits for: SYNC's busy list ends there.
+    Sync {
+        busy: Items<u64>,
+    },
+    /// An SDO frame with a deadline fails below the PDOs that cannot stand below it. These are `up`, by rising PDO number;
+    /// where the second range has no room for all PDOs they are all, and `up` is empty.
+    Sdo {
+        up: Items<Member>,
+        id: u16,
+        evidence: Evidence,
+    },
+}
+
+/// A rate at which no assignment of identifiers passes, and what shows it.
 #[derive(Drop)]
 pub struct Refusal {
     pub rate: Rate,
-    /// By rising PDO number.
-    pub members: Items<Member>,
+    pub cause: Cause,
 }

@@ -26,6 +26,7 @@ use Rattle.cop_net.specs.Devices.{File, Equipment, text_of, text_at, text_read, 
 use Rattle.cop_net.specs.Fixed.{IsTimed, key_of, rank_of}
 use Rattle.cop_net.specs.Heartbeats.{heartbeat_of}
 use Rattle.cop_net.specs.Pdos.{pdos_of}
+use Rattle.cop_net.specs.Signals.{signals_of}
 use Rattle.cop_net.specs.Settings.{beats}
 use Rattle.cop_net.specs.Steps.{folded}
 use Rattle.cop_net.specs.Network.{Net, Accepted, accepted, has_stray, settable, all_settable, streams_of, network_of}
@@ -169,7 +170,7 @@ settable_in : (frames : List FrameRow) (rows : List PdoRow) (equipment : Equipme
     → (used : List Used) × (all_settable frames used 0 equipment.devices ≡ Ok tt)
 unfolding streams_of
 settable_in frames rows equipment made h =
-    let p = bind_ok (pdos_of equipment.devices rows) _ made.streams h in
+    let p = bind_ok (pdos_of equipment.devices (signals_of frames (length rows)) rows) _ made.streams h in
     let q = bind_ok (all_settable frames p.0.used 0 equipment.devices) _ made.streams p.2 in
     (p.0.used, q.1)
 

@@ -18,7 +18,7 @@ use Rattle.cop_dict.specs.Find.{Entry, entry_at, IsSorted}
 use Rattle.cop_dict.specs.Pdo.{is_cob_id, is_communication, exists_by}
 use Rattle.cop_dict.proofs.DictLemmas.{own_place}
 use Rattle.cop_pdo.specs.CobIds.{off, on}
-use Rattle.cop_net.specs.Settings.{time_of, is_unsigned16, has_or_takes, beats, beats_by}
+use Rattle.cop_net.specs.Settings.{whole_of, is_unsigned16, has_or_takes, beats, beats_by}
 use Rattle.cop_dcf.specs.Settings.{cob_id_set, off_set, on_set, set_of, time_set, heartbeat_set, settings_of}
 use Rattle.cop_dcf.specs.Planned.{has_numbers, IsNumber}
 use Rattle.cop_dcf.proofs.SettingsLemmas.{all_given}
@@ -89,7 +89,7 @@ module _ (dict : List Entry) (sorted : IsSorted dict) where
       by_test true own true kind None h = tt
       by_test true own true kind (Some id) h = cob_id_number e (on (number e.value) id) inside own kind (omega arith)
 
-  time_number : (time : ℕ) → time < 2 ^ 16 → beats dict time ≡ true → All (IsNumber dict) (time_set time (option_and_then time_of (entry_at dict 0x1017 0)))
+  time_number : (time : ℕ) → time < 2 ^ 16 → beats dict time ≡ true → All (IsNumber dict) (time_set time (option_and_then whole_of (entry_at dict 0x1017 0)))
   time_number time small h = by_entry (entry_at dict 0x1017 0) refl h
     where
       none : All (IsNumber dict) []
@@ -105,13 +105,13 @@ module _ (dict : List Entry) (sorted : IsSorted dict) where
               All-cons (IsNumber dict) (heartbeat_set time) []
               (record { entry = e; here = is; numbers = short e.description.data_type (and_left _ _ l); fits = small }) none
 
-      by_entry : (o : Option Entry) → entry_at dict 0x1017 0 ≡ o → beats_by dict time o ≡ true → All (IsNumber dict) (time_set time (option_and_then time_of o))
+      by_entry : (o : Option Entry) → entry_at dict 0x1017 0 ≡ o → beats_by dict time o ≡ true → All (IsNumber dict) (time_set time (option_and_then whole_of o))
       by_entry None is k = none
-      by_entry (Some e) is k = by_now e is (time_of e) k
+      by_entry (Some e) is k = by_now e is (whole_of e) k
 
   pub all_numbers : (ids : ℕ → Option ℕ) (time : ℕ) → ((index : ℕ) → IfSome (ids index) (λ id. id < 2 ^ 11)) → time < 2 ^ 16 → beats dict time ≡ true → All (IsNumber dict) (settings_of dict ids time)
   all_numbers ids time small low h =
-      All-append (IsNumber dict) (filter_map (set_of off_set ids) dict ++ filter_map (set_of on_set ids) dict) (time_set time (option_and_then time_of (entry_at dict 0x1017 0)))
+      All-append (IsNumber dict) (filter_map (set_of off_set ids) dict ++ filter_map (set_of on_set ids) dict) (time_set time (option_and_then whole_of (entry_at dict 0x1017 0)))
       (All-append (IsNumber dict) (filter_map (set_of off_set ids) dict) (filter_map (set_of on_set ids) dict)
       (all_given (IsNumber dict) (set_of off_set ids) dict (λ k d lt. off_number ids (get_or dict k d) (inside dict k d lt)))
       (all_given (IsNumber dict) (set_of on_set ids) dict (λ k d lt. on_number ids (get_or dict k d) (inside dict k d lt) (small (get_or dict k d).index))))

@@ -9,6 +9,7 @@ use Rattle.std.proofs.lemmas.List.{take_more, get_or_past}
 use Rattle.std.proofs.lemmas.List.Elements.{filter_map-append, All-append, All-cons}
 use Rattle.cop_frame.specs.declared.rates.Rate.{Rate}
 use Rattle.cop_rta.specs.declared.streams.Stream.{Stream}
+use Rattle.cop_rta.specs.Ranges.{IsPermitted}
 use Rattle.cop_rows.specs.declared.pdo_table.PdoRow.{PdoRow}
 use Rattle.cop_eds.proofs.ListLemmas.{get_or_same}
 use Rattle.cop_dict.specs.Find.{Entry, unsigned32_of, is_at, entry_at}
@@ -16,7 +17,7 @@ use Rattle.cop_dict.specs.Pdo.{is_cob_id, exists_by}
 use Rattle.cop_pdo.specs.CobIds.{off, on}
 use Rattle.cop_rows.specs.declared.node_table.FrameRow.{FrameRow}
 use Rattle.cop_rows.specs.declared.node_table.FrameKind.TheVariants.{Heartbeat}
-use Rattle.cop_net.specs.Settings.{time_of}
+use Rattle.cop_net.specs.Settings.{whole_of}
 use Rattle.cop_net.specs.Fixed.{IsTimed, key_of, rank_of}
 use Rattle.cop_net.specs.Heartbeats.{time_in, heartbeat_of}
 use Rattle.cop_net.specs.Network.{Net, IsNetwork}
@@ -50,11 +51,15 @@ pub set_alike : (set : Option ℕ → ℕ → ℕ → Option Setting) (ids : ℕ
 set_alike set ids id index entry entries i result e own place at =
     ap (set_of set ids) (sym at) ∙ sym (e ∙ ap (λ x. set_of set (λ index. x) entry) (own ∙ ap ids place))
 
+permitted_small : (pdos id : ℕ) → IsPermitted pdos id → id < 2048
+permitted_small pdos id (inl first) = omega (arith, first.1)
+permitted_small pdos id (inr second) = omega (arith, second.1.1)
+
 -- the identifiers of a plan have 11 bits
-pub ids_small : (rates : List Rate) (streams : List Stream) (pdos : ℕ) (plan : PlanValue) → IsPlan rates streams pdos plan → pdos ≤ 512 → All (λ id. id < 2048) plan.ids
-ids_small rates streams pdos plan h few = λ k d lt.
+pub ids_small : (rates : List Rate) (streams : List Stream) (pdos : ℕ) (plan : PlanValue) → IsPlan rates streams pdos plan → All (λ id. id < 2048) plan.ids
+ids_small rates streams pdos plan h = λ k d lt.
     let inside : k < pdos = omega (arith, h.count) in
-    let high : get_or plan.ids k 0 < 0x181 + pdos = h.order.gapless.high k inside in
+    let high = permitted_small pdos (get_or plan.ids k 0) (h.passing.0.permitted k inside) in
     let same : get_or plan.ids k d ≡ get_or plan.ids k 0 = get_or_same plan.ids k 0 d lt in
     omega arith
 
@@ -98,7 +103,7 @@ set_by_rows set places rows ids node (entry ∷ dict) knows =
 -- what is set, put together
 pub node_settings_are : (net : Net) (ids : List ℕ) (node : ℕ) (dict : List Entry) (places : List (Option ℕ)) (first offs ons all : List Setting) (time : Option Setting)
     → dictionary_of net node ≡ Some dict → KnowsIds places net.rows ids node → first ≡ [] → offs ≡ first ++ filter_map (set_of off_set (id_in places)) dict
-    → ons ≡ offs ++ filter_map (set_of on_set (id_in places)) dict → cons_option time [] ≡ time_set (heartbeat_of net.nodes.frames node) (option_and_then time_of (entry_at dict 0x1017 0))
+    → ons ≡ offs ++ filter_map (set_of on_set (id_in places)) dict → cons_option time [] ≡ time_set (heartbeat_of net.nodes.frames node) (option_and_then whole_of (entry_at dict 0x1017 0))
     → all ≡ ons ++ cons_option time [] → all ≡ node_settings net ids node
 node_settings_are net ids node dict places first offs ons all time own knows none a b c d =
     let off_part : offs ≡ filter_map (set_of off_set (id_at net.rows ids node)) dict = a ∙ ap (λ xs. xs ++ filter_map (set_of off_set (id_in places)) dict) none ∙ set_by_rows off_set places net.rows ids node dict knows in
@@ -155,11 +160,11 @@ time_fits time (Some now) small = by_test (int_eq now (pos time))
 
 pub all_fit : (dict : List Entry) (ids : ℕ → Option ℕ) (time : ℕ) → ((index : ℕ) → IfSome (ids index) (λ id. id < 2 ^ 11)) → time < 2 ^ 16 → All IsFit (settings_of dict ids time)
 all_fit dict ids time small short =
-    All-append IsFit (filter_map (set_of off_set ids) dict ++ filter_map (set_of on_set ids) dict) (time_set time (option_and_then time_of (entry_at dict 0x1017 0)))
+    All-append IsFit (filter_map (set_of off_set ids) dict ++ filter_map (set_of on_set ids) dict) (time_set time (option_and_then whole_of (entry_at dict 0x1017 0)))
     (All-append IsFit (filter_map (set_of off_set ids) dict) (filter_map (set_of on_set ids) dict)
     (all_given IsFit (set_of off_set ids) dict (λ k d lt. off_all_fit ids (get_or dict k d)))
     (all_given IsFit (set_of on_set ids) dict (λ k d lt. on_all_fit ids (get_or dict k d) (small (get_or dict k d).index))))
-    (time_fits time (option_and_then time_of (entry_at dict 0x1017 0)) short)
+    (time_fits time (option_and_then whole_of (entry_at dict 0x1017 0)) short)
 
 -- the time of a heartbeat in ms has 16 bits
 pub short_time : (row : Option FrameRow) → IfSome row IsTimed → time_in row < 2 ^ 16
@@ -212,7 +217,7 @@ on_here dict ids k d lt = by_test (is_cob_id (get_or dict k d)) refl (unsigned32
     by_test true e (Some cob_id) None = tt
     by_test true e (Some cob_id) (Some id) = cob_id_here dict k d (on cob_id id) lt e
 
-time_here : (dict : List Entry) (time : ℕ) → All (HasObject dict) (time_set time (option_and_then time_of (entry_at dict 0x1017 0)))
+time_here : (dict : List Entry) (time : ℕ) → All (HasObject dict) (time_set time (option_and_then whole_of (entry_at dict 0x1017 0)))
 time_here dict time = by_entry (entry_at dict 0x1017 0) refl
   where
     by_now : (now : Option ℤ) → IsSome (entry_at dict 0x1017 0) → All (HasObject dict) (time_set time now)
@@ -223,13 +228,13 @@ time_here dict time = by_entry (entry_at dict 0x1017 0) refl
         by_test true = λ k d lt. absurd (omega arith)
         by_test false = All-cons (HasObject dict) (heartbeat_set time) [] some (λ k d lt. absurd (omega arith))
 
-    by_entry : (o : Option Entry) → entry_at dict 0x1017 0 ≡ o → All (HasObject dict) (time_set time (option_and_then time_of o))
+    by_entry : (o : Option Entry) → entry_at dict 0x1017 0 ≡ o → All (HasObject dict) (time_set time (option_and_then whole_of o))
     by_entry None e = λ k d lt. absurd (omega arith)
-    by_entry (Some entry) e = by_now (time_of entry) (rw e refl)
+    by_entry (Some entry) e = by_now (whole_of entry) (rw e refl)
 
 pub all_have_objects : (dict : List Entry) (ids : ℕ → Option ℕ) (time : ℕ) → All (HasObject dict) (settings_of dict ids time)
 all_have_objects dict ids time =
-    All-append (HasObject dict) (filter_map (set_of off_set ids) dict ++ filter_map (set_of on_set ids) dict) (time_set time (option_and_then time_of (entry_at dict 0x1017 0)))
+    All-append (HasObject dict) (filter_map (set_of off_set ids) dict ++ filter_map (set_of on_set ids) dict) (time_set time (option_and_then whole_of (entry_at dict 0x1017 0)))
     (All-append (HasObject dict) (filter_map (set_of off_set ids) dict) (filter_map (set_of on_set ids) dict)
     (all_given (HasObject dict) (set_of off_set ids) dict (λ k d lt. off_here dict ids k d lt))
     (all_given (HasObject dict) (set_of on_set ids) dict (λ k d lt. on_here dict ids k d lt)))

@@ -5,7 +5,7 @@ use Rattle.std.specs.Ordering.{int_eq}
 use Rattle.cop_dict.specs.Find.{Entry, unsigned32_of, entry_at}
 use Rattle.cop_dict.specs.Pdo.{is_cob_id, exists_by}
 use Rattle.cop_pdo.specs.CobIds.{off, on}
-use Rattle.cop_net.specs.Settings.{time_of}
+use Rattle.cop_net.specs.Settings.{whole_of}
 use Rattle.cop_net.specs.Heartbeats.{heartbeat_of}
 use Rattle.cop_net.specs.Network.{Net}
 use Rattle.cop_dcf.specs.declared.setting.Setting.{Setting}
@@ -44,7 +44,7 @@ abbrev pub settings_of : List Entry → (ℕ → Option ℕ) → ℕ → List Se
 settings_of dict ids time =
     filter_map (set_of off_set ids) dict
     ++ filter_map (set_of on_set ids) dict
-    ++ time_set time (option_and_then time_of (entry_at dict 0x1017 0))
+    ++ time_set time (option_and_then whole_of (entry_at dict 0x1017 0))
 
 abbrev pub settings_by : (ℕ → Option ℕ) → ℕ → Option (List Entry) → List Setting
 settings_by ids time None = []

@@ -4,7 +4,7 @@ ghost use Rattle.std.specs.Prelude.{◌≡◌, ◌<◌, ◌++◌, [], IfOk, IfSo
 ghost use Rattle.std.specs.List.{cons_option, filter_map};
 ghost use Rattle.cop_dict.specs.Find.{unsigned32_of, entry_at};
 ghost use Rattle.cop_dict.specs.Pdo.{is_cob_id};
-ghost use Rattle.cop_net.specs.Settings.{time_of};
+ghost use Rattle.cop_net.specs.Settings.{whole_of};
 ghost use Rattle.cop_plan.specs.Plans.{IsPlan};
 ghost use Rattle.cop_dcf.specs.Identifiers.{id_in};
 ghost use Rattle.cop_dcf.specs.Settings.{cob_id_set, off_set, on_set, set_of, time_set, node_settings};
@@ -67,7 +67,7 @@ fn on_set(entry: &Object, id: Option<u16>) -> Option<Setting>
 
 /// The heartbeat's time in ms, where the device has another.
 fn time_set(dict: &Dictionary, time: u16) -> Option<Setting>
-    ensures { cons_option result [] ≡ time_set time (option_and_then time_of (entry_at dict.now 0x1017 0)) }
+    ensures { cons_option result [] ≡ time_set time (option_and_then whole_of (entry_at dict.now 0x1017 0)) }
 {
     let entry = dict.entry(0x1017, 0)?;
     if matches!(entry.description().data_type, DataType::Boolean) {

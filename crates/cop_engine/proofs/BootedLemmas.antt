@@ -1,11 +1,12 @@
 -- The devices of a network can be booted by each plan of it.
-use Rattle.std.proofs.Common.{◌≡◌, ℕ, zero, suc, ◌<◌, ◌^◌, Bool, true, false, cond, ◌==◌, List, [], ◌∷◌, ◌++◌, map, get_or, is_some, unwrap_or, Option, Some, None, All, refl, sym, ap, subst, ◌∙◌, arith}
+use Rattle.std.proofs.Common.{◌≡◌, ℕ, zero, suc, ◌<◌, ◌^◌, Bool, true, false, cond, ◌==◌, List, [], ◌∷◌, ◌++◌, map, get_or, is_some, unwrap_or, Option, Some, None, All, inl, inr, refl, sym, ap, subst, ◌∙◌, arith}
 use Rattle.std.specs.List.{AllPairs}
 use Rattle.std.proofs.lemmas.Bool.{eqb-true, ne_eqb}
 use Rattle.std.proofs.lemmas.List.{get_or_default}
 use Rattle.std.proofs.lemmas.List.Elements.{All-nil, All-cons, All-append, All-head, All-tail}
 use Rattle.cop_frame.specs.declared.rates.Rate.{Rate}
 use Rattle.cop_rta.specs.declared.streams.Stream.{Stream}
+use Rattle.cop_rta.specs.Ranges.{IsPermitted}
 use Rattle.cop_dict.specs.Find.{Entry}
 use Rattle.cop_dict.specs.Dict.{initial}
 use Rattle.cop_net.specs.Heartbeats.{heartbeat_of}
@@ -17,7 +18,7 @@ use Rattle.cop_dcf.specs.Identifiers.{id_at}
 use Rattle.cop_dcf.specs.Settings.{dictionary_of, node_settings, settings_by, IsFit}
 use Rattle.cop_dcf.proofs.SettingsLemmas.{all_fit_in}
 use Rattle.cop_boot.specs.Settings.{is_short_value, AcceptsInTurn}
-use Rattle.cop_boot.specs.PlanSettings.{IsPdoId}
+use Rattle.cop_net.specs.Signals.{IsPdoId}
 use Rattle.cop_boot.specs.Node.{Node}
 use Rattle.cop_boot.specs.Manager.{node_of}
 use Rattle.cop_boot.specs.Device.{Attached}
@@ -28,14 +29,20 @@ use Rattle.cop_boot.proofs.PlanInTurn.{plan_accepted}
 use Rattle.cop_engine.specs.Boots.{nodes_to, device_nodes, managed, manager_of, dictionary_at, device_at}
 use Rattle.cop_engine.proofs.BootLemmas.{IsUpTo, nodes_low, nodes_rise, short_of}
 
+permitted_is : (pdos id : ℕ) → IsPermitted pdos id → IsPdoId id
+permitted_is pdos id (inl first) = inl first
+permitted_is pdos id (inr second) = inr second.1
+
 -- the identifiers of a plan are those that a PDO may get
 pub pdo_ids : (rates : List Rate) (streams : List Stream) (pdos : ℕ) (plan : PlanValue) → IsPlan rates streams pdos plan → All IsPdoId plan.ids
 pdo_ids rates streams pdos plan h = λ k d lt.
     let inside : k < pdos = omega (arith, h.count) in
     let same : get_or plan.ids k d ≡ get_or plan.ids k 0 = get_or_default plan.ids k d 0 lt in
-    let low = h.passing.0.least k inside in
-    let high = h.passing.0.greatest k inside in
-    rw same (low, high)
+    rw same (permitted_is pdos (get_or plan.ids k 0) (h.passing.0.permitted k inside))
+
+pdo_id_small : (id : ℕ) → IsPdoId id → id < 2 ^ 11
+pdo_id_small id (inl first) = omega (arith, first.1)
+pdo_id_small id (inr second) = omega (arith, second.1)
 
 abbrev HasDevice : Net → ℕ → Type 0
 HasDevice net node = is_some (dictionary_of net node) ≡ true
@@ -92,7 +99,7 @@ module _ (net : Net) (is : IsNetwork net) (ids : List ℕ) (range : All IsPdoId 
   each_short (s ∷ rest) h = (short_of net ids s (All-head IsFit s rest h), each_short rest (All-tail IsFit s rest h))
 
   small : All (λ id. id < 2 ^ 11) ids
-  small = λ k d lt. let high = (range k d lt).1 in omega (arith, high)
+  small = λ k d lt. pdo_id_small (get_or ids k d) (range k d lt)
 
   -- a device begins with the dictionary that its EDS file describes
   begins_as_built : (node : ℕ) (dict : List Entry) → dictionary_of net node ≡ Some dict → dictionary_at net node ≡ dict

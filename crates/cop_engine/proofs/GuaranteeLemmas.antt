@@ -1,88 +1,73 @@
--- A plan's guarantee for the rows of the table of PDOs.
-use Rattle.std.proofs.Common.{◌≡◌, ℕ, ◌<◌, List, [], ◌∷◌, length, map, slice_get, option_map, Option, Some, None, Ok, IsSome, All, refl, sym, ap, ◌∙◌, subst, arith, zero, suc}
-use Rattle.std.specs.Option.{option_and_then}
-use Rattle.std.proofs.lemmas.Option.{slice_get-map}
-use Rattle.std.proofs.lemmas.List.Elements.{All-weaker}
+-- A plan's guarantee for the rows of both tables.
+use Rattle.std.proofs.Common.{◌≡◌, ◌≢◌, ℕ, ◌+◌, ◌≤◌, inl, inr, List, length, get_or, slice_get, option_map, Option, Some, None, IfSome, All, Contains, refl, sym, ap, ◌∙◌, subst}
+use Rattle.std.proofs.lemmas.Bool.{cases_lt}
+use Rattle.std.proofs.lemmas.List.Elements.{All-weaker, All-contains}
 use Rattle.cop_frame.specs.Rate.{ticks_of}
 use Rattle.cop_rta.specs.declared.streams.Stream.{Stream}
-use Rattle.cop_rta.specs.Entries.{Entry, entry_of}
-use Rattle.cop_rta.specs.Test.{of_stream}
 use Rattle.cop_bus.specs.Run.{Instance, IsOnTime}
 use Rattle.cop_rows.specs.declared.pdo_table.PdoRow.{PdoRow}
-use Rattle.cop_net.specs.Devices.{File}
-use Rattle.cop_net.specs.Fixed.{ticks}
-use Rattle.cop_net.specs.Pdos.{pdo_stream}
-use Rattle.cop_net.specs.Network.{BeginsWith}
-use Rattle.cop_plan.specs.Values.{PlanValue, Timing, timing_of, id_of, HaveDeadlines, AreOnTime}
+use Rattle.cop_rows.specs.declared.node_table.FrameRow.{FrameRow}
+use Rattle.cop_rows.specs.Nodes.{IsFrame, IsFrameDeadline}
+use Rattle.cop_net.specs.Fixed.{base_of, ticks}
+use Rattle.cop_net.specs.Network.{IsNetwork}
+use Rattle.cop_plan.specs.Values.{PlanValue, id_of}
 use Rattle.cop_plan.specs.Plans.{IsPlan, IsOutcome}
 use Rattle.cop_plan.specs.declared.assigning.Outcome.{Outcome}
 use Rattle.cop_plan.specs.declared.assigning.Outcome.TheVariants.{Planned, Refused}
-use Rattle.cop_plan.proofs.RenameLemmas.{id_of_pdo, on_time_renamed}
-use Rattle.cop_sim.specs.Guarantee.{IsRunOf}
+use Rattle.cop_sim.specs.Guarantee.{IsRunOf, IsKept}
 use Rattle.cop_sim.proofs.GuaranteeLemmas.{kept}
-use Rattle.cop_engine.specs.Networks.{Found, network_in}
-use Rattle.cop_engine.specs.Guarantee.{IsPdoOf, IsGuaranteed}
-use Rattle.cop_engine.proofs.RowStreams.{row_stream}
+use Rattle.cop_engine.specs.Networks.{Found, net_of}
+use Rattle.cop_engine.specs.Guarantee.{IsFrameOf, AreOnTimeIn, IsGuaranteed}
+use Rattle.cop_engine.proofs.PlanStreams.{fine, synced, pdo_of, frame_at, tested_at}
 
--- what a function made something of was there
-pub was_there : {A B : Type 0} (f : A → B) (o : Option A) (b : B) → option_map f o ≡ Some b → (a : A) × (o ≡ Some a) × (f a ≡ b)
-was_there f None b h = absurd (cc)
-was_there f (Some a) b h = (a, refl, same (f a) b h)
-  where
-    same : {B : Type 0} (x y : B) → Some x ≡ Some y → x ≡ y
-    same x y e = cc
+sent_row : (row : FrameRow) (d : ℕ) → row.deadline ≡ Some d → IfSome row.deadline (IsFrameDeadline row.kind row.period) → row.period ≢ 0
+sent_row row d dated h =
+    let its : IfSome (Some d) (IsFrameDeadline row.kind row.period) = subst (λ (o : Option ℕ). IfSome o (IsFrameDeadline row.kind row.period)) dated h in its.sent
 
-some_is : (o : Option ℕ) → IsSome o → (d : ℕ) × (o ≡ Some d)
-some_is None h = absurd (cc)
-some_is (Some d) h = (d, refl)
-
-pub inside : {A : Type 0} (xs : List A) (k : ℕ) (x : A) → slice_get xs k ≡ Some x → k < length xs
-inside [] k x h = absurd (cc)
-inside (y ∷ xs) zero x h = omega arith
-inside (y ∷ xs) (suc k) x h = let l = inside xs k x h in omega arith
-
-module _ (nodes pdos : List ℕ) (eds : List File) (found : Found) (read : network_in nodes pdos eds ≡ Ok found) (streams : List Stream) (are : map entry_of streams ≡ found.network.streams)
-    (begins : BeginsWith (length found.rows) streams) where
-  have_deadlines : HaveDeadlines streams (length found.rows)
-  have_deadlines p h = some_is (option_and_then (λ (s : Stream). s.deadline) (slice_get streams p)) (begins.deadlines p h)
-
+module _ (found : Found) (streams : List Stream) (is : IsNetwork (net_of found streams)) where
   module _ (plan : PlanValue) (planned : IsPlan found.network.equipment.rates streams (length found.rows) plan) where
-    -- each PDO passes under the plan's identifiers
-    pub fine : AreOnTime plan.rate plan.streams (length plan.ids)
-    fine = subst (λ (n : ℕ). AreOnTime plan.rate plan.streams n) (sym planned.count)
-        (on_time_renamed plan.rate streams plan.streams (length found.rows) (id_of plan.ids) planned.renamed begins.count have_deadlines planned.order.passes)
+    -- the instances of a stream in each run of the plan
+    abbrev AreKept : Stream → Type 0
+    AreKept k = (until : ℕ) (run : List Instance) → IsRunOf plan until run → All (λ y. y.id ≡ k.id → IsOnTime (ticks_of plan.rate) until k.deadline y) run
 
-    -- the stream of a row
-    pub pdo_of : (p : ℕ) (row : PdoRow) → slice_get found.rows p ≡ Some row → (k : Stream) × IsPdoOf plan p row k
-    pdo_of p row there =
-        let low : p < length found.rows = inside found.rows p row there in
-        let r = row_stream nodes pdos eds found read p row there in
-        let e : option_map entry_of (slice_get streams p) ≡ Some (pdo_stream p r.0 row) = sym (slice_get-map entry_of streams p) ∙ ap (λ (es : List Entry). slice_get es p) are ∙ r.1 in
-        let s = was_there entry_of (slice_get streams p) (pdo_stream p r.0 row) e in
-        let t : option_map timing_of (slice_get plan.streams p) ≡ Some (timing_of s.0) =
-        sym (slice_get-map timing_of plan.streams p) ∙ ap (λ (ts : List Timing). slice_get ts p) planned.renamed.timings ∙ slice_get-map timing_of streams p ∙ ap (λ (o : Option Stream). option_map timing_of o) s.1 in
-        let k = was_there timing_of (slice_get plan.streams p) (timing_of s.0) t in
-        let id : of_stream (λ s. s.id) plan.streams p ≡ id_of plan.ids p =
-        planned.renamed.each p (omega (arith, low, begins.count)) ∙ id_of_pdo streams (length found.rows) (id_of plan.ids) p low in (
-          k.0,
-          record {
-            here = k.1;
-            id = rw k.1 at id;
-            period = ap (λ (t : Timing). t.period) k.2 ∙ ap (λ (e : Entry). e.period) s.2;
-            jitter = ap (λ (t : Timing). t.jitter) k.2 ∙ ap (λ (e : Entry). e.jitter) s.2;
-            deadline = ap (λ (t : Timing). t.deadline) k.2 ∙ ap (λ (e : Entry). e.deadline) s.2;
-          },
-        )
+    -- in each run of the plan the instances of each stream are on time, where it has a deadline
+    pub all_kept : (p : ℕ) (k : Stream) → slice_get plan.streams p ≡ Some k → AreKept k
+    all_kept p k here until run legal = elim (cases_lt p (length plan.ids)) [ inl low ↦ is_kept.on_time k (p, low, here) | inr past ↦ by_deadline k.deadline refl past ]
+      where
+        is_kept : IsKept plan until run
+        is_kept = kept plan (fine found streams is plan planned) (synced found streams is plan planned) until run legal
 
-    pub meets : (p : ℕ) (row : PdoRow) → slice_get found.rows p ≡ Some row → (until : ℕ) (run : List Instance) → IsRunOf plan until run →
-        All (λ y. y.id ≡ id_of plan.ids p → IsOnTime (ticks_of plan.rate) until (Some (ticks row.deadline)) y) run
-    meets p row there until run legal =
-        let k = pdo_of p row there in
-        let low : p < length plan.ids = omega (arith, inside found.rows p row there, planned.count) in
-        let all = (kept plan fine until run legal).on_time k.0 (p, low, k.1.here) in
-        All-weaker (λ y. y.id ≡ k.0.id → IsOnTime (ticks_of plan.rate) until k.0.deadline y) (λ y. y.id ≡ id_of plan.ids p → IsOnTime (ticks_of plan.rate) until (Some (ticks row.deadline)) y)
-        (λ y h its. subst (λ (d : Option ℕ). IsOnTime (ticks_of plan.rate) until d y) k.1.deadline (h (its ∙ sym k.1.id))) run all
+        by_deadline : (o : Option ℕ) → k.deadline ≡ o → length plan.ids ≤ p → All (λ y. y.id ≡ k.id → IsOnTime (ticks_of plan.rate) until k.deadline y) run
+        by_deadline None none past = λ j e low its. subst (λ (o : Option ℕ). IsOnTime (ticks_of plan.rate) until o (get_or run j e)) (sym none) (λ v q. absurd (cc))
+        by_deadline (Some d) dated past = is_kept.frames k (p, tested_at found streams is plan planned p k d past here dated, here)
+
+    -- the same by what is known of the stream
+    on_time : (p : ℕ) (k : Stream) (id d : ℕ) → slice_get plan.streams p ≡ Some k → k.id ≡ id → k.deadline ≡ Some d → AreOnTimeIn plan id d
+    on_time p k id d here its dated until run legal =
+        All-weaker (λ y. y.id ≡ k.id → IsOnTime (ticks_of plan.rate) until k.deadline y) (λ y. y.id ≡ id → IsOnTime (ticks_of plan.rate) until (Some d) y)
+        (λ y h same. subst (λ (o : Option ℕ). IsOnTime (ticks_of plan.rate) until o y) dated (h (same ∙ sym its))) run (all_kept p k here until run legal)
+
+    pdos_on_time : (p : ℕ) (row : PdoRow) → slice_get found.rows p ≡ Some row → AreOnTimeIn plan (id_of plan.ids p) (ticks row.deadline)
+    pdos_on_time p row there =
+        let k = pdo_of found streams is plan planned p row there in on_time p k.0 (id_of plan.ids p) (ticks row.deadline) k.1.here k.1.id k.1.deadline
+
+    frame_of : (row : FrameRow) → Contains found.nodes.frames row → row.period ≢ 0 → (k : Stream) × IsFrameOf plan row k
+    frame_of row at some = let k = frame_at found streams is plan planned row at some in (k.2, k.4)
+
+    frames_on_time : (row : FrameRow) (d : ℕ) → Contains found.nodes.frames row → row.deadline ≡ Some d → AreOnTimeIn plan (base_of row.kind + row.node) (ticks d)
+    frames_on_time row d at dated =
+        let its = All-contains (IsFrame found.nodes.devices) found.nodes.frames row is.nodes.frames at in
+        let k = frame_at found streams is plan planned row at (sent_row row d dated its.deadline) in
+        on_time k.0 k.2 (base_of row.kind + row.node) (ticks d) k.3 k.4.id (k.4.deadline ∙ ap (option_map ticks) dated)
 
   pub guaranteed : (outcome : Outcome) → IsOutcome found.network.equipment.rates streams (length found.rows) outcome → IsGuaranteed found streams outcome
-  guaranteed (Planned plan) h = (h, record { pdos = pdo_of plan h; on_time = meets plan h })
+  guaranteed (Planned plan) h = (
+    h,
+    record {
+      pdos = pdo_of found streams is plan h;
+      on_time = pdos_on_time plan h;
+      frames = frame_of plan h;
+      frames_on_time = frames_on_time plan h;
+    },
+  )
   guaranteed (Refused refusals) h = h

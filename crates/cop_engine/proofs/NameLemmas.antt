@@ -16,7 +16,7 @@ use Rattle.cop_rows.proofs.RangeLemmas.{bind_ok}
 use Rattle.cop_rows.specs.Fields.{number_within, name_of}
 use Rattle.cop_rows.specs.Nodes.{NodeLists}
 use Rattle.cop_rows.specs.Refusals.{placed, refuse}
-use Rattle.cop_rows.specs.NodeReading.{kind_of, is_device, frame_in, device_in, or_word, as_device, as_frame, row_in, has_device, has_frame, pushed, added, first_lacking, unless_lacking, with_devices, no_rows, rows_in, node_rows_of, nodes_of}
+use Rattle.cop_rows.specs.NodeReading.{kind_of, is_device, frame_in, device_in, or_word, as_device, as_frame, row_in, has_device, has_frame, pushed, added, first_lacking, unless_lacking, with_devices, no_rows, no_text, rows_in, width_of, node_rows_of, nodes_of}
 
 -- the device and its EDS file have names
 abbrev pub HasNames : DeviceRow → Type 0
@@ -35,7 +35,8 @@ device_names place row d h =
     let one = bind_ok (number_within columns.Node 1 127 (field row 1)) _ d h in
     let two = bind_ok (number_within columns.Period 0 0 (field row 4)) _ d one.2 in
     let three = bind_ok (number_within columns.Jitter 0 0 (field row 5)) _ d two.2 in
-    let four = bind_ok (name_of columns.Name (field row 2)) _ d three.2 in
+    let dated = bind_ok (no_text columns.Deadline (field row 6)) _ d three.2 in
+    let four = bind_ok (name_of columns.Name (field row 2)) _ d dated.2 in
     let five = bind_ok (name_of columns.Eds (field row 3)) _ d four.2 in
     let whole : ◌≡◌ {A = Result DeviceRow Rule} (Ok (record { place = place; node = one.0; name = four.0; eds = five.0 })) (Ok d) = five.2 in
     let same : record { place = place; node = one.0; name = four.0; eds = five.0 } ≡ d = cc in
@@ -46,8 +47,8 @@ placed_ok place (Ok y) x h = let same : y ≡ x = cc in ap Ok same
 placed_ok place (Err e) x h = cc
 
 -- one row more
-step_names : (lists next : NodeLists) (place : ℕ) (row : List (List ℕ)) → (row_in place row >>= pushed lists) ≡ Ok next → All HasNames lists.devices → All HasNames next.devices
-step_names lists next place row h all = by_tests (not (length row == 6)) (is_device (field row 0)) h
+step_names : (width : ℕ) (lists next : NodeLists) (place : ℕ) (row : List (List ℕ)) → (row_in width place row >>= pushed lists) ≡ Ok next → All HasNames lists.devices → All HasNames next.devices
+step_names width lists next place row h all = by_tests (not (length row == width)) (is_device (field row 0)) h
   where
     of_device : (r : Result DeviceRow Rule) → device_in place row ≡ r → (as_device r >>= pushed lists) ≡ Ok next → All HasNames next.devices
     of_device (Err e) is k = cc
@@ -74,12 +75,12 @@ step_names lists next place row h all = by_tests (not (length row == 6)) (is_dev
     by_tests false true k = of_device (device_in place row) refl k
     by_tests false false k = of_frame (or_word (kind_of (field row 0)) >>= λ kind. frame_in place kind row) k
 
-rows_names : (place : ℕ) (lists more : NodeLists) (rows : List (List (List ℕ))) → rows_from added place lists rows ≡ Ok more → All HasNames lists.devices → All HasNames more.devices
+rows_names : (width place : ℕ) (lists more : NodeLists) (rows : List (List (List ℕ))) → rows_from (added width) place lists rows ≡ Ok more → All HasNames lists.devices → All HasNames more.devices
 unfolding rows_from
-rows_names place lists more [] h all = let same : lists ≡ more = cc in subst (λ (l : NodeLists). All HasNames l.devices) same all
-rows_names place lists more (row ∷ rows) h all =
-    let p = bind_ok (added place lists row) (λ next. rows_from added (place + 1) next rows) more h in
-    rows_names (place + 1) p.0 more rows p.2 (step_names lists p.0 place row (placed_ok place (row_in place row >>= pushed lists) p.0 p.1) all)
+rows_names width place lists more [] h all = let same : lists ≡ more = cc in subst (λ (l : NodeLists). All HasNames l.devices) same all
+rows_names width place lists more (row ∷ rows) h all =
+    let p = bind_ok (added width place lists row) (λ next. rows_from (added width) (place + 1) next rows) more h in
+    rows_names width (place + 1) p.0 more rows p.2 (step_names width lists p.0 place row (placed_ok place (row_in width place row >>= pushed lists) p.0 p.1) all)
 
 kept_lists : (lists more : NodeLists) → with_devices lists ≡ Ok more → lists ≡ more
 kept_lists lists more h = by_lacking (first_lacking lists.devices lists.frames) h
@@ -97,5 +98,5 @@ pub devices_named : (text : List ℕ) (lists : NodeLists) → nodes_of text ≡ 
 unfolding node_rows_of
 devices_named text lists h =
     let p = bind_ok (node_rows_of text) with_devices lists h in
-    let q = bind_ok (rows_in text) (λ rows. rows_from added 1 no_rows rows) p.0 p.1 in
-    subst (λ (l : NodeLists). All HasNames l.devices) (kept_lists p.0 lists p.2) (rows_names 1 no_rows p.0 q.0 q.2 (All-nil HasNames))
+    let q = bind_ok (rows_in text) (λ (found : ℕ × List (List (List ℕ))). rows_from (added (width_of found.0)) 1 no_rows found.1) p.0 p.1 in
+    subst (λ (l : NodeLists). All HasNames l.devices) (kept_lists p.0 lists p.2) (rows_names (width_of q.0.0) 1 no_rows p.0 q.0.1 q.2 (All-nil HasNames))

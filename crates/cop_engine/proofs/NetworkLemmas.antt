@@ -1,8 +1,7 @@
 -- What the files say, from what each reading gives.
-use Rattle.std.proofs.Common.{◌≡◌, ℕ, zero, suc, ◌<◌, ◌≤◌, List, [], ◌∷◌, length, slice_get, Some, Ok, Err, Result, IfSome, IsTrue, MatchResult, All, Bool, true, ◌↔◌, inl, inr, refl, sym, subst, le_refl, arith}
+use Rattle.std.proofs.Common.{◌≡◌, ℕ, zero, suc, ◌<◌, ◌≤◌, List, [], ◌∷◌, length, slice_get, Some, Ok, Err, Result, IfSome, IsTrue, MatchResult, All, Bool, true, ◌↔◌, inl, inr, refl, sym, subst, arith}
 use Rattle.cop_rta.specs.declared.streams.Stream.{Stream}
-use Rattle.cop_cert.specs.Assignments.{least_id}
-use Rattle.cop_cert.proofs.SetLemmas.{refusal_rules_out}
+use Rattle.cop_cert.proofs.CauseLemmas.{refusal_rules_out}
 use Rattle.std.specs.Result.{IsErrAnd}
 use Rattle.cop_rows.specs.Nodes.{NodeLists}
 use Rattle.cop_rows.specs.declared.pdo_table.PdoRow.{PdoRow}
@@ -97,7 +96,7 @@ module _ (nodes pdos : List ℕ) (files : List File) where
   rule_out : (streams : List Stream) (pdos : ℕ) (refusals : List refused.Refusal) (answers : List Bool) → pdos ≤ length streams
       → AreChecked streams pdos refusals answers (length refusals) → RuleOut streams pdos refusals answers
   rule_out streams pdos refusals answers count checked k r here holds =
-      refusal_rules_out least_id streams pdos r (le_refl least_id) count ((checked.each k (at_inside refusals k r here) r here).0 holds)
+      refusal_rules_out streams pdos r count ((checked.each k (at_inside refusals k r here) r here).0 holds)
 
   -- the check of the network's refusals is that of the files
   pub check_is : (n : NodeLists) (rows : List PdoRow) (network : Net) (text lines : List ℕ) (refusals : List refused.Refusal) (all : Bool)

@@ -1,16 +1,20 @@
 -- Tables and EDS files have one plan, and with a refusal file one check.
-use Rattle.std.proofs.Common.{◌≡◌, ◌↔◌, ℕ, ◌<◌, Bool, true, false, List, [], ◌∷◌, length, map, get_or, slice_get, All, IsTrue, Some, Ok, Result, refl, sym, ap, ◌∙◌, subst, arith}
-use Rattle.std.proofs.lemmas.List.{ext_get_or}
+use Rattle.std.proofs.Common.{◌≡◌, ◌≢◌, ◌↔◌, ℕ, ◌<◌, Bool, true, false, List, [], ◌∷◌, length, map, get_or, slice_get, All, AllPairs, IfOk, IsTrue, Some, Ok, Result, refl, sym, ap, ◌∙◌, subst, arith}
+use Rattle.std.proofs.lemmas.List.{ext_get_or, get_or-map, length-map}
 use Rattle.std.proofs.lemmas.Option.{slice_get-get_or}
 use Rattle.cop_rta.specs.declared.streams.Stream.{Stream}
 use Rattle.cop_rta.specs.declared.verdicts.Verdict.{Verdict}
-use Rattle.cop_rta.specs.Entries.{entry_of}
+use Rattle.cop_rta.specs.Entries.{Entry, entry_of}
+use Rattle.cop_rta.specs.Streams.{AreDistinct}
 use Rattle.cop_rta.proofs.StreamLemmas.{streams_same}
 use Rattle.cop_cert.specs.declared.refusals.Refusal.{Refusal}
 use Rattle.cop_cert.specs.Format.{text_of}
 use Rattle.cop_rows.specs.declared.pdo_table.PdoRow.{PdoRow}
 use Rattle.cop_net.specs.Devices.{File}
-use Rattle.cop_net.specs.Network.{Net, BeginsWith}
+use Rattle.cop_net.specs.declared.faults.Refusal as net
+use Rattle.cop_net.specs.Sets.{AreOneSet}
+use Rattle.cop_net.specs.Network.{Net, Accepted, IsNetwork}
+use Rattle.cop_net.proofs.NetworkLemmas.{accepted_one_set}
 use Rattle.cop_plan.specs.Orders.{HasPdos}
 use Rattle.cop_plan.specs.declared.assigning.Outcome.{Outcome}
 use Rattle.cop_plan.specs.declared.assigning.Outcome.TheVariants.{Planned, Refused}
@@ -27,8 +31,20 @@ use Rattle.cop_engine.proofs.LawLemmas.{all_verdicts_same}
 abbrev pub SameFiles : Files → Files → Type 0
 SameFiles a b = (a.planned ≡ b.planned) × (a.plan.items ≡ b.plan.items) × (a.refusals.items ≡ b.refusals.items) × (a.dcf ≡ b.dcf)
 
-has_pdos : (pdos : ℕ) (streams : List Stream) → BeginsWith pdos streams → HasPdos streams pdos
-has_pdos pdos streams h = record { count = h.count; outside = h.outside }
+-- identifiers of entries are those of streams
+distinct_entries : (streams : List Stream) → AllPairs (λ e f. e.id ≢ f.id) (map entry_of streams) → AreDistinct streams
+distinct_entries streams apart i j d lt inside same =
+    apart i j (entry_of d) lt (omega (arith, inside, length-map streams entry_of))
+    (ap (λ (e : Entry). e.id) (get_or-map entry_of streams i d (entry_of d) (omega (arith, lt, inside))) ∙ same ∙ sym (ap (λ (e : Entry). e.id) (get_or-map entry_of streams j d (entry_of d) inside)))
+
+-- no two streams of a network have one identifier
+network_distinct : (n : Net) → IsNetwork n → AreDistinct n.set
+network_distinct n is =
+    let one : AreOneSet (map entry_of n.set) = subst (λ (r : Result Accepted net.Refusal). IfOk r (λ made. AreOneSet made.streams)) is.made (accepted_one_set n.nodes n.rows is.files is.nodes is.rows) in
+    distinct_entries n.set one.apart
+
+has_pdos : (n : Net) → IsNetwork n → HasPdos n.set (length n.rows)
+has_pdos n is = record { count = is.streams.count; distinct = network_distinct n is; outside_first = is.streams.outside; outside_second = is.streams.outside_second }
 
 text_same : (rows : List PdoRow) (outcome : Outcome) (vs ws : List Verdict) → ArePlanVerdicts outcome vs (length rows) → ArePlanVerdicts outcome ws (length rows) → plan_text rows vs outcome ≡ plan_text rows ws outcome
 text_same rows (Planned plan) vs ws x y = rw (all_verdicts_same plan.rate plan.streams vs ws (length rows) x y) refl
@@ -57,7 +73,7 @@ one_plan nodes pdos eds a b x y =
     let streams : x.streams ≡ y.streams = streams_same x.streams y.streams entries in
     let net : net_of x.found x.streams ≡ net_of y.found y.streams = ap (λ (f : Found). net_of f x.streams) found ∙ ap (net_of y.found) streams in
     let mine : AreFilesFor eds (net_of y.found y.streams) a = subst (λ (n : Net). AreFilesFor eds n a) net x.planned in
-    files_same eds (net_of y.found y.streams) a b (has_pdos (length y.found.rows) y.streams y.begins) mine y.planned
+    files_same eds (net_of y.found y.streams) a b (has_pdos (net_of y.found y.streams) y.network) mine y.planned
 
 -- ---- checks
 

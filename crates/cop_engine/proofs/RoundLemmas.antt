@@ -76,7 +76,7 @@ module _ (nodes pdos : List ℕ) (files : List File) (found : Found) (read : net
   again : (node : ℕ) (row : DeviceRow) → device_row net.nodes.devices node ≡ Some row → IsNodeReadAgain net files plan.ids plan.rate node row
   again node row own =
       let names : HasNames row = found_names net.nodes.devices (λ r. r.node == node) row is_found.names own in
-      node_round net files plan.ids plan.rate node row made network.nodes own (ids_small found.network.equipment.rates streams (length found.rows) plan planned network.rows.count) names.0 names.1
+      node_round net files plan.ids plan.rate node row made network.nodes own (ids_small found.network.equipment.rates streams (length found.rows) plan planned) names.0 names.1
 
   -- the file of a node
   of_row : (node : ℕ) (row : DeviceRow) (file : File) → device_row net.nodes.devices node ≡ Some row → dcf_file files net plan row ≡ file → IsFileReadAgain net plan node file

@@ -1,25 +1,31 @@
 -- The stream of each row of the table of PDOs.
-use Rattle.std.proofs.Common.{◌≡◌, ℕ, zero, suc, ◌+◌, ◌≤◌, ◌==◌, ◌⊎◌, inl, inr, Bool, true, false, if◌then◌else◌, find, List, [], ◌∷◌, ◌++◌, length, slice_get, Option, Some, None, Result, Ok, refl, sym, ap, subst, arith}
-use Rattle.std.proofs.lemmas.Option.{slice_get_within}
-use Rattle.cop_rta.specs.Entries.{Entry}
+use Rattle.std.proofs.Common.{◌≡◌, ℕ, zero, suc, ◌+◌, ◌*◌, ◌≤◌, ◌==◌, Bool, true, false, cond, List, [], ◌∷◌, ◌++◌, length, map, get_or, slice_get, Option, Some, None, Result, Ok, refl, sym, ap, ◌∙◌, subst, arith, mul_assoc}
+use Rattle.std.proofs.lemmas.Bool.{ne_eqb, eqb-true}
+use Rattle.cop_dict.specs.declared.mapping.Direction.TheVariants as directions
+use Rattle.cop_pdo.specs.Payload.{payload_of}
+use Rattle.cop_rta.specs.Entries.{Entry, entry_of}
 use Rattle.cop_rows.specs.declared.pdo_table.PdoRow.{PdoRow}
 use Rattle.cop_rows.specs.declared.node_table.FrameRow.{FrameRow}
 use Rattle.cop_rows.specs.Nodes.{NodeLists}
-use Rattle.cop_rows.specs.NodeReading.{nodes_of}
-use Rattle.cop_rows.specs.PdoReading as reading
-use Rattle.cop_net.specs.declared.faults.Refusal.{Refusal}
-use Rattle.cop_net.specs.declared.faults.Table.TheVariants.{Nodes, Pdos}
-use Rattle.cop_net.specs.declared.devices.Device.{Device}
-use Rattle.cop_net.specs.Devices.{File, Equipment, devices_of}
-use Rattle.cop_net.specs.Tables.{in_table}
-use Rattle.cop_net.specs.Rates.{is_some_rate}
-use Rattle.cop_net.specs.Fixed.{frame_stream, key_of, sent, streams_from, fixed_streams}
-use Rattle.cop_net.specs.Pdos.{Traffic, pdo_stream, pdo_added, no_traffic, pdos_of}
-use Rattle.cop_net.specs.Steps.{folded}
-use Rattle.cop_net.specs.Network.{Accepted, all_settable, with_rate, streams_of, network_of}
-use Rattle.cop_net.proofs.PdoLemmas.{shape, one_more, pdos_found}
 use Rattle.cop_rows.proofs.RangeLemmas.{bind_ok}
-use Rattle.cop_engine.specs.Networks.{Found, network_in}
+use Rattle.cop_net.specs.declared.faults.Refusal.{Refusal}
+use Rattle.cop_net.specs.declared.faults.Rule.{Rule}
+use Rattle.cop_net.specs.declared.faults.Rule.TheVariants as rules
+use Rattle.cop_net.specs.declared.faults.SyncFault.{SyncFault}
+use Rattle.cop_net.specs.declared.faults.SyncFault.TheVariants as faults
+use Rattle.cop_net.specs.declared.devices.Device.{Device}
+use Rattle.cop_net.specs.declared.pdos.Sent.{Sent}
+use Rattle.cop_net.specs.declared.signals.Signals.{Signals}
+use Rattle.cop_net.specs.Devices.{File, Equipment, devices_of}
+use Rattle.cop_net.specs.Rates.{is_some_rate}
+use Rattle.cop_net.specs.Settings.{is_usable}
+use Rattle.cop_net.specs.Fixed.{ticks, fixed_streams}
+use Rattle.cop_net.specs.Pdos.{Traffic, laid_out, unless, or_rule, every_at, sync_fault, pace_fault, unless_fault, period_of, transmitted_by, consumer_added, sent_by, pdo_stream, pdo_added, no_traffic, pdos_of}
+use Rattle.cop_net.specs.Signals.{ranges_of, signals_of}
+use Rattle.cop_net.specs.Steps.{folded}
+use Rattle.cop_net.specs.Network.{Accepted, Net, IsNetwork, accepted, all_settable, with_rate, streams_of, network_of}
+use Rattle.cop_net.proofs.PdoLemmas.{one_more, pdos_found}
+use Rattle.cop_engine.specs.Guarantee.{HasType}
 
 -- what stands in a list stands there with more behind it
 pub still_there : {A : Type 0} (xs ys : List A) (k : ℕ) (x : A) → slice_get xs k ≡ Some x → slice_get (xs ++ ys) k ≡ Some x
@@ -31,49 +37,128 @@ last_there : {A : Type 0} (xs : List A) (x : A) → slice_get (xs ++ x ∷ []) (
 last_there [] x = refl
 last_there (z ∷ xs) x = last_there xs x
 
-module _ (devices : List (Option Device)) where
+-- ---- what a device sends
+
+the_number : (rule : Rule) (place : ℕ) (o : Option ℕ) (n : ℕ) → or_rule rule place o ≡ Ok n → o ≡ Some n
+the_number rule place None n h = cc
+the_number rule place (Some m) n h = cc
+
+no_fault : (place : ℕ) (fault : Option SyncFault) (x y : Sent) → unless_fault place fault x ≡ Ok y → (fault ≡ None) × (x ≡ y)
+no_fault place None x y h = (refl, cc)
+no_fault place (Some fault) x y h = cc
+
+-- a TPDO is sent as its transmission type says, and its row and SYNC's go with that
+as_sent : (signals : Signals) (place : ℕ) (row : PdoRow) (device : Option Device) (sent : Sent) → transmitted_by signals place row device ≡ Ok sent
+    → HasType device row sent.every × (pace_fault signals.sync row sent.every ≡ None)
+as_sent signals place row None sent h = cc
+as_sent signals place row (Some device) sent h =
+    let index = (sent_by row).index in
+    let p = bind_ok (laid_out rules.Transmit place directions.Transmit (payload_of device.dictionary directions.Transmit row.tpdo)) _ sent h in
+    let q = bind_ok (unless rules.CobId place (is_usable device.dictionary index (ranges_of signals)) p.0) _ sent p.2 in
+    let r = bind_ok (or_rule rules.Transmission place (every_at device.dictionary index)) _ sent q.2 in
+    let n = no_fault place (pace_fault signals.sync row r.0) (record { mapping = q.0; every = r.0 }) sent r.2 in
+    let every : r.0 ≡ sent.every = ap (λ (s : Sent). s.every) n.1 in
+    let type : every_at device.dictionary index ≡ Some r.0 = the_number rules.Transmission place (every_at device.dictionary index) r.0 r.1 in (
+      record { sender = device; is_sender = refl; type = type ∙ ap (λ (m : ℕ). Some m) every },
+      subst (λ (m : ℕ). pace_fault signals.sync row m ≡ None) every n.0,
+    )
+
+-- where events send it its period is its row's
+pub by_events : (sync : Option FrameRow) (row : PdoRow) (every : ℕ) → every ≡ 0 → period_of sync row every ≡ row.period
+unfolding period_of
+by_events sync row every none = rw none refl
+
+by_row : (sync : Option FrameRow) (row : PdoRow) (every : ℕ) (b : Bool) → (row.period == 0) ≡ b → (every == 0) ≡ false → cond b (sync_fault sync row every) (Some faults.OwnPeriod) ≡ None
+    → (row.period ≡ 0) × (s : FrameRow) × (sync ≡ Some s) × (ticks (period_of sync row every) ≡ every * ticks s.period)
+unfolding period_of
+by_row sync row every false own some h = cc
+by_row None row every true own some h = cc
+by_row (Some s) row every true own some h = (eqb-true row.period 0 own, s, refl, rw some (mul_assoc every s.period 4))
+
+-- and otherwise it is so many times SYNC's
+pub by_sync : (sync : Option FrameRow) (row : PdoRow) (every : ℕ) → 1 ≤ every → pace_fault sync row every ≡ None
+    → (row.period ≡ 0) × (s : FrameRow) × (sync ≡ Some s) × (ticks (period_of sync row every) ≡ every * ticks s.period)
+unfolding pace_fault
+by_sync sync row every some h =
+    let none : (every == 0) ≡ false = ne_eqb every 0 (λ e. omega (arith, some, e)) in
+    by_row sync row every (row.period == 0) refl none (rw none at h)
+
+-- ---- the streams
+
+-- a PDO's stream is what its row, its device and the table of nodes make of it
+pub record IsRowStream (signals : Signals) (devices : List (Option Device)) (k : ℕ) (row : PdoRow) (streams : List Entry) : Type 0 where
+  pub sent : Sent
+  pub there : slice_get streams k ≡ Some (pdo_stream signals k sent row)
+  pub type : HasType (get_or devices row.node None) row sent.every
+  pub paced : pace_fault signals.sync row sent.every ≡ None
+
+module _ (devices : List (Option Device)) (signals : Signals) where
+  -- one row more is one stream more
+  one_row : (found more : Traffic) (row : PdoRow) → pdo_added devices signals found row ≡ Ok more
+      → (sent : Sent) × (more.streams ≡ found.streams ++ pdo_stream signals (length found.streams) sent row ∷ []) × HasType (get_or devices row.node None) row sent.every × (pace_fault signals.sync row sent.every ≡ None)
+  one_row found more row h =
+      let p = bind_ok (transmitted_by signals (length found.streams + 1) row (get_or devices row.node None)) _ more h in
+      let q = bind_ok (folded (consumer_added devices signals (length found.streams + 1) p.0.mapping) (found.used ++ sent_by row ∷ []) row.consumers) _ more p.2 in
+      let stream = pdo_stream signals (length found.streams) p.0 row in
+      let whole : ◌≡◌ {A = Result Traffic Refusal} (Ok (record { streams = found.streams ++ stream ∷ []; used = q.0 })) (Ok more) = q.2 in
+      let same : record { streams = found.streams ++ stream ∷ []; used = q.0 } ≡ more = cc in
+      let s = as_sent signals (length found.streams + 1) row (get_or devices row.node None) p.0 p.1 in
+      (p.0, ap (λ (t : Traffic). t.streams) (sym same), s.0, s.1)
+
   -- the streams of the rows before stay
-  earlier : (rows : List PdoRow) (found more : Traffic) → folded (pdo_added devices) found rows ≡ Ok more → (k : ℕ) (e : Entry) → slice_get found.streams k ≡ Some e → slice_get more.streams k ≡ Some e
+  earlier : (rows : List PdoRow) (found more : Traffic) → folded (pdo_added devices signals) found rows ≡ Ok more → (k : ℕ) (e : Entry) → slice_get found.streams k ≡ Some e → slice_get more.streams k ≡ Some e
   unfolding folded
   earlier [] found more h k e there = let same : found ≡ more = cc in subst (λ (t : Traffic). slice_get t.streams k ≡ Some e) same there
   earlier (row ∷ rows) found more h k e there =
-      let p = bind_ok (pdo_added devices found row) (λ t. folded (pdo_added devices) t rows) more h in
-      let s = shape devices found p.0 row p.1 in
-      earlier rows p.0 more p.2 k e (subst (λ (es : List Entry). slice_get es k ≡ Some e) (sym s.1) (still_there found.streams (pdo_stream (length found.streams) s.0 row ∷ []) k e there))
+      let p = bind_ok (pdo_added devices signals found row) (λ t. folded (pdo_added devices signals) t rows) more h in
+      let s = one_row found p.0 row p.1 in
+      earlier rows p.0 more p.2 k e (subst (λ (es : List Entry). slice_get es k ≡ Some e) (sym s.1) (still_there found.streams (pdo_stream signals (length found.streams) s.0 row ∷ []) k e there))
 
-  from_row : (rows : List PdoRow) (found more : Traffic) → folded (pdo_added devices) found rows ≡ Ok more → (j : ℕ) (row : PdoRow) → slice_get rows j ≡ Some row
-      → (k : ℕ) → k ≡ length found.streams + j → (bytes : ℕ) × (slice_get more.streams k ≡ Some (pdo_stream k bytes row))
+  from_row : (rows : List PdoRow) (found more : Traffic) → folded (pdo_added devices signals) found rows ≡ Ok more → (j : ℕ) (row : PdoRow) → slice_get rows j ≡ Some row
+      → (k : ℕ) → k ≡ length found.streams + j → IsRowStream signals devices k row more.streams
   unfolding folded
   from_row [] found more h j row there k e = absurd (cc)
   from_row (first ∷ rows) found more h zero row there k e =
       let same : first ≡ row = cc in
-      let p = bind_ok (pdo_added devices found first) (λ t. folded (pdo_added devices) t rows) more h in
-      let s = shape devices found p.0 first p.1 in
+      let p = bind_ok (pdo_added devices signals found first) (λ t. folded (pdo_added devices signals) t rows) more h in
+      let s = one_row found p.0 first p.1 in
       let place : length found.streams ≡ k = omega (arith, e) in
-      let stream = pdo_stream (length found.streams) s.0 first in
+      let stream = pdo_stream signals (length found.streams) s.0 first in
       let here : slice_get p.0.streams (length found.streams) ≡ Some stream = subst (λ (es : List Entry). slice_get es (length found.streams) ≡ Some stream) (sym s.1) (last_there found.streams stream) in
       let kept : slice_get more.streams (length found.streams) ≡ Some stream = earlier rows p.0 more p.2 (length found.streams) stream here in
-      (s.0, subst (λ (n : ℕ). slice_get more.streams n ≡ Some (pdo_stream n s.0 row)) place (subst (λ (r : PdoRow). slice_get more.streams (length found.streams) ≡ Some (pdo_stream (length found.streams) s.0 r)) same kept))
+      let own : IsRowStream signals devices (length found.streams) first more.streams = record { sent = s.0; there = kept; type = s.2; paced = s.3 } in
+      subst (λ (n : ℕ). IsRowStream signals devices n row more.streams) place (subst (λ (r : PdoRow). IsRowStream signals devices (length found.streams) r more.streams) same own)
   from_row (first ∷ rows) found more h (suc j) row there k e =
-      let p = bind_ok (pdo_added devices found first) (λ t. folded (pdo_added devices) t rows) more h in
-      let count = one_more devices found p.0 first (length found.streams) p.1 refl in
+      let p = bind_ok (pdo_added devices signals found first) (λ t. folded (pdo_added devices signals) t rows) more h in
+      let count = one_more devices signals found p.0 first (length found.streams) p.1 refl in
       from_row rows p.0 more p.2 j row there k (omega (arith, e, count))
 
-  of_row : (rows : List PdoRow) (found : Traffic) → pdos_of devices rows ≡ Ok found → (k : ℕ) (row : PdoRow) → slice_get rows k ≡ Some row → (bytes : ℕ) × (slice_get found.streams k ≡ Some (pdo_stream k bytes row))
+  of_row : (rows : List PdoRow) (found : Traffic) → pdos_of devices signals rows ≡ Ok found → (k : ℕ) (row : PdoRow) → slice_get rows k ≡ Some row → IsRowStream signals devices k row found.streams
   unfolding pdos_of
   of_row rows found h k row there = from_row rows no_traffic found h k row there k (omega arith)
 
-of_streams : (frames : List FrameRow) (rows : List PdoRow) (equipment : Equipment) (streams : List Entry) → streams_of frames rows equipment ≡ Ok streams
-    → (k : ℕ) (row : PdoRow) → slice_get rows k ≡ Some row → (bytes : ℕ) × (slice_get streams k ≡ Some (pdo_stream k bytes row))
+-- the streams of a network are those of its rows and then those of the fixed identifiers
+pub record AreStreamsOf (frames : List FrameRow) (rows : List PdoRow) (equipment : Equipment) (streams : List Entry) : Type 0 where
+  pub pdos : List Entry
+  pub count : length pdos ≡ length rows
+  pub parts : streams ≡ pdos ++ fixed_streams frames
+  pub each : (k : ℕ) (row : PdoRow) → slice_get rows k ≡ Some row → IsRowStream (signals_of frames (length rows)) equipment.devices k row pdos
+
+streams_are : (frames : List FrameRow) (rows : List PdoRow) (equipment : Equipment) (streams : List Entry) → streams_of frames rows equipment ≡ Ok streams → AreStreamsOf frames rows equipment streams
 unfolding streams_of
-of_streams frames rows equipment streams ok k row there =
-    let p = bind_ok (pdos_of equipment.devices rows) _ streams ok in
+streams_are frames rows equipment streams ok =
+    let signals = signals_of frames (length rows) in
+    let p = bind_ok (pdos_of equipment.devices signals rows) _ streams ok in
     let q = bind_ok (all_settable frames p.0.used 0 equipment.devices) _ streams p.2 in
     let r = bind_ok (with_rate (is_some_rate equipment.rates)) _ streams q.2 in
     let whole : ◌≡◌ {A = Result (List Entry) Refusal} (Ok (p.0.streams ++ fixed_streams frames)) (Ok streams) = r.2 in
-    let parts : p.0.streams ++ fixed_streams frames ≡ streams = cc in
-    let s = of_row equipment.devices rows p.0 p.1 k row there in
-    (s.0, subst (λ (es : List Entry). slice_get es k ≡ Some (pdo_stream k s.0 row)) parts (still_there p.0.streams (fixed_streams frames) k (pdo_stream k s.0 row) s.1))
+    let parts : streams ≡ p.0.streams ++ fixed_streams frames = cc in
+    record {
+      pdos = p.0.streams;
+      count = (pdos_found equipment.devices signals rows p.0 p.1).1;
+      parts = parts;
+      each = of_row equipment.devices signals rows p.0 p.1;
+    }
 
 network_parts : (nodes : NodeLists) (rows : List PdoRow) (files : List File) (made : Accepted) → network_of nodes rows files ≡ Ok made → streams_of nodes.frames rows made.equipment ≡ Ok made.streams
 unfolding network_of
@@ -84,73 +169,17 @@ network_parts nodes rows files made ok =
     let same : record { equipment = p.0; streams = q.0 } ≡ made = cc in
     subst (λ (m : Accepted). streams_of nodes.frames rows m.equipment ≡ Ok m.streams) same q.1
 
-pub frames_in : (nodes pdos : List ℕ) (files : List File) (found : Found) → network_in nodes pdos files ≡ Ok found
-    → (frames : List FrameRow) × (streams_of frames found.rows found.network.equipment ≡ Ok found.network.streams)
-unfolding network_in
-frames_in nodes pdos files found ok =
-    let p = bind_ok (in_table Nodes (nodes_of nodes)) _ found ok in
-    let q = bind_ok (in_table Pdos (reading.pdos_of pdos)) _ found p.2 in
-    let r = bind_ok (network_of p.0 q.0 files) _ found q.2 in
-    let whole : ◌≡◌ {A = Result Found Refusal} (Ok (record { nodes = p.0; rows = q.0; network = r.0 })) (Ok found) = r.2 in
-    let same : record { nodes = p.0; rows = q.0; network = r.0 } ≡ found = cc in
-    (p.0.frames, subst (λ (f : Found). streams_of p.0.frames f.rows f.network.equipment ≡ Ok f.network.streams) same (network_parts p.0 q.0 files r.0 r.1))
+module _ (net : Net) (is : IsNetwork net) where
+  pub network_streams : AreStreamsOf net.nodes.frames net.rows net.equipment (map entry_of net.set)
+  network_streams = streams_are net.nodes.frames net.rows net.equipment (map entry_of net.set) (network_parts net.nodes net.rows is.files (accepted net) is.made)
 
-pub row_stream : (nodes pdos : List ℕ) (files : List File) (found : Found) → network_in nodes pdos files ≡ Ok found
-    → (k : ℕ) (row : PdoRow) → slice_get found.rows k ≡ Some row → (bytes : ℕ) × (slice_get found.network.streams k ≡ Some (pdo_stream k bytes row))
-row_stream nodes pdos files found ok k row there =
-    let f = frames_in nodes pdos files found ok in
-    of_streams f.0 found.rows found.network.equipment found.network.streams f.1 k row there
-
--- ---- the fixed frames have no deadline
-
-sent_none : (o : Option FrameRow) (k : ℕ) (e : Entry) → slice_get (sent o) k ≡ Some e → e.deadline ≡ None
-sent_none None k e h = absurd (cc)
-sent_none (Some row) k e h = go (row.period == 0) h
-  where
-    go : (b : Bool) → slice_get (if b then [] else frame_stream row ∷ []) k ≡ Some e → e.deadline ≡ None
-    go true h = absurd (cc)
-    go false h = one k h
-      where
-        one : (k : ℕ) → slice_get (frame_stream row ∷ []) k ≡ Some e → e.deadline ≡ None
-        one zero h = let same : frame_stream row ≡ e = cc in ap (λ (x : Entry). x.deadline) (sym same)
-        one (suc k) h = absurd (cc)
-
--- what stands in two lists, one behind the other, stands in one of them
-in_one : {A : Type 0} (xs ys : List A) (k : ℕ) (x : A) → slice_get (xs ++ ys) k ≡ Some x → (slice_get xs k ≡ Some x) ⊎ ((j : ℕ) × (k ≡ length xs + j) × (slice_get ys j ≡ Some x))
-in_one [] ys k x h = inr (k, omega arith, h)
-in_one (z ∷ xs) ys zero x h = inl h
-in_one (z ∷ xs) ys (suc k) x h = elim (in_one xs ys k x h) [ inl a ↦ inl a | inr b ↦ (let e = b.1 in inr (b.0, omega (arith, e), b.2)) ]
-
-from_none : (frames : List FrameRow) (count key k : ℕ) (e : Entry) → slice_get (streams_from frames key count) k ≡ Some e → e.deadline ≡ None
-unfolding streams_from
-from_none frames zero key k e h = absurd (cc)
-from_none frames (suc count) key k e h =
-    elim (in_one (sent (find (λ row. key_of row == key) frames)) (streams_from frames (key + 1) count) k e h) [
-      | inl a ↦ sent_none (find (λ row. key_of row == key) frames) k e a
-      | inr b ↦ from_none frames count (key + 1) b.0 e b.2
-    ]
-
-fixed_none : (frames : List FrameRow) (k : ℕ) (e : Entry) → slice_get (fixed_streams frames) k ≡ Some e → e.deadline ≡ None
-unfolding fixed_streams
-fixed_none frames k e h = from_none frames 768 0 k e h
-
-none_of_streams : (frames : List FrameRow) (rows : List PdoRow) (equipment : Equipment) (streams : List Entry) → streams_of frames rows equipment ≡ Ok streams
-    → (k : ℕ) (e : Entry) → length rows ≤ k → slice_get streams k ≡ Some e → e.deadline ≡ None
-unfolding streams_of
-none_of_streams frames rows equipment streams ok k e low there =
-    let p = bind_ok (pdos_of equipment.devices rows) _ streams ok in
-    let q = bind_ok (all_settable frames p.0.used 0 equipment.devices) _ streams p.2 in
-    let r = bind_ok (with_rate (is_some_rate equipment.rates)) _ streams q.2 in
-    let whole : ◌≡◌ {A = Result (List Entry) Refusal} (Ok (p.0.streams ++ fixed_streams frames)) (Ok streams) = r.2 in
-    let parts : streams ≡ p.0.streams ++ fixed_streams frames = cc in
-    let size = (pdos_found equipment.devices rows p.0 p.1).1 in
-    elim (in_one p.0.streams (fixed_streams frames) k e (subst (λ (es : List Entry). slice_get es k ≡ Some e) parts there)) [
-      | inl a ↦ (let l = slice_get_within p.0.streams k e a in absurd (omega (arith, l, size, low)))
-      | inr b ↦ fixed_none frames b.0 e b.2
-    ]
-
-pub later_none : (nodes pdos : List ℕ) (files : List File) (found : Found) → network_in nodes pdos files ≡ Ok found
-    → (k : ℕ) (e : Entry) → length found.rows ≤ k → slice_get found.network.streams k ≡ Some e → e.deadline ≡ None
-later_none nodes pdos files found ok k e low there =
-    let f = frames_in nodes pdos files found ok in
-    none_of_streams f.0 found.rows found.network.equipment found.network.streams f.1 k e low there
+  pub row_stream : (k : ℕ) (row : PdoRow) → slice_get net.rows k ≡ Some row → IsRowStream (signals_of net.nodes.frames (length net.rows)) net.equipment.devices k row (map entry_of net.set)
+  row_stream k row there =
+      let s = network_streams.each k row there in
+      let stream = pdo_stream (signals_of net.nodes.frames (length net.rows)) k s.sent row in
+      record {
+        sent = s.sent;
+        there = subst (λ (es : List Entry). slice_get es k ≡ Some stream) (sym network_streams.parts) (still_there network_streams.pdos (fixed_streams net.nodes.frames) k stream s.there);
+        type = s.type;
+        paced = s.paced;
+      }

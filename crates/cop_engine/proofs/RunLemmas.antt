@@ -26,7 +26,7 @@ use Rattle.cop_engine.specs.declared.seeded_runs.RunFault.TheVariants as runs
 use Rattle.cop_engine.specs.Judgements.{is_start, transfers_in, judged_text}
 use Rattle.cop_engine.specs.Recorders.{counted, Records, IsFinished}
 use Rattle.cop_engine.specs.Runs.{seeded, IsRun, ExplainsRun, run_fault, IsOfWriting}
-use Rattle.cop_engine.proofs.GuaranteeLemmas.{was_there}
+use Rattle.cop_engine.proofs.PlanStreams.{was_there}
 
 length_of_map : {X Y : Type 0} (f : X → Y) (xs : List X) → length (map f xs) ≡ length xs
 length_of_map f [] = refl
@@ -70,7 +70,7 @@ module _ (plan : PlanValue) (seed until : ℕ) where
       go simulator.Count h = absurd (h (ap (λ (xs : List Seeded). length xs) is ∙ length_of_map (fresh seed) plan.streams))
       go (simulator.Disobeys stream instance) h =
           let w = was_there (seeded_actor seed) (slice_get plan.streams stream) h.0 (sym (slice_get-map (seeded_actor seed) plan.streams stream) ∙ h.1) in
-          absurd (never-disobeys seed w.0 (ticks until) instance (subst (λ (a : Actor). Disobeys (ticks until) a instance) (sym w.2) h.2))
+          absurd (never-disobeys (ticks_of plan.rate) (seeded seed plan.streams) seed w.0 (ticks until) instance (subst (λ (a : Actor). Disobeys (ticks_of plan.rate) (seeded seed plan.streams) (ticks until) a instance) (sym w.2) h.2))
       go (simulator.Backlog id) h = (id, h.0, h.1)
       go simulator.Sink h = tt
       go simulator.Memory h = tt

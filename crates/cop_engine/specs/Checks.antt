@@ -6,8 +6,8 @@ use Rattle.cop_rta.specs.declared.streams.Stream.{Stream}
 use Rattle.cop_rta.specs.Entries.{entry_of}
 use Rattle.cop_cert.specs.declared.faults.Breach.{Breach}
 use Rattle.cop_cert.specs.declared.refusals.Refusal.{Refusal}
-use Rattle.cop_cert.specs.Assignments.{least_id, NoAssignmentPasses}
-use Rattle.cop_cert.specs.Evidence.{IsRefusal}
+use Rattle.cop_cert.specs.Assignments.{NoAssignmentPasses}
+use Rattle.cop_cert.specs.Causes.{IsRefusal}
 use Rattle.cop_cert.specs.Faults as breaches
 use Rattle.cop_cert.specs.Reading.{refusals_of}
 use Rattle.cop_net.specs.declared.faults.Refusal as net
@@ -32,7 +32,7 @@ check_line_at refusals answers k = option_map_or (λ r. check_line r (get_or ans
 -- whether each of the first refusals holds
 pub record AreChecked (streams : List Stream) (pdos : ℕ) (refusals : List Refusal) (answers : List Bool) (count : ℕ) : Type 0 where
   pub length_is : length answers ≡ count
-  pub each : (k : ℕ) → k < count → (r : Refusal) → slice_get refusals k ≡ Some r → (get_or answers k false ≡ true ↔ IsRefusal least_id streams pdos r)
+  pub each : (k : ℕ) → k < count → (r : Refusal) → slice_get refusals k ≡ Some r → (get_or answers k false ≡ true ↔ IsRefusal streams pdos r)
 
 -- a line for each refusal, and whether all hold
 pub record AreLinesOf (streams : List Stream) (pdos : ℕ) (refusals : List Refusal) (lines : List ℕ) (all : Bool) : Type 0 where

@@ -1,10 +1,14 @@
 -- What the plan of a network guarantees.
-use Rattle.std.specs.Prelude.{◌≡◌, ℕ, List, Some, length, slice_get, All}
+use Rattle.std.specs.Prelude.{◌≡◌, ◌≢◌, ◌≤◌, ℕ, ◌+◌, ◌*◌, List, Option, None, Some, option_map, length, get_or, slice_get, All, Contains}
 use Rattle.cop_frame.specs.Rate.{ticks_of}
 use Rattle.cop_rta.specs.declared.streams.Stream.{Stream}
 use Rattle.cop_bus.specs.Run.{Instance, IsOnTime}
 use Rattle.cop_rows.specs.declared.pdo_table.PdoRow.{PdoRow}
-use Rattle.cop_net.specs.Fixed.{ticks}
+use Rattle.cop_rows.specs.declared.node_table.FrameRow.{FrameRow}
+use Rattle.cop_net.specs.declared.devices.Device.{Device}
+use Rattle.cop_net.specs.Fixed.{base_of, ticks}
+use Rattle.cop_net.specs.Pdos.{every_at, sent_by}
+use Rattle.cop_net.specs.Signals.{sync_of}
 use Rattle.cop_plan.specs.Values.{PlanValue, id_of}
 use Rattle.cop_plan.specs.Plans.{IsPlan, AreAllRefused}
 use Rattle.cop_plan.specs.declared.assigning.Outcome.{Outcome}
@@ -15,26 +19,59 @@ use Rattle.cop_engine.specs.Networks.{Found}
 use Rattle.cop_engine.specs.declared.plans.Files.{Files}
 use Rattle.cop_engine.specs.Plans.{AreFilesOf}
 
--- the stream of a row's PDO under a plan: its identifier is the plan's, its times are the row's
-pub record IsPdoOf (plan : PlanValue) (p : ℕ) (row : PdoRow) (k : Stream) : Type 0 where
+-- the stream of a frame of the table of nodes that is sent: its identifier is that of its kind and node, its times are the row's
+pub record IsFrameOf (plan : PlanValue) (row : FrameRow) (k : Stream) : Type 0 where
+  pub here : Contains plan.streams k
+  pub id : k.id ≡ base_of row.kind + row.node
+  pub period : k.period ≡ ticks row.period
+  pub jitter : k.jitter ≡ ticks row.jitter
+  pub deadline : k.deadline ≡ option_map ticks row.deadline
+  pub every : k.every ≡ 0
+
+-- A PDO that is sent by every n-th SYNC: the table of nodes has SYNC's row, and SYNC's stream is one of the plan's. The PDO's own row has
+-- no period, and its period is n times SYNC's.
+pub record IsBySync (frames : List FrameRow) (plan : PlanValue) (row : PdoRow) (k : Stream) : Type 0 where
+  pub no_period : row.period ≡ 0
+  pub sync : FrameRow
+  pub is_sync : sync_of frames ≡ Some sync
+  pub stream : (s : Stream) × IsFrameOf plan sync s
+  pub period : k.period ≡ k.every * ticks sync.period
+
+-- a TPDO of a device has this transmission type: the number of the SYNCs after which it is sent, or 0 where events send it
+pub record HasType (device : Option Device) (row : PdoRow) (every : ℕ) : Type 0 where
+  pub sender : Device
+  pub is_sender : device ≡ Some sender
+  pub type : every_at sender.dictionary (sent_by row).index ≡ Some every
+
+-- The stream of a row's PDO under a plan: its identifier is the plan's, its jitter and deadline are the row's. Where it is sent by events its
+-- period is the row's, and otherwise so many times SYNC's as the transmission type of its device says.
+pub record IsPdoOf (found : Found) (plan : PlanValue) (p : ℕ) (row : PdoRow) (k : Stream) : Type 0 where
   pub here : slice_get plan.streams p ≡ Some k
   pub id : k.id ≡ id_of plan.ids p
-  pub period : k.period ≡ ticks row.period
+  pub type : HasType (get_or found.network.equipment.devices row.node None) row k.every
+  pub by_events : k.every ≡ 0 → k.period ≡ ticks row.period
+  pub by_sync : 1 ≤ k.every → IsBySync found.nodes.frames plan row k
   pub jitter : k.jitter ≡ ticks row.jitter
   pub deadline : k.deadline ≡ Some (ticks row.deadline)
 
+-- each instance with an identifier ends by a deadline, in every legal run of the plan's streams at its rate in which all of them obey
+abbrev pub AreOnTimeIn : PlanValue → ℕ → ℕ → Type 0
+AreOnTimeIn plan id deadline =
+    (until : ℕ) (run : List Instance) → IsRunOf plan until run → All (λ y. y.id ≡ id → IsOnTime (ticks_of plan.rate) until (Some deadline) y) run
+
 -- Each row's PDO ends each of its transfers within the row's deadline, in every legal run of the plan's streams at its
--- rate in which all of them obey.
-pub record MeetsDeadlines (rows : List PdoRow) (plan : PlanValue) : Type 0 where
-  pub pdos : (p : ℕ) (row : PdoRow) → slice_get rows p ≡ Some row → (k : Stream) × IsPdoOf plan p row k
-  pub on_time : (p : ℕ) (row : PdoRow) → slice_get rows p ≡ Some row → (until : ℕ) (run : List Instance) → IsRunOf plan until run →
-      All (λ y. y.id ≡ id_of plan.ids p → IsOnTime (ticks_of plan.rate) until (Some (ticks row.deadline)) y) run
+-- rate in which all of them obey. So does each SDO frame for which the table of nodes has a deadline.
+pub record MeetsDeadlines (found : Found) (plan : PlanValue) : Type 0 where
+  pub pdos : (p : ℕ) (row : PdoRow) → slice_get found.rows p ≡ Some row → (k : Stream) × IsPdoOf found plan p row k
+  pub on_time : (p : ℕ) (row : PdoRow) → slice_get found.rows p ≡ Some row → AreOnTimeIn plan (id_of plan.ids p) (ticks row.deadline)
+  pub frames : (row : FrameRow) → Contains found.nodes.frames row → row.period ≢ 0 → (k : Stream) × IsFrameOf plan row k
+  pub frames_on_time : (row : FrameRow) (d : ℕ) → Contains found.nodes.frames row → row.deadline ≡ Some d → AreOnTimeIn plan (base_of row.kind + row.node) (ticks d)
 
 -- The plan has the slowest rate that all devices support and at which some assignment of identifiers passes the
--- response-time test, it passes there, and each slower rate has a refusal that holds; and its PDOs meet their deadlines.
--- Where there is none, no assignment passes at any rate, and each has such a refusal.
+-- response-time test, it passes there, and each slower rate has a refusal that holds; and its PDOs and SDO frames meet their
+-- deadlines. Where there is none, no assignment passes at any rate, and each has such a refusal.
 abbrev pub IsGuaranteed : Found → List Stream → Outcome → Type 0
-IsGuaranteed found streams (Planned plan) = IsPlan found.network.equipment.rates streams (length found.rows) plan × MeetsDeadlines found.rows plan
+IsGuaranteed found streams (Planned plan) = IsPlan found.network.equipment.rates streams (length found.rows) plan × MeetsDeadlines found plan
 IsGuaranteed found streams (Refused refusals) = AreAllRefused found.network.equipment.rates streams (length found.rows) refusals
 
 -- the files of the plan of the network that the tables and the EDS files say, with what the plan guarantees

@@ -12,7 +12,7 @@ use Rattle.cop_bus.specs.Late.{first_late}
 use Rattle.cop_bus.specs.Reading.{Told, trace_of}
 use Rattle.cop_net.specs.declared.faults.Refusal as net
 use Rattle.cop_net.specs.Devices.{File}
-use Rattle.cop_net.specs.Network.{BeginsWith}
+use Rattle.cop_net.specs.Network.{IsNetwork}
 use Rattle.cop_net.specs.Faults.{number_of_rule}
 use Rattle.cop_plan.specs.Values.{PlanValue}
 use Rattle.cop_plan.specs.Plans.{IsOutcome}
@@ -20,7 +20,7 @@ use Rattle.cop_plan.specs.declared.assigning.Outcome.{Outcome}
 use Rattle.cop_plan.specs.declared.assigning.Outcome.TheVariants.{Planned, Refused}
 use Rattle.cop_engine.specs.declared.faults.Fault.{Fault}
 use Rattle.cop_engine.specs.declared.faults.Fault.TheVariants as faults
-use Rattle.cop_engine.specs.Networks.{Found, network_in}
+use Rattle.cop_engine.specs.Networks.{Found, network_in, net_of}
 
 -- a transfer starts
 abbrev pub is_start : Step → Bool
@@ -76,7 +76,7 @@ pub record IsPlannedNetwork (nodes pdos : List ℕ) (eds : List File) (outcome :
   pub read : network_in nodes pdos eds ≡ Ok found
   pub streams : List Stream
   pub streams_are : map entry_of streams ≡ found.network.streams
-  pub begins : BeginsWith (length found.rows) streams
+  pub network : IsNetwork (net_of found streams)
   pub planned : IsOutcome found.network.equipment.rates streams (length found.rows) outcome
 
 -- the judgement of a trace by the plan of the network that the files say
@@ -95,7 +95,7 @@ ExplainsJudgement nodes pdos files trace (faults.File name) = ⊥
 ExplainsJudgement nodes pdos files trace faults.Usage = ⊥
 ExplainsJudgement nodes pdos files trace faults.Memory = Unit {0}
 
--- what the judgement says: that no PDO is late
+-- what the judgement says: that no instance is late
 abbrev pub SaysOnTime : Outcome → List ℕ → List ℕ → Type 0
 SaysOnTime (Planned plan) trace text = (told : Told) × (trace_of trace ≡ Ok told) × (text ≡ judged_text (transfers_in told.steps) None)
 SaysOnTime (Refused refusals) trace text = text ≡ none_passes

@@ -1,11 +1,13 @@
 -- The text of a plan.
-use Rattle.std.specs.Prelude.{ℕ, List, [], ◌++◌, Bool, true, false, codes, decimal, length, get_or, slice_get}
+use Rattle.std.specs.Prelude.{ℕ, ◌<◌, List, [], ◌++◌, Bool, true, false, codes, decimal, length, get_or, slice_get}
 use Rattle.std.specs.List.{flat_map}
 use Rattle.std.specs.Option.{option_map_or}
 use Rattle.cop_frame.specs.declared.rates.Rate.{Rate}
 use Rattle.cop_frame.specs.Rate.{kbits_of}
 use Rattle.cop_rta.specs.declared.verdicts.Verdict.{Verdict}
 use Rattle.cop_rta.specs.declared.verdicts.Verdict.TheVariants.{Pass, Late, Long}
+use Rattle.cop_cert.specs.declared.refusals.Cause.{Cause}
+use Rattle.cop_cert.specs.declared.refusals.Cause.TheVariants.{Places, Sync, Sdo}
 use Rattle.cop_cert.specs.declared.refusals.Refusal.{Refusal}
 use Rattle.cop_rows.specs.declared.pdo_table.PdoRow.{PdoRow}
 use Rattle.cop_plan.specs.declared.assigning.Outcome.{Outcome}
@@ -35,9 +37,21 @@ pdo_line row id response = pdo_name row ++ codes " id " ++ hexadecimal id ++ res
 abbrev pub pdo_line_at : List PdoRow → List ℕ → List Verdict → ℕ → List ℕ
 pdo_line_at rows ids verdicts k = option_map_or (λ row. pdo_line row (get_or ids k 0) (response_of (get_or verdicts k Long))) (slice_get rows k) []
 
--- a refused rate, and how many members its refusal has
+-- why a rate is refused: how many members its refusal has, or SYNC, or the identifier of an SDO frame
+abbrev pub cause_text : Cause → List ℕ
+cause_text (Places members) = codes "members " ++ decimal (length members)
+cause_text (Sync busy) = codes "sync"
+cause_text (Sdo up id evidence) = codes "sdo " ++ hexadecimal id
+
+-- a refused rate
 abbrev pub refused_line : Refusal → List ℕ
-refused_line r = codes "refused " ++ decimal (kbits_of r.rate) ++ codes " members " ++ decimal (length r.members) ++ codes "\n"
+refused_line r = codes "refused " ++ decimal (kbits_of r.rate) ++ codes " " ++ cause_text r.cause ++ codes "\n"
+
+-- an identifier that a cause has is one of 11 bits
+abbrev pub HasIdentifier : Cause → Type 0
+HasIdentifier (Places members) = Unit {0}
+HasIdentifier (Sync busy) = Unit {0}
+HasIdentifier (Sdo up id evidence) = id < 2048
 
 -- the plan's rate, a line for each PDO in the order of the table, and one for each refused rate
 abbrev pub plan_text : List PdoRow → List Verdict → Outcome → List ℕ

@@ -12,13 +12,14 @@ ghost use Rattle.cop_engine.specs.Judgements.{IsJudgement, SaysOnTime};
 /// The planner's guarantee. Of the files of [`plan_bytes`](crate::plan_bytes): the plan uses the slowest rate that all
 /// devices support and at which some assignment of permitted identifiers passes the response-time test; it passes that
 /// test; each slower supported rate carries a refusal that holds, which rules out every assignment there; and in every
-/// error-free run of the bus in which all streams obey their periods, jitters and lengths, each PDO ends its transfer
-/// within its deadline.
+/// error-free run of the bus in which all streams obey their periods, jitters and lengths, each PDO and each SDO frame
+/// that has a deadline ends its transfer within it. That of a PDO that is sent by SYNC counts from SYNC's event, and the
+/// stream of such a PDO has as many times SYNC's period as the transmission type of its device says.
 pub fn planner_guarantee()
     ensures { (nodes pdos : List ℕ) (eds : List File) (files : Files) → (f : AreFilesOf nodes pdos eds files) → IsGuaranteed f.found f.streams f.planned.outcome }
 {}
 
-/// By it the judgement of a trace ([`judge_bytes`](crate::judge_bytes)) never says that a PDO is late.
+/// By it the judgement of a trace ([`judge_bytes`](crate::judge_bytes)) never says that an instance is late.
 pub fn judged_on_time()
     ensures { (nodes pdos : List ℕ) (eds : List File) (trace text : List ℕ) → (j : IsJudgement nodes pdos eds trace text) → SaysOnTime j.outcome trace text }
 {}

@@ -21,7 +21,7 @@ fn transfers_in(steps: &[Step]) -> usize
         .count()
 }
 
-/// The text of a judgement where no PDO is late.
+/// The text of a judgement where no instance is late.
 pub(crate) fn on_time_text(alloc: Global, transfers: usize) -> Result<Vec<u8>, AllocError>
     ensures { IfOk result (λ text. text.items ≡ judged_text transfers None) }
 {
@@ -42,8 +42,8 @@ pub fn none_passes(alloc: Global) -> Result<Vec<u8>, AllocError>
     Ok(text)
 }
 
-/// The judgement of a trace by a plan. No PDO of a trace that breaks no rule is late, which the plan guarantees, so none is
-/// looked for.
+/// The judgement of a trace by a plan. No instance of a trace that breaks no rule is late, which the plan guarantees, so
+/// none is looked for.
 fn judged(alloc: Global, plan: &Plan, trace: &[u8]) -> Result<Vec<u8>, Fault>
     ensures { MatchResult result (λ text. IsCleared plan.now.rate plan.now.streams trace.now text.items) (λ fault. ExplainsTrace plan.now.rate plan.now.streams trace.now fault) }
 {
@@ -53,7 +53,7 @@ fn judged(alloc: Global, plan: &Plan, trace: &[u8]) -> Result<Vec<u8>, Fault>
 }
 
 /// The judgement of a trace by the plan of the network of some tables and EDS files: how many transfers start, and
-/// whether each PDO is on time or the number of the queue step of the first that is late, which none is
+/// whether each instance is on time or the number of the queue step of the first that is late, which none is
 /// ([`judged_on_time`](crate::judged_on_time)). Where no rate passes that is said, and the trace is not looked at.
 /// Otherwise the first rule that the network breaks, or else that the trace breaks, or want of memory.
 pub fn judge_bytes(

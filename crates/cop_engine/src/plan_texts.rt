@@ -4,10 +4,10 @@ ghost use Rattle.std.specs.Prelude.{◌≡◌, ◌≤◌, ◌<◌, ◌++◌, len
 ghost use Rattle.std.specs.List.{flat_map};
 ghost use Rattle.cop_frame.specs.Rate.{kbits_of};
 ghost use Rattle.cop_engine.specs.Reports.{lines_below};
-ghost use Rattle.cop_engine.specs.PlanTexts.{response_of, rate_line, pdo_name, response_end, pdo_line, pdo_line_at, refused_line};
+ghost use Rattle.cop_engine.specs.PlanTexts.{response_of, rate_line, pdo_name, response_end, pdo_line, pdo_line_at, cause_text, refused_line, HasIdentifier};
 
 use crate::reports::{push_id, push_number};
-use cop_cert::Refusal;
+use cop_cert::{Cause, Refusal};
 use cop_frame::Rate;
 use cop_net::PdoRow;
 use cop_plan::Plan;
@@ -83,20 +83,40 @@ fn push_pdos(
     Ok(())
 }
 
+/// Why a rate is refused.
+fn push_cause(text: &mut Vec<u8>, cause: &Cause) -> Result<(), AllocError>
+    requires { HasIdentifier cause.now }
+    ensures { OnOk result (text.new.items ≡ text.old.items ++ cause_text cause.now) }
+{
+    match cause {
+        Cause::Places { members } => {
+            text.extend_from_slice(b"members ")?;
+            push_number(text, members.as_slice().len() as u64)
+        }
+        Cause::Sync { .. } => text.extend_from_slice(b"sync"),
+        Cause::Sdo { id, .. } => {
+            text.extend_from_slice(b"sdo ")?;
+            push_id(text, *id)
+        }
+    }
+}
+
 /// The line of a refused rate.
 fn push_refused(text: &mut Vec<u8>, refusal: &Refusal) -> Result<(), AllocError>
+    requires { HasIdentifier refusal.now.cause }
     ensures { OnOk result (text.new.items ≡ text.old.items ++ refused_line refusal.now) }
 {
     text.extend_from_slice(b"refused ")?;
     push_number(text, u64::from(refusal.rate.kbits()))?;
-    text.extend_from_slice(b" members ")?;
-    push_number(text, refusal.members.as_slice().len() as u64)?;
+    text.extend_from_slice(b" ")?;
+    push_cause(text, &refusal.cause)?;
     text.extend_from_slice(b"\n")
 }
 
 #[tactic(auto, using(crate::proofs::PlanTextLemmas::refused_more))]
 /// The line of each refused rate.
 fn push_all_refused(text: &mut Vec<u8>, refusals: &[Refusal]) -> Result<(), AllocError>
+    requires { All (λ r. HasIdentifier r.cause) refusals.now }
     ensures { OnOk result (text.new.items ≡ text.old.items ++ flat_map refused_line refusals.now) }
 {
     for refusal in refusals {
@@ -115,6 +135,7 @@ pub fn planned_text(
     requires ids { length plan.now.ids ≡ length rows.now }
     requires verdicts { length verdicts.now ≡ length rows.now }
     requires range { All (λ id. id < 2048) plan.now.ids }
+    requires causes { All (λ r. HasIdentifier r.cause) plan.now.refusals }
     ensures { IfOk result (λ text. text.items ≡ rate_line plan.now.rate ++ lines_below (pdo_line_at rows.now plan.now.ids verdicts.now) (length rows.now) ++ flat_map refused_line plan.now.refusals) }
 {
     let mut text = Vec::new(alloc);
@@ -126,6 +147,7 @@ pub fn planned_text(
 
 /// The text where no rate passes: that, and a line for each refused rate.
 pub fn refused_text(alloc: Global, refusals: &[Refusal]) -> Result<Vec<u8>, AllocError>
+    requires { All (λ r. HasIdentifier r.cause) refusals.now }
     ensures { IfOk result (λ text. text.items ≡ codes "no rate passes\n" ++ flat_map refused_line refusals.now) }
 {
     let mut text = Vec::new(alloc);

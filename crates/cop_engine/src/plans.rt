@@ -1,6 +1,6 @@
 //! The plan of a network, from its files to the files of the plan.
 
-ghost use Rattle.std.specs.Prelude.{◌≡◌, ◌≤◌, List, length, map, IfOk, MatchResult};
+ghost use Rattle.std.specs.Prelude.{◌≡◌, ◌≤◌, List, length, map, IfOk, All, MatchResult};
 ghost use Rattle.std.specs.String.{string_bytes};
 ghost use Rattle.cop_net.specs.Devices.{File};
 ghost use Rattle.cop_net.specs.Network.{Net};
@@ -8,6 +8,7 @@ ghost use Rattle.cop_plan.specs.Plans.{IsOutcome, IsPlan};
 ghost use Rattle.cop_plan.specs.declared.assigning.Outcome.TheVariants.{Refused};
 ghost use Rattle.cop_engine.specs.Networks.{ExplainsNetwork};
 ghost use Rattle.cop_engine.specs.Dcfs.{HaveTexts};
+ghost use Rattle.cop_engine.specs.PlanTexts.{HasIdentifier};
 ghost use Rattle.cop_engine.specs.Plans.{AreFilesFor, IsPlanText};
 ghost use Rattle.cop_engine.specs.Guarantee.{AreGuaranteedFiles};
 
@@ -61,6 +62,7 @@ fn planned_files(
 
 /// The files where no rate passes.
 fn refused_files(alloc: Global, refusals: &[Refusal]) -> Result<Files, AllocError>
+    requires { All (λ r. HasIdentifier r.cause) refusals.now }
     ensures { (eds : List File) (net : Net) → IsOutcome net.equipment.rates net.set (length net.rows) (Refused refusals.now) → IfOk result (AreFilesFor eds net) }
 {
     Ok(Files {

@@ -35,19 +35,22 @@ pub fn figures_of(
     ensures { IfOk result (AreFigures network.now outcome.now) }
 {
     let loads = loads_of(alloc, network)?;
-    let streams = network.set().streams();
+    let set = network.set();
+    // No two streams have one identifier: that is what names an SDO frame.
+    let _ = set.streams();
+    let pdos = network.pdos();
     match outcome {
         Outcome::Planned(plan) => Ok(Figures {
             rate: Some(plan.rate()),
             pdos: times_of(alloc, plan)?,
             loads,
-            refused: all_refused(alloc, streams, plan.refusals())?,
+            refused: all_refused(alloc, set, pdos, plan.refusals())?,
         }),
         Outcome::Refused(refusals) => Ok(Figures {
             rate: None,
             pdos: Vec::new(alloc),
             loads,
-            refused: all_refused(alloc, streams, refusals.as_slice())?,
+            refused: all_refused(alloc, set, pdos, refusals.as_slice())?,
         }),
     }
 }

@@ -9,6 +9,6 @@ mod times;
 
 pub use figures::{Figures, figures_of};
 pub use loads::Load;
-pub use refused::{Failing, RefusedRate};
+pub use refused::{Failing, FailingFrame, Reason, RefusedRate};
 pub use timelines::{Lane, MOST_SHOWN, Timeline, timeline_of};
 pub use times::PdoTimes;

@@ -16,9 +16,9 @@ use std::alloc::{AllocError, Global};
 pub struct PdoTimes {
     /// Its number: the place of its row in the table of PDOs, from 0 on.
     pub pdo: usize,
-    /// Its stream, under the identifier of the plan.
+    /// Its stream, under the identifier of the plan. The jitter of a synchronous one is its latency after SYNC's transfer.
     pub stream: Stream,
-    /// Its greatest response: from the event to the end of the transfer.
+    /// Its greatest response: from the event, which for a synchronous PDO is SYNC's, to the end of the transfer.
     pub response: u64,
 }
 

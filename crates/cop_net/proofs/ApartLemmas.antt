@@ -8,13 +8,14 @@ use Rattle.cop_rows.specs.declared.node_table.FrameRow.{FrameRow}
 use Rattle.cop_rows.specs.declared.node_table.FrameKind.{FrameKind}
 use Rattle.cop_rows.specs.declared.node_table.FrameKind.TheVariants as kinds
 use Rattle.cop_rta.specs.Entries.{Entry}
+use Rattle.cop_rta.specs.Ranges as ranges
 use Rattle.cop_net.specs.Sets.{AreOneSet}
 use Rattle.cop_net.specs.Fixed.{IsOwner, IsTimed, base_of, rank_of, key_of, frame_stream, sent, streams_from, fixed_streams}
 use Rattle.cop_net.specs.Pdos.{ArePdos}
 use Rattle.cop_net.proofs.FixedLemmas.{IsAt, found_at}
 use Rattle.cop_net.proofs.SetLemmas.{AreApart, AllPairs-append, one_set_front}
 
--- an identifier that no PDO may get
+-- an identifier that is not of the first range
 abbrev pub IsOutside : ℕ → Type 0
 IsOutside id = (id < 0x181) ⊎ (0x57F < id)
 
@@ -71,6 +72,18 @@ streams_all P frames key (suc count) h each =
     All-append P (sent (find (λ row. key_of row == key) frames)) (streams_from frames (key + 1) count)
     (sent_all P key (find (λ row. key_of row == key) frames) (found_at frames key h) (λ row at. each row at.0 (omega (arith, at.1))))
     (streams_all P frames (key + 1) count h (λ row timed past. each row timed (omega arith)))
+
+second_kind : (kind : FrameKind) (node : ℕ) → node ≤ 127 → ranges.IsOutside ranges.second_range (base_of kind + node)
+second_kind kinds.Nmt node h = inl (omega arith)
+second_kind kinds.Sync node h = inl (omega arith)
+second_kind kinds.Emcy node h = inl (omega arith)
+second_kind kinds.SdoResponse node h = inl (omega arith)
+second_kind kinds.SdoRequest node h = inl (omega arith)
+second_kind kinds.Heartbeat node h = inr (omega arith)
+
+pub fixed_outside_second : (frames : List FrameRow) → All IsTimed frames → All (λ e. ranges.IsOutside ranges.second_range e.id) (fixed_streams frames)
+unfolding fixed_streams
+fixed_outside_second frames h = streams_all (λ e. ranges.IsOutside ranges.second_range e.id) frames 0 768 h (λ row timed past. second_kind row.kind row.node timed.node)
 
 pub fixed_outside : (frames : List FrameRow) → All IsTimed frames → All (λ e. IsOutside e.id) (fixed_streams frames)
 unfolding fixed_streams

@@ -1,4 +1,6 @@
 pub mod FixedLemmas
+pub mod DatedLemmas
+pub mod SyncLemmas
 pub mod RateLemmas
 pub mod TextLemmas
 pub mod FoldLemmas

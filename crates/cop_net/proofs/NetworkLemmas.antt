@@ -1,8 +1,8 @@
 -- What holds of each network.
 use Rattle.std.proofs.Common.{IfOk, Err, ◌≡◌, ℕ, ◌+◌, ◌-◌, ◌<◌, ◌≤◌, Bool, true, false, List, ◌++◌, length, get_or, slice_get, map, Option, Some, None, IsSome, All, Result, Ok, option_map, option_and_then, refl, sym, ap, subst, ◌∙◌, arith, length-append}
 use Rattle.std.specs.Option.{option_map_or}
-use Rattle.std.proofs.lemmas.Option.{slice_get_read, slice_get-map}
-use Rattle.std.proofs.lemmas.List.{length-map, get_or_default}
+use Rattle.std.proofs.lemmas.Option.{slice_get-map}
+use Rattle.std.proofs.lemmas.List.{length-map}
 use Rattle.std.proofs.Math.ListN.{get_or-append}
 use Rattle.std.proofs.Math.Seq.{get_or-append_right}
 use Rattle.cop_rows.specs.declared.node_table.DeviceRow.{DeviceRow}
@@ -20,11 +20,16 @@ use Rattle.cop_net.specs.Rates.{is_some_rate}
 use Rattle.cop_net.specs.Sets.{AreOneSet}
 use Rattle.cop_net.specs.Fixed.{IsOwner, IsTimed, fixed_streams}
 use Rattle.cop_net.specs.Devices.{File, Equipment, devices_of}
-use Rattle.cop_net.specs.Pdos.{ArePdos, pdos_of}
-use Rattle.cop_net.specs.Network.{all_settable, with_rate, streams_of, BeginsWith, Accepted, network_of, accepted}
+use Rattle.cop_net.specs.Pdos.{ArePdos, IsPaced, pdos_of}
+use Rattle.cop_rta.specs.Ranges as ranges
+use Rattle.cop_rta.specs.Greatest.{AreSynced}
+use Rattle.cop_net.specs.Signals.{signals_of, sync_of, has_sdo_deadline}
+use Rattle.cop_net.specs.Network.{all_settable, with_rate, streams_of, deadline_at, IsSdo, BeginsWith, Accepted, network_of, accepted}
 use Rattle.cop_rows.proofs.RangeLemmas.{bind_ok}
 use Rattle.cop_net.proofs.PdoLemmas.{pdos_found}
-use Rattle.cop_net.proofs.ApartLemmas.{IsOutside, fixed_outside, one_set_all}
+use Rattle.cop_net.proofs.ApartLemmas.{IsOutside, fixed_outside, fixed_outside_second, one_set_all}
+use Rattle.cop_net.proofs.SyncLemmas.{there, network_synced}
+use Rattle.cop_net.proofs.DatedLemmas.{fixed_dated, fixed_signalled}
 
 -- a node with a device row
 node_of_device : (devices : List DeviceRow) (node : ℕ) → All (λ d. (1 ≤ d.node) × (d.node ≤ 127)) devices → HasDevice devices node → (1 ≤ node) × (node ≤ 127)
@@ -50,18 +55,11 @@ timed table h = λ k d lt.
       owner = node.0;
       period = f.period;
       jitter = f.jitter;
+      deadline = f.deadline;
     }
 
 pub device_nodes : (devices : List DeviceRow) → All (λ d. (1 ≤ d.node) × (d.node ≤ 127)) devices → All (λ d. d.node ≤ 127) devices
 device_nodes devices h = λ k d lt. (h k d lt).1
-
--- an element is the one that is read there
-there : (es : List Entry) (k : ℕ) → k < length es → (e : Entry) × (slice_get es k ≡ Some e) × (e ≡ get_or es k e)
-there es k lt =
-    let zero_entry : Entry = record { id = 0; bytes = 0; period = 0; jitter = 0; deadline = None } in
-    let e = get_or es k zero_entry in
-    let same : e ≡ get_or es k e = get_or_default es k zero_entry e lt in
-    (e, slice_get_read es (length es) k e refl lt same, same)
 
 id_of_stream : (set : List Stream) (k : ℕ) → of_stream (λ s. s.id) set k ≡ option_map_or (λ e. e.id) (slice_get (map entry_of set) k) 0
 id_of_stream set k = rw (slice_get-map entry_of set k) (by_found (slice_get set k))
@@ -70,15 +68,26 @@ id_of_stream set k = rw (slice_get-map entry_of set k) (by_found (slice_get set 
     by_found None = refl
     by_found (Some s) = refl
 
-deadline_of_stream : (set : List Stream) (k : ℕ) → option_and_then (λ s. s.deadline) (slice_get set k) ≡ option_and_then (λ e. e.deadline) (slice_get (map entry_of set) k)
+deadline_of_stream : (set : List Stream) (k : ℕ) → deadline_at set k ≡ option_and_then (λ e. e.deadline) (slice_get (map entry_of set) k)
 deadline_of_stream set k = rw (slice_get-map entry_of set k) (by_found (slice_get set k))
   where
     by_found : (o : Option Stream) → option_and_then (λ s. s.deadline) o ≡ option_and_then (λ e. e.deadline) (option_map entry_of o)
     by_found None = refl
     by_found (Some s) = refl
 
-begins : (pdos : ℕ) (set : List Stream) (xs ys : List Entry) → map entry_of set ≡ xs ++ ys → length xs ≡ pdos → ArePdos xs → All (λ e. IsOutside e.id) ys → BeginsWith pdos set
-begins pdos set xs ys e size are out =
+-- what holds of the second streams, at each of them
+later : (P : Entry → Type 0) (set : List Stream) (xs ys : List Entry) → map entry_of set ≡ xs ++ ys → All P ys → (k : ℕ) → length xs ≤ k → k < length set
+    → (f : Entry) × P f × (slice_get (map entry_of set) k ≡ Some f)
+later P set xs ys e all k past lt =
+    let total : length set ≡ length xs + length ys = sym (length-map set entry_of) ∙ ap length e ∙ length-append xs ys in
+    let t = there (xs ++ ys) k (omega (arith, length-append xs ys)) in
+    let own : t.0 ≡ get_or ys (k - length xs) t.0 = t.2 ∙ get_or-append_right xs ys k t.0 (omega arith) in
+    let holds : P t.0 = subst P (sym own) (all (k - length xs) t.0 (omega arith)) in
+    (t.0, holds, ap (λ (fs : List Entry). slice_get fs k) e ∙ t.1)
+
+begins : (pdos : ℕ) (set : List Stream) (xs ys : List Entry) → map entry_of set ≡ xs ++ ys → length xs ≡ pdos → ArePdos xs → All (λ e. IsOutside e.id) ys
+    → All (λ e. ranges.IsOutside ranges.second_range e.id) ys → All (λ e. IsSome e.deadline → IsSdo e.id) ys → BeginsWith pdos set
+begins pdos set xs ys e size are out below dated =
     let total : length set ≡ length xs + length ys = sym (length-map set entry_of) ∙ ap length e ∙ length-append xs ys in record {
       count = omega arith;
       provisional = λ k lt.
@@ -92,10 +101,14 @@ begins pdos set xs ys e size are out =
           let has : IsSome t.0.deadline = subst (λ (x : Entry). IsSome x.deadline) (sym own) (are k t.0 (omega arith)).1 in
           rw (deadline_of_stream set k, e, t.1) has;
       outside = λ k past lt.
-          let t = there (xs ++ ys) k (omega (arith, length-append xs ys)) in
-          let own : t.0 ≡ get_or ys (k - length xs) t.0 = t.2 ∙ get_or-append_right xs ys k t.0 (omega arith) in
-          let far : IsOutside t.0.id = subst (λ (x : Entry). IsOutside x.id) (sym own) (out (k - length xs) t.0 (omega arith)) in
-          rw (id_of_stream set k, e, t.1) far;
+          let t = later (λ f. IsOutside f.id) set xs ys e out k (omega arith) lt in
+          rw (id_of_stream set k, t.2) t.1;
+      outside_second = λ k past lt.
+          let t = later (λ f. ranges.IsOutside ranges.second_range f.id) set xs ys e below k (omega arith) lt in
+          rw (id_of_stream set k, t.2) t.1;
+      dated = λ k past lt some.
+          let t = later (λ f. IsSome f.deadline → IsSdo f.id) set xs ys e dated k (omega arith) lt in
+          rw (id_of_stream set k, t.2) (t.1 (rw (deadline_of_stream set k, t.2) at some));
     }
 
 with_rate_ok : (b : Bool) (u : Unit {0}) → with_rate b ≡ Ok u → b ≡ true
@@ -104,22 +117,30 @@ with_rate_ok false u h = cc
 
 -- the streams of a network are those of its PDOs and then those of the fixed identifiers, and it has a rate
 streams_are : (frames : List FrameRow) (rows : List PdoRow) (equipment : Equipment) (streams : List Entry) → streams_of frames rows equipment ≡ Ok streams
-    → (pdos : List Entry) × ArePdos pdos × (length pdos ≡ length rows) × (streams ≡ pdos ++ fixed_streams frames) × (is_some_rate equipment.rates ≡ true)
+    → (pdos : List Entry) × ArePdos pdos × (length pdos ≡ length rows) × (streams ≡ pdos ++ fixed_streams frames) × (is_some_rate equipment.rates ≡ true) × All (IsPaced (sync_of frames)) pdos
 unfolding streams_of
 streams_are frames rows equipment streams ok =
-    let p = bind_ok (pdos_of equipment.devices rows) _ streams ok in
+    let p = bind_ok (pdos_of equipment.devices (signals_of frames (length rows)) rows) _ streams ok in
     let q = bind_ok (all_settable frames p.0.used 0 equipment.devices) _ streams p.2 in
     let r = bind_ok (with_rate (is_some_rate equipment.rates)) _ streams q.2 in
     let whole : ◌≡◌ {A = Result (List Entry) Refusal} (Ok (p.0.streams ++ fixed_streams frames)) (Ok streams) = r.2 in
     let parts : streams ≡ p.0.streams ++ fixed_streams frames = cc in
-    let s = pdos_found equipment.devices rows p.0 p.1 in
-    (p.0.streams, s.0, s.1, parts, with_rate_ok (is_some_rate equipment.rates) r.0 r.1)
+    let s = pdos_found equipment.devices (signals_of frames (length rows)) rows p.0 p.1 in
+    (p.0.streams, s.0, s.1, parts, with_rate_ok (is_some_rate equipment.rates) r.0 r.1, s.2)
 
--- what is accepted begins with its PDOs, and has a rate
-pub network_streams : (frames : List FrameRow) (rows : List PdoRow) (equipment : Equipment) (set : List Stream) → All IsTimed frames
-    → streams_of frames rows equipment ≡ Ok (map entry_of set) → BeginsWith (length rows) set × (is_some_rate equipment.rates ≡ true)
-network_streams frames rows equipment set h ok =
-    let s = streams_are frames rows equipment (map entry_of set) ok in (begins (length rows) set s.0 (fixed_streams frames) s.3 s.2 s.1 (fixed_outside frames h), s.4)
+-- what is accepted begins with its PDOs, a deadline of another stream is a row's, it has a rate, and SYNC where streams are sent by it
+pub network_streams : (frames : List FrameRow) (rows : List PdoRow) (equipment : Equipment) (set : List Stream) → All IsTimed frames → length rows ≤ 512
+    → streams_of frames rows equipment ≡ Ok (map entry_of set)
+    → BeginsWith (length rows) set × ((k : ℕ) → length rows ≤ k → k < length set → IsSome (deadline_at set k) → has_sdo_deadline frames ≡ true) × (is_some_rate equipment.rates ≡ true) × AreSynced set
+network_streams frames rows equipment set h le ok =
+    let s = streams_are frames rows equipment (map entry_of set) ok in (
+      begins (length rows) set s.0 (fixed_streams frames) s.3 s.2 s.1 (fixed_outside frames h) (fixed_outside_second frames h) (fixed_dated frames h),
+      (λ k past lt some.
+          let t = later (λ f. IsSome f.deadline → has_sdo_deadline frames ≡ true) set s.0 (fixed_streams frames) s.3 (fixed_signalled frames) k (omega (arith, s.2)) lt in
+          t.1 (rw (deadline_of_stream set k, t.2) at some)),
+      s.4,
+      network_synced frames set s.0 h s.3 (one_set_all s.0 frames s.1 (omega (arith, s.2, le)) h) s.5,
+    )
 
 -- what the devices and the streams make
 pub made : (nodes : NodeLists) (rows : List PdoRow) (files : List File) (equipment : Equipment) (set : List Stream) → devices_of files nodes.devices ≡ Ok equipment

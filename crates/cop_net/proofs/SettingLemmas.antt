@@ -1,5 +1,5 @@
 -- Which writes of a COB-ID a dictionary accepts.
-use Rattle.std.proofs.Common.{◌≡◌, ◌<◌, ◌≤◌, ◌+◌, ◌*◌, ◌/◌, ◌%◌, ◌^◌, ◌==◌, ℕ, zero, suc, Bool, true, false, cond, not, ◌&&◌, ◌||◌, List, [], ◌∷◌, length, Option, Some, None, Result, Ok, Err, refl, sym, ap, subst, ◌∙◌, arith, nat_lt, nat_le, option_map, ℤ, pos, negsuc, lit<, lit≤, ◌≢◌, ⊎_elim}
+use Rattle.std.proofs.Common.{◌≡◌, ◌<◌, ◌≤◌, ◌+◌, ◌*◌, ◌/◌, ◌%◌, ◌^◌, ◌==◌, ℕ, zero, suc, Bool, true, false, cond, not, ◌&&◌, ◌||◌, List, [], ◌∷◌, length, Option, Some, None, Result, Ok, Err, refl, sym, ap, subst, ◌∙◌, arith, nat_lt, nat_le, option_map, ℤ, pos, negsuc, lit≤, ◌≢◌, inl, inr, ⊎_elim}
 use Rattle.std.specs.Prelude.{int_lt}
 use Rattle.std.specs.Ordering.{int_eq}
 use Rattle.std.specs.Option.{is_none, option_map_or}
@@ -21,7 +21,10 @@ use Rattle.std.proofs.lemmas.Bool.{cases_eq, eqb-true}
 use Rattle.cop_dict.proofs.PatternLemmas.{own_number}
 use Rattle.cop_dict.proofs.Replaced.{value_replaced}
 use Rattle.cop_pdo.specs.CobIds.{off, on}
-use Rattle.cop_net.specs.Settings.{word, may_hold, takes, passes_from, takes_each, may_switch, is_usable, goes_off, goes_off_of, stays_on, is_stuck, is_stuck_by, is_unsigned16, time_of, has_or_takes, holds_time}
+use Rattle.cop_rta.specs.declared.ranges.IdRange.{IdRange}
+use Rattle.cop_rta.specs.Ranges.{first_range, second_range, IsIn}
+use Rattle.cop_net.specs.Signals.{ranges_where, IsPdoId}
+use Rattle.cop_net.specs.Settings.{word, may_hold, takes, passes_from, takes_each, greatest_of, may_switch_on, may_switch, is_usable, goes_off, goes_off_of, stays_on, is_stuck, is_stuck_by, is_unsigned16, whole_of, has_or_takes, holds_time}
 
 -- what a description lets be written
 by_rules : (w h l : Bool) → is_none (first_broken ((not w, aborts.ReadOnly) ∷ (h, aborts.AboveLimit) ∷ (l, aborts.BelowLimit) ∷ [])) ≡ (w && (not h && not l))
@@ -89,23 +92,32 @@ on_low b id h = omega arith
 on_small : (v id : ℕ) → id < 2048 → on v id < 2 ^ 32
 on_small v id h = omega arith
 
-not_restricted : (id : ℕ) → 0x181 ≤ id → id ≤ 0x57F → is_restricted id ≡ false
-not_restricted id low high = grind (arith, nat_tests)
+first_free : (id : ℕ) → IsIn first_range id → is_restricted id ≡ false
+first_free id (low, high) = grind (arith, nat_tests)
+
+second_free : (id : ℕ) → IsIn second_range id → is_restricted id ≡ false
+second_free id (low, high) = grind (arith, nat_tests)
+
+not_restricted : (id : ℕ) → IsPdoId id → is_restricted id ≡ false
+not_restricted id h = ⊎_elim (first_free id) (second_free id) h
+
+pub small_id : (id : ℕ) → IsPdoId id → id < 2048
+small_id id h = ⊎_elim (λ (one : IsIn first_range id). let high = one.1 in omega arith) (λ (two : IsIn second_range id). let high = two.1 in omega arith) h
 
 below_29 : (id : ℕ) → id < 2048 → nat_le (2 ^ 29) id ≡ false
 below_29 id h = grind (arith, nat_tests)
 
-on_names : (v id : ℕ) → 0x181 ≤ id → id ≤ 0x57F → names_restricted (on v id) ≡ false
-on_names v id low high =
-    rw (on_mid (v / 2 ^ 30 % 2) id (omega arith), on_low (v / 2 ^ 30 % 2) id (omega arith), not_restricted id low high, below_29 id (omega arith)) (by_test (nat_lt (on v id) (2 ^ 31)))
+on_names : (v id : ℕ) → IsPdoId id → names_restricted (on v id) ≡ false
+on_names v id h =
+    rw (on_mid (v / 2 ^ 30 % 2) id (small_id id h), on_low (v / 2 ^ 30 % 2) id (small_id id h), not_restricted id h, below_29 id (small_id id h)) (by_test (nat_lt (on v id) (2 ^ 31)))
   where
     by_test : (b : Bool) → (b && false) ≡ false
     by_test true = refl
     by_test false = refl
 
 -- a PDO that is off takes an identifier
-on_rules : (e : Entry) (v id : ℕ) → unsigned32_of e ≡ Some (off v) → 0x181 ≤ id → id ≤ 0x57F → first_broken (cob_id_rules e (on v id)) ≡ None
-on_rules e v id h low high = rw (h, off_past v, on_names v id low high) refl
+on_rules : (e : Entry) (v id : ℕ) → unsigned32_of e ≡ Some (off v) → IsPdoId id → first_broken (cob_id_rules e (on v id)) ≡ None
+on_rules e v id h given = rw (h, off_past v, on_names v id given) refl
 
 is_word : (e : Entry) (v : ℕ) → unsigned32_of e ≡ Some v → e.description.data_type ≡ types.Unsigned32
 is_word e v h = by_type e.description.data_type h
@@ -133,8 +145,8 @@ no_step (Err a) f h = refl
 
 -- the two writes are accepted where the description allows both values
 pub takes_by_limits : (dict : List Entry) (index : ℕ) (e : Entry) (v id : ℕ) → entry_at dict index 1 ≡ Some e → is_cob_id e ≡ true → unsigned32_of e ≡ Some v
-    → 0x181 ≤ id → id ≤ 0x57F → takes dict index v id ≡ (may_hold e.description (off v) && may_hold e.description (on v id))
-takes_by_limits dict index e v id at cob own low high = by_off (may_hold e.description (off v)) refl
+    → IsPdoId id → takes dict index v id ≡ (may_hold e.description (off v) && may_hold e.description (on v id))
+takes_by_limits dict index e v id at cob own given = by_off (may_hold e.description (off v)) refl
   where
     t : e.description.data_type ≡ types.Unsigned32
     t = is_word e v own
@@ -143,7 +155,7 @@ takes_by_limits dict index e v id at cob own low high = by_off (may_hold e.descr
     value_off = own_number 4 (off v) (off_small v)
 
     value_on : number (word (on v id)) ≡ on v id
-    value_on = own_number 4 (on v id) (on_small v id (omega arith))
+    value_on = own_number 4 (on v id) (on_small v id (small_id id given))
 
     now : Entry
     now = valued (word (off v)) e
@@ -152,7 +164,7 @@ takes_by_limits dict index e v id at cob own low high = by_off (may_hold e.descr
     by_on true m =
         let there : entry_at (with_value index 1 (word (off v)) dict) index 1 ≡ Some (valued (word (off v)) e) = value_replaced dict index 1 (word (off v)) ∙ ap (option_map (valued (word (off v)))) at in
         let here : unsigned32_of (valued (word (off v)) e) ≡ Some (off v) = rw (t, value_off) refl in
-        rw (accepted (with_value index 1 (word (off v)) dict) index (valued (word (off v)) e) (word (on v id)) (on v id) there cob t refl value_on m (on_rules (valued (word (off v)) e) v id here low high)) refl
+        rw (accepted (with_value index 1 (word (off v)) dict) index (valued (word (off v)) e) (word (on v id)) (on v id) there cob t refl value_on m (on_rules (valued (word (off v)) e) v id here given)) refl
     by_on false m =
         let there : entry_at (with_value index 1 (word (off v)) dict) index 1 ≡ Some (valued (word (off v)) e) = value_replaced dict index 1 (word (off v)) ∙ ap (option_map (valued (word (off v)))) at in
         refused (with_value index 1 (word (off v)) dict) index (valued (word (off v)) e) (word (on v id)) (on v id) there t refl value_on m
@@ -215,24 +227,69 @@ between d a n b low high first last =
     let m = both_true (not (option_map_or (λ h. int_lt h (pos b)) d.high false)) _ l.1 in
     rw (f.0, high_kept d.high n b high (not_true _ m.0), low_kept d.low a n low (not_true _ g.1)) refl
 
-by_ends : (d : Description) (v id : ℕ) → 0x181 ≤ id → id ≤ 0x57F → may_hold d (on v 0x181) ≡ true → may_hold d (on v 0x57F) ≡ true → may_hold d (on v id) ≡ true
-by_ends d v id low high = between d (on v 0x181) (on v id) (on v 0x57F) (omega arith) (omega arith)
-
--- each identifier is taken where the least and the greatest are
-pub usable : (dict : List Entry) (index : ℕ) (e : Entry) (v : ℕ) → entry_at dict index 1 ≡ Some e → is_cob_id e ≡ true → unsigned32_of e ≡ Some v
-    → is_usable dict index ≡ may_switch e.description v
+-- each identifier of a range is taken where the least and the greatest are
+range_usable : (dict : List Entry) (index : ℕ) (e : Entry) (v : ℕ) (range : IdRange) → 1 ≤ range.count → ((id : ℕ) → IsIn range id → IsPdoId id) → entry_at dict index 1 ≡ Some e → is_cob_id e ≡ true
+    → unsigned32_of e ≡ Some v → takes_each dict index v range ≡ (may_hold e.description (off v) && may_switch_on e.description v range)
 unfolding takes_each
-usable dict index e v at cob own =
-    rw (at, own) (same_truth (passes_from (takes dict index v) 0x181 1023) _
+range_usable dict index e v range some ids at cob own =
+    same_truth (passes_from (takes dict index v) range.least range.count) _
     (λ all.
-    let one = both_true (may_hold e.description (off v)) (may_hold e.description (on v 0x181)) (sym (takes_by_limits dict index e v 0x181 at cob own (lit≤ tt) (lit≤ tt)) ∙ each_passes (takes dict index v) 0x181 1023 0x181 all (lit≤ tt) (lit< tt)) in
-    let two = both_true (may_hold e.description (off v)) (may_hold e.description (on v 0x57F)) (sym (takes_by_limits dict index e v 0x57F at cob own (lit≤ tt) (lit≤ tt)) ∙ each_passes (takes dict index v) 0x181 1023 0x57F all (lit≤ tt) (lit< tt)) in
+    let one = both_true (may_hold e.description (off v)) (may_hold e.description (on v range.least))
+    (sym (takes_by_limits dict index e v range.least at cob own (ids range.least (omega arith, omega arith)))
+    ∙ each_passes (takes dict index v) range.least range.count range.least all (omega arith) (omega arith)) in
+    let two = both_true (may_hold e.description (off v)) (may_hold e.description (on v (greatest_of range)))
+    (sym (takes_by_limits dict index e v (greatest_of range) at cob own (ids (greatest_of range) (omega arith, omega arith)))
+    ∙ each_passes (takes dict index v) range.least range.count (greatest_of range) all (omega arith) (omega arith)) in
     rw (one.0, one.1, two.1) refl)
     (λ ends.
     let p = both_true (may_hold e.description (off v)) _ ends in
-    let q = both_true (may_hold e.description (on v 0x181)) (may_hold e.description (on v 0x57F)) p.1 in
-    all_pass (takes dict index v) 0x181 1023
-    (λ id low high. takes_by_limits dict index e v id at cob own low (omega arith) ∙ rw (p.0, by_ends e.description v id low (omega arith) q.0 q.1) refl)))
+    let q = both_true (may_hold e.description (on v range.least)) (may_hold e.description (on v (greatest_of range))) p.1 in
+    all_pass (takes dict index v) range.least range.count
+    (λ id low high.
+    takes_by_limits dict index e v id at cob own (ids id (low, high))
+    ∙ rw (p.0, between e.description (on v range.least) (on v id) (on v (greatest_of range)) (omega arith) (omega arith) q.0 q.1) refl))
+
+one_range : (a b : Bool) → ((a && b) && true) ≡ (a && (b && true))
+one_range true b = refl
+one_range false b = refl
+
+two_ranges : (a b c : Bool) → ((a && b) && ((a && c) && true)) ≡ (a && (b && (c && true)))
+two_ranges true b c = refl
+two_ranges false b c = refl
+
+-- a record takes each identifier of the ranges where it takes the least and the greatest of each
+pub usable : (dict : List Entry) (index : ℕ) (e : Entry) (v : ℕ) (second : Bool) → entry_at dict index 1 ≡ Some e → is_cob_id e ≡ true → unsigned32_of e ≡ Some v
+    → is_usable dict index (ranges_where second) ≡ may_switch e.description v (ranges_where second)
+usable dict index e v false at cob own =
+    rw (at, own, range_usable dict index e v first_range (lit≤ tt) (λ id given. inl given) at cob own)
+    (one_range (may_hold e.description (off v)) (may_switch_on e.description v first_range))
+usable dict index e v true at cob own =
+    rw (at, own, range_usable dict index e v first_range (lit≤ tt) (λ id given. inl given) at cob own, range_usable dict index e v second_range (lit≤ tt) (λ id given. inr given) at cob own)
+    (two_ranges (may_hold e.description (off v)) (may_switch_on e.description v first_range) (may_switch_on e.description v second_range))
+
+-- switched off, a COB-ID is above all that it is switched on with
+on_below : (v id : ℕ) → id < 2048 → on v id ≤ off v
+on_below v id h = omega arith
+
+may_hold_ends : (d : Description) (v : ℕ) (second : Bool) → may_switch d v (ranges_where second) ≡ true → (may_hold d (off v) ≡ true) × (may_hold d (on v first_range.least) ≡ true)
+may_hold_ends d v false h =
+    let p = both_true (may_hold d (off v)) (may_switch_on d v first_range && true) h in
+    let q = both_true (may_switch_on d v first_range) true p.1 in
+    (p.0, (both_true (may_hold d (on v first_range.least)) (may_hold d (on v (greatest_of first_range))) q.0).0)
+may_hold_ends d v true h =
+    let p = both_true (may_hold d (off v)) (may_switch_on d v first_range && (may_switch_on d v second_range && true)) h in
+    let q = both_true (may_switch_on d v first_range) (may_switch_on d v second_range && true) p.1 in
+    (p.0, (both_true (may_hold d (on v first_range.least)) (may_hold d (on v (greatest_of first_range))) q.0).0)
+
+-- Each identifier of both ranges lies between the least one and the COB-ID that is switched off. So a record that takes those of
+-- the first range takes them all.
+pub usable_takes : (dict : List Entry) (index : ℕ) (e : Entry) (v id : ℕ) (second : Bool) → entry_at dict index 1 ≡ Some e → is_cob_id e ≡ true → unsigned32_of e ≡ Some v
+    → is_usable dict index (ranges_where second) ≡ true → IsPdoId id → takes dict index v id ≡ true
+usable_takes dict index e v id second at cob own h given =
+    let m = may_hold_ends e.description v second (sym (usable dict index e v second at cob own) ∙ h) in
+    let low : first_range.least ≤ id = ⊎_elim (λ (one : IsIn first_range id). one.0) (λ (two : IsIn second_range id). let least = two.0 in omega arith) given in
+    takes_by_limits dict index e v id at cob own given
+    ∙ rw (m.0, between e.description (on v first_range.least) (on v id) (off v) (omega arith) (on_below v id (small_id id given)) m.1 m.0) refl
 
 at_place : (index sub : ℕ) (x : Entry) → is_at index sub x ≡ true → (x.index ≡ index) × (x.sub ≡ sub)
 at_place index sub x t =
@@ -322,8 +379,8 @@ is_half types.Domain h = cc
 is_half types.Opaque h = cc
 
 -- whether an object has or takes a time is seen of it alone
-pub time_alone : (dict : List Entry) (e : Entry) (n : ℕ) → entry_at dict 0x1017 0 ≡ Some e → n < 2 ^ 16 → has_or_takes dict n e (time_of e) ≡ holds_time n e (time_of e)
-time_alone dict e n at small = by_time (time_of e)
+pub time_alone : (dict : List Entry) (e : Entry) (n : ℕ) → entry_at dict 0x1017 0 ≡ Some e → n < 2 ^ 16 → has_or_takes dict n e (whole_of e) ≡ holds_time n e (whole_of e)
+time_alone dict e n at small = by_time (whole_of e)
   where
     by_type : (b : Bool) → is_unsigned16 e.description.data_type ≡ b → (b && is_ok (written dict 0x1017 0 (bytes_low_first 0 2 n))) ≡ (b && may_hold e.description n)
     by_type true h = time_written dict e n at (is_half e.description.data_type h) small (may_hold e.description n) refl

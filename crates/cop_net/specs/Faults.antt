@@ -18,6 +18,7 @@ number_of_rule (rules.Receive _) = 48
 number_of_rule rules.StaysOn = 50
 number_of_rule rules.Heartbeat = 51
 number_of_rule rules.NoRate = 52
+number_of_rule (rules.Synchrony _) = 53
 
 -- a fault's refusal, which want of memory has not
 abbrev pub refusal : PlanFault → Option Refusal

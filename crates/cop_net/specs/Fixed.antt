@@ -1,8 +1,9 @@
 -- The frames of fixed identifiers (CiA 301, "Pre-defined connection set").
-use Rattle.std.specs.Prelude.{ℕ, zero, suc, ◌≡◌, ◌≤◌, ◌<◌, ◌⊎◌, ◌+◌, ◌*◌, get_or, length, List, [], ◌∷◌, ◌++◌, find, ◌==◌, if◌then◌else◌, Option, Some, None}
+use Rattle.std.specs.Prelude.{ℕ, zero, suc, ◌≡◌, ◌≤◌, ◌<◌, ◌⊎◌, ◌+◌, ◌*◌, get_or, length, List, [], ◌∷◌, ◌++◌, find, ◌==◌, if◌then◌else◌, option_map, Option, Some, None, IfSome}
 use Rattle.cop_rows.specs.declared.node_table.FrameKind.{FrameKind}
 use Rattle.cop_rows.specs.declared.node_table.FrameKind.TheVariants as kinds
 use Rattle.cop_rows.specs.declared.node_table.FrameRow.{FrameRow}
+use Rattle.cop_rows.specs.Nodes.{IsFrameDeadline}
 use Rattle.cop_rta.specs.Entries.{Entry}
 
 -- the identifier of node 0's frame of a kind
@@ -28,8 +29,14 @@ abbrev pub ticks : ℕ → ℕ
 ticks time = time * 4
 
 abbrev pub frame_stream : FrameRow → Entry
-frame_stream row =
-    record { id = base_of row.kind + row.node; bytes = size_of row.kind; period = ticks row.period; jitter = ticks row.jitter; deadline = None }
+frame_stream row = record {
+  id = base_of row.kind + row.node;
+  bytes = size_of row.kind;
+  period = ticks row.period;
+  jitter = ticks row.jitter;
+  deadline = option_map ticks row.deadline;
+  every = 0;
+}
 
 -- the order of the kinds
 abbrev pub rank_of : FrameKind → ℕ
@@ -73,6 +80,7 @@ pub record IsTimed (row : FrameRow) : Type 0 where
   pub owner : IsOwner row.kind row.node
   pub period : (row.period ≡ 0) ⊎ ((100 ≤ row.period) × (row.period ≤ 60000000))
   pub jitter : row.jitter ≤ 60000000
+  pub deadline : IfSome row.deadline (IsFrameDeadline row.kind row.period)
 
 -- a table of the rows, by their places
 pub record KnowsFrames (places : List (Option FrameRow)) (frames : List FrameRow) : Type 0 where

@@ -1,5 +1,5 @@
 -- The times of the nodes' heartbeats.
-use Rattle.std.specs.Prelude.{◌≡◌, ℕ, ◌+◌, ◌*◌, ◌/◌, ◌<◌, ◌==◌, List, find, get_or, length, Option, Some, None}
+use Rattle.std.specs.Prelude.{ℕ, ◌+◌, ◌*◌, ◌/◌, ◌==◌, List, find, Option, Some, None}
 use Rattle.cop_rows.specs.declared.node_table.FrameRow.{FrameRow}
 use Rattle.cop_rows.specs.declared.node_table.FrameKind.TheVariants.{Heartbeat}
 use Rattle.cop_net.specs.Fixed.{key_of, rank_of}
@@ -12,8 +12,3 @@ time_in (Some row) = row.period / 1000
 -- the time of a node's heartbeat, in ms
 abbrev pub heartbeat_of : List FrameRow → ℕ → ℕ
 heartbeat_of frames node = time_in (find (λ row. key_of row == 6 * node + rank_of Heartbeat) frames)
-
--- the times by their nodes
-pub record KnowsTimes (times : List ℕ) (frames : List FrameRow) : Type 0 where
-  pub size : length times ≡ 128
-  pub each : (node : ℕ) → node < 128 → get_or times node 0 ≡ heartbeat_of frames node

@@ -6,6 +6,7 @@ pub mod Rates
 pub mod Devices
 pub mod Texts
 pub mod Uses
+pub mod Signals
 pub mod Settings
 pub mod Pdos
 pub mod Heartbeats

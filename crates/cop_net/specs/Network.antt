@@ -16,7 +16,10 @@ use Rattle.cop_net.specs.declared.devices.Device.{Device}
 use Rattle.cop_net.specs.declared.uses.Used.{Used}
 use Rattle.cop_net.specs.Faults.{at_node}
 use Rattle.cop_net.specs.Rates.{is_some_rate}
+use Rattle.cop_rta.specs.Ranges.{second_range, IsOutside}
+use Rattle.cop_rta.specs.Greatest.{AreSynced}
 use Rattle.cop_net.specs.Fixed.{fixed_streams}
+use Rattle.cop_net.specs.Signals.{signals_of, has_sdo_deadline}
 use Rattle.cop_net.specs.Heartbeats.{heartbeat_of}
 use Rattle.cop_net.specs.Settings.{beats, stays_on}
 use Rattle.cop_net.specs.Devices.{File, Equipment, devices_of}
@@ -48,7 +51,7 @@ with_rate true = Ok tt
 -- the streams of a network, or the first rule that its PDOs and devices break
 unfoldable pub streams_of : List FrameRow → List PdoRow → Equipment → Result (List Entry) Refusal
 streams_of frames rows equipment = do
-  traffic ← pdos_of equipment.devices rows
+  traffic ← pdos_of equipment.devices (signals_of frames (length rows)) rows
   _ ← all_settable frames traffic.used 0 equipment.devices
   _ ← with_rate (is_some_rate equipment.rates)
   Ok (traffic.streams ++ fixed_streams frames)
@@ -76,13 +79,23 @@ pub record Net : Type 0 where
 abbrev pub accepted : Net → Accepted
 accepted n = record { equipment = n.equipment; streams = map entry_of n.set }
 
+-- the deadline of the stream at a place, where there is one
+abbrev pub deadline_at : List Stream → ℕ → Option ℕ
+deadline_at streams k = option_and_then (λ s. s.deadline) (slice_get streams k)
+
+-- the identifiers of SDO frames, from a server and to one
+abbrev pub IsSdo : ℕ → Type 0
+IsSdo id = ((0x581 ≤ id) × (id ≤ 0x5FF)) ⊎ ((0x601 ≤ id) × (id ≤ 0x67F))
+
 -- the streams begin with the PDOs, whose identifiers are 181h, 182h, .. and which have deadlines; no other stream has an
--- identifier that a PDO may get
+-- identifier that a PDO may get, and none but those of SDO frames have deadlines
 pub record BeginsWith (pdos : ℕ) (streams : List Stream) : Type 0 where
   pub count : pdos ≤ length streams
   pub provisional : (k : ℕ) → k < pdos → of_stream (λ s. s.id) streams k ≡ 0x181 + k
-  pub deadlines : (k : ℕ) → k < pdos → IsSome (option_and_then (λ s. s.deadline) (slice_get streams k))
+  pub deadlines : (k : ℕ) → k < pdos → IsSome (deadline_at streams k)
   pub outside : (k : ℕ) → pdos ≤ k → k < length streams → (of_stream (λ s. s.id) streams k < 0x181) ⊎ (0x57F < of_stream (λ s. s.id) streams k)
+  pub outside_second : (k : ℕ) → pdos ≤ k → k < length streams → IsOutside second_range (of_stream (λ s. s.id) streams k)
+  pub dated : (k : ℕ) → pdos ≤ k → k < length streams → IsSome (deadline_at streams k) → IsSdo (of_stream (λ s. s.id) streams k)
 
 -- what holds of each network: it is what its tables and some files make
 pub record IsNetwork (n : Net) : Type 0 where
@@ -91,4 +104,6 @@ pub record IsNetwork (n : Net) : Type 0 where
   pub nodes : IsNodeTable n.nodes
   pub rows : IsPdoTable n.rows
   pub streams : BeginsWith (length n.rows) n.set
+  pub signalled : (k : ℕ) → length n.rows ≤ k → k < length n.set → IsSome (deadline_at n.set k) → has_sdo_deadline n.nodes.frames ≡ true
+  pub synced : AreSynced n.set
   pub rates : is_some_rate n.equipment.rates ≡ true

@@ -1,6 +1,7 @@
 -- Which settings a device takes.
-use Rattle.std.specs.Prelude.{ℕ, zero, suc, ◌+◌, Bool, true, false, not, ◌&&◌, ◌||◌, List, ◌==◌, pos, Option, Some, None, option_and_then, if◌then◌else◌, ℤ, int_lt}
+use Rattle.std.specs.Prelude.{ℕ, zero, suc, ◌+◌, ◌-◌, Bool, true, false, not, ◌&&◌, ◌||◌, List, ◌==◌, pos, Option, Some, None, option_and_then, if◌then◌else◌, ℤ, int_lt}
 use Rattle.std.specs.Result.{is_ok}
+use Rattle.std.specs.List.{list_all}
 use Rattle.std.specs.Ordering.{int_eq}
 use Rattle.std.specs.Int.{bytes_low_first}
 use Rattle.cop_dict.specs.declared.data_type.DataType.{DataType}
@@ -12,6 +13,7 @@ use Rattle.cop_dict.specs.Find.{Entry, unsigned32_of, integer_of, entry_at}
 use Rattle.cop_dict.specs.Pdo.{is_cob_id, exists_by, keeps_pdo}
 use Rattle.cop_dict.specs.Dict.{written, ◌>>=◌}
 use Rattle.cop_pdo.specs.CobIds.{off, on}
+use Rattle.cop_rta.specs.declared.ranges.IdRange.{IdRange}
 
 -- the bytes of an UNSIGNED32
 abbrev pub word : ℕ → List ℕ
@@ -23,10 +25,16 @@ may_hold description n =
     is_writable description.access
     && (not (option_map_or (λ high. int_lt high (pos n)) description.high false) && not (option_map_or (λ low. int_lt (pos n) low) description.low false))
 
--- it lets a COB-ID be switched off, and on with the least and with the greatest identifier that a PDO may get
-abbrev pub may_switch : Description → ℕ → Bool
-may_switch description cob_id =
-    may_hold description (off cob_id) && (may_hold description (on cob_id 0x181) && may_hold description (on cob_id 0x57F))
+abbrev pub greatest_of : IdRange → ℕ
+greatest_of range = range.least + (range.count - 1)
+
+-- it lets a COB-ID be switched on with the least and with the greatest identifier of a range
+abbrev pub may_switch_on : Description → ℕ → IdRange → Bool
+may_switch_on description cob_id range = may_hold description (on cob_id range.least) && may_hold description (on cob_id (greatest_of range))
+
+-- it lets a COB-ID be switched off, and on with the least and with the greatest identifier of each range
+abbrev pub may_switch : Description → ℕ → List IdRange → Bool
+may_switch description cob_id ranges = may_hold description (off cob_id) && list_all (may_switch_on description cob_id) ranges
 
 -- the PDO of a communication record can be switched off
 abbrev pub goes_off : List Entry → ℕ → ℕ → Bool
@@ -41,17 +49,17 @@ unfoldable pub passes_from : (ℕ → Bool) → ℕ → ℕ → Bool
 passes_from test first zero = true
 passes_from test first (suc count) = test first && passes_from test (first + 1) count
 
--- it takes each identifier that a PDO may get, which are 181h to 57Fh
-unfoldable pub takes_each : List Entry → ℕ → ℕ → Bool
-takes_each dict index cob_id = passes_from (takes dict index cob_id) 0x181 1023
+-- it takes each identifier of a range
+unfoldable pub takes_each : List Entry → ℕ → ℕ → IdRange → Bool
+takes_each dict index cob_id range = passes_from (takes dict index cob_id) range.least range.count
 
-abbrev pub takes_each_of : List Entry → ℕ → Option ℕ → Bool
-takes_each_of dict index None = false
-takes_each_of dict index (Some cob_id) = takes_each dict index cob_id
+abbrev pub takes_each_of : List Entry → ℕ → List IdRange → Option ℕ → Bool
+takes_each_of dict index ranges None = false
+takes_each_of dict index ranges (Some cob_id) = list_all (takes_each dict index cob_id) ranges
 
--- the same of a record whose COB-ID is perhaps no UNSIGNED32: then no plan can write it
-abbrev pub is_usable : List Entry → ℕ → Bool
-is_usable dict index = takes_each_of dict index (option_and_then unsigned32_of (entry_at dict index 1))
+-- it takes each identifier of the ranges; where its COB-ID is no UNSIGNED32 no plan can write it
+abbrev pub is_usable : List Entry → ℕ → List IdRange → Bool
+is_usable dict index ranges = takes_each_of dict index ranges (option_and_then unsigned32_of (entry_at dict index 1))
 
 abbrev pub goes_off_of : List Entry → ℕ → Option ℕ → Bool
 goes_off_of dict index None = false
@@ -74,8 +82,8 @@ is_unsigned16 types.Unsigned16 = true
 is_unsigned16 _ = false
 
 -- the number that an entry of an integer type has
-abbrev pub time_of : Entry → Option ℤ
-time_of entry = if is_boolean entry.description.data_type then None else integer_of entry
+abbrev pub whole_of : Entry → Option ℤ
+whole_of entry = if is_boolean entry.description.data_type then None else integer_of entry
 
 -- the entry has this time already, or it can be written
 abbrev pub has_or_takes : List Entry → ℕ → Entry → Option ℤ → Bool
@@ -90,7 +98,7 @@ holds_time time entry (Some now) = int_eq now (pos time) || (is_unsigned16 entry
 
 abbrev pub beats_by : List Entry → ℕ → Option Entry → Bool
 beats_by dict time None = time == 0
-beats_by dict time (Some entry) = has_or_takes dict time entry (time_of entry)
+beats_by dict time (Some entry) = has_or_takes dict time entry (whole_of entry)
 
 -- the heartbeat can have this time, in ms: without an object for it only 0
 abbrev pub beats : List Entry → ℕ → Bool

@@ -15,6 +15,21 @@ pub enum Table {
     Pdos,
 }
 
+/// What keeps a TPDO from being sent by SYNC, or by events.
+#[derive(Clone, Copy, PartialEq, Eq, Debug)]
+pub enum SyncFault {
+    /// It is sent by events, and its row has period 0.
+    NoPeriod,
+    /// It is sent by SYNC, and its row has a period.
+    OwnPeriod,
+    /// It is sent by SYNC, and no SYNC with a period is there.
+    NoSync,
+    /// So many times SYNC's period is above 60 s.
+    TooRare(u8),
+    /// SYNC's jitter and its latency together are above 40 s.
+    TooLate,
+}
+
 /// The rule that a network breaks.
 #[derive(Clone, Copy, PartialEq, Eq, Debug)]
 pub enum Rule {
@@ -26,8 +41,10 @@ pub enum Rule {
     Transmit(Option<MappingFault>),
     /// The COB-ID of a PDO can't be given each identifier.
     CobId,
-    /// The transmission type of the TPDO is absent or neither 254 nor 255.
+    /// The transmission type of the TPDO is absent, or none of 1 to 240, 254 and 255.
     Transmission,
+    /// The row of the TPDO and SYNC do not go with its transmission type.
+    Synchrony(SyncFault),
     /// The RPDO has no payload: its mapping breaks this rule, or the node has no device row; or it is used twice, or has
     /// another layout than the TPDO.
     Receive(Option<MappingFault>),
@@ -50,6 +67,7 @@ impl Rule {
             Rule::Transmit(_) => 45,
             Rule::CobId => 46,
             Rule::Transmission => 47,
+            Rule::Synchrony(_) => 53,
             Rule::Receive(_) => 48,
             Rule::StaysOn => 50,
             Rule::Heartbeat => 51,

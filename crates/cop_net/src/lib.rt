@@ -7,12 +7,13 @@ mod eds_files;
 mod equipping;
 mod faults;
 mod fixed;
-mod heartbeats;
+mod frames;
 mod making;
 mod networks;
 mod pdos;
 mod rates;
 mod settings;
+mod signals;
 mod strays;
 mod tables;
 mod uses;
@@ -21,7 +22,7 @@ pub use cop_rows::{
     Consumer, Consumers, DeviceRow, FrameKind, FrameRow, Name, NodeTable, PdoRow, PdoTable,
 };
 pub use eds_files::EdsFiles;
-pub use faults::{PlanFault, Refusal, Rule, Table};
+pub use faults::{PlanFault, Refusal, Rule, SyncFault, Table};
 pub use making::{network, network_of_files};
 pub use networks::Network;
 pub use tables::{read_nodes, read_pdos};

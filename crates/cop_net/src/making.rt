@@ -16,9 +16,10 @@ use crate::eds_files::EdsFiles;
 use crate::equipping::equip;
 use crate::faults::{PlanFault, Rule};
 use crate::fixed::put_fixed;
-use crate::heartbeats::Heartbeats;
+use crate::frames::Frames;
 use crate::networks::Network;
 use crate::pdos::find_pdos;
+use crate::signals::Signals;
 use crate::strays::{check_devices, refused};
 use cop_rows::{DeviceRow, FrameRow, NodeTable, PdoRow, PdoTable};
 use cop_rta::StreamSet;
@@ -45,19 +46,18 @@ fn frame_rows(nodes: &NodeTable) -> &[FrameRow]
 /// The streams of the frames and the PDOs of the tables.
 fn streams_of(
     alloc: Global,
-    frames: &[FrameRow],
-    heartbeats: &Heartbeats<'_>,
+    frames: &Frames<'_>,
     rows: &[PdoRow],
     devices: &Devices,
 ) -> Result<StreamSet, PlanFault>
     requires timed { All IsTimed frames.now }
-    requires same { heartbeats.now ≡ frames.now }
     requires rows { All IsPdoRow rows.now }
     requires count { length rows.now ≤ 512 }
     ensures { Gives (λ set. map entry_of set) refusal result (streams_of frames.now rows.now devices.now) }
 {
-    let found = find_pdos(alloc, devices, rows)?;
-    check_devices(heartbeats, &found.used, devices)?;
+    let signals = Signals::new(frames, rows.len());
+    let found = find_pdos(alloc, devices, signals, rows)?;
+    check_devices(frames, &found.used, devices)?;
     if !devices.has_rate() {
         return Err(refused(Rule::NoRate, 0));
     }
@@ -83,19 +83,19 @@ fn network_of_rows<'a>(
     ensures tables { IfOk result (λ n. (n.nodes ≡ nodes.now) × (n.rows ≡ pdos.now)) }
 {
     let devices = equip(alloc, device_rows(nodes), files)?;
-    let heartbeats = Heartbeats::new(frames);
-    let set = streams_of(alloc, frames, &heartbeats, rows, &devices)?;
+    let frames = Frames::new(frames);
+    let set = streams_of(alloc, &frames, rows, &devices)?;
     Ok(Network {
         nodes,
         pdos,
-        heartbeats,
+        frames,
         devices,
         set,
     })
 }
 
 /// The network of the tables and of EDS files that are read. Otherwise the first rule that is broken: of the devices by
-/// record (43); then of the PDOs by record (45, the TPDO's 46, 47, and of each consumer in turn 48 and 46); then of the
+/// record (43); then of the PDOs by record (45, the TPDO's 46, 47, 53, and of each consumer in turn 48 and 46); then of the
 /// devices by node (51, 50); then 52. The streams of a network that breaks no rule are apart and few enough for one set,
 /// which so refuses none of them.
 pub fn network_of_files<'a>(

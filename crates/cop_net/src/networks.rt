@@ -8,7 +8,7 @@ ghost use Rattle.cop_net.specs.Heartbeats.{heartbeat_of};
 ghost use Rattle.cop_net.specs.Network.{IsNetwork};
 
 use crate::devices::Devices;
-use crate::heartbeats::Heartbeats;
+use crate::frames::Frames;
 use cop_dict::Dictionary;
 use cop_frame::RateSet;
 use cop_rows::{DeviceRow, NodeTable, PdoRow, PdoTable};
@@ -20,7 +20,7 @@ use std::marker::Model;
 pub struct Network<'a> {
     pub(crate) nodes: &'a NodeTable,
     pub(crate) pdos: &'a PdoTable,
-    pub(crate) heartbeats: Heartbeats<'a>,
+    pub(crate) frames: Frames<'a>,
     pub(crate) devices: Devices,
     pub(crate) set: StreamSet,
 }
@@ -33,7 +33,7 @@ impl<'a> Model for Network<'a> {
 
     ghost view = { λ n. record { nodes = n.nodes.now; rows = n.pdos.now; equipment = n.devices; set = n.set } };
 
-    ghost invariant = { λ n. IsNetwork (record { nodes = n.nodes.now; rows = n.pdos.now; equipment = n.devices; set = n.set }) × (n.heartbeats ≡ n.nodes.now.frames) };
+    ghost invariant = { λ n. IsNetwork (record { nodes = n.nodes.now; rows = n.pdos.now; equipment = n.devices; set = n.set }) × (n.frames ≡ n.nodes.now.frames) };
 }
 
 impl<'a> Network<'a> {
@@ -82,7 +82,7 @@ impl<'a> Network<'a> {
     pub fn heartbeat(&self, node: u8) -> u16
         ensures { result ≡ heartbeat_of self.now.nodes.frames node }
     {
-        self.heartbeats.time(node)
+        self.frames.time(node)
     }
 
     /// The dictionary of a node's device, with its initial values.

@@ -12,7 +12,7 @@ ghost use Rattle.cop_net.specs.Network.{has_stray, settable, all_settable};
 
 use crate::devices::{Device, Devices};
 use crate::faults::{PlanFault, Refusal, Rule, Table};
-use crate::heartbeats::Heartbeats;
+use crate::frames::Frames;
 use crate::settings::{beats, is_stuck};
 use crate::uses::Uses;
 use cop_dict::{Dictionary, Object};
@@ -51,7 +51,7 @@ fn has_stray(used: &Uses, node: u8, dict: &Dictionary) -> bool
 
 /// A device takes what each plan sets.
 fn check_device(
-    frames: &Heartbeats<'_>,
+    frames: &Frames<'_>,
     used: &Uses,
     node: u8,
     device: Option<&Device>,
@@ -72,11 +72,7 @@ fn check_device(
 }
 
 /// All devices take what each plan sets; of several that don't, the one of the lowest node counts.
-pub fn check_devices(
-    frames: &Heartbeats<'_>,
-    used: &Uses,
-    devices: &Devices,
-) -> Result<(), PlanFault>
+pub fn check_devices(frames: &Frames<'_>, used: &Uses, devices: &Devices) -> Result<(), PlanFault>
     ensures { Gives (λ u. u) refusal result (all_settable frames.now used.now 0 devices.now.devices) }
 {
     for node in 0..devices.nodes() {

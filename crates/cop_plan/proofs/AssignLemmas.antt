@@ -9,50 +9,16 @@ use Rattle.cop_frame.specs.Rate.{kbits_of, place_of}
 use Rattle.cop_frame.proofs.RateSetLemmas.{place_below}
 use Rattle.cop_rta.specs.declared.streams.Stream.{Stream}
 use Rattle.cop_cert.specs.declared.refusals.Refusal.{Refusal}
-use Rattle.cop_cert.specs.Assignments.{least_id, NoAssignmentPasses}
-use Rattle.cop_cert.specs.Sets.{IsGreatestRefusalSet}
-use Rattle.cop_cert.specs.Evidence.{is_listed, is_member, pdos_of, IsRefusal}
-use Rattle.cop_cert.specs.Chains.{FailTogether, IsMade}
-use Rattle.cop_cert.proofs.SetLemmas.{set_rules_out}
-use Rattle.cop_plan.specs.Fillings.{IsStuck}
+use Rattle.cop_cert.specs.Assignments.{IsPassing, NoAssignmentPasses}
+use Rattle.cop_cert.proofs.CauseLemmas.{refusal_rules_out}
 use Rattle.cop_plan.specs.Orders.{IsPlanOrder, IsByPriority}
 use Rattle.cop_plan.specs.Values.{PlanValue, id_of, HaveIds}
-use Rattle.cop_plan.specs.Plans.{IsGreatestRefusal, AreRefusals, members_in, IsSlower, IsPlan}
-use Rattle.cop_plan.proofs.PlannedLemmas.{order_assigns}
-use Rattle.cop_plan.proofs.FillingLemmas.{listed_at, no_bit}
+use Rattle.cop_plan.specs.Plans.{IsGreatestRefusal, AreRefusals, members_of, members_in, is_filled, filled_in, IsSlower, IsPlan}
 use Rattle.cop_plan.proofs.RateLemmas.{rate_at, at_place, place_at, kbits_rise, place_rise}
 
 -- a candidate of the first i rates
 abbrev pub IsEarlier : List Rate → ℕ → Rate → Type 0
 IsEarlier rates i rate = Contains rates rate × (place_of rate < i)
-
--- ---- one refusal
-
-some_listed : (members : List ℕ) (p : ℕ) → is_listed members p ≡ true → 0 < length members
-some_listed [] p h = absurd (no_bit false h refl)
-some_listed (m ∷ ms) p h = omega arith
-
-pub stuck_fails : (rate : Rate) (streams : List Stream) (pdos : ℕ) (members : List ℕ) → IsStuck rate streams pdos members → FailTogether least_id streams pdos rate members
-stuck_fails rate streams pdos members stuck = record {
-  some = some_listed members stuck.greatest.is.some.0 stuck.greatest.is.some.2;
-  rise = stuck.rise;
-  inside = stuck.inside;
-  fail = λ k d h. stuck.greatest.is.each (get_or members k d) (stuck.inside k d h) (listed_at members k d h);
-}
-
-pub greatest_is_made : (rate : Rate) (streams : List Stream) (pdos : ℕ) (members : List ℕ) (r : Refusal) → IsStuck rate streams pdos members
-    → IsMade least_id streams pdos rate members r → IsRefusal least_id streams pdos r → IsGreatestRefusal streams pdos r
-greatest_is_made rate streams pdos members r stuck made checks =
-    let pdos_are : pdos_of r.members ≡ members = made.members_are.pdos_are in
-    let greatest : IsGreatestRefusalSet least_id r.rate streams pdos (is_listed members) =
-    subst (λ (rate : Rate). IsGreatestRefusalSet least_id rate streams pdos (is_listed members)) (sym made.rate_is) stuck.greatest in
-    let whole : IsMade least_id streams pdos r.rate members r =
-    subst (λ (rate : Rate). IsMade least_id streams pdos rate members r) (sym made.rate_is) made in
-    record {
-      greatest = subst (λ (list : List ℕ). IsGreatestRefusalSet least_id r.rate streams pdos (is_listed list)) (sym pdos_are) greatest;
-      made = subst (λ (list : List ℕ). IsMade least_id streams pdos r.rate list r) (sym pdos_are) whole;
-      holds = checks;
-    }
 
 -- what some element has, one of a longer list has
 any_still : (P : Refusal → Type 0) (xs : List Refusal) (y : Refusal) → Any P xs → Any P (xs ++ y ∷ [])
@@ -131,7 +97,7 @@ module _ (streams : List Stream) (pdos : ℕ) where
   refused_is_ruled_out Are refusals few r rate are =
       let found = any_of (λ r. r.rate ≡ rate) (IsGreatestRefusal streams pdos) refusals (r.every rate are) r.each in
       subst (λ (rate : Rate). NoAssignmentPasses rate streams pdos) found.1
-      (set_rules_out least_id found.0.rate streams pdos (is_member found.0.members) (le_refl least_id) few found.2.greatest.is)
+      (refusal_rules_out streams pdos found.0 few found.2.holds)
 
 -- one rate more was tried
 pub trials_more : (before after old tried each : ℕ) → 2 * after ≤ 2 * before + each → 2 * before ≤ 2 * old + tried * each → 2 * after ≤ 2 * old + (tried + 1) * each
@@ -141,33 +107,30 @@ pub busy_more : (before after old tried each : ℕ) → after ≤ before + each 
 busy_more before after old tried each h sum = let one : (tried + 1) * each ≡ tried * each + each = grind arith in omega (arith, h, sum, one)
 
 -- what is planned at the first rate that is not refused
-pub plan_is : (rates : List Rate) (streams : List Stream) (pdos n i : ℕ) (plan : PlanValue) (refusals : List Refusal) → n ≡ pdos → pdos ≤ length streams → pdos ≤ 512 → i < 8
-    → Contains rates (rate_at i) → plan.rate ≡ rate_at i → plan.refusals ≡ refusals → length plan.ids ≡ n → IsPlanOrder (rate_at i) streams n (id_of plan.ids)
-    → IsByPriority n (id_of plan.ids) plan.order → HaveIds streams n (id_of plan.ids) plan.streams → AreRefusals streams pdos (IsEarlier rates i) refusals → IsPlan rates streams pdos plan
-plan_is rates streams pdos n i plan refusals same few most low candidate rate_is refusals_are count ordered by_priority renamed refused =
-    let here : IsPlanOrder (rate_at i) streams pdos (id_of plan.ids) = rw same at ordered in
-    let order : IsPlanOrder plan.rate streams pdos (id_of plan.ids) = subst (λ (rate : Rate). IsPlanOrder rate streams pdos (id_of plan.ids)) (sym rate_is) here in
+pub plan_is : (rates : List Rate) (streams : List Stream) (pdos i : ℕ) (plan : PlanValue) (refusals : List Refusal) → pdos ≤ length streams → i < 8
+    → Contains rates (rate_at i) → plan.rate ≡ rate_at i → plan.refusals ≡ refusals → length plan.ids ≡ pdos → IsPassing (rate_at i) streams pdos (id_of plan.ids) → IsPlanOrder (rate_at i) streams pdos (id_of plan.ids)
+    → IsByPriority pdos (id_of plan.ids) plan.order → HaveIds streams pdos (id_of plan.ids) plan.streams → AreRefusals streams pdos (IsEarlier rates i) refusals → IsPlan rates streams pdos plan
+plan_is rates streams pdos i plan refusals few low candidate rate_is refusals_are count passing ordered by_priority renamed refused =
     let slower : AreRefusals streams pdos (IsSlower rates (rate_at i)) plan.refusals =
     subst (λ (list : List Refusal). AreRefusals streams pdos (IsSlower rates (rate_at i)) list) (sym refusals_are) (slower_refused streams pdos rates i refusals low refused) in
     let all : AreRefusals streams pdos (IsSlower rates plan.rate) plan.refusals =
     subst (λ (rate : Rate). AreRefusals streams pdos (IsSlower rates rate) plan.refusals) (sym rate_is) slower in
     record {
       candidate = subst (Contains rates) (sym rate_is) candidate;
-      count = count ∙ same;
-      passing = (order_assigns plan.rate streams pdos (id_of plan.ids) most order, order.passes);
-      order = order;
-      by_priority = rw same at by_priority;
+      count = count;
+      passing = subst (λ (rate : Rate). IsPassing rate streams pdos (id_of plan.ids)) (sym rate_is) passing;
+      order = subst (λ (rate : Rate). IsPlanOrder rate streams pdos (id_of plan.ids)) (sym rate_is) ordered;
+      by_priority = by_priority;
       slowest = refused_is_ruled_out streams pdos (IsSlower rates plan.rate) plan.refusals few all;
       refused = all;
-      renamed = rw same at renamed;
+      renamed = renamed;
     }
 
-members_push : (rs : List Refusal) (r : Refusal) → members_in (rs ++ r ∷ []) ≡ members_in rs + length r.members
+-- one refusal more
+pub members_push : (rs : List Refusal) (r : Refusal) → members_in (rs ++ r ∷ []) ≡ members_in rs + members_of r.cause
 members_push [] r = omega arith
 members_push (s ∷ rs) r = omega (arith, members_push rs r)
 
--- a refusal more has at most as many members as trials were made for it
-pub least_more : (rs : List Refusal) (r : Refusal) (members : List ℕ) (first before after : ℕ) → pdos_of r.members ≡ members
-    → first + members_in rs ≤ before → before + length members ≤ after → first + members_in (rs ++ r ∷ []) ≤ after
-least_more rs r members first before after are least more =
-    omega (arith, members_push rs r, length-map r.members (λ m. m.pdo), ap length are, least, more)
+pub filled_push : (rs : List Refusal) (r : Refusal) → filled_in (rs ++ r ∷ []) ≡ filled_in rs + is_filled r.cause
+filled_push [] r = omega arith
+filled_push (s ∷ rs) r = omega (arith, filled_push rs r)

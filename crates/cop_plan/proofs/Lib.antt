@@ -1,8 +1,8 @@
 pub mod FillingLemmas
-pub mod UniqueLemmas
 pub mod GreedyLemmas
 pub mod OrderLemmas
 pub mod SamePlace
+pub mod SameSync
 pub mod RateLemmas
 pub mod AssignLemmas
 pub mod RenameLemmas
@@ -11,5 +11,15 @@ pub mod DeadlineLemmas
 pub mod NetworkLemmas
 pub mod OnceLemmas
 pub mod ListsOnce
+pub mod CausesOnce
 pub mod OutcomeOnce
 pub mod WritableLemmas
+pub mod StuckLemmas
+pub mod RangePlaceLemmas
+pub mod RangePassLemmas
+pub mod RangeGoesLemmas
+pub mod RangeFlagLemmas
+pub mod RangeUniqueLemmas
+pub mod RangeOrderLemmas
+pub mod FoundLemmas
+pub mod FrameLemmas

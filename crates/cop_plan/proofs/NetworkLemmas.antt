@@ -1,5 +1,5 @@
 -- Networks can be planned, and candidates are a set of rates.
-use Rattle.std.proofs.Common.{◌≡◌, ◌↔◌, ℕ, ◌≤◌, List, length, Option, Some, None, IsSome, Contains, refl, false}
+use Rattle.std.proofs.Common.{◌≡◌, ◌↔◌, ℕ, ◌≤◌, List, length, Option, Some, None, IsSome, Contains, refl, false, arith}
 use Rattle.cop_frame.specs.declared.rates.Rate.{Rate}
 use Rattle.cop_rta.specs.declared.streams.Stream.{Stream}
 use Rattle.cop_net.specs.Network.{Net, IsNetwork}
@@ -19,7 +19,10 @@ can_assign_network n h few = record {
   count = h.streams.count;
   few = few;
   deadlines = λ p low. the_deadline _ (h.streams.deadlines p low);
-  outside = h.streams.outside;
+  provisional = λ p low. omega (arith, h.streams.provisional p low);
+  outside_first = λ k low inside. h.streams.outside k low inside;
+  outside_second = h.streams.outside_second;
+  synced = h.synced;
 }
 
 module _ (rates others : List Rate) (same : (rate : Rate) → Contains rates rate ↔ Contains others rate) (streams : List Stream) (pdos : ℕ) where

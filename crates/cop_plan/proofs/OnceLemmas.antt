@@ -3,16 +3,20 @@ use Rattle.std.proofs.Common.{◌≡◌, ℕ, suc, ◌+◌, ◌*◌, ◌<◌, �
 use Rattle.cop_frame.specs.declared.rates.Rate.{Rate}
 use Rattle.cop_rta.specs.declared.streams.Stream.{Stream}
 use Rattle.cop_rta.specs.declared.verdicts.Verdict.TheVariants as verdicts
-use Rattle.cop_rta.specs.Test.{StreamPlace, busy_at, queueing_at, blocking, cost_at, horizon}
+use Rattle.cop_rta.specs.Test.{place_among, StreamPlace, busy_at, queueing_at, blocking, cost_at, horizon}
+use Rattle.cop_rta.specs.Streams.{AreDistinct}
 use Rattle.cop_rta.specs.Verdict.{IsFirstLate}
+use Rattle.cop_rta.proofs.IdentifierLemmas.{one_place}
 use Rattle.cop_rta.proofs.VerdictLemmas.{judged_same}
 use Rattle.cop_cert.specs.declared.refusals.Evidence.{Evidence}
 use Rattle.cop_cert.specs.declared.refusals.Evidence.TheVariants.{Long, Late}
+use Rattle.cop_cert.specs.declared.refusals.Cause.TheVariants.{Sync, Sdo}
 use Rattle.cop_cert.specs.declared.refusals.Member.{Member}
-use Rattle.cop_cert.specs.declared.refusals.Refusal.{Refusal}
-use Rattle.cop_cert.specs.Evidence.{last_after, last_of, is_listed, pdos_of}
-use Rattle.cop_cert.specs.Sets.{is_in_trial}
-use Rattle.cop_cert.specs.Chains.{Follows, IsChain, IsWholeEvidence, IsMade}
+use Rattle.cop_cert.specs.Causes.{sync_trial, kept}
+use Rattle.cop_cert.specs.Evidence.{last_after, last_of, is_listed, pdos_of, is_member}
+use Rattle.cop_cert.specs.Sets.{is_in_trial, trial}
+use Rattle.cop_cert.specs.Chains.{Follows, IsChain, EndsAbove, IsWholeEvidence, AreMadeOf, IsMadeCause}
+use Rattle.cop_cert.proofs.FrameLemmas.{one_sync}
 
 -- ---- chains
 
@@ -72,7 +76,7 @@ module _ (p : StreamPlace) where
   evidence_once (Late q b d) (Long c) x y = absurd (apart q c b d y x)
   evidence_once (Late q b d) (Late k c g) x y = late_once q k b c d g (instance_once q k _ _ x.queue_of.first y.queue_of.first) x y
 
--- ---- refusals
+-- ---- members and frames
 
 make_member : ℕ → Evidence → Member
 make_member pdo evidence = record { pdo = pdo; evidence = evidence }
@@ -85,13 +89,13 @@ member_same m n a b =
 
 module _ (streams : List Stream) (above : ℕ → Bool) (rate : Rate) where
   abbrev IsWhole : Member → Type 0
-  IsWhole m = IsWholeEvidence (record { streams = streams; above = above; index = m.pdo; rate = rate }) m.evidence
+  IsWhole m = IsWholeEvidence (place_among streams above m.pdo rate) m.evidence
 
   member_once : (m n : Member) → m.pdo ≡ n.pdo → IsWhole m → IsWhole n → m ≡ n
   member_once m n e x y =
-      let mine : IsWholeEvidence (record { streams = streams; above = above; index = n.pdo; rate = rate }) m.evidence =
-      subst (λ (i : ℕ). IsWholeEvidence (record { streams = streams; above = above; index = i; rate = rate }) m.evidence) e x in
-      member_same m n e (evidence_once (record { streams = streams; above = above; index = n.pdo; rate = rate }) m.evidence n.evidence mine y)
+      let mine : IsWholeEvidence (place_among streams above n.pdo rate) m.evidence =
+      subst (λ (i : ℕ). IsWholeEvidence (place_among streams above i rate) m.evidence) e x in
+      member_same m n e (evidence_once (place_among streams above n.pdo rate) m.evidence n.evidence mine y)
 
   members_once : (ms ns : List Member) → pdos_of ms ≡ pdos_of ns → All IsWhole ms → All IsWhole ns → ms ≡ ns
   members_once [] [] e x y = refl
@@ -103,17 +107,25 @@ module _ (streams : List Stream) (above : ℕ → Bool) (rate : Rate) where
       let tail : pdos_of ms ≡ pdos_of ns = cc in
       rw (member_once m n head (x 0 m (omega arith)) (y 0 n (omega arith)), members_once ms ns tail (λ k d h. x (suc k) d (omega (arith, h))) (λ k d h. y (suc k) d (omega (arith, h)))) refl
 
-make_refusal : Rate → List Member → Refusal
-make_refusal rate members = record { rate = rate; members = members }
+-- the members of a trial of some PDOs
+pub made_members_once : (bound : ℕ) (streams : List Stream) (pdos : ℕ) (rate : Rate) (ms ns : List Member) → pdos_of ms ≡ pdos_of ns
+    → AreMadeOf bound streams pdos rate (pdos_of ms) ms → AreMadeOf bound streams pdos rate (pdos_of ns) ns → ms ≡ ns
+made_members_once bound streams pdos rate ms ns e a b =
+    let mine : AreMadeOf bound streams pdos rate (pdos_of ns) ms = subst (λ (listed : List ℕ). AreMadeOf bound streams pdos rate listed ms) e a in
+    members_once streams (is_in_trial bound streams pdos (is_listed (pdos_of ns))) rate ms ns e mine.whole b.whole
 
-refusal_same : (r s : Refusal) → r.rate ≡ s.rate → r.members ≡ s.members → r ≡ s
-unfolding make_refusal
-refusal_same r s a b =
-    let made : make_refusal r.rate r.members ≡ make_refusal s.rate s.members = rw (a, b) refl in
-    made
+-- SYNC's busy list
+pub sync_list_once : (streams : List Stream) (pdos : ℕ) (rate : Rate) (busy other : List ℕ) → IsMadeCause rate streams pdos (Sync busy)
+    → IsMadeCause rate streams pdos (Sync other) → busy ≡ other
+sync_list_once streams pdos rate busy other (i, its, x) (j, others, y) =
+    let mine : EndsAbove (busy_at (sync_trial rate streams pdos j)) 1 horizon busy =
+    subst (λ (sync : ℕ). EndsAbove (busy_at (sync_trial rate streams pdos sync)) 1 horizon busy) (one_sync streams pdos i j its others) x in
+    chain_once (busy_at (sync_trial rate streams pdos j)) horizon 1 busy other mine.chain y.chain (inl mine.above) (inl y.above)
 
-pub made_once : (bound : ℕ) (streams : List Stream) (pdos : ℕ) (rate : Rate) (members : List ℕ) (r s : Refusal) → IsMade bound streams pdos rate members r → IsMade bound streams pdos rate members s → r ≡ s
-made_once bound streams pdos rate members r s a b =
-    refusal_same r s (a.rate_is ∙ sym b.rate_is)
-    (members_once streams (is_in_trial bound streams pdos (is_listed members)) rate r.members s.members
-    (a.members_are.pdos_are ∙ sym b.members_are.pdos_are) a.members_are.whole b.members_are.whole)
+-- the evidence of an SDO frame
+pub frame_evidence_once : (streams : List Stream) (pdos : ℕ) (rate : Rate) (up : List Member) (id : ℕ) (e g : Evidence) → AreDistinct streams
+    → IsMadeCause rate streams pdos (Sdo up id e) → IsMadeCause rate streams pdos (Sdo up id g) → e ≡ g
+frame_evidence_once streams pdos rate up id e g distinct (_, i, tested, its, x) (_, j, other, others, y) =
+    let same : i ≡ j = one_place streams distinct i j tested.inside other.inside (its ∙ sym others) in
+    evidence_once (trial id rate streams pdos (kept pdos (is_member up)) j) e g
+    (subst (λ (f : ℕ). IsWholeEvidence (trial id rate streams pdos (kept pdos (is_member up)) f) e) same x) y

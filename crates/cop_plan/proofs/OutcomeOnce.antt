@@ -1,5 +1,5 @@
 -- Some streams and candidates have one outcome.
-use Rattle.std.proofs.Common.{◌≡◌, ℕ, suc, ◌<◌, ◌⊎◌, inl, inr, true, List, [], ◌∷◌, map, length, get_or, Contains, refl, sym, ap, ◌∙◌, subst, arith}
+use Rattle.std.proofs.Common.{◌≡◌, ℕ, suc, ◌<◌, ◌⊎◌, inl, inr, List, [], ◌∷◌, map, length, get_or, Contains, refl, sym, ap, ◌∙◌, subst, arith}
 use Rattle.std.proofs.lemmas.Bool.{cases_order}
 use Rattle.std.proofs.lemmas.List.{ext_get_or}
 use Rattle.cop_frame.specs.declared.rates.Rate.{Rate}
@@ -9,10 +9,6 @@ use Rattle.cop_rta.specs.Test.{of_stream}
 use Rattle.cop_rta.specs.Entries.{entry_of}
 use Rattle.cop_rta.proofs.StreamLemmas.{streams_same}
 use Rattle.cop_cert.specs.declared.refusals.Refusal.{Refusal}
-use Rattle.cop_cert.specs.Assignments.{least_id}
-use Rattle.cop_cert.specs.Sets.{IsRefusalSet}
-use Rattle.cop_cert.specs.Evidence.{is_member, pdos_of}
-use Rattle.cop_cert.specs.Chains.{IsMade}
 use Rattle.cop_plan.specs.declared.assigning.Outcome.{Outcome}
 use Rattle.cop_plan.specs.declared.assigning.Outcome.TheVariants.{Planned, Refused}
 use Rattle.cop_plan.specs.Orders.{HasPdos, IsPlanOrder, IsByPriority}
@@ -20,30 +16,16 @@ use Rattle.cop_plan.specs.Values.{PlanValue, Timing, timing_of, id_of, HaveIds}
 use Rattle.cop_plan.specs.Plans.{IsGreatestRefusal, AreRefusals, IsSlower, IsPlan, IsOutcome}
 use Rattle.cop_plan.proofs.RateLemmas.{rate_at, at_place, kbits_rise}
 use Rattle.cop_plan.proofs.SamePlace.{same_length}
-use Rattle.cop_plan.proofs.UniqueLemmas.{unique}
-use Rattle.cop_plan.proofs.OnceLemmas.{made_once}
-use Rattle.cop_plan.proofs.ListsOnce.{listed_has, numbers_once, rate_has, refusals_once}
+use Rattle.cop_plan.proofs.RangeUniqueLemmas.{unique_over_ranges}
+use Rattle.cop_plan.proofs.CausesOnce.{greatest_once}
+use Rattle.cop_plan.proofs.ListsOnce.{rate_has, refusals_once}
 
 -- ---- refusals
 
-module _ (streams : List Stream) (pdos : ℕ) where
-  -- the greatest of two refusal sets has the members of both
-  within : (r s : Refusal) → IsGreatestRefusal streams pdos r → IsGreatestRefusal streams pdos s → r.rate ≡ s.rate → (k : ℕ) → is_member r.members k ≡ true → is_member s.members k ≡ true
-  within r s a b e k h =
-      let mine : IsRefusalSet least_id s.rate streams pdos (is_member r.members) =
-      subst (λ (rate : Rate). IsRefusalSet least_id rate streams pdos (is_member r.members)) e a.greatest.is in
-      b.greatest.greatest (is_member r.members) mine k (listed_has (λ m. m < pdos) (pdos_of r.members) k a.holds.inside h) h
-
-  greatest_once : (r s : Refusal) → IsGreatestRefusal streams pdos r → IsGreatestRefusal streams pdos s → r.rate ≡ s.rate → r ≡ s
-  greatest_once r s a b e =
-      let same : pdos_of r.members ≡ pdos_of s.members = numbers_once (pdos_of r.members) (pdos_of s.members) a.holds.rise b.holds.rise (within r s a b e) (within s r b a (sym e)) in
-      let at_rate : IsMade least_id streams pdos s.rate (pdos_of r.members) r = subst (λ (rate : Rate). IsMade least_id streams pdos rate (pdos_of r.members) r) e a.made in
-      let mine : IsMade least_id streams pdos s.rate (pdos_of s.members) r = subst (λ (list : List ℕ). IsMade least_id streams pdos s.rate list r) same at_rate in
-      made_once least_id streams pdos s.rate (pdos_of s.members) r s mine b.made
-
+module _ (streams : List Stream) (pdos : ℕ) (s : HasPdos streams pdos) where
   pub all_once : (Are : Rate → Type 0) (rs ss : List Refusal) → AreRefusals streams pdos Are rs → AreRefusals streams pdos Are ss → rs ≡ ss
   all_once Are rs ss a b =
-      refusals_once (IsGreatestRefusal streams pdos) greatest_once rs ss a.rise b.rise a.each b.each
+      refusals_once (IsGreatestRefusal streams pdos) (greatest_once streams pdos s.distinct) rs ss a.rise b.rise a.each b.each
       (λ rate h. b.every rate (rate_has Are rs rate a.only h))
       (λ rate h. a.every rate (rate_has Are ss rate b.only h))
 
@@ -79,7 +61,8 @@ entries_same (s ∷ ss) (t ∷ ts) e ids =
     let period : s.period ≡ t.period = ap (λ (t : Timing). t.period) head in
     let jitter : s.jitter ≡ t.jitter = ap (λ (t : Timing). t.jitter) head in
     let deadline : s.deadline ≡ t.deadline = ap (λ (t : Timing). t.deadline) head in
-    let first : entry_of s ≡ entry_of t = rw (id, bytes, period, jitter, deadline) refl in
+    let every : s.every ≡ t.every = ap (λ (t : Timing). t.every) head in
+    let first : entry_of s ≡ entry_of t = rw (id, bytes, period, jitter, deadline, every) refl in
     rw (first, entries_same ss ts tail (λ k low. ids (suc k) (omega (arith, low)))) refl
 
 -- ---- plans
@@ -87,12 +70,12 @@ entries_same (s ∷ ss) (t ∷ ts) e ids =
 module _ (rate : Rate) (streams : List Stream) (pdos : ℕ) (s : HasPdos streams pdos) where
   ids_once : (ids others : List ℕ) → length ids ≡ pdos → length others ≡ pdos → IsPlanOrder rate streams pdos (id_of ids) → IsPlanOrder rate streams pdos (id_of others) → ids ≡ others
   ids_once ids others m n a b =
-      ext_get_or 0 ids others (m ∙ sym n) (λ p low. unique rate streams pdos s (id_of ids) (id_of others) a b p (omega (arith, low, m)))
+      ext_get_or 0 ids others (m ∙ sym n) (λ p low. unique_over_ranges rate streams pdos (id_of ids) (id_of others) s.count a b p (omega (arith, low, m)))
 
   priority_once : (ids : ℕ → ℕ) (order other : List ℕ) → IsPlanOrder rate streams pdos ids → IsByPriority pdos ids order → IsByPriority pdos ids other → order ≡ other
   priority_once ids order other a x y =
       ext_get_or 0 order other (x.count ∙ sym y.count)
-      (λ i low. a.gapless.distinct (get_or order i 0) (get_or other i 0) (x.inside i 0 low) (y.inside i 0 (omega (arith, low, x.count, y.count)))
+      (λ i low. a.2.distinct (get_or order i 0) (get_or other i 0) (x.inside i 0 low) (y.inside i 0 (omega (arith, low, x.count, y.count)))
       (x.places i (omega (arith, low, x.count)) ∙ sym (y.places i (omega (arith, low, x.count)))))
 
   renamed_once : (ids : ℕ → ℕ) (ss ts : List Stream) → HaveIds streams pdos ids ss → HaveIds streams pdos ids ts → ss ≡ ts
@@ -121,11 +104,11 @@ module _ (rates : List Rate) (streams : List Stream) (pdos : ℕ) (s : HasPdos s
       plan_same a b e
       (priority_once b.rate streams pdos s (id_of b.ids) a.order b.order y.order priority y.by_priority)
       ids
-      (all_once streams pdos (IsSlower rates b.rate) a.refusals b.refusals refused y.refused)
+      (all_once streams pdos s (IsSlower rates b.rate) a.refusals b.refusals refused y.refused)
       (renamed_once b.rate streams pdos s (id_of b.ids) a.streams b.streams renamed y.renamed)
 
   pub outcome_once : (a b : Outcome) → IsOutcome rates streams pdos a → IsOutcome rates streams pdos b → a ≡ b
   outcome_once (Planned a) (Planned b) x y = ap Planned (at_rate a b (rate_once rates streams pdos a b x y) x y)
   outcome_once (Planned a) (Refused rs) x y = absurd (y.none a.rate x.candidate (id_of a.ids) x.passing)
   outcome_once (Refused rs) (Planned b) x y = absurd (x.none b.rate y.candidate (id_of b.ids) y.passing)
-  outcome_once (Refused rs) (Refused ss) x y = ap Refused (all_once streams pdos (Contains rates) rs ss x.refused y.refused)
+  outcome_once (Refused rs) (Refused ss) x y = ap Refused (all_once streams pdos s (Contains rates) rs ss x.refused y.refused)

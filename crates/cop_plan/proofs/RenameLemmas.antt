@@ -1,20 +1,23 @@
 -- Streams under other identifiers, one more.
-use Rattle.std.proofs.Common.{◌≡◌, ◌≢◌, ◌==◌, ℕ, zero, suc, ◌+◌, ◌<◌, ◌≤◌, ◌⊎◌, inl, inr, true, false, nat_lt, List, [], ◌∷◌, ◌++◌, length, map, take, get_or, slice_get, Option, Some, None, refl, sym, ap, ◌∙◌, arith, length-append}
+use Rattle.std.proofs.Common.{◌≡◌, ◌≢◌, ◌==◌, ℕ, zero, suc, ◌+◌, ◌*◌, ◌<◌, ◌≤◌, ◌⊎◌, inl, inr, true, false, nat_lt, List, [], ◌∷◌, ◌++◌, length, map, take, get_or, slice_get, Option, Some, None, refl, sym, ap, subst, ◌∙◌, arith, ⊎_elim, length-append}
 use Rattle.std.proofs.lemmas.Bool.{cases_lt, lt-ltb, le-ltb, ltb-true, ne_eqb, cond-true, cond-false}
-use Rattle.std.proofs.lemmas.List.{map-append, take_more, take_all}
+use Rattle.std.proofs.lemmas.List.{map-append, get_or-map, take_more, take_all}
 use Rattle.std.proofs.lemmas.List.Folds.{list_any_none}
 use Rattle.cop_rta.specs.declared.streams.Stream.{Stream}
-use Rattle.cop_rta.specs.Streams.{AreDistinct, has_id}
+use Rattle.cop_rta.specs.declared.ranges.IdRange.{IdRange}
+use Rattle.cop_rta.specs.Ranges.{first_range, second_range, IsIn, IsOutside, IsPermitted}
+use Rattle.cop_rta.specs.Greatest.{AreSynced}
+use Rattle.cop_rta.specs.Streams.{AreDistinct, has_id, place_of_id}
 use Rattle.cop_frame.specs.declared.rates.Rate.{Rate}
-use Rattle.cop_rta.specs.Test.{of_stream, Passes, has_lower_id, place_by_id}
+use Rattle.cop_rta.specs.Test.{of_stream, Passes, has_lower_id, place_by_id, ahead_of, sync_id}
 use Rattle.cop_rta.proofs.IdentifierLemmas.{of_stream_at, two_apart}
 use Rattle.cop_rta.proofs.MoreAbove.{passes_under_fewer}
-use Rattle.cop_cert.specs.Assignments.{least_id, greatest_id, AreFixedOutside, id_under, is_lower, place_under, AllPass}
+use Rattle.cop_cert.specs.Assignments.{least_id, IsAssignment, AreOutside, IsSdo, IsTested, id_under, is_lower, place_under, AllTestedPass}
 use Rattle.cop_cert.proofs.AboveLemmas.{more_above}
-use Rattle.cop_plan.specs.Orders.{IsGapless}
-use Rattle.cop_plan.specs.Values.{Timing, timing_of, HaveIds, HaveDeadlines, AreOnTime}
+use Rattle.cop_plan.specs.Values.{Timing, timing_of, HaveIds, HaveDeadlines, ArePdosHigh, AreOnTime}
 use Rattle.cop_plan.proofs.FillingLemmas.{no_bit}
-use Rattle.cop_plan.proofs.SamePlace.{same_length, same_deadline, passes_same}
+use Rattle.cop_plan.proofs.SamePlace.{place_at, same_length, same_number, same_deadline, passes_same}
+use Rattle.cop_plan.proofs.SameSync.{AreAlike, ahead_same, one_sync}
 
 -- the first k streams under their identifiers
 pub record AreRenamed (streams : List Stream) (pdos : ℕ) (ids : ℕ → ℕ) (k : ℕ) (renamed : List Stream) : Type 0 where
@@ -90,17 +93,30 @@ module _ (streams : List Stream) (pdos : ℕ) (ids : ℕ → ℕ) where
     each = λ j low. r.each j (omega (arith, low, h));
   }
 
--- identifiers without a gap are apart from those of fixed frames outside
-pub apart_from_fixed : (streams : List Stream) (pdos : ℕ) (ids : ℕ → ℕ) → pdos ≤ 512 → IsGapless pdos ids → AreFixedOutside streams pdos → AreApart streams pdos ids
-apart_from_fixed streams pdos ids few g outside = λ p k h low other same. go p k h low other same (cases_lt k pdos)
+-- identifiers that PDOs may have are apart from those of fixed frames outside both ranges
+pub apart_from_fixed : (streams : List Stream) (pdos : ℕ) (ids : ℕ → ℕ) → IsAssignment pdos ids → AreOutside first_range streams pdos → AreOutside second_range streams pdos
+    → AreApart streams pdos ids
+apart_from_fixed streams pdos ids assigned outside_first outside_second = λ p k h low other same. go p k h low other same (cases_lt k pdos)
   where
+    side : (range : IdRange) (id : ℕ) → IsIn range id → IsOutside range id → ⊥
+    side range id h (inl l) = absurd (omega (arith, l, h.0))
+    side range id h (inr l) = absurd (omega (arith, l, h.1))
+
+    clash : (k id : ℕ) → pdos ≤ k → k < length streams → id ≡ of_stream (λ s. s.id) streams k → IsPermitted pdos id → ⊥
+    clash k id fixed low e (inl first) = side first_range id first (rw e (outside_first k fixed low))
+    clash k id fixed low e (inr second) = side second_range id second.1 (rw e (outside_second k fixed low))
+
     go : (p k : ℕ) → p < pdos → k < length streams → p ≢ k → ids p ≡ id_under streams pdos ids k → (k < pdos) ⊎ (pdos ≤ k) → ⊥
-    go p k h low other same (inl pdo) = other (g.distinct p k h pdo (same ∙ id_of_pdo streams pdos ids k pdo))
-    go p k h low other same (inr fixed) = side (outside k fixed low)
-      where
-        side : (of_stream (λ s. s.id) streams k < least_id) ⊎ (greatest_id < of_stream (λ s. s.id) streams k) → ⊥
-        side (inl l) = absurd (omega (arith, l, g.low p h, same, id_of_fixed streams pdos ids k fixed))
-        side (inr l) = absurd (omega (arith, l, g.high p h, few, same, id_of_fixed streams pdos ids k fixed))
+    go p k h low other same (inl pdo) = other (assigned.distinct p k h pdo (same ∙ id_of_pdo streams pdos ids k pdo))
+    go p k h low other same (inr fixed) = clash k (ids p) fixed low (same ∙ id_of_fixed streams pdos ids k fixed) (assigned.permitted p h)
+
+-- and none of them is below the first range
+pub none_lower : (pdos : ℕ) (ids : ℕ → ℕ) → IsAssignment pdos ids → (p : ℕ) → p < pdos → least_id ≤ ids p
+none_lower pdos ids assigned p h = go (assigned.permitted p h)
+  where
+    go : IsPermitted pdos (ids p) → least_id ≤ ids p
+    go (inl first) = first.0
+    go (inr second) = omega (arith, second.1.0)
 
 -- ---- the test under the identifiers
 
@@ -121,20 +137,79 @@ module _ (rate : Rate) (streams renamed : List Stream) (pdos : ℕ) (ids : ℕ �
       let test : has_lower_id renamed index k ≡ nat_lt s.id (of_stream (λ s. s.id) renamed index) = rw e refl in
       omega (arith, number, ltb-true s.id (of_stream (λ s. s.id) renamed index) (sym test ∙ h))
 
+  -- both before and after, PDOs stand below SYNC, and what is ahead of latencies is the same
+  sync_alike : ArePdosHigh streams pdos → ((p : ℕ) → p < pdos → least_id ≤ ids p) → AreAlike streams renamed
+  sync_alike provisional low k inside = ⊎_elim
+      (λ (pdo : k < pdos). inr (omega (arith, provisional k pdo), omega (arith, low k pdo, id_of_pdo streams pdos ids k pdo, id_renamed k inside)))
+      (λ (fixed : pdos ≤ k). inl (sym (id_renamed k inside ∙ id_of_fixed streams pdos ids k fixed)))
+      (cases_lt k pdos)
+
   -- a PDO that passes under an assignment passes where the streams have its identifiers
-  pub passes_renamed : (p : ℕ) → p < length streams → Passes (place_under rate streams pdos ids p) → Passes (place_by_id renamed p rate)
-  passes_renamed p h passes =
+  pub passes_renamed : ArePdosHigh streams pdos → ((p : ℕ) → p < pdos → least_id ≤ ids p) → (p : ℕ) → p < length streams → Passes (place_under rate streams pdos ids p) → Passes (place_by_id renamed p rate)
+  passes_renamed provisional low p h passes =
       passes_under_fewer (place_by_id renamed p rate) (is_lower streams pdos ids p) (omega (arith, h, same_count))
       (more_above (place_by_id renamed p rate) (is_lower streams pdos ids p) above)
-      (passes_same streams renamed (sym have.timings) (is_lower streams pdos ids p) p rate passes)
+      (subst (λ (ahead : ℕ). Passes (place_at renamed (is_lower streams pdos ids p) p rate ahead))
+      (ahead_same streams renamed (sym have.timings) (sync_alike provisional low) rate)
+      (passes_same streams renamed (sym have.timings) (is_lower streams pdos ids p) p rate (ahead_of streams rate) passes))
     where
       above : (k : ℕ) → k < length renamed → k ≢ p → has_lower_id renamed p k ≡ true → is_lower streams pdos ids p k ≡ true
       above k low other e =
           lt-ltb (id_under streams pdos ids k) (id_under streams pdos ids p)
           (omega (arith, above_is_lower p k (slice_get renamed k) refl e, id_renamed k (omega (arith, low, same_count)), id_renamed p h))
 
-  pub on_time_renamed : pdos ≤ length streams → HaveDeadlines streams pdos → AllPass rate streams pdos ids → AreOnTime rate renamed pdos
-  on_time_renamed few deadlines all = record {
-    deadlines = λ p h. let d = deadlines p h in (d.0, same_deadline renamed streams have.timings p ∙ d.1);
-    pass = λ p h. passes_renamed p (omega (arith, h, few)) (all p h);
+  same_fixed : (f : ℕ) → pdos ≤ f → f < length streams → of_stream (λ s. s.id) renamed f ≡ of_stream (λ s. s.id) streams f
+  same_fixed f fixed inside = id_renamed f inside ∙ id_of_fixed streams pdos ids f fixed
+
+  -- fixed frames keep identifier and deadline
+  pub still_tested : (f : ℕ) → IsTested streams pdos f → IsTested renamed pdos f
+  still_tested f t = record {
+    fixed = t.fixed;
+    inside = omega (arith, t.inside, same_count);
+    sdo = subst (λ (id : ℕ). IsSdo id) (sym (same_fixed f t.fixed t.inside)) t.sdo;
+    deadline = (t.deadline.0, same_deadline renamed streams have.timings f ∙ t.deadline.1);
   }
+
+  tested_before : (f : ℕ) → IsTested renamed pdos f → IsTested streams pdos f
+  tested_before f t =
+      let inside : f < length streams = omega (arith, t.inside, same_count) in
+      record {
+        fixed = t.fixed;
+        inside = inside;
+        sdo = subst (λ (id : ℕ). IsSdo id) (same_fixed f t.fixed inside) t.sdo;
+        deadline = (t.deadline.0, sym (same_deadline renamed streams have.timings f) ∙ t.deadline.1);
+      }
+
+  pub outside_renamed : (range : IdRange) → AreOutside range streams pdos → AreOutside range renamed pdos
+  outside_renamed range outside k fixed h =
+      let inside : k < length streams = omega (arith, h, same_count) in
+      subst (λ (id : ℕ). IsOutside range id) (sym (same_fixed k fixed inside)) (outside k fixed inside)
+
+  pub on_time_renamed : pdos ≤ length streams → HaveDeadlines streams pdos → ArePdosHigh streams pdos → ((p : ℕ) → p < pdos → least_id ≤ ids p) → AllTestedPass rate streams pdos ids → AreOnTime rate renamed pdos
+  on_time_renamed few deadlines provisional low all = record {
+    deadlines = λ p h. let d = deadlines p h in (d.0, same_deadline renamed streams have.timings p ∙ d.1);
+    pass = λ p h. passes_renamed provisional low p (omega (arith, h, few)) (all.each p h);
+    frames = λ f t. let before = tested_before f t in passes_renamed provisional low f before.inside (all.frames f before);
+  }
+
+  -- synchronous streams keep pace with SYNC, which stands where it stood
+  pub synced_renamed : ArePdosHigh streams pdos → ((p : ℕ) → p < pdos → least_id ≤ ids p) → AreSynced streams → AreSynced renamed
+  synced_renamed provisional low synced = record { each = λ k d h every. each k d h every }
+    where
+      timing : (k : ℕ) (d : Stream) → k < length renamed → timing_of (get_or renamed k d) ≡ timing_of (get_or streams k d)
+      timing k d h =
+          sym (get_or-map timing_of renamed k d (timing_of d) h)
+          ∙ ap (λ (ts : List Timing). get_or ts k (timing_of d)) have.timings
+          ∙ get_or-map timing_of streams k d (timing_of d) (omega (arith, h, same_count))
+
+      each : (k : ℕ) (d : Stream) → k < length renamed → 1 ≤ (get_or renamed k d).every
+          → (i : ℕ) × (place_of_id renamed sync_id ≡ Some i) × ((get_or renamed k d).period ≡ (get_or renamed k d).every * of_stream (λ t. t.period) renamed i)
+      each k d h every =
+          let same : (get_or renamed k d).every ≡ (get_or streams k d).every = ap (λ (t : Timing). t.every) (timing k d h) in
+          let period : (get_or renamed k d).period ≡ (get_or streams k d).period = ap (λ (t : Timing). t.period) (timing k d h) in
+          let found = synced.each k d (omega (arith, h, same_count)) (omega (arith, every, same)) in
+          let sync : of_stream (λ t. t.period) streams found.0 ≡ of_stream (λ t. t.period) renamed found.0 = same_number streams renamed (sym have.timings) (λ (t : Timing). t.period) found.0 in (
+            found.0,
+            sym (one_sync streams renamed (sym have.timings) (sync_alike provisional low)) ∙ found.1,
+            period ∙ found.2 ∙ ap (λ (n : ℕ). n * of_stream (λ t. t.period) streams found.0) (sym same) ∙ ap (λ (n : ℕ). (get_or renamed k d).every * n) sync,
+          )

@@ -3,7 +3,6 @@ use Rattle.std.proofs.Common.{◌≤◌, ℕ, List, length, get_or}
 use Rattle.cop_frame.specs.declared.rates.Rate.{Rate}
 use Rattle.cop_rta.specs.declared.streams.Stream.{Stream}
 use Rattle.cop_cert.specs.declared.refusals.Refusal.{Refusal}
-use Rattle.cop_cert.specs.Assignments.{least_id}
 use Rattle.cop_cert.specs.Writable.{AreWritable}
 use Rattle.cop_cert.proofs.MadeLemmas.{made_is_writable}
 use Rattle.cop_plan.specs.Plans.{AreRefusals}
@@ -14,5 +13,5 @@ refusals_writable streams pdos Are refusals count few are = record {
   rise = are.rise;
   each = λ k d below.
       let one = are.each k d below in
-      made_is_writable least_id streams pdos (get_or refusals k d) count few one.holds one.made;
+      made_is_writable streams pdos (get_or refusals k d) count few one.holds one.made;
 }

@@ -1,56 +1,84 @@
--- Places filled from the lowest. A list has the PDO of the lowest place first.
-use Rattle.std.specs.Prelude.{◌≡◌, ℕ, ◌+◌, ◌-◌, ◌<◌, true, false, ◌==◌, if◌then◌else◌, List, [], ◌∷◌, length, All, AllPairs}
+-- Places of a range filled from its lowest by some PDOs to start with. A list has the PDO of the lowest place first; some may be left.
+use Rattle.std.specs.Prelude.{◌≡◌, ℕ, ◌+◌, ◌<◌, ◌≤◌, ◌==◌, true, false, ◌||◌, ◌&&◌, nat_lt, if◌then◌else◌, Bool, List, [], ◌∷◌, length}
 use Rattle.cop_frame.specs.declared.rates.Rate.{Rate}
 use Rattle.cop_rta.specs.declared.streams.Stream.{Stream}
-use Rattle.cop_rta.specs.Test.{Passes}
-use Rattle.cop_cert.specs.Assignments.{least_id}
+use Rattle.cop_rta.specs.Sums.{sum_where}
+use Rattle.cop_rta.specs.Test.{Passes, is_flagged}
 use Rattle.cop_cert.specs.Evidence.{is_listed}
-use Rattle.cop_cert.specs.Sets.{trial, IsGreatestRefusalSet}
-use Rattle.cop_plan.specs.declared.filling.Filling.{Filling}
-use Rattle.cop_plan.specs.declared.filling.Filling.TheVariants as fillings
-
--- each PDO passes with those after it above it, and of them no later row would pass in its place
-abbrev pub IsFilling : Rate → List Stream → ℕ → List ℕ → Type 0
-IsFilling rate streams pdos [] = Unit {0}
-IsFilling rate streams pdos (p ∷ rest) =
-    Passes (trial least_id rate streams pdos (is_listed (p ∷ rest)) p)
-    × ((r : ℕ) → is_listed rest r ≡ true → p < r → Passes (trial least_id rate streams pdos (is_listed (p ∷ rest)) r) → ⊥)
-    × IsFilling rate streams pdos rest
+use Rattle.cop_cert.specs.Sets.{is_in_trial, trial, IsStuckSet}
+use Rattle.cop_rta.specs.Ranges.{first_range, second_range}
 
 -- no number twice
 abbrev pub AreDistinct : List ℕ → Type 0
 AreDistinct [] = Unit {0}
 AreDistinct (p ∷ rest) = (is_listed rest p ≡ false) × AreDistinct rest
 
--- the list has each PDO once
-pub record IsWhole (pdos : ℕ) (fill : List ℕ) : Type 0 where
-  pub distinct : AreDistinct fill
-  pub each : (k : ℕ) → k < pdos → is_listed fill k ≡ true
-  pub inside : (k : ℕ) → is_listed fill k ≡ true → k < pdos
-  pub count : length fill ≡ pdos
-
 -- how many stand above k
 abbrev pub rank : List ℕ → ℕ → ℕ
 rank [] k = 0
 rank (p ∷ rest) k = if p == k then length rest else rank rest k
 
--- PDOs that rise and are the greatest refusal set
-pub record IsStuck (rate : Rate) (streams : List Stream) (pdos : ℕ) (members : List ℕ) : Type 0 where
-  pub greatest : IsGreatestRefusalSet least_id rate streams pdos (is_listed members)
-  pub rise : AllPairs (λ m n. m < n) members
-  pub inside : All (λ m. m < pdos) members
+-- those of a list and those left
+abbrev pub with_left : List ℕ → (ℕ → Bool) → ℕ → Bool
+with_left fill left k = is_listed fill k || left k
 
--- what a filling says: each PDO has its place, or some PDOs are the greatest refusal set
-abbrev pub IsFound : Rate → List Stream → ℕ → Filling → Type 0
-IsFound rate streams pdos (fillings.Whole fill) = IsWhole pdos fill.items × IsFilling rate streams pdos fill.items
-IsFound rate streams pdos (fillings.Stuck members) = IsStuck rate streams pdos members.items
+-- how many PDOs a test takes
+abbrev pub number : ℕ → (ℕ → Bool) → ℕ
+number pdos test = sum_where test (λ _. 1) pdos
 
--- how many trials it takes at least: one for each PDO that got its place, or else for each that did not
-abbrev pub least_of : ℕ → Filling → ℕ
-least_of pdos (fillings.Whole fill) = pdos
-least_of pdos (fillings.Stuck members) = length members.items
+-- each PDO passes with those after it and those left above it, whatever the choice among them was
+abbrev pub PassInTurn : ℕ → Rate → List Stream → ℕ → (ℕ → Bool) → List ℕ → Type 0
+PassInTurn bound rate streams pdos left [] = Unit {0}
+PassInTurn bound rate streams pdos left (p ∷ rest) =
+    Passes (trial bound rate streams pdos (with_left (p ∷ rest) left) p) × PassInTurn bound rate streams pdos left rest
 
--- how many busy times it takes: one for each place that is looked at
-abbrev pub solved_of : ℕ → Filling → ℕ
-solved_of pdos (fillings.Whole fill) = pdos
-solved_of pdos (fillings.Stuck members) = pdos + 1 - length members.items
+-- of those after it and those left no later row would pass in its place
+abbrev pub LaterFail : ℕ → Rate → List Stream → ℕ → (ℕ → Bool) → List ℕ → Type 0
+LaterFail bound rate streams pdos left [] = Unit {0}
+LaterFail bound rate streams pdos left (p ∷ rest) =
+    ((r : ℕ) → with_left rest left r ≡ true → p < r → Passes (trial bound rate streams pdos (with_left (p ∷ rest) left) r) → ⊥)
+    × LaterFail bound rate streams pdos left rest
+
+-- the PDOs to start with are those placed and those left, each once
+pub record AreSplit (pdos : ℕ) (start : ℕ → Bool) (placed : List ℕ) (left : ℕ → Bool) : Type 0 where
+  pub distinct : AreDistinct placed
+  pub inside : (k : ℕ) → is_listed placed k ≡ true → k < pdos
+  pub bounded : (k : ℕ) → left k ≡ true → k < pdos
+  pub apart : (k : ℕ) → is_listed placed k ≡ true → left k ≡ false
+  pub each : (k : ℕ) → k < pdos → with_left placed left k ≡ start k
+  pub counted : length placed + number pdos left ≡ number pdos start
+
+-- places filled until none that is left passes
+pub record IsFilled (bound : ℕ) (rate : Rate) (streams : List Stream) (pdos : ℕ) (start : ℕ → Bool) (placed : List ℕ) (left : ℕ → Bool) : Type 0 where
+  pub split : AreSplit pdos start placed left
+  pub passes : PassInTurn bound rate streams pdos left placed
+  pub later : LaterFail bound rate streams pdos left placed
+  pub stuck : IsStuckSet bound rate streams pdos left
+
+-- the PDOs that are flagged
+abbrev pub is_flagged_pdo : ℕ → List Bool → ℕ → Bool
+is_flagged_pdo pdos flags k = nat_lt k pdos && is_flagged flags k
+
+-- flags of what is above in the trial of the flagged PDOs
+pub record AreTrialOf (bound : ℕ) (streams : List Stream) (pdos : ℕ) (flags : List Bool) : Type 0 where
+  pub each : (k : ℕ) → is_flagged flags k ≡ is_in_trial bound streams pdos (is_flagged_pdo pdos flags) k
+
+-- how many places were looked at: one for each PDO that was placed, and the one at which none passed
+abbrev pub looked_at : List ℕ → List ℕ → ℕ
+looked_at placed [] = length placed
+looked_at placed (p ∷ rest) = length placed + 1
+
+-- identifiers by rank in two fillings: of the second range, and of the first
+abbrev pub ids_in_ranges : List ℕ → List ℕ → ℕ → ℕ
+ids_in_ranges lower upper p = if is_listed lower p then second_range.least + rank lower p else first_range.least + rank upper p
+
+-- Each PDO stands in one of two fillings, once: of the second range, which has room for it, or of the first.
+pub record ArePlaced (pdos : ℕ) (lower upper : List ℕ) : Type 0 where
+  pub distinct_lower : AreDistinct lower
+  pub distinct_upper : AreDistinct upper
+  pub apart : (k : ℕ) → is_listed lower k ≡ true → is_listed upper k ≡ false
+  pub each : (k : ℕ) → k < pdos → (is_listed lower k || is_listed upper k) ≡ true
+  pub inside_lower : (k : ℕ) → is_listed lower k ≡ true → k < pdos
+  pub inside_upper : (k : ℕ) → is_listed upper k ≡ true → k < pdos
+  pub count : length lower + length upper ≡ pdos
+  pub room : length lower ≤ second_range.count

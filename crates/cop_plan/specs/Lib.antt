@@ -1,5 +1,6 @@
-pub mod Orders
 pub mod Fillings
+pub mod Orders
 pub mod Values
 pub mod Planned
 pub mod Plans
+pub mod Found

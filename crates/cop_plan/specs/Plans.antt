@@ -1,30 +1,52 @@
 -- What a planner answers.
-use Rattle.std.specs.Prelude.{◌≡◌, ℕ, ◌+◌, ◌<◌, ◌≤◌, List, [], ◌∷◌, length, All, AllPairs, Any, Contains}
+use Rattle.std.specs.Prelude.{◌≡◌, Bool, nat_lt, ℕ, ◌+◌, ◌<◌, ◌≤◌, List, [], ◌∷◌, length, All, AllPairs, Any, Contains}
 use Rattle.cop_frame.specs.declared.rates.Rate.{Rate}
 use Rattle.cop_frame.specs.Rate.{kbits_of}
 use Rattle.cop_rta.specs.declared.streams.Stream.{Stream}
 use Rattle.cop_cert.specs.declared.refusals.Refusal.{Refusal}
-use Rattle.cop_cert.specs.Assignments.{least_id, AreFixedOutside, IsPassing, NoAssignmentPasses}
-use Rattle.cop_cert.specs.Sets.{IsGreatestRefusalSet}
-use Rattle.cop_cert.specs.Evidence.{is_member, pdos_of, IsRefusal}
+use Rattle.cop_rta.specs.Ranges.{first_range, second_range}
+use Rattle.cop_rta.specs.Greatest.{AreSynced}
+use Rattle.cop_cert.specs.declared.refusals.Cause.{Cause}
+use Rattle.cop_cert.specs.declared.refusals.Cause.TheVariants.{Places, Sync, Sdo}
+use Rattle.cop_cert.specs.declared.refusals.Member.{Member}
+use Rattle.cop_cert.specs.Assignments.{id_at, AreOutside, IsTested, IsPassing, NoAssignmentPasses}
+use Rattle.cop_cert.specs.Causes.{kept, PassesBelow, IsRefusal}
+use Rattle.cop_cert.specs.Sets.{IsRefusalSet, IsGreatestRefusalSet, IsGreatestStuckSet}
+use Rattle.cop_cert.specs.Evidence.{is_member}
 use Rattle.cop_cert.specs.Chains.{IsMade}
 use Rattle.cop_plan.specs.Orders.{IsPlanOrder, IsByPriority}
 use Rattle.cop_plan.specs.declared.assigning.Outcome.{Outcome}
 use Rattle.cop_plan.specs.declared.assigning.Outcome.TheVariants.{Planned, Refused}
-use Rattle.cop_plan.specs.Values.{PlanValue, id_of, HaveIds, HaveDeadlines}
+use Rattle.cop_plan.specs.Values.{PlanValue, id_of, HaveIds, HaveDeadlines, ArePdosHigh}
 
 -- the first streams can be planned as PDOs
 pub record CanAssign (streams : List Stream) (pdos : ℕ) : Type 0 where
   pub count : pdos ≤ length streams
   pub few : pdos ≤ 512
   pub deadlines : HaveDeadlines streams pdos
-  pub outside : AreFixedOutside streams pdos
+  pub provisional : ArePdosHigh streams pdos
+  pub outside_first : AreOutside first_range streams pdos
+  pub outside_second : AreOutside second_range streams pdos
+  pub synced : AreSynced streams
 
--- the greatest refusal set of a rate, with the whole chains, which the check accepts
+-- the frames with deadlines that fail below the kept PDOs, of which one has the lowest identifier; the kept ones are the greatest set that
+-- cannot stand in the second range, and no PDOs are a refusal set of the first
+pub record IsGreatestSdo (rate : Rate) (streams : List Stream) (pdos : ℕ) (up : List Member) (id : ℕ) : Type 0 where
+  pub none : (members : ℕ → Bool) → IsRefusalSet first_range.least rate streams pdos members → ⊥
+  pub greatest : pdos ≤ second_range.count → IsGreatestStuckSet second_range.least rate streams pdos (λ k. nat_lt k pdos) (is_member up)
+  pub lowest : (f : ℕ) → IsTested streams pdos f → (PassesBelow rate streams pdos (kept pdos (is_member up)) f → ⊥) → id ≤ id_at streams f
+
+-- the greatest refusal set, or the frame with the lowest identifier
+abbrev pub IsGreatestCause : Rate → List Stream → ℕ → Cause → Type 0
+IsGreatestCause rate streams pdos (Places members) = IsGreatestRefusalSet first_range.least rate streams pdos (is_member members)
+IsGreatestCause rate streams pdos (Sync busy) = Unit {0}
+IsGreatestCause rate streams pdos (Sdo up id evidence) = IsGreatestSdo rate streams pdos up id
+
+-- the greatest refusal of a rate, with the whole chains, which the check accepts
 pub record IsGreatestRefusal (streams : List Stream) (pdos : ℕ) (r : Refusal) : Type 0 where
-  pub greatest : IsGreatestRefusalSet least_id r.rate streams pdos (is_member r.members)
-  pub made : IsMade least_id streams pdos r.rate (pdos_of r.members) r
-  pub holds : IsRefusal least_id streams pdos r
+  pub greatest : IsGreatestCause r.rate streams pdos r.cause
+  pub made : IsMade streams pdos r
+  pub holds : IsRefusal streams pdos r
 
 -- such refusals by rising rate, one for each of some rates and for no other
 pub record AreRefusals (streams : List Stream) (pdos : ℕ) (Are : Rate → Type 0) (refusals : List Refusal) : Type 0 where
@@ -57,17 +79,36 @@ abbrev pub IsOutcome : List Rate → List Stream → ℕ → Outcome → Type 0
 IsOutcome rates streams pdos (Planned plan) = IsPlan rates streams pdos plan
 IsOutcome rates streams pdos (Refused refusals) = AreAllRefused rates streams pdos refusals
 
--- at how many rates places were filled
+-- at how many rates it was tried
 abbrev pub rates_tried : Outcome → ℕ
 rates_tried (Planned plan) = length plan.refusals + 1
 rates_tried (Refused refusals) = length refusals
 
--- how many members some refusals have together
+-- how many members a cause has of which each was tried, and at how many rates places were filled
+abbrev pub members_of : Cause → ℕ
+members_of (Places members) = length members
+members_of (Sync busy) = 0
+members_of (Sdo up id evidence) = 0
+
 abbrev pub members_in : List Refusal → ℕ
 members_in [] = 0
-members_in (r ∷ rs) = length r.members + members_in rs
+members_in (r ∷ rs) = members_of r.cause + members_in rs
 
--- how many trials it takes at least: one for each member of a refusal, and one for each PDO that got its place
+abbrev pub is_filled : Cause → ℕ
+is_filled (Places members) = 1
+is_filled (Sync busy) = 0
+is_filled (Sdo up id evidence) = 1
+
+abbrev pub filled_in : List Refusal → ℕ
+filled_in [] = 0
+filled_in (r ∷ rs) = is_filled r.cause + filled_in rs
+
+-- how many trials it takes at least: one for each member of a refusal by places, and one for each PDO that got its place
 abbrev pub least_trials : ℕ → Outcome → ℕ
 least_trials pdos (Planned plan) = members_in plan.refusals + pdos
 least_trials pdos (Refused refusals) = members_in refusals
+
+-- how many busy times it takes at least, where there is a PDO: one for each rate at which places were filled
+abbrev pub least_busy : Outcome → ℕ
+least_busy (Planned plan) = filled_in plan.refusals + 1
+least_busy (Refused refusals) = filled_in refusals

@@ -1,11 +1,11 @@
 -- What a plan says, and the streams under its identifiers.
-use Rattle.std.specs.Prelude.{◌≡◌, ℕ, ◌<◌, List, length, map, get_or, slice_get, Option, Some}
+use Rattle.std.specs.Prelude.{◌≡◌, ℕ, ◌<◌, ◌≤◌, List, length, map, get_or, slice_get, Option, Some}
 use Rattle.std.specs.Option.{option_and_then}
 use Rattle.cop_frame.specs.declared.rates.Rate.{Rate}
 use Rattle.cop_rta.specs.declared.streams.Stream.{Stream}
 use Rattle.cop_rta.specs.Test.{Passes, of_stream, place_by_id}
 use Rattle.cop_cert.specs.declared.refusals.Refusal.{Refusal}
-use Rattle.cop_cert.specs.Assignments.{id_under}
+use Rattle.cop_cert.specs.Assignments.{least_id, id_under, IsTested}
 
 -- the rate, the PDOs by priority, their identifiers, the refusals of slower rates, and all streams under their identifiers
 pub record PlanValue : Type 0 where
@@ -25,9 +25,10 @@ pub record Timing : Type 0 where
   pub period : ℕ
   pub jitter : ℕ
   pub deadline : Option ℕ
+  pub every : ℕ
 
 abbrev pub timing_of : Stream → Timing
-timing_of s = record { bytes = s.bytes; period = s.period; jitter = s.jitter; deadline = s.deadline }
+timing_of s = record { bytes = s.bytes; period = s.period; jitter = s.jitter; deadline = s.deadline; every = s.every }
 
 -- the same streams in their order, the PDOs under other identifiers
 pub record HaveIds (streams : List Stream) (pdos : ℕ) (ids : ℕ → ℕ) (renamed : List Stream) : Type 0 where
@@ -38,7 +39,16 @@ pub record HaveIds (streams : List Stream) (pdos : ℕ) (ids : ℕ → ℕ) (ren
 abbrev pub HaveDeadlines : List Stream → ℕ → Type 0
 HaveDeadlines streams pdos = (p : ℕ) → p < pdos → (d : ℕ) × (option_and_then (λ s. s.deadline) (slice_get streams p) ≡ Some d)
 
--- each PDO has a deadline and passes, lower identifiers being above
+-- each PDO has an identifier that PDOs may have, 181h or above, before it gets its own
+abbrev pub ArePdosHigh : List Stream → ℕ → Type 0
+ArePdosHigh streams pdos = (p : ℕ) → p < pdos → least_id ≤ of_stream (λ s. s.id) streams p
+
+-- each PDO has a deadline and passes, lower identifiers being above, and each SDO frame with a deadline passes
 pub record AreOnTime (rate : Rate) (streams : List Stream) (pdos : ℕ) : Type 0 where
   pub deadlines : HaveDeadlines streams pdos
   pub pass : (p : ℕ) → p < pdos → Passes (place_by_id streams p rate)
+  pub frames : (f : ℕ) → IsTested streams pdos f → Passes (place_by_id streams f rate)
+
+-- some SDO frame has a deadline
+abbrev pub HasTested : List Stream → ℕ → Type 0
+HasTested streams pdos = (f : ℕ) × IsTested streams pdos f

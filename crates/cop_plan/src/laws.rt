@@ -1,12 +1,17 @@
 //! What holds of plans, whatever the streams are.
 
-ghost use Rattle.std.specs.Prelude.{◌≡◌, ◌<◌, ◌≤◌, ℕ, List, length};
+ghost use Rattle.std.specs.Prelude.{◌≡◌, ◌<◌, ◌≤◌, ◌↔◌, ℕ, Bool, false, nat_lt, nat_le, if◌then◌else◌, List, [], length};
 ghost use Rattle.cop_frame.specs.declared.rates.Rate.{Rate};
 ghost use Rattle.cop_rta.specs.declared.streams.Stream.{Stream};
 ghost use Rattle.cop_cert.specs.declared.refusals.Refusal.{Refusal};
+ghost use Rattle.cop_rta.specs.Ranges.{first_range, second_range};
+ghost use Rattle.cop_cert.specs.Assignments.{AreOutside, IsTested, IsPassing};
+ghost use Rattle.cop_cert.specs.Causes.{kept, PassesBelow};
+ghost use Rattle.cop_cert.specs.Sets.{IsStuckSet, IsGreatestStuckSet};
 ghost use Rattle.cop_cert.specs.Writable.{AreWritable};
-ghost use Rattle.cop_plan.specs.Orders.{HasPdos, IsPlanOrder};
+ghost use Rattle.cop_plan.specs.Orders.{HasPdos, FramesPass, IsPlanOrder};
 ghost use Rattle.cop_plan.specs.Plans.{IsOutcome, IsPlan, AreAllRefused};
+ghost use Rattle.cop_plan.specs.Fillings.{PassInTurn, AreSplit, IsFilled, ids_in_ranges};
 ghost use Rattle.cop_plan.specs.Values.{PlanValue};
 ghost use Rattle.cop_plan.specs.declared.assigning.Outcome.{Outcome};
 
@@ -18,6 +23,42 @@ pub fn order_is_unique()
 /// Some streams and candidate rates have one outcome.
 pub fn one_outcome()
     ensures { (rates : List Rate) (streams : List Stream) (pdos : ℕ) (a b : Outcome) → HasPdos streams pdos → IsOutcome rates streams pdos a → IsOutcome rates streams pdos b → a ≡ b }
+{}
+
+/// Where places of a range are filled, each by a PDO that passes there with those that have none yet above it, those left at the end,
+/// none of which passes, are the greatest set of that kind, whatever the choices were.
+pub fn fillings_leave_the_greatest()
+    ensures { (bound : ℕ) (rate : Rate) (streams : List Stream) (pdos : ℕ) (start left : ℕ → Bool) (placed : List ℕ) → pdos ≤ length streams
+        → AreSplit pdos start placed left → PassInTurn bound rate streams pdos left placed → IsStuckSet bound rate streams pdos left
+        → IsGreatestStuckSet bound rate streams pdos start left }
+{}
+
+/// Some assignment passes over both ranges exactly where the first holds all PDOs, and each SDO frame with a deadline passes below those
+/// that are left when the second was filled, or below all PDOs where the second has no room for all.
+pub fn some_assignment_passes_exactly()
+    ensures { (rate : Rate) (streams : List Stream) (pdos : ℕ) (first second third : List ℕ) (stuck top left : ℕ → Bool) → pdos ≤ length streams → pdos ≤ first_range.count
+        → AreOutside first_range streams pdos → AreOutside second_range streams pdos
+        → IsFilled first_range.least rate streams pdos (λ k. nat_lt k pdos) first stuck
+        → (pdos ≤ second_range.count → IsFilled second_range.least rate streams pdos (λ k. nat_lt k pdos) second top)
+        → IsFilled first_range.least rate streams pdos (kept pdos top) third left
+        → ((ids : ℕ → ℕ) × IsPassing rate streams pdos ids)
+        ↔ (((k : ℕ) → k < pdos → stuck k ≡ false) × ((f : ℕ) → IsTested streams pdos f → PassesBelow rate streams pdos (kept pdos top) f)) }
+{}
+
+/// What the fillings give is the order over both ranges: by the first alone where each SDO frame with a deadline passes below all PDOs, else
+/// by the second and by the first again.
+pub fn fillings_give_the_order()
+    ensures alone { (rate : Rate) (streams : List Stream) (pdos : ℕ) (first : List ℕ) (stuck : ℕ → Bool) → pdos ≤ length streams → pdos ≤ first_range.count
+        → AreOutside first_range streams pdos → AreOutside second_range streams pdos
+        → IsFilled first_range.least rate streams pdos (λ k. nat_lt k pdos) first stuck → ((k : ℕ) → k < pdos → stuck k ≡ false)
+        → FramesPass rate streams pdos (λ k. nat_lt k pdos) → IsPlanOrder rate streams pdos (ids_in_ranges [] first) }
+    ensures both { (rate : Rate) (streams : List Stream) (pdos : ℕ) (first second third : List ℕ) (stuck top left : ℕ → Bool) → pdos ≤ length streams → pdos ≤ first_range.count
+        → AreOutside first_range streams pdos → AreOutside second_range streams pdos
+        → IsFilled first_range.least rate streams pdos (λ k. nat_lt k pdos) first stuck → ((k : ℕ) → k < pdos → stuck k ≡ false)
+        → (pdos ≤ second_range.count → IsFilled second_range.least rate streams pdos (λ k. nat_lt k pdos) second top)
+        → IsFilled first_range.least rate streams pdos (kept pdos top) third left
+        → (FramesPass rate streams pdos (λ k. nat_lt k pdos) → ⊥) → FramesPass rate streams pdos (kept pdos top)
+        → IsPlanOrder rate streams pdos (ids_in_ranges (if nat_le pdos second_range.count then second else []) third) }
 {}
 
 /// The refusals of at most 512 PDOs that an outcome carries are refusals that a file holds.

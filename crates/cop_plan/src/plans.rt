@@ -1,28 +1,24 @@
 //! Plans: a rate, and identifiers for the PDOs.
 
-ghost use Rattle.std.specs.Prelude.{◌≡◌, ◌≢◌, ℕ, ◌+◌, ◌<◌, ◌≤◌, ◌∷◌, [], ◌++◌, false, length, get_or, IfOk, OnOk, All, AllPairs};
+ghost use Rattle.std.specs.Prelude.{◌≡◌, ◌≢◌, ℕ, ◌+◌, ◌<◌, ◌≤◌, ◌∷◌, [], ◌++◌, false, length, reverse, get_or, IfOk, OnOk, All, AllPairs};
+ghost use Rattle.cop_rta.specs.declared.streams.Stream.{Stream};
 ghost use Rattle.cop_rta.specs.Streams.{has_id};
-ghost use Rattle.cop_cert.specs.Assignments.{least_id, id_under, AreFixedOutside};
-ghost use Rattle.cop_plan.specs.Fillings.{IsWhole, IsFilling};
-ghost use Rattle.cop_plan.specs.Orders.{IsPlanOrder, IsByPriority};
+ghost use Rattle.cop_cert.specs.Assignments.{least_id, id_under, IsPassing};
+ghost use Rattle.cop_plan.specs.Fillings.{ArePlaced, ids_in_ranges};
+ghost use Rattle.cop_plan.specs.Orders.{IsPlanOrder, IsByPriority, id_at_place};
 ghost use Rattle.cop_plan.specs.Planned.{IsPlanned};
-ghost use Rattle.cop_plan.specs.Values.{id_of, timing_of, HaveIds, AreOnTime, HaveDeadlines};
+ghost use Rattle.cop_plan.specs.Plans.{CanAssign};
+ghost use Rattle.cop_plan.specs.Values.{id_of, timing_of, HaveIds, AreOnTime, HasTested};
 
 use cop_cert::{Items, Refusal};
 use cop_frame::Rate;
-use cop_rta::{SetFault, Stream, StreamSet};
+use cop_rta::{IdRange, SetFault, Stream, StreamSet};
 use std::alloc::{AllocError, Global};
 use std::marker::Model;
 
-/// The least identifier of a PDO: fixed frames below it are above each PDO.
-pub(crate) const LEAST_ID: u16 = 0x181;
-
-/// The greatest identifier of a PDO.
-pub(crate) const GREATEST_ID: u16 = 0x57F;
-
 /// The slowest candidate rate at which some assignment of identifiers passes, and the assignment planned there.
 /// The PDOs are the first streams, each under its identifier, which no fixed frame can have; each has a deadline and passes
-/// the response-time test.
+/// the response-time test, and so does each SDO frame with a deadline.
 #[derive(Drop)]
 pub struct Plan {
     rate: Rate,
@@ -84,25 +80,56 @@ impl Plan {
     }
 }
 
-/// The identifiers 181h, 182h, .. by PDO number, for PDOs in the order of their priority.
-fn identifiers(alloc: Global, order: &[usize]) -> Result<Vec<u16>, AllocError>
+/// The identifier at a place from the top, of which so many are of the first range.
+fn id_at_place(first: usize, place: usize) -> u16
+    requires first { place < first → place < 1023 }
+    requires second { first ≤ place → place < first + 96 }
+    ensures id { result ≡ id_at_place first place }
+    ensures range { result < 2048 }
+    ensures permitted { least_id ≤ result }
+{
+    if place < first {
+        IdRange::FIRST.least + place as u16
+    } else {
+        IdRange::SECOND.least + (place - first) as u16
+    }
+}
+
+/// The PDOs by priority: those of the first range and then those of the second. The fillings have the PDO of the lowest place first.
+fn by_priority(alloc: Global, lower: &[usize], upper: &[usize]) -> Result<Vec<usize>, AllocError>
+    ensures { IfOk result (λ order. order.items ≡ reverse upper.now ++ reverse lower.now) }
+{
+    let mut order = Vec::new(alloc);
+    order.extend_from_slice(lower)?;
+    order.extend_from_slice(upper)?;
+    order.reverse();
+    Ok(order)
+}
+
+/// The identifiers 181h, 182h, .. and 680h, 681h, .. by PDO number, for PDOs in the order of their priority, of which so many are of the
+/// first range.
+fn identifiers(alloc: Global, order: &[usize], first: usize) -> Result<Vec<u16>, AllocError>
     requires few { length order.now ≤ 512 }
+    requires first { first ≤ length order.now }
+    requires room { length order.now ≤ first + 96 }
     requires inside { All (λ p. p < length order.now) order.now }
     requires distinct { AllPairs (λ p r. p ≢ r) order.now }
     ensures count { IfOk result (λ ids. length ids.items ≡ length order.now) }
     ensures range { IfOk result (λ ids. All (λ id. id < 2048) ids.items) }
-    ensures places { IfOk result (λ ids. (i : ℕ) → i < length order.now → id_of ids.items (get_or order.now i 0) ≡ least_id + i) }
+    ensures permitted { IfOk result (λ ids. All (λ id. least_id ≤ id) ids.items) }
+    ensures places { IfOk result (λ ids. (i : ℕ) → i < length order.now → id_of ids.items (get_or order.now i 0) ≡ id_at_place first i) }
 {
-    let mut ids = vec![in alloc; LEAST_ID; order.len()]?;
+    let mut ids = vec![in alloc; IdRange::FIRST.least; order.len()]?;
     for (place, pdo) in order.iter().enumerate() {
-        ids[*pdo] = LEAST_ID + place as u16;
+        ids[*pdo] = id_at_place(first, place);
     }
     Ok(ids)
 }
 
 /// The stream under another identifier.
 fn with_id(stream: &Stream, id: u16) -> Stream
-    requires { id < 2048 }
+    requires range { id < 2048 }
+    requires synchronous { 1 ≤ stream.now.every → least_id ≤ id }
     ensures id { result.id ≡ id }
     ensures timing { timing_of result ≡ timing_of stream.now }
 {
@@ -111,6 +138,7 @@ fn with_id(stream: &Stream, id: u16) -> Stream
         period,
         jitter,
         deadline,
+        every,
         ..
     } = *stream;
     Stream {
@@ -119,6 +147,7 @@ fn with_id(stream: &Stream, id: u16) -> Stream
         period,
         jitter,
         deadline,
+        every,
     }
 }
 
@@ -126,8 +155,10 @@ fn with_id(stream: &Stream, id: u16) -> Stream
 fn id_at(streams: &[Stream], ids: &[u16], k: usize) -> u16
     requires index { k < length streams.now }
     requires range { All (λ id. id < 2048) ids.now }
+    requires permitted { All (λ id. least_id ≤ id) ids.now }
     ensures id { result ≡ id_under streams.now (length ids.now) (id_of ids.now) k }
     ensures range { result < 2048 }
+    ensures synchronous { (stream : Stream) → 1 ≤ (get_or streams.now k stream).every → least_id ≤ result }
 {
     if k < ids.len() { ids[k] } else { streams[k].id }
 }
@@ -149,6 +180,7 @@ fn add(set: &mut StreamSet, stream: Stream) -> Result<(), AllocError>
 /// The streams under the identifiers of the PDOs, which come first; the others keep theirs.
 fn renamed(alloc: Global, set: &StreamSet, ids: &[u16]) -> Result<StreamSet, AllocError>
     requires range { All (λ id. id < 2048) ids.now }
+    requires permitted { All (λ id. least_id ≤ id) ids.now }
     requires apart { (p k : ℕ) → p < length ids.now → k < length set.now → p ≢ k → id_of ids.now p ≢ id_under set.now (length ids.now) (id_of ids.now) k }
     ensures { IfOk result (HaveIds set.now (length ids.now) (id_of ids.now)) }
 {
@@ -160,30 +192,30 @@ fn renamed(alloc: Global, set: &StreamSet, ids: &[u16]) -> Result<StreamSet, All
     Ok(renamed)
 }
 
-/// The plan of a filling: of the PDOs, that of the lowest place first.
+/// The plan of two fillings, of the second range and of the first. The first `pdos` streams are the PDOs.
 pub(crate) fn planned(
     alloc: Global,
     set: &StreamSet,
+    pdos: usize,
     rate: Rate,
-    fill: Vec<usize>,
+    lower: &[usize],
+    upper: &[usize],
     refusals: Items<Refusal>,
 ) -> Result<Plan, AllocError>
-    requires pdos { length fill.items ≤ length set.now }
-    requires few { length fill.items ≤ 512 }
-    requires outside { AreFixedOutside set.now (length fill.items) }
-    requires deadlines { HaveDeadlines set.now (length fill.items) }
-    requires whole { IsWhole (length fill.items) fill.items }
-    requires filled { IsFilling rate set.now (length fill.items) fill.items }
+    requires can { CanAssign set.now pdos }
+    requires placed { ArePlaced pdos lower.now upper.now }
+    requires order { IsPlanOrder rate set.now pdos (ids_in_ranges lower.now upper.now) }
+    requires tested { 1 ≤ length lower.now → HasTested set.now pdos }
     ensures rate { IfOk result (λ plan. plan.rate ≡ rate) }
     ensures refusals { IfOk result (λ plan. plan.refusals ≡ refusals) }
-    ensures count { IfOk result (λ plan. length plan.ids ≡ length fill.items) }
-    ensures order { IfOk result (λ plan. IsPlanOrder rate set.now (length fill.items) (id_of plan.ids)) }
-    ensures by_priority { IfOk result (λ plan. IsByPriority (length fill.items) (id_of plan.ids) plan.order) }
-    ensures renamed { IfOk result (λ plan. HaveIds set.now (length fill.items) (id_of plan.ids) plan.streams) }
+    ensures count { IfOk result (λ plan. length plan.ids ≡ pdos) }
+    ensures passing { IfOk result (λ plan. IsPassing rate set.now pdos (id_of plan.ids)) }
+    ensures order { IfOk result (λ plan. IsPlanOrder rate set.now pdos (id_of plan.ids)) }
+    ensures by_priority { IfOk result (λ plan. IsByPriority pdos (id_of plan.ids) plan.order) }
+    ensures renamed { IfOk result (λ plan. HaveIds set.now pdos (id_of plan.ids) plan.streams) }
 {
-    let mut order = fill;
-    order.reverse();
-    let ids = identifiers(alloc, &order)?;
+    let order = by_priority(alloc, lower, upper)?;
+    let ids = identifiers(alloc, &order, upper.len())?;
     let streams = renamed(alloc, set, &ids)?;
     Ok(Plan {
         rate,

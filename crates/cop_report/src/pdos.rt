@@ -45,15 +45,32 @@ fn push_consumers(
     Ok(())
 }
 
+/// Adds what a PDO is sent by: its period, and for a synchronous one how many SYNCs that is.
+fn push_period(page: &mut String, times: &PdoTimes) -> Result<(), AllocError> {
+    let period = Micros(times.stream.period);
+    match times.stream.every {
+        0 => write!(page, "<td class=\"n\">{period}</td>"),
+        1 => write!(
+            page,
+            "<td class=\"n\">{period} <small>each SYNC</small></td>"
+        ),
+        every => write!(
+            page,
+            "<td class=\"n\">{period} <small>every {every} SYNCs</small></td>"
+        ),
+    }
+}
+
 /// Adds what a PDO needs of the bus.
 fn push_stream(page: &mut String, times: &PdoTimes) -> Result<(), AllocError> {
     let bytes = times.stream.bytes;
-    let period = Micros(times.stream.period);
     let jitter = Micros(times.stream.jitter);
     let deadline = Micros(deadline_of(times));
+    write!(page, "<td class=\"n\">{bytes}</td>")?;
+    push_period(page, times)?;
     write!(
         page,
-        "<td class=\"n\">{bytes}</td><td class=\"n\">{period}</td><td class=\"n\">{jitter}</td><td class=\"n\">{deadline}</td>"
+        "<td class=\"n\">{jitter}</td><td class=\"n\">{deadline}</td>"
     )
 }
 
@@ -110,6 +127,16 @@ fn push_pdo(
     page.push_str("</td></tr>\n")
 }
 
+/// Adds what the times of synchronous PDOs count from, where there is one.
+fn push_synchronous(page: &mut String, times: &[PdoTimes]) -> Result<(), AllocError> {
+    if times.iter().any(|times| times.stream.every > 0) {
+        page.push_str(
+            "<p>The event of a synchronous PDO is that of its SYNC, and its jitter counts from the end of SYNC's transfer.</p>\n",
+        )?;
+    }
+    Ok(())
+}
+
 /// Adds the PDOs by rising identifier.
 pub(crate) fn push_pdos(
     page: &mut String,
@@ -119,7 +146,11 @@ pub(crate) fn push_pdos(
     page.push_str(
         "<section>\n<h2>PDOs by identifier</h2>\n\
 <p>Times are microseconds. The response is the greatest time from an event to the end of its transfer; a bar is full where it \
-takes the whole deadline.</p>\n<div class=\"scroll\"><table>\n<tr><th>Identifier</th><th>Device</th><th class=\"n\">TPDO</th>\
+takes the whole deadline.</p>\n",
+    )?;
+    push_synchronous(page, &figures.pdos)?;
+    page.push_str(
+        "<div class=\"scroll\"><table>\n<tr><th>Identifier</th><th>Device</th><th class=\"n\">TPDO</th>\
 <th class=\"n\">Bytes</th><th class=\"n\">Period</th><th class=\"n\">Jitter</th><th class=\"n\">Deadline</th>\
 <th class=\"n\">Response</th><th></th><th class=\"n\">Margin</th><th>Taken by</th></tr>\n",
     )?;

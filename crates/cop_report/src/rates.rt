@@ -2,8 +2,9 @@
 
 use crate::bars::LoadBar;
 use crate::devices::sent_by;
-use crate::units::{Micros, Percent};
-use cop_figures::{Failing, Figures, Load, RefusedRate};
+use crate::senders::fixed_sender;
+use crate::units::{Count, Identifier, Micros, Percent};
+use cop_figures::{Failing, FailingFrame, Figures, Load, Reason, RefusedRate};
 use cop_frame::Rate;
 use cop_net::Network;
 use cop_rta::Verdict;
@@ -22,10 +23,14 @@ fn shown(members: &[Failing]) -> Option<&Failing> {
     members.first()
 }
 
-/// Adds what is said of a member: how long it needs, and until when it has time.
-fn push_verdict(page: &mut String, failing: &Failing) -> Result<(), AllocError> {
-    let deadline = Micros(failing.deadline.unwrap_or(0));
-    match failing.verdict {
+/// Adds what is said of a frame: how long it needs, and until when it has time.
+fn push_verdict(
+    page: &mut String,
+    verdict: Verdict,
+    deadline: Option<u64>,
+) -> Result<(), AllocError> {
+    let deadline = Micros(deadline.unwrap_or(0));
+    match verdict {
         Verdict::Late { response, .. } => {
             let response = Micros(response);
             write!(page, "needs {response} µs, its deadline is {deadline} µs")
@@ -46,9 +51,24 @@ fn push_failing(
     if let Some(row) = network.rows().get(failing.pdo) {
         let pdo = sent_by(network, row);
         write!(page, "{pdo} ")?;
-        push_verdict(page, failing)?;
+        push_verdict(page, failing.verdict, failing.deadline)?;
     }
     Ok(())
+}
+
+/// Adds the lines of some PDOs, and closes what lists them.
+fn push_lines(
+    page: &mut String,
+    network: &Network<'_>,
+    members: &[Failing],
+) -> Result<(), AllocError> {
+    page.push_str("<ul>\n")?;
+    for member in members {
+        page.push_str("<li>")?;
+        push_failing(page, network, member)?;
+        page.push_str("</li>\n")?;
+    }
+    page.push_str("</ul></details>\n")
 }
 
 /// Adds all PDOs of a refusal.
@@ -64,14 +84,70 @@ fn push_members(
     write!(
         page,
         "<details><summary>The {count} PDOs of which none can have the lowest priority among them</summary>\n\
-<p>Each of them with the others above it, and all other PDOs below it:</p>\n<ul>\n"
+<p>Each of them with the others above it, and all other PDOs below it:</p>\n"
     )?;
-    for member in members {
-        page.push_str("<li>")?;
-        push_failing(page, network, member)?;
-        page.push_str("</li>\n")?;
+    push_lines(page, network, members)
+}
+
+/// Adds that some PDOs have no places.
+fn push_places(
+    page: &mut String,
+    network: &Network<'_>,
+    kbits: u32,
+    members: &[Failing],
+) -> Result<(), AllocError> {
+    if let Some(failing) = shown(members) {
+        write!(page, "<p>At {kbits} kbit/s ")?;
+        push_failing(page, network, failing)?;
+        page.push_str(".</p>\n")?;
+        push_members(page, network, members)?;
     }
-    page.push_str("</ul></details>\n")
+    Ok(())
+}
+
+/// Adds how many PDOs are above an SDO frame, and why.
+fn push_above(
+    page: &mut String,
+    network: &Network<'_>,
+    above: usize,
+    up: &[Failing],
+) -> Result<(), AllocError> {
+    if above == 0 {
+        return page.push_str("<p>That is so even with all PDOs below it.</p>\n");
+    }
+    let pdos = Count {
+        number: above,
+        thing: "PDO",
+    };
+    if up.is_empty() {
+        return write!(
+            page,
+            "<p>All {pdos} stay above it: below the SDO frames there are too few identifiers for them.</p>\n"
+        );
+    }
+    write!(
+        page,
+        "<details><summary>{pdos} above it</summary>\n\
+<p>Each of them with the others and all SDO frames above it, and all other PDOs below it:</p>\n"
+    )?;
+    push_lines(page, network, up)
+}
+
+/// Adds that an SDO frame is late.
+fn push_frame(
+    page: &mut String,
+    network: &Network<'_>,
+    kbits: u32,
+    frame: &FailingFrame,
+) -> Result<(), AllocError> {
+    let id = Identifier(frame.id);
+    let sender = fixed_sender(network, frame.id);
+    write!(
+        page,
+        "<p>At {kbits} kbit/s the frame {id}, {sender}, misses its deadline below every PDO that cannot go below it: it "
+    )?;
+    push_verdict(page, frame.verdict, frame.deadline)?;
+    page.push_str(".</p>\n")
 }
 
 /// Adds why a rate fails.
@@ -81,14 +157,19 @@ fn push_refused(
     refused: &RefusedRate,
 ) -> Result<(), AllocError> {
     let kbits = refused.rate.kbits();
-    let members = refused.members.as_slice();
-    if let Some(failing) = shown(members) {
-        write!(page, "<h3>{kbits} kbit/s fails</h3>\n<p>At {kbits} kbit/s ")?;
-        push_failing(page, network, failing)?;
-        page.push_str(".</p>\n")?;
-        push_members(page, network, members)?;
+    write!(page, "<h3>{kbits} kbit/s fails</h3>\n")?;
+    match &refused.reason {
+        Reason::Places { members } => push_places(page, network, kbits, members.as_slice()),
+        Reason::Sync => write!(
+            page,
+            "<p>At {kbits} kbit/s SYNC itself has no busy time that ends within 10 s, so that nothing bounds what a \
+synchronous PDO waits for.</p>\n"
+        ),
+        Reason::Sdo { frame, above, up } => {
+            push_frame(page, network, kbits, frame)?;
+            push_above(page, network, *above, up.as_slice())
+        }
     }
-    Ok(())
 }
 
 /// Adds why each slower rate fails.

@@ -26,7 +26,7 @@ impl fmt::Display for Sender<'_> {
 }
 
 /// Who sends a fixed identifier: its low seven bits are the node, those above tell the frame.
-fn fixed_sender<'a>(network: &'a Network<'_>, id: u16) -> Sender<'a> {
+pub(crate) fn fixed_sender<'a>(network: &'a Network<'_>, id: u16) -> Sender<'a> {
     let node = (id % 128) as u8;
     let frame = match id / 128 {
         0 => return Sender::Network("NMT"),

@@ -48,6 +48,7 @@ table lists h none some = record {
         period = f.period;
         milliseconds = f.milliseconds;
         jitter = f.jitter;
+        deadline = f.deadline;
       };
   one_row = h.one_row;
 }

@@ -2,7 +2,7 @@
 use Rattle.std.specs.Prelude.{ℕ, Bool, ◌&&◌, List, [], ◌∷◌, ◌==◌, nat_le, if◌then◌else◌, Option, Some, None, Result, Ok, Err}
 use Rattle.cop_table.specs.Reading.{◌>>=◌}
 use Rattle.cop_table.specs.Numbers.{number_of}
-use Rattle.cop_table.specs.Records.{under_header, BadHeader}
+use Rattle.cop_table.specs.Records.{under_header, under_one_of, BadHeader}
 use Rattle.cop_rows.specs.declared.refusals.Column.{Column}
 use Rattle.cop_rows.specs.declared.refusals.Rule.{Rule}
 use Rattle.cop_rows.specs.declared.refusals.Rule.TheVariants as rules
@@ -46,3 +46,7 @@ at_header (Err b) = refuse rules.Header 0
 -- the records under the header
 abbrev pub rows_under : List (List ℕ) → List ℕ → Result (List (List (List ℕ))) Refusal
 rows_under header text = at_header (under_header header text)
+
+-- which of the headers it is, and the records under it
+abbrev pub rows_under_one_of : List (List (List ℕ)) → List ℕ → Result (ℕ × List (List (List ℕ))) Refusal
+rows_under_one_of headers text = at_header (under_one_of headers text)

@@ -1,5 +1,5 @@
 -- Reading the table of nodes.
-use Rattle.std.specs.Prelude.{ℕ, ◌%◌, Bool, true, false, not, ◌&&◌, ◌||◌, List, [], ◌∷◌, ◌++◌, length, codes, ◌==◌, if◌then◌else◌, Option, Some, None, Result, Ok, Err}
+use Rattle.std.specs.Prelude.{ℕ, ◌+◌, ◌%◌, Bool, true, false, not, ◌&&◌, ◌||◌, List, [], ◌∷◌, ◌++◌, length, codes, ◌==◌, if◌then◌else◌, Option, Some, None, Result, Ok, Err}
 use Rattle.std.specs.List.{list_any}
 use Rattle.std.specs.Str.{bytes_eq}
 use Rattle.cop_table.specs.Reading.{◌>>=◌}
@@ -16,8 +16,8 @@ use Rattle.cop_rows.specs.declared.node_table.FrameKind.{FrameKind}
 use Rattle.cop_rows.specs.declared.node_table.FrameKind.TheVariants.{Nmt, Sync, Emcy, SdoResponse, SdoRequest, Heartbeat}
 use Rattle.cop_rows.specs.declared.node_rows.Row.{Row}
 use Rattle.cop_rows.specs.declared.node_rows.Row.TheVariants as variants
-use Rattle.cop_rows.specs.Fields.{number_within, is_within, name_of, rows_under}
-use Rattle.cop_rows.specs.Nodes.{NodeLists}
+use Rattle.cop_rows.specs.Fields.{number_within, is_within, name_of, rows_under_one_of}
+use Rattle.cop_rows.specs.Nodes.{NodeLists, may_have_deadline}
 use Rattle.cop_rows.specs.Refusals.{placed, refuse}
 
 -- the word of a row that is no device's
@@ -69,6 +69,13 @@ period_in kind text = number_within columns.Period 0 60000000 text >>= if_period
 abbrev pub no_text : Column → List ℕ → Result (Unit {0}) Rule
 no_text column text = if length text == 0 then Ok tt else Err (rules.Value column)
 
+-- no text, for none, or that of an SDO frame that is sent
+abbrev pub deadline_in : FrameKind → ℕ → List ℕ → Result (Option ℕ) Rule
+deadline_in kind period text =
+    if length text == 0 then Ok None
+    else if may_have_deadline kind && not (period == 0) then (number_within columns.Deadline 1 60000000 text >>= λ n. Ok (Some n))
+    else Err (rules.Value columns.Deadline)
+
 -- the row of a frame
 unfoldable pub frame_in : ℕ → FrameKind → List (List ℕ) → Result FrameRow Rule
 frame_in place kind row = do
@@ -77,14 +84,16 @@ frame_in place kind row = do
   no_eds ← no_text columns.Eds (field row 3)
   period ← period_in kind (field row 4)
   jitter ← number_within columns.Jitter 0 60000000 (field row 5)
-  Ok (record { place = place; kind = kind; node = node; period = period; jitter = jitter })
+  deadline ← deadline_in kind period (field row 6)
+  Ok (record { place = place; kind = kind; node = node; period = period; jitter = jitter; deadline = deadline })
 
--- the row of a device, whose period and jitter are 0
+-- the row of a device, whose period and jitter are 0, and which has no deadline
 unfoldable pub device_in : ℕ → List (List ℕ) → Result DeviceRow Rule
 device_in place row = do
   node ← number_within columns.Node 1 127 (field row 1)
   period ← number_within columns.Period 0 0 (field row 4)
   jitter ← number_within columns.Jitter 0 0 (field row 5)
+  no_deadline ← no_text columns.Deadline (field row 6)
   name ← name_of columns.Name (field row 2)
   eds ← name_of columns.Eds (field row 3)
   Ok (record { place = place; node = node; name = name; eds = eds })
@@ -100,10 +109,10 @@ as_device device = device >>= λ device. Ok (variants.Device device)
 abbrev pub as_frame : Result FrameRow Rule → Result Row Rule
 as_frame frame = frame >>= λ frame. Ok (variants.Frame frame)
 
--- the row of a record, or the least rule that it breaks
-abbrev pub row_in : ℕ → List (List ℕ) → Result Row Rule
-row_in place row =
-    if not (length row == 6) then Err rules.Fields
+-- the row of a record of so many fields, or the least rule that it breaks
+abbrev pub row_in : ℕ → ℕ → List (List ℕ) → Result Row Rule
+row_in width place row =
+    if not (length row == width) then Err rules.Fields
     else if is_device (field row 0) then as_device (device_in place row)
     else as_frame (or_word (kind_of (field row 0)) >>= λ kind. frame_in place kind row)
 
@@ -134,8 +143,8 @@ pushed lists (variants.Frame f) =
     else Ok (record { devices = lists.devices; frames = lists.frames ++ f ∷ [] })
 
 -- the row of a record after those of the records before it
-abbrev pub added : ℕ → NodeLists → List (List ℕ) → Result NodeLists Refusal
-added place lists row = placed place (row_in place row >>= pushed lists)
+abbrev pub added : ℕ → ℕ → NodeLists → List (List ℕ) → Result NodeLists Refusal
+added width place lists row = placed place (row_in width place row >>= pushed lists)
 
 -- a row's node has no device row
 abbrev pub lacks_device : List DeviceRow → FrameRow → Bool
@@ -160,15 +169,22 @@ no_rows = record { devices = []; frames = [] }
 abbrev pub header : List (List ℕ)
 header = codes "row" ∷ codes "node" ∷ codes "name" ∷ codes "eds" ∷ codes "period" ∷ codes "jitter" ∷ []
 
--- the records under the header
-abbrev pub rows_in : List ℕ → Result (List (List (List ℕ))) Refusal
-rows_in text = rows_under header text
+abbrev pub header_with_deadline : List (List ℕ)
+header_with_deadline = codes "row" ∷ codes "node" ∷ codes "name" ∷ codes "eds" ∷ codes "period" ∷ codes "jitter" ∷ codes "deadline" ∷ []
+
+-- which header it is, and the records under it
+abbrev pub rows_in : List ℕ → Result (ℕ × List (List (List ℕ))) Refusal
+rows_in text = rows_under_one_of (header ∷ header_with_deadline ∷ []) text
+
+-- how many fields a record has under the header of a place
+abbrev pub width_of : ℕ → ℕ
+width_of place = 6 + place
 
 -- the rows of a table, whose nodes may want their device rows
 unfoldable pub node_rows_of : List ℕ → Result NodeLists Refusal
 node_rows_of text = do
-  rows ← rows_in text
-  rows_from added 1 no_rows rows
+  found ← rows_in text
+  rows_from (added (width_of found.0)) 1 no_rows found.1
 
 -- the nodes of a table
 abbrev pub nodes_of : List ℕ → Result NodeLists Refusal

@@ -1,5 +1,5 @@
 -- Rows of nodes while their table is read.
-use Rattle.std.specs.Prelude.{ℕ, ◌≡◌, ◌≢◌, ◌+◌, ◌*◌, ◌≤◌, ◌%◌, ◌⊎◌, Bool, false, List, length, get_or, All, AllPairs}
+use Rattle.std.specs.Prelude.{ℕ, ◌≡◌, ◌≢◌, ◌+◌, ◌*◌, ◌≤◌, ◌%◌, ◌⊎◌, Bool, false, IfSome, List, length, get_or, All, AllPairs}
 use Rattle.cop_rows.specs.declared.node_table.FrameRow.{FrameRow}
 use Rattle.cop_rows.specs.declared.node_table.DeviceRow.{DeviceRow}
 use Rattle.cop_rows.specs.declared.node_table.FrameKind.{FrameKind}
@@ -7,7 +7,7 @@ use Rattle.cop_rows.specs.declared.node_table.FrameKind.TheVariants.{Heartbeat}
 use Rattle.cop_rows.specs.declared.node_rows.Row.{Row}
 use Rattle.cop_rows.specs.declared.node_rows.Row.TheVariants as variants
 use Rattle.cop_rows.specs.NodeReading.{has_node, has_device, has_frame, number_of_kind}
-use Rattle.cop_rows.specs.Nodes.{NodeLists}
+use Rattle.cop_rows.specs.Nodes.{NodeLists, IsFrameDeadline}
 
 abbrev pub IsDeviceRow : DeviceRow → Type 0
 IsDeviceRow d = (1 ≤ d.node) × (d.node ≤ 127)
@@ -19,6 +19,7 @@ pub record IsFrameRow (f : FrameRow) : Type 0 where
   pub period : (f.period ≡ 0) ⊎ ((100 ≤ f.period) × (f.period ≤ 60000000))
   pub milliseconds : f.kind ≡ Heartbeat → f.period % 1000 ≡ 0
   pub jitter : f.jitter ≤ 60000000
+  pub deadline : IfSome f.deadline (IsFrameDeadline f.kind f.period)
 
 abbrev pub IsRow : Row → Type 0
 IsRow (variants.Device d) = IsDeviceRow d

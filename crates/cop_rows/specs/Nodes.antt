@@ -1,5 +1,5 @@
 -- The table of nodes.
-use Rattle.std.specs.Prelude.{ℕ, ◌≡◌, ◌≢◌, ◌≤◌, ◌%◌, ◌⊎◌, List, length, All, AllPairs}
+use Rattle.std.specs.Prelude.{ℕ, ◌≡◌, ◌≢◌, ◌≤◌, ◌%◌, ◌⊎◌, Bool, true, false, IfSome, List, length, All, AllPairs}
 use Rattle.std.specs.List.{Any}
 use Rattle.cop_rows.specs.declared.node_table.DeviceRow.{DeviceRow}
 use Rattle.cop_rows.specs.declared.node_table.FrameRow.{FrameRow}
@@ -24,12 +24,29 @@ IsNodeOf devices SdoResponse node = HasDevice devices node
 IsNodeOf devices SdoRequest node = HasDevice devices node
 IsNodeOf devices Heartbeat node = HasDevice devices node
 
+-- only SDO frames may have deadlines
+abbrev pub may_have_deadline : FrameKind → Bool
+may_have_deadline Nmt = false
+may_have_deadline Sync = false
+may_have_deadline Emcy = false
+may_have_deadline SdoResponse = true
+may_have_deadline SdoRequest = true
+may_have_deadline Heartbeat = false
+
+-- a deadline is an SDO frame's that is sent: its time is in microseconds
+pub record IsFrameDeadline (kind : FrameKind) (period deadline : ℕ) : Type 0 where
+  pub least : 1 ≤ deadline
+  pub most : deadline ≤ 60000000
+  pub sent : period ≢ 0
+  pub allowed : may_have_deadline kind ≡ true
+
 -- what the table says of one frame: its times are in microseconds, and period 0 is a frame that is never sent
 pub record IsFrame (devices : List DeviceRow) (f : FrameRow) : Type 0 where
   pub node : IsNodeOf devices f.kind f.node
   pub period : (f.period ≡ 0) ⊎ ((100 ≤ f.period) × (f.period ≤ 60000000))
   pub milliseconds : f.kind ≡ Heartbeat → f.period % 1000 ≡ 0
   pub jitter : f.jitter ≤ 60000000
+  pub deadline : IfSome f.deadline (IsFrameDeadline f.kind f.period)
 
 -- what holds of each table of nodes
 pub record IsNodeTable (table : NodeLists) : Type 0 where

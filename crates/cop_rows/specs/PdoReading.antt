@@ -1,5 +1,5 @@
 -- Reading the table of PDOs.
-use Rattle.std.specs.Prelude.{ℕ, ◌≤◌, Bool, ◌&&◌, not, List, [], ◌∷◌, ◌++◌, length, codes, ◌==◌, if◌then◌else◌, Result, Ok, Err}
+use Rattle.std.specs.Prelude.{ℕ, ◌≡◌, ◌≤◌, ◌⊎◌, Bool, ◌&&◌, ◌||◌, not, List, [], ◌∷◌, ◌++◌, length, codes, ◌==◌, if◌then◌else◌, Result, Ok, Err}
 use Rattle.std.specs.List.{list_any}
 use Rattle.cop_table.specs.Reading.{◌>>=◌}
 use Rattle.cop_table.specs.Records.{field}
@@ -11,7 +11,7 @@ use Rattle.cop_rows.specs.declared.refusals.Refusal.{Refusal}
 use Rattle.cop_rows.specs.declared.pdo_table.Consumer.{Consumer}
 use Rattle.cop_rows.specs.declared.pdo_table.PdoRow.{PdoRow}
 use Rattle.cop_rows.specs.declared.pdos.Numbers.{Numbers}
-use Rattle.cop_rows.specs.Fields.{number_within, parts, each, rows_under}
+use Rattle.cop_rows.specs.Fields.{number_within, is_within, parts, each, rows_under}
 use Rattle.cop_rows.specs.Refusals.{placed}
 
 -- a node and an RPDO, of the two parts between which a dot stands
@@ -39,18 +39,27 @@ pub record IsNumbers (n : Numbers) : Type 0 where
   pub node_most : n.node ≤ 127
   pub tpdo_least : 1 ≤ n.tpdo
   pub tpdo_most : n.tpdo ≤ 512
-  pub period_least : 100 ≤ n.period
-  pub period_most : n.period ≤ 60000000
+  pub period : (n.period ≡ 0) ⊎ ((100 ≤ n.period) × (n.period ≤ 60000000))
   pub jitter_most : n.jitter ≤ 60000000
   pub deadline_least : 1 ≤ n.deadline
   pub deadline_most : n.deadline ≤ 60000000
+
+-- 0 for a PDO that is sent by SYNC, or 100 to 60,000,000
+abbrev pub is_period_or_none : ℕ → Bool
+is_period_or_none n = (n == 0) || is_within 100 60000000 n
+
+abbrev pub if_period_or_none : ℕ → Result ℕ Rule
+if_period_or_none n = if is_period_or_none n then Ok n else Err (rules.Value columns.Period)
+
+abbrev pub period_in : List ℕ → Result ℕ Rule
+period_in text = number_within columns.Period 0 60000000 text >>= if_period_or_none
 
 -- the numbers of a record, or the least rule that it breaks
 unfoldable pub numbers_in : List (List ℕ) → Result Numbers Rule
 numbers_in row = if not (length row == 6) then Err rules.Fields else do
   node ← number_within columns.Node 1 127 (field row 0)
   tpdo ← number_within columns.Tpdo 1 512 (field row 1)
-  period ← number_within columns.Period 100 60000000 (field row 2)
+  period ← period_in (field row 2)
   jitter ← number_within columns.Jitter 0 60000000 (field row 3)
   deadline ← number_within columns.Deadline 1 60000000 (field row 4)
   Ok (record { node = node; tpdo = tpdo; period = period; jitter = jitter; deadline = deadline })

@@ -27,7 +27,7 @@ pub enum FrameKind {
 }
 
 /// The row of a frame: its times are in microseconds, and one with period 0 is never sent. `place` is its record, from
-/// 1 on. The node of NMT and of SYNC is 0.
+/// 1 on. The node of NMT and of SYNC is 0. Only an SDO frame that is sent may have a deadline.
 #[derive(Clone, Copy, PartialEq, Eq, Debug)]
 pub struct FrameRow {
     pub place: u64,
@@ -35,6 +35,7 @@ pub struct FrameRow {
     pub node: u8,
     pub period: u32,
     pub jitter: u32,
+    pub deadline: Option<u32>,
 }
 
 /// The table of nodes. Contracts see its device rows and its other rows, each in the order of the records.

@@ -36,7 +36,8 @@ impl Consumers {
     }
 }
 
-/// The row of a PDO: its times are in microseconds.
+/// The row of a PDO: its times are in microseconds. One that is sent by SYNC has period 0, and its jitter is the latency
+/// after SYNC's transfer.
 #[derive(Clone, Drop)]
 pub struct PdoRow {
     pub node: u8,

@@ -1,10 +1,10 @@
 //! Reading the table of PDOs.
 
-ghost use Rattle.std.specs.Prelude.{◌≡◌, ◌≤◌, ◌<◌, ◌^◌, [], IfOk, length};
+ghost use Rattle.std.specs.Prelude.{◌≡◌, ◌≤◌, ◌<◌, ◌⊎◌, ◌^◌, [], IfOk, length};
 ghost use Rattle.cop_table.specs.Reading.{Gives};
 ghost use Rattle.cop_table.specs.Rows.{rows_from};
 ghost use Rattle.cop_rows.specs.Refusals.{broken, refusal};
-ghost use Rattle.cop_rows.specs.PdoReading.{consumer_of, consumers_of, numbers_in, one_more, pdo_in, added, pdos_of, rows_in, IsNumbers};
+ghost use Rattle.cop_rows.specs.PdoReading.{consumer_of, consumers_of, period_in, numbers_in, one_more, pdo_in, added, pdos_of, rows_in, IsNumbers};
 ghost use Rattle.cop_rows.specs.Pdos.{IsPdoRow};
 
 use crate::fields::{cut, number_within};
@@ -34,6 +34,19 @@ struct Numbers {
     deadline: u32,
 }
 
+/// The period of a record: 0 for a PDO that is sent by SYNC.
+fn period_in(field: &[u8]) -> Result<u64, Rule>
+    ensures value { result ≡ period_in field.now }
+    ensures range { IfOk result (λ period. (period ≡ 0) ⊎ ((100 ≤ period) × (period ≤ 60000000))) }
+{
+    let period = number_within(Column::Period, 0, 60_000_000, field)?;
+    if period == 0 || period >= 100 {
+        Ok(period)
+    } else {
+        Err(Rule::Value(Column::Period))
+    }
+}
+
 #[tactic(auto, unfolding(crate::specs::PdoReading::numbers_in))]
 /// The numbers of a record, or the least rule that it breaks.
 fn numbers_in(row: &Record) -> Result<Numbers, Rule>
@@ -45,7 +58,7 @@ fn numbers_in(row: &Record) -> Result<Numbers, Rule>
     }
     let node = number_within(Column::Node, 1, 127, row.field(0))?;
     let tpdo = number_within(Column::Tpdo, 1, 512, row.field(1))?;
-    let period = number_within(Column::Period, 100, 60_000_000, row.field(2))?;
+    let period = period_in(row.field(2))?;
     let jitter = number_within(Column::Jitter, 0, 60_000_000, row.field(3))?;
     let deadline = number_within(Column::Deadline, 1, 60_000_000, row.field(4))?;
     Ok(Numbers {

@@ -8,25 +8,25 @@ use Rattle.cop_frame.specs.Rate.{ticks_of}
 use Rattle.cop_rta.specs.declared.streams.Stream.{Stream}
 use Rattle.cop_rta.specs.declared.paces.Pace.{Pace}
 use Rattle.cop_rta.specs.declared.sweeps.Last.{Last}
-use Rattle.cop_rta.specs.Paces.{ArePacesOf, IsRow, bits_in, last_time}
+use Rattle.cop_rta.specs.Paces.{IsPaceWith, IsRow, bits_in, last_time}
 use Rattle.cop_rta.proofs.PaceLemmas.{load_by_pace, times_sum, bits_more}
 use Rattle.cop_rta.specs.Solutions.{IsLeastSolution}
 use Rattle.cop_rta.specs.Sums.{sum_where}
-use Rattle.cop_rta.specs.Test.{is_flagged, of_stream, cost_of, load_of, blocking, interference, cost_at, busy_at, queueing_at, IsBusyTime, horizon}
+use Rattle.cop_rta.specs.Test.{Flagged, place_of, is_flagged, of_stream, cost_of, load_of, ahead_of, blocking, interference, cost_at, busy_at, queueing_at, IsBusyTime, horizon}
 use Rattle.cop_rta.specs.TestLemmas.{busy_at-mono, queueing_at-mono}
 use Rattle.cop_rta.specs.Waits.{IsBelowWait, IsBelowBusy}
 use Rattle.cop_rta.specs.Placing.{Flags, place_in, busy_of, IsSharedTime, IsLast}
 use Rattle.cop_rta.proofs.FlagLemmas.{sum_more, set_here, longest_less}
 use Rattle.cop_rta.proofs.LeastLemmas.{least_from}
-use Rattle.cop_rta.proofs.PlaceEquations.{interference_is, blocking_is, busy_is, equations}
+use Rattle.cop_rta.proofs.PlaceEquations.{sum_but, interference_is, blocking_is, busy_is, equations}
 use Rattle.cop_rta.proofs.QueueLemmas.{cost_in_load, ticks_pos, busy_at_pos}
 
 -- one transfer of a stream is no more than what it asks for from 1 on
-cost_there : (v : Flags) (k x : ℕ) → k < length v.streams → 1 ≤ x → of_stream (cost_of v.rate) v.streams k ≤ of_stream (load_of v.rate x) v.streams k
+cost_there : (v : Flags) (k x : ℕ) → k < length v.streams → 1 ≤ x → of_stream (cost_of v.rate) v.streams k ≤ of_stream (load_of v.rate (ahead_of v.streams v.rate) x) v.streams k
 cost_there v k x inside late = go (slice_get_cases v.streams k).1
   where
-    go : ((s : Stream) × (k < length v.streams) × (slice_get v.streams k ≡ Some s) × (get_or v.streams k s ≡ s)) ⊎ ((length v.streams ≤ k) × (slice_get v.streams k ≡ None)) → of_stream (cost_of v.rate) v.streams k ≤ of_stream (load_of v.rate x) v.streams k
-    go (inl s) = rw s.2 (cost_in_load v.rate s.0 x late)
+    go : ((s : Stream) × (k < length v.streams) × (slice_get v.streams k ≡ Some s) × (get_or v.streams k s ≡ s)) ⊎ ((length v.streams ≤ k) × (slice_get v.streams k ≡ None)) → of_stream (cost_of v.rate) v.streams k ≤ of_stream (load_of v.rate (ahead_of v.streams v.rate) x) v.streams k
+    go (inl s) = rw s.2 (cost_in_load v.rate (ahead_of v.streams v.rate) s.0 x late)
     go (inr past) = absurd (omega (arith, past.0, inside))
 
 module _ (v : Flags) (size : length v.flags ≡ length v.streams) (last : Last) (is : IsLast v last) (own : ℕ) (in_own : own < length v.streams) (off : is_flagged v.flags own ≡ false) where
@@ -43,8 +43,8 @@ module _ (v : Flags) (size : length v.flags ≡ length v.streams) (last : Last) 
   flag_own = set_here v.flags own within_flags
 
   -- one more stream asks for its load
-  sum_own : (x : ℕ) → sum_where (is_flagged more.flags) (of_stream (load_of v.rate x) v.streams) (length v.streams) ≡ sum_where (is_flagged v.flags) (of_stream (load_of v.rate x) v.streams) (length v.streams) + of_stream (load_of v.rate x) v.streams own
-  sum_own x = sum_more v.flags own within_flags off (of_stream (load_of v.rate x) v.streams) (length v.streams) in_own
+  sum_own : (x : ℕ) → sum_where (is_flagged more.flags) (of_stream (load_of v.rate (ahead_of v.streams v.rate) x) v.streams) (length v.streams) ≡ sum_where (is_flagged v.flags) (of_stream (load_of v.rate (ahead_of v.streams v.rate) x) v.streams) (length v.streams) + of_stream (load_of v.rate (ahead_of v.streams v.rate) x) v.streams own
+  sum_own x = sum_more v.flags own within_flags off (of_stream (load_of v.rate (ahead_of v.streams v.rate) x) v.streams) (length v.streams) in_own
 
   -- which is no less than what the longest from below loses
   grows : (y : ℕ) → 1 ≤ y → busy_of v y ≤ busy_of more y
@@ -81,7 +81,7 @@ module _ (v : Flags) (size : length v.flags ≡ length v.streams) (last : Last) 
       omega (arith, x.2, time.none x.0 x.1)
 
   -- the streams above the next one are those above this one, and this one
-  above_next : (x : ℕ) → interference (place_in more own) x ≡ interference (place_in v k) x + of_stream (load_of v.rate x) v.streams k
+  above_next : (x : ℕ) → interference (place_in more own) x ≡ interference (place_in v k) x + of_stream (load_of v.rate (ahead_of v.streams v.rate) x) v.streams k
   above_next x =
       omega (arith, interference_is more own in_own flag_own x, sum_own x, interference_is v k is.inside is.flagged x)
 
@@ -93,7 +93,7 @@ module _ (v : Flags) (size : length v.flags ≡ length v.streams) (last : Last) 
   later w room below is_room y closed =
       let there : queueing_at (place_in more own) 0 y ≡ blocking (place_in more own) + interference (place_in more own) (y + ticks_of v.rate) = first_asks more own y in
       let here : queueing_at (place_in v k) 0 y ≡ blocking (place_in v k) + interference (place_in v k) (y + ticks_of v.rate) = first_asks v k y in
-      let one : cost_at (place_in v k) ≤ of_stream (load_of v.rate (y + ticks_of v.rate)) v.streams k = cost_there v k (y + ticks_of v.rate) is.inside (omega (arith, ticks_pos v.rate)) in
+      let one : cost_at (place_in v k) ≤ of_stream (load_of v.rate (ahead_of v.streams v.rate) (y + ticks_of v.rate)) v.streams k = cost_there v k (y + ticks_of v.rate) is.inside (omega (arith, ticks_pos v.rate)) in
       let up : queueing_at (place_in v k) 0 (y - room) ≤ queueing_at (place_in v k) 0 y = queueing_at-mono (place_in v k) 0 (y - room) y (omega arith) in
       let early : w ≤ y - room = below (y - room) (omega (arith, up, here, there, one, is_room, closed, above_next (y + ticks_of v.rate))) in
       omega (arith, early, here, there, one, is_room, closed, above_next (y + ticks_of v.rate))
@@ -132,14 +132,14 @@ module _ (v : Flags) (size : length v.flags ≡ length v.streams) (own : ℕ) (i
   wait_starts (Some last) is from_below from below room none first = next_wait v size last is own in_own off from_below from below room none
 
 -- the row has its pace then
-pub row_more : (streams : List Stream) (flags : List Bool) (row paces : List Pace) (k : ℕ) (pace : Pace) → ArePacesOf streams paces → length flags ≡ length streams → k < length streams → pace ≡ get_or paces k pace
-    → is_flagged flags k ≡ false → IsRow streams flags row → IsRow streams (set flags k true) (row ++ pace ∷ [])
-row_more streams flags row paces k pace are size inside here off is = record {
+pub row_more : (streams : List Stream) (ahead : ℕ) (flags : List Bool) (row : List Pace) (k : ℕ) (pace : Pace) → length flags ≡ length streams → k < length streams → ((s : Stream) → slice_get streams k ≡ Some s → IsPaceWith ahead s pace)
+    → is_flagged flags k ≡ false → IsRow streams ahead flags row → IsRow streams ahead (set flags k true) (row ++ pace ∷ [])
+row_more streams ahead flags row k pace size inside its off is = record {
   sums = λ rate t early.
       rw (sum_by_push (bits_in t) row pace) (omega (
         arith,
-        bits_more rate streams paces are k pace (omega (arith, inside, are.count)) here t early (sum_by (bits_in t) row) _ (is.sums rate t early),
-        sum_more flags k (omega (arith, inside, size)) off (of_stream (load_of rate t) streams) (length streams) inside,
+        bits_more rate ahead streams k pace inside its t early (sum_by (bits_in t) row) _ (is.sums rate t early),
+        sum_more flags k (omega (arith, inside, size)) off (of_stream (load_of rate ahead t) streams) (length streams) inside,
       ));
 }
 
@@ -153,10 +153,10 @@ unfolding sum_where
 sum_of_none p f zero off = refl
 sum_of_none p f (suc n) off = rw (off n) (omega (arith, sum_of_none p f n off))
 
-pub no_row : (streams : List Stream) (n : ℕ) → IsRow streams (replicate n false) []
-no_row streams n = record {
+pub no_row : (streams : List Stream) (ahead n : ℕ) → IsRow streams ahead (replicate n false) []
+no_row streams ahead n = record {
   sums = λ rate t early.
-      omega (arith, sum_of_none (is_flagged (replicate n false)) (of_stream (load_of rate t) streams) (length streams) (λ k. unwrap_or-slice_get (replicate n false) k false ∙ off_at n k));
+      omega (arith, sum_of_none (is_flagged (replicate n false)) (of_stream (load_of rate ahead t) streams) (length streams) (λ k. unwrap_or-slice_get (replicate n false) k false ∙ off_at n k));
 }
 
 without : (total own ticks others : ℕ) → 0 < ticks → total * ticks ≡ others + own * ticks → (own ≤ total) × ((total - own) * ticks ≡ others)
@@ -166,8 +166,9 @@ without total own ticks others pos e =
     (le, omega (arith, e, rw back at (times_sum (total - own) own ticks)))
 
 -- the bits of a row without those of one stream are what those above it take
-pub row_is : (v : Flags) (row paces : List Pace) (own : ℕ) (pace : Pace) → ArePacesOf v.streams paces → own < length v.streams → pace ≡ get_or paces own pace → is_flagged v.flags own ≡ true → IsRow v.streams v.flags row
-    → (t total bits : ℕ) → t ≤ last_time → total ≡ sum_by (bits_in t) row → bits ≡ bits_in t pace → (bits ≤ total) × ((total - bits) * ticks_of v.rate ≡ interference (place_in v own) t)
-row_is v row paces own pace are inside here flag is t total bits early all mine =
-    without total bits (ticks_of v.rate) (interference (place_in v own) t) (ticks_pos v.rate)
-    (rw (all, mine) (omega (arith, is.sums v.rate t early, load_by_pace v.rate v.streams paces are own pace (omega (arith, inside, are.count)) here t early, interference_is v own inside flag t)))
+pub row_is : (f : Flagged) (row : List Pace) (pace : Pace) → f.index < length f.streams → ((s : Stream) → slice_get f.streams f.index ≡ Some s → IsPaceWith f.ahead s pace) → is_flagged f.flags f.index ≡ true → IsRow f.streams f.ahead f.flags row
+    → (t total bits : ℕ) → t ≤ last_time → total ≡ sum_by (bits_in t) row → bits ≡ bits_in t pace → (bits ≤ total) × ((total - bits) * ticks_of f.rate ≡ interference (place_of f) t)
+row_is f row pace inside its flag is t total bits early all mine =
+    let load : ℕ → ℕ = of_stream (load_of f.rate f.ahead t) f.streams in
+    without total bits (ticks_of f.rate) (interference (place_of f) t) (ticks_pos f.rate)
+    (rw (all, mine) (omega (arith, is.sums f.rate t early, load_by_pace f.rate f.ahead f.streams f.index pace inside its t early, sum_but (is_flagged f.flags) load f.index (length f.streams) flag inside)))

@@ -33,7 +33,7 @@ module _ (p : StreamPlace) (above : ℕ → Bool) (same : (k : ℕ) → (k ≡ p
   interference_same : (x : ℕ) → interference p x ≡ interference (under p above) x
   interference_same x =
       let tests : is_above p ≡ is_above (under p above) = λ i k. above_same k i in
-      ap (λ (test : ℕ → Bool). sum_where test (of_stream (load_of p.rate x) p.streams) (length p.streams)) tests
+      ap (λ (test : ℕ → Bool). sum_where test (of_stream (load_of p.rate p.ahead x) p.streams) (length p.streams)) tests
 
   busy_same : (t : ℕ) → busy_at p t ≡ busy_at (under p above) t
   unfolding busy_at

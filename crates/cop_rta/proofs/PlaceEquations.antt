@@ -2,7 +2,7 @@
 use Rattle.std.proofs.Common.{◌≡◌, ℕ, zero, suc, ◌+◌, ◌<◌, ◌≤◌, ◌⊎◌, inl, inr, Bool, true, false, not, ◌&&◌, ◌==◌, if◌then◌else◌, length, refl, ap, arith}
 use Rattle.std.proofs.lemmas.Bool.{cases_eq, eq-eqb, ne_eqb}
 use Rattle.cop_rta.specs.Sums.{sum_where, max_where}
-use Rattle.cop_rta.specs.Test.{is_flagged, is_below, of_stream, cost_of, load_of, blocking, interference, busy_at}
+use Rattle.cop_rta.specs.Test.{is_flagged, is_below, of_stream, cost_of, load_of, ahead_of, blocking, interference, busy_at}
 use Rattle.cop_rta.specs.Placing.{Flags, place_in, is_unflagged, longest_of, busy_of}
 
 -- all that pass but one
@@ -57,8 +57,8 @@ module _ (v : Flags) (own : ℕ) (inside : own < length v.streams) (flag : is_fl
       let same : is_below (place_in v own) ≡ is_unflagged v.flags = λ i k. below_alike k i in
       ap (λ (test : ℕ → Bool). max_where test (of_stream (cost_of v.rate) v.streams) (length v.streams)) same
 
-  pub interference_is : (x : ℕ) → sum_where (is_flagged v.flags) (of_stream (load_of v.rate x) v.streams) (length v.streams) ≡ interference (place_in v own) x + of_stream (load_of v.rate x) v.streams own
-  interference_is x = sum_but (is_flagged v.flags) (of_stream (load_of v.rate x) v.streams) own (length v.streams) flag inside
+  pub interference_is : (x : ℕ) → sum_where (is_flagged v.flags) (of_stream (load_of v.rate (ahead_of v.streams v.rate) x) v.streams) (length v.streams) ≡ interference (place_in v own) x + of_stream (load_of v.rate (ahead_of v.streams v.rate) x) v.streams own
+  interference_is x = sum_but (is_flagged v.flags) (of_stream (load_of v.rate (ahead_of v.streams v.rate) x) v.streams) own (length v.streams) flag inside
 
   pub busy_is : (t : ℕ) → busy_at (place_in v own) t ≡ busy_of v t
   unfolding busy_at busy_of

@@ -9,27 +9,27 @@ use Rattle.cop_rta.specs.declared.streams.Stream.{Stream}
 use Rattle.cop_rta.specs.Sums.{sum_where, max_where}
 use Rattle.cop_rta.specs.SumsLemmas.{sum_where-mono}
 use Rattle.cop_rta.specs.Solutions.{IsLeastSolution}
-use Rattle.cop_rta.specs.Test.{is_flagged, is_above, of_stream, cost_of, cost_at, load_of, interference, busy_at, queueing_at, IsBusyTime, horizon}
+use Rattle.cop_rta.specs.Test.{is_flagged, is_above, of_stream, cost_of, cost_at, load_of, ahead_of, interference, busy_at, queueing_at, IsBusyTime, horizon}
 use Rattle.cop_rta.specs.Waits.{IsBelowWait, IsBelowBusy}
 use Rattle.cop_rta.specs.Placing.{Flags, place_in, busy_of, is_unflagged, longest_of, once_each, IsSharedTime}
 use Rattle.cop_rta.proofs.PlaceEquations.{but, sum_but, busy_is, blocking_is, equations}
 use Rattle.cop_rta.proofs.QueueLemmas.{cost_in_load, cost_pos, ticks_pos}
 
 -- one transfer of a stream is no more than what it asks for from 1 on
-load_more : (v : Flags) (x k : ℕ) → 1 ≤ x → of_stream (cost_of v.rate) v.streams k ≤ of_stream (load_of v.rate x) v.streams k
+load_more : (v : Flags) (x k : ℕ) → 1 ≤ x → of_stream (cost_of v.rate) v.streams k ≤ of_stream (load_of v.rate (ahead_of v.streams v.rate) x) v.streams k
 load_more v x k late = go (slice_get v.streams k)
   where
-    go : (o : Option Stream) → option_map_or (cost_of v.rate) o 0 ≤ option_map_or (load_of v.rate x) o 0
+    go : (o : Option Stream) → option_map_or (cost_of v.rate) o 0 ≤ option_map_or (load_of v.rate (ahead_of v.streams v.rate) x) o 0
     go None = zero-le
-    go (Some s) = cost_in_load v.rate s x late
+    go (Some s) = cost_in_load v.rate (ahead_of v.streams v.rate) s x late
 
 module _ (v : Flags) (own : ℕ) (inside : own < length v.streams) (flag : is_flagged v.flags own ≡ true) where
   -- so the busy time is no less than one transfer of each, after the longest from below
   pub busy_from : IsBelowBusy (place_in v own) (longest_of v + once_each v)
   unfolding busy_of
   busy_from y late closed =
-      let more : once_each v ≤ sum_where (is_flagged v.flags) (of_stream (load_of v.rate y) v.streams) (length v.streams) =
-      sum_where-mono (is_flagged v.flags) (of_stream (cost_of v.rate) v.streams) (of_stream (load_of v.rate y) v.streams) (length v.streams) (λ k. load_more v y k late) in
+      let more : once_each v ≤ sum_where (is_flagged v.flags) (of_stream (load_of v.rate (ahead_of v.streams v.rate) y) v.streams) (length v.streams) =
+      sum_where-mono (is_flagged v.flags) (of_stream (cost_of v.rate) v.streams) (of_stream (load_of v.rate (ahead_of v.streams v.rate) y) v.streams) (length v.streams) (λ k. load_more v y k late) in
       omega (arith, more, closed, busy_is v own inside flag y)
 
   -- one transfer of each of the others
@@ -41,7 +41,7 @@ module _ (v : Flags) (own : ℕ) (inside : own < length v.streams) (flag : is_fl
   unfolding queueing_at
   wait_from_sums from is y closed =
       let more : sum_where (is_above (place_in v own)) (of_stream (cost_of v.rate) v.streams) (length v.streams) ≤ interference (place_in v own) (y + ticks_of v.rate) =
-      sum_where-mono (is_above (place_in v own)) (of_stream (cost_of v.rate) v.streams) (of_stream (load_of v.rate (y + ticks_of v.rate)) v.streams) (length v.streams) (λ k. load_more v (y + ticks_of v.rate) k (omega (arith, ticks_pos v.rate))) in
+      sum_where-mono (is_above (place_in v own)) (of_stream (cost_of v.rate) v.streams) (of_stream (load_of v.rate (ahead_of v.streams v.rate) (y + ticks_of v.rate)) v.streams) (length v.streams) (λ k. load_more v (y + ticks_of v.rate) k (omega (arith, ticks_pos v.rate))) in
       omega (arith, is, more, closed, others_once, blocking_is v own inside flag)
 
   pub cost_pos_at : 1 ≤ cost_at (place_in v own)

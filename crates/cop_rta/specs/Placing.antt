@@ -6,7 +6,7 @@ use Rattle.cop_rta.specs.declared.paces.Pace.{Pace}
 use Rattle.cop_rta.specs.declared.sweeps.Last.{Last}
 use Rattle.cop_rta.specs.Sums.{sum_where, max_where}
 use Rattle.cop_rta.specs.Solutions.{IsLeastSolution}
-use Rattle.cop_rta.specs.Test.{StreamPlace, flagged_place, is_flagged, of_stream, cost_of, cost_at, load_of, horizon}
+use Rattle.cop_rta.specs.Test.{StreamPlace, flagged_place, is_flagged, of_stream, cost_of, cost_at, load_of, ahead_of, horizon}
 use Rattle.cop_rta.specs.Waits.{IsBelowWait}
 use Rattle.cop_rta.specs.Paces.{IsRow}
 
@@ -34,7 +34,7 @@ once_each v = sum_where (is_flagged v.flags) (of_stream (cost_of v.rate) v.strea
 
 -- the busy equation of each that is flagged: it is the same for all
 unfoldable pub busy_of : Flags → ℕ → ℕ
-busy_of v t = longest_of v + sum_where (is_flagged v.flags) (of_stream (load_of v.rate t) v.streams) (length v.streams)
+busy_of v t = longest_of v + sum_where (is_flagged v.flags) (of_stream (load_of v.rate (ahead_of v.streams v.rate) t) v.streams) (length v.streams)
 
 -- the busy time of each that is flagged, if it is within the horizon
 pub record IsSharedTime (v : Flags) (time : Option ℕ) : Type 0 where
@@ -52,7 +52,7 @@ pub record IsPlaced (v : Flags) (from_below costs : ℕ) (row : List Pace) (time
   pub most : from_below ≤ 54000
   pub costs_are : costs ≡ once_each v
   pub costs_most : costs ≤ 59400000
-  pub is_row : IsRow v.streams v.flags row
+  pub is_row : IsRow v.streams (ahead_of v.streams v.rate) v.flags row
   pub shared : IsSharedTime v time
 
 -- what is known of one of the flagged streams, of which it was judged last

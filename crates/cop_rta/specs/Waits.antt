@@ -12,4 +12,4 @@ IsBelowBusy p from = (y : ℕ) → 1 ≤ y → busy_at p y ≤ y → from ≤ y
 
 -- the waits that are sought: none that meets a deadline is longer, nor one within the horizon
 abbrev pub latest_wait : ℕ
-latest_wait = 520000000
+latest_wait = 800000000

@@ -3,8 +3,9 @@
 ghost use Rattle.std.specs.Prelude.{◌≡◌, ◌↔◌, ℕ, ◌+◌, ◌<◌, ◌≤◌, Bool, length};
 ghost use Rattle.cop_rta.specs.declared.verdicts.Verdict.{Verdict};
 ghost use Rattle.cop_rta.specs.Solutions.{IsLeastSolution};
-ghost use Rattle.cop_rta.specs.Test.{StreamPlace, Passes, busy_at, queueing_at, cost_at, IsBusyTime, IsQueuedWithin};
+ghost use Rattle.cop_rta.specs.Test.{StreamPlace, Passes, IsResponse, jitter_of, busy_at, queueing_at, cost_at, IsBusyTime, IsQueuedWithin};
 ghost use Rattle.cop_rta.specs.Verdict.{IsJudged};
+ghost use Rattle.cop_rta.specs.Jittered.{PassesWith, IsResponseBy, busy_by, queueing_by};
 ghost use Rattle.cop_rta.specs.Witnesses.{HasWitnesses, HasMoreAbove, under};
 
 /// A stream passes exactly where there are numbers that neither equation leads past and that are in time.
@@ -33,6 +34,14 @@ pub fn passes_with_fewer_above()
 pub fn each_instance_waits()
     ensures { (p : StreamPlace) (t q : ℕ) → p.index < length p.streams → IsBusyTime p t → IsQueuedWithin p t q
         → (w : ℕ) × IsLeastSolution (queueing_at p q) 0 w × (w + cost_at p ≤ t) }
+{}
+
+/// The test of a place is the test with the jitters that streams have by what is ahead there.
+pub fn passes_with()
+    ensures passes { (p : StreamPlace) → (Passes p ↔ PassesWith (jitter_of p.ahead) p) }
+    ensures busy { (p : StreamPlace) (t : ℕ) → busy_by (jitter_of p.ahead) p t ≡ busy_at p t }
+    ensures queueing { (p : StreamPlace) (q w : ℕ) → queueing_by (jitter_of p.ahead) p q w ≡ queueing_at p q w }
+    ensures responses { (p : StreamPlace) (q r : ℕ) → (IsResponse p q r ↔ IsResponseBy (jitter_of p.ahead) p q r) }
 {}
 
 /// The test says one thing of each place.

@@ -10,13 +10,15 @@ use cop_frame::worst_bits;
 #[derive(Clone, Copy)]
 pub(crate) struct Pace {
     // The bits of the longest transfer.
-    bits: u64,
+    bits: u32,
+    // Whether the stream is synchronous: its jitter is a latency, before which SYNC's response stands.
+    is_synchronous: bool,
     // The jitter, and a period less a tick: the quotient is rounded up.
     ahead: u64,
     // 2^64 by the period, rounded up.
     inverse: u64,
     ghost bits_most: { bits ≤ 135 },
-    ghost ahead_most: { ahead ≤ 480000000 },
+    ghost ahead_most: { ahead ≤ 760000000 },
     ghost inverse_most: { inverse ≤ 2 ^ 56 },
 }
 
@@ -25,6 +27,7 @@ impl Default for Pace {
     fn default() -> Pace {
         Pace {
             bits: 0,
+            is_synchronous: false,
             ahead: 0,
             inverse: 0,
         }
@@ -32,17 +35,39 @@ impl Default for Pace {
 }
 
 impl Pace {
-    ghost use Rattle.cop_rta.specs.Paces.{last_time, counted_in, bits_in, IsPaceOf};
+    ghost use Rattle.cop_rta.specs.Paces.{last_time, counted_in, bits_in, most_ahead, IsPaceOf, IsPaceAfter};
 
-    /// The pace of a stream.
+    /// The pace of a stream, of whose jitter it has the latency alone.
     pub(crate) fn new(stream: &Stream) -> Pace
         ensures { IsPaceOf stream.now result }
     {
-        let Stream { period, jitter, .. } = *stream;
+        let Stream {
+            period,
+            jitter,
+            every,
+            ..
+        } = *stream;
         Pace {
-            bits: u64::from(worst_bits(stream.bytes)),
+            bits: u32::from(worst_bits(stream.bytes)),
+            is_synchronous: every != 0,
             ahead: jitter + (period - 1),
             inverse: u64::MAX / period + 1,
+        }
+    }
+
+    /// The pace with what is ahead of a latency.
+    pub(crate) fn after(&self, ahead: u64) -> Pace
+        requires ahead { ahead ≤ most_ahead }
+        requires own { self.now.ahead ≤ 480000000 }
+        ensures { IsPaceAfter ahead self.now result }
+    {
+        let pace = *self;
+        let more = if pace.is_synchronous { ahead } else { 0 };
+        Pace {
+            bits: pace.bits,
+            is_synchronous: pace.is_synchronous,
+            ahead: pace.ahead + more,
+            inverse: pace.inverse,
         }
     }
 
@@ -63,6 +88,6 @@ impl Pace {
         ensures value { result ≡ bits_in time self.now }
         ensures most { result ≤ 2 ^ 36 }
     {
-        self.instances(time) * self.bits
+        self.instances(time) * u64::from(self.bits)
     }
 }

@@ -1,7 +1,7 @@
 //! A place of an order: some streams are below it, and each of the others may get it.
 
 ghost use Rattle.std.specs.Prelude.{◌≡◌, ◌↔◌, ◌+◌, ◌<◌, ◌≤◌, ℕ, length, set, not, true, false, IsTrue};
-ghost use Rattle.cop_rta.specs.Test.{Passes, is_flagged, of_stream, cost_of};
+ghost use Rattle.cop_rta.specs.Test.{Passes, is_flagged, of_stream, cost_of, ahead_of};
 ghost use Rattle.cop_rta.specs.Sums.{sum_where};
 ghost use Rattle.cop_rta.specs.Verdict.{IsJudged, IsPass};
 ghost use Rattle.cop_rta.specs.Waits.{IsBelowWait};
@@ -12,6 +12,7 @@ use crate::above::Above;
 use crate::demands::{Busy, cost, longest_below};
 use crate::judging::{is_on_time, judged};
 use crate::paces::Pace;
+use crate::rates::AtRate;
 use crate::rows::{Row, fill};
 use crate::sets::StreamSet;
 use crate::verdicts::Verdict;
@@ -53,26 +54,26 @@ fn costs_above(set: &StreamSet, above: &Above<'_>, rate: Rate) -> u64
 // The busy time, which is the same for all streams that are above, if it is within the horizon. It is no less than what
 // is known without its equation: the longest transfer from below, and one transfer of each.
 fn shared_time(
-    set: &StreamSet,
+    at: &AtRate<'_>,
     below: &[bool],
-    rate: Rate,
     from_below: u64,
     costs: u64,
     row: &[Pace],
 ) -> Option<u64>
-    requires size { length below.now ≡ length set.now }
+    requires size { length below.now ≡ length at.now.streams }
     requires some { HasOneAbove (flags_above true below.now) }
-    requires blocking { from_below ≡ longest_of (record { streams = set.now; flags = flags_above true below.now; rate = rate }) }
+    requires blocking { from_below ≡ longest_of (record { streams = at.now.streams; flags = flags_above true below.now; rate = at.now.rate }) }
     requires most { from_below ≤ 54000 }
-    requires costs { costs ≡ once_each (record { streams = set.now; flags = flags_above true below.now; rate = rate }) }
+    requires costs { costs ≡ once_each (record { streams = at.now.streams; flags = flags_above true below.now; rate = at.now.rate }) }
     requires costs_most { costs ≤ 59400000 }
     requires few { length row.now ≤ 2048 }
-    requires row { IsRow set.now (flags_above true below.now) row.now }
-    ensures { IsSharedTime (record { streams = set.now; flags = flags_above true below.now; rate = rate }) result }
+    requires row { IsRow at.now.streams (ahead_of at.now.streams at.now.rate) (flags_above true below.now) row.now }
+    ensures { IsSharedTime (record { streams = at.now.streams; flags = flags_above true below.now; rate = at.now.rate }) result }
 {
     let above = Above::unflagged(below);
+    let (set, clock) = (at.set(), at.clock());
     let index = first_above(&above, set.len());
-    let busy = Busy::in_row(set, above, row, index, rate, from_below);
+    let busy = Busy::in_row(set, clock, above, row, index, from_below);
     busy.time_from(from_below + costs)
 }
 
@@ -82,9 +83,8 @@ fn shared_time(
 /// rate.
 #[derive(Drop)]
 pub struct Place<'a, 'b> {
-    set: &'a StreamSet,
+    at: AtRate<'a>,
     below: &'b mut [bool],
-    rate: Rate,
     from_below: u64,
     costs: u64,
     // The paces of the others.
@@ -100,9 +100,9 @@ impl<'a, 'b> Model for Place<'a, 'b> {
 
     ghost Value = { Flags };
 
-    ghost view = { λ p. record { streams = p.set.now; flags = flags_above true p.below.now; rate = p.rate } };
+    ghost view = { λ p. record { streams = p.at.streams; flags = flags_above true p.below.now; rate = p.at.rate } };
 
-    ghost invariant = { λ p. IsPlaced (record { streams = p.set.now; flags = flags_above true p.below.now; rate = p.rate }) p.from_below p.costs p.row.items p.busy };
+    ghost invariant = { λ p. IsPlaced (record { streams = p.at.streams; flags = flags_above true p.below.now; rate = p.at.rate }) p.from_below p.costs p.row.items p.busy };
 }
 
 impl<'a, 'b> Place<'a, 'b> {
@@ -112,17 +112,26 @@ impl<'a, 'b> Place<'a, 'b> {
         requires some { HasOneAbove (flags_above true below.old) }
         ensures { result ≡ record { streams = set.now; flags = flags_above true below.old; rate = rate } }
     {
+        Place::among(&AtRate::new(set, rate), below)
+    }
+
+    /// The same in a set at a rate: what all its places have in common is not sought anew.
+    pub fn among(at: &AtRate<'a>, below: &'b mut [bool]) -> Place<'a, 'b>
+        requires flags { length below.old ≡ length at.now.streams }
+        requires some { HasOneAbove (flags_above true below.old) }
+        ensures { result ≡ record { streams = at.now.streams; flags = flags_above true below.old; rate = at.now.rate } }
+    {
+        let (set, clock) = (at.set(), at.clock());
         let above = Above::unflagged(below);
         let index = first_above(&above, set.len());
-        let from_below = longest_below(set.streams(), &above, index, rate);
-        let costs = costs_above(set, &above, rate);
+        let from_below = longest_below(set.streams(), &above, index, clock.rate);
+        let costs = costs_above(set, &above, clock.rate);
         let mut row = Row::new();
-        fill(&mut row, set, &above);
-        let busy = shared_time(set, below, rate, from_below, costs, row.as_slice());
+        fill(&mut row, set, &above, clock.ahead);
+        let busy = shared_time(at, below, from_below, costs, row.as_slice());
         Place {
-            set,
+            at: at.again(),
             below,
-            rate,
             from_below,
             costs,
             row,
@@ -135,7 +144,7 @@ impl<'a, 'b> Place<'a, 'b> {
         requires { index < length self.now.streams }
         ensures { result ≡ not (is_flagged self.now.flags index) }
     {
-        let _ = &self.rate;
+        let _ = &self.at;
         self.below[index]
     }
 
@@ -143,11 +152,12 @@ impl<'a, 'b> Place<'a, 'b> {
     pub fn equations(&self, index: usize) -> Busy<'_>
         requires index { index < length self.now.streams }
         requires above { is_flagged self.now.flags index ≡ true }
-        ensures { result ≡ record { streams = self.now.streams; flags = self.now.flags; index = index; rate = self.now.rate } }
+        ensures { result ≡ record { streams = self.now.streams; flags = self.now.flags; index = index; rate = self.now.rate; ahead = ahead_of self.now.streams self.now.rate } }
     {
         let above = Above::unflagged(&*self.below);
+        let (set, clock) = (self.at.set(), self.at.clock());
         let row = self.row.as_slice();
-        Busy::in_row(self.set, above, row, index, self.rate, self.from_below)
+        Busy::in_row(set, clock, above, row, index, self.from_below)
     }
 
     // A number that the wait of the first instance of a stream that is not below is no less than: the longest transfer
@@ -192,15 +202,15 @@ impl<'a, 'b> Place<'a, 'b> {
         ensures { self.new ≡ record self.old { flags = set self.old.flags index false } }
     {
         let own = self.equations(index).cost();
-        let set = self.set;
-        let rate = self.rate;
+        let at = self.at.again();
         let from_below = self.from_below.max(own);
         let costs = self.costs - own;
         let below = &mut *self.below;
         below[index] = true;
-        fill(&mut self.row, set, &Above::unflagged(below));
+        let above = Above::unflagged(below);
+        fill(&mut self.row, at.set(), &above, at.clock().ahead);
         let row = self.row.as_slice();
-        let busy = shared_time(set, below, rate, from_below, costs, row);
+        let busy = shared_time(&at, below, from_below, costs, row);
         self.from_below = from_below;
         self.costs = costs;
         self.busy = busy;

@@ -1,7 +1,7 @@
 //! The paces of some streams in a row.
 
 ghost use Rattle.std.specs.Prelude.{◌≡◌, ◌*◌, ◌^◌, ◌≤◌, length, sum_by};
-ghost use Rattle.cop_rta.specs.Paces.{last_time, bits_in, IsRow};
+ghost use Rattle.cop_rta.specs.Paces.{last_time, bits_in, most_ahead, IsRow};
 
 use crate::above::Above;
 use crate::paces::Pace;
@@ -11,15 +11,16 @@ use arrayvec::ArrayVec;
 /// Room for the paces of a set, which takes no memory.
 pub(crate) type Row = ArrayVec<Pace, { StreamSet::MOST }>;
 
-/// Fills a row with the paces of the streams that are above.
-pub(crate) fn fill(row: &mut Row, set: &StreamSet, above: &Above<'_>)
-    requires { length above.now ≡ length set.now }
-    ensures { IsRow set.now above.now row.new.items }
+/// Fills a row with the paces of the streams that are above, with what is ahead of latencies.
+pub(crate) fn fill(row: &mut Row, set: &StreamSet, above: &Above<'_>, ahead: u64)
+    requires flags { length above.now ≡ length set.now }
+    requires ahead { ahead ≤ most_ahead }
+    ensures { IsRow set.now ahead above.now row.new.items }
 {
     row.clear();
     for (k, pace) in set.paces().iter().enumerate() {
         if above.has(k) {
-            row.push(*pace);
+            row.push(pace.after(ahead));
         }
     }
 }

@@ -2,7 +2,7 @@
 
 ghost use Rattle.std.specs.Prelude.{◌≡◌, ◌+◌, ◌<◌, ◌≤◌, ℕ, length, set, get_or, true, false, IfOk, IfSome, IfNone};
 ghost use Rattle.cop_rta.specs.declared.verdicts.Verdict.TheVariants.{Long};
-ghost use Rattle.cop_rta.specs.Test.{is_flagged, flagged_place, place_of, place_by_id, horizon, IsBusyTime};
+ghost use Rattle.cop_rta.specs.Test.{ahead_of, is_flagged, flagged_place, place_of, place_by_id, horizon, IsBusyTime};
 ghost use Rattle.cop_rta.specs.Verdict.{IsJudged};
 ghost use Rattle.cop_rta.specs.Waits.{IsBelowBusy};
 ghost use Rattle.cop_rta.specs.Paces.{IsRow};
@@ -12,6 +12,7 @@ use crate::above::Above;
 use crate::demands::{Busy, longest_below};
 use crate::judging::judged;
 use crate::paces::Pace;
+use crate::rates::{AtRate, Clock};
 use crate::sets::StreamSet;
 use crate::verdicts::Verdict;
 use cop_frame::Rate;
@@ -69,26 +70,27 @@ fn time_after(busy: &Busy<'_>, last: Option<Last>) -> Option<u64>
 // Flags one more stream, and judges it with those that were flagged above it. The paces of all these stand in a row.
 fn judge_next(
     streams: &StreamSet,
+    clock: Clock,
     above: &mut [bool],
     row: &[Pace],
     index: usize,
-    rate: Rate,
     last: Option<Last>,
 ) -> Swept
     requires size { length above.old ≡ length streams.now }
     requires index { index < length streams.now }
+    requires ahead { clock.ahead ≡ ahead_of streams.now clock.rate }
     requires unflagged { is_flagged above.old index ≡ false }
     requires few { length row.now ≤ 2048 }
-    requires row { IsRow streams.now (set above.old index true) row.now }
-    requires last { IfSome last (IsLast (record { streams = streams.now; flags = above.old; rate = rate })) }
+    requires row { IsRow streams.now clock.ahead (set above.old index true) row.now }
+    requires last { IfSome last (IsLast (record { streams = streams.now; flags = above.old; rate = clock.rate })) }
     ensures above { above.new ≡ set above.old index true }
-    ensures judged { IsJudged (flagged_place streams.now (set above.old index true) index rate) result.verdict }
-    ensures last { IsLast (record { streams = streams.now; flags = set above.old index true; rate = rate }) result.last }
+    ensures judged { IsJudged (flagged_place streams.now (set above.old index true) index clock.rate) result.verdict }
+    ensures last { IsLast (record { streams = streams.now; flags = set above.old index true; rate = clock.rate }) result.last }
 {
     above[index] = true;
     let flagged = Above::flagged(above);
-    let from_below = longest_below(streams.streams(), &flagged, index, rate);
-    let busy = Busy::in_row(streams, flagged, row, index, rate, from_below);
+    let from_below = longest_below(streams.streams(), &flagged, index, clock.rate);
+    let busy = Busy::in_row(streams, clock, flagged, row, index, from_below);
     let from = wait_after(last, from_below);
     let time = time_after(&busy, last);
     let judged = judged(&busy, time, from);
@@ -115,6 +117,7 @@ pub fn verdicts_by_id(
     ensures count { IfOk result (λ verdicts. length verdicts.items ≡ length set.now) }
     ensures judged { IfOk result (λ verdicts. (k : ℕ) → k < length set.now → IsJudged (place_by_id set.now k rate) (get_or verdicts.items k Long)) }
 {
+    let clock = AtRate::new(set, rate).clock();
     let count = set.streams().len();
     let mut above = vec![in alloc; false; count]?;
     let mut verdicts = vec![in alloc; Verdict::Long; count]?;
@@ -122,8 +125,8 @@ pub fn verdicts_by_id(
     let mut last = None;
     for id in 0..2048 {
         if let Some(index) = set.place_of(id) {
-            row.push(set.paces()[index])?;
-            let swept = judge_next(set, &mut above, &row, index, rate, last);
+            row.push(set.paces()[index].after(clock.ahead))?;
+            let swept = judge_next(set, clock, &mut above, &row, index, last);
             verdicts[index] = swept.verdict;
             last = Some(swept.last);
         }

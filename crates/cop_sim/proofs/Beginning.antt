@@ -1,6 +1,7 @@
 -- Before the first step: each behaviour was asked once.
 use Rattle.std.proofs.Common.{◌≡◌, ℕ, zero, ◌+◌, ◌<◌, inl, inr, List, [], ◌∷◌, ◌++◌, length, get_or, slice_get, slice_set, replicate, Option, Some, None, Result, Ok, Err, IsErrAnd, IfErr, Bool, true, false, refl, sym, ap, ◌∙◌, subst, arith, suc, length-append, map}
-use Rattle.std.specs.Option.{ForSome}
+use Rattle.std.specs.Prelude.{◌==◌, if◌then◌else◌}
+use Rattle.std.specs.Option.{option_and_then}
 use Rattle.std.proofs.lemmas.Bool.{cases_lt}
 use Rattle.std.proofs.lemmas.Option.{slice_get_within, get_or_from_slice_get}
 use Rattle.std.proofs.lemmas.List.{length-map, length-set}
@@ -17,21 +18,21 @@ use Rattle.cop_sim.specs.declared.behaviours.Offer.{Offer}
 use Rattle.cop_bus.specs.declared.steps.Step.{Step}
 use Rattle.cop_sim.specs.declared.faults.SimFault.{SimFault}
 use Rattle.cop_sim.specs.declared.faults.SimFault.TheVariants.{Count, Disobeys as DisobeysAt, Backlog, Sink, Memory}
-use Rattle.cop_sim.specs.Play.{Actor, actors_of, obeys, IsPartialPlay}
-use Rattle.cop_sim.specs.Seats.{next_at, answer_of, IsAsked}
+use Rattle.cop_sim.specs.Play.{Actor, actors_of, by_end, next_offer, obeys, IsPartialPlay}
+use Rattle.cop_sim.specs.Seats.{next_at, answer_of}
 use Rattle.cop_sim.specs.Sinks.{IsCause, Took, LeftOff}
 use Rattle.cop_sim.specs.Stages.{IsSeat, IsAt, actor_of, IsFirst, AreFirst, FirstFault, IsLeft}
 use Rattle.cop_sim.proofs.Plays.{begins, nothing-yet}
 use Rattle.cop_bus.proofs.AtPlace.{set-here, set-other, there-is, some-one}
 use Rattle.cop_sim.proofs.Places.{actor-at, stream-at}
-use Rattle.cop_sim.proofs.Queues.{answered}
+use Rattle.cop_sim.proofs.Kept.{answer-async}
 
 module _ {B : Type 0} (offer : B → ℕ → Option Offer) (agrees : B → ℕ → ℕ → Bool) (until : ℕ) (streams : List Stream) (bs : List B) where
   -- one more was asked
   pub first-more : (cs ds : List B) (next : List (Option Offer)) (n : ℕ) (s : Stream) (o : Option Offer) → AreFirst offer agrees until streams bs cs next n → n < length bs → s ≡ get_or streams n s →
-      ((b : B) → slice_get cs n ≡ Some b → (c : B) × (ds ≡ slice_set cs n c) × IsAsked offer agrees b c) → ((b : B) → slice_get cs n ≡ Some b → o ≡ answer_of offer until b) → ForSome o (λ o. obeys s None o ≡ true) →
+      ((b : B) → slice_get cs n ≡ Some b → (c : B) × (ds ≡ slice_set cs n c) × IsFirst offer agrees until s b c o) →
       AreFirst offer agrees until streams bs ds (next ++ o ∷ []) (n + 1)
-  first-more cs ds next n s o h low is ask answer obey =
+  first-more cs ds next n s o h low is ask =
       let b = there-is cs n (let m = h.many in omega (arith, low, m)) in
       let c = ask b.0 b.1 in
       let size : n < length cs = (let m = h.many in omega (arith, low, m)) in
@@ -51,11 +52,8 @@ module _ {B : Type 0} (offer : B → ℕ → Option Offer) (agrees : B → ℕ �
               let last : next_at (next ++ o ∷ []) i ≡ o = ap (next_at (next ++ o ∷ [])) (z ∙ sym h.long) ∙ get_or-append_seam next o [] None in (
                 c.0,
                 here,
-                record {
-                  asked = subst (λ (t : B). IsAsked offer agrees t c.0) same c.2;
-                  next_is = last ∙ answer v g;
-                  obeying = λ p q. subst (λ (t : Stream). obeys t None p ≡ true) stream (obey p (sym last ∙ q));
-                },
+                subst (λ (t : Option Offer). IsFirst offer agrees until k v c.0 t) (sym last)
+                    (subst (λ (t : Stream). IsFirst offer agrees until t v c.0 o) stream (subst (λ (t : B). IsFirst offer agrees until s t c.0 o) same c.2)),
               ))
         ];
         rest = λ i l. ap (λ (v : List B). slice_get v i) c.1 ∙ set-other cs n i c.0 (λ z. (let p = l in omega (arith, z, p))) ∙ h.rest i (omega (arith, l));
@@ -105,6 +103,13 @@ module _ {B : Type 0} (offer : B → ℕ → Option Offer) (agrees : B → ℕ �
     awaited = refl;
   }
     where
+      at-first : (k : Stream) (f : B) → (if k.every == 0 then answer_of offer until f else None) ≡ next_offer until [] 0 (actor_of offer agrees k f)
+      at-first k f = go (k.every == 0)
+        where
+          go : (v : Bool) → (if v then answer_of offer until f else None) ≡ option_and_then (by_end until) (if v then offer f 0 else None)
+          go true = refl
+          go false = refl
+
       seat : (i : ℕ) (a : Actor) (b : B) (r : RingValue) → slice_get (actors_of offer agrees plan.streams bs) i ≡ Some a → slice_get cs i ≡ Some b → slice_get (rings_of plan.streams) i ≡ Some r →
           IsSeat offer agrees until [] a b (next_at next i) r (get_or queued i 0)
       seat i a b r e f g =
@@ -116,30 +121,39 @@ module _ {B : Type 0} (offer : B → ℕ → Option Offer) (agrees : B → ℕ �
           let h : IsFirst offer agrees until a.stream v.0 b (next_at next i) = subst (λ (t : B). IsFirst offer agrees until a.stream v.0 t (next_at next i)) same w.2 in
           subst (λ (t : Actor). IsSeat offer agrees until [] t b (next_at next i) r (get_or queued i 0)) v.2 (record {
             held = record {
-              offer = h.next_is;
+              offer = h.next_is ∙ at-first a.stream v.0;
               its = ring.0;
               count = ap (λ (ys : List Instance). length ys) ring.1;
               each = λ j y q. (let z : None ≡ Some y = sym (ap (λ (ys : List Instance). slice_get ys j) ring.1) ∙ q in absurd (cc));
             };
             most = ring.2;
             count = zero-each i;
-            rest = λ j. h.asked.rest j ∙ ap (offer v.0) (let z : suc j ≡ suc (0 + j) = omega arith in z);
-            same = h.asked.same;
+            rest = λ async j. h.rest async j ∙ ap (offer v.0) (let z : suc j ≡ suc (0 + j) = omega arith in z);
+            same = h.same;
             obeying = λ o q. h.obeying o q;
           })
 
   -- the first answer of a behaviour does not obey
   pub first-disobeys : (i n : ℕ) (failed : Bool) (m : ℕ) → length bs ≡ length plan.streams → i < length plan.streams → n ≡ 0 →
-      ((k : Stream) (b : B) → slice_get plan.streams i ≡ Some k → slice_get bs i ≡ Some b → (o : Offer) × (answer_of offer until b ≡ Some o) × (obeys k None o ≡ false)) →
+      ((k : Stream) (b : B) → slice_get plan.streams i ≡ Some k → slice_get bs i ≡ Some b → (o : Offer) × (answer_of offer until b ≡ Some o) × (obeys k None o ≡ false) × (k.every ≡ 0)) →
       IsCause plan (actors_of offer agrees plan.streams bs) m until failed (DisobeysAt i n)
   first-disobeys i n failed m count low e h =
       let k = there-is plan.streams i low in
       let b = there-is bs i (omega (arith, count, low)) in
       let a = actor-at offer agrees plan.streams bs i k.0 b.0 k.1 b.1 in
       let w = h k.0 b.0 k.1 b.1 in
-      let v = answered until (offer b.0 0) w.0 w.1 in
-      subst (λ j. IsCause plan (actors_of offer agrees plan.streams bs) m until failed (DisobeysAt i j)) (sym e)
-      (actor_of offer agrees k.0 b.0, a, record { offer = w.0; answered = v.0; within = v.1; breaks = w.2 })
+      subst (λ j. IsCause plan (actors_of offer agrees plan.streams bs) m until failed (DisobeysAt i j)) (sym e) (
+        actor_of offer agrees k.0 b.0,
+        a,
+        record {
+          steps = [];
+          partial = nothing-yet (ticks_of plan.rate) (actors_of offer agrees plan.streams bs) until;
+          number = refl;
+          offer = w.0;
+          is_next = ap (option_and_then (by_end until)) (answer-async (actor_of offer agrees k.0 b.0) 0 w.3) ∙ w.1;
+          breaks = w.2;
+        },
+      )
 
   pub begun-of : (ss : List Stream) (ids : List ℕ) (rings : List RingValue) → plan.streams ≡ ss → IsPlanned plan → AreDistinct plan.streams → length bs ≡ length ss → AreFirst offer agrees until ss bs cs next (length ss) → ids ≡ ids_of ss → rings ≡ rings_of ss → length queued ≡ length ss → ((k : ℕ) → get_or queued k 0 ≡ 0) →
       IsAt offer agrees plan until bs cs (record { ids = ids; next = next; rings = rings; queued = queued; running = None; joined = None; now = 0 }) []

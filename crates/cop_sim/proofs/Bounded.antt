@@ -5,6 +5,7 @@ use Rattle.std.specs.Int.{div_ceil}
 use Rattle.std.proofs.lemmas.Bool.{cases_lt}
 use Rattle.cop_frame.specs.Rate.{ticks_of}
 use Rattle.cop_rta.specs.declared.streams.Stream.{Stream}
+use Rattle.cop_rta.specs.Greatest.{AreSynced}
 use Rattle.cop_bus.specs.declared.steps.Step.{Step}
 use Rattle.cop_bus.specs.declared.steps.Content.{Content}
 use Rattle.cop_bus.specs.declared.steps.Step.TheVariants.{Queue, Start, End}
@@ -88,14 +89,14 @@ module _ (steps : List Step) (id moment n : ℕ) (within : n ≤ length steps) (
       let t = total-sum_by (λ y. cond (test y) 1 0) (instances steps) in
       omega (arith, f, z, t)
 
-module _ (plan : PlanValue) (fine : AreOnTime plan.rate plan.streams (length plan.ids)) (actors : List Actor) (streams : streams_of actors ≡ plan.streams) (until : ℕ) (steps : List Step) where
+module _ (plan : PlanValue) (fine : AreOnTime plan.rate plan.streams (length plan.ids)) (synced : AreSynced plan.streams) (actors : List Actor) (streams : streams_of actors ≡ plan.streams) (until : ℕ) (steps : List Step) where
   -- a play keeps what the plan guarantees
   pub play-kept : IsPlay (ticks_of plan.rate) actors until steps → IsKept plan until (instances steps)
   play-kept play =
       let h = play.legal in
-      kept plan fine until (instances steps) (record {
+      kept plan fine synced until (instances steps) (record {
         legal = subst (λ s. IsLegal (ticks_of plan.rate) s until (instances steps)) streams h.legal;
-        obeying = subst (λ s. All (IsObeying (instances steps)) s) streams h.obeying;
+        obeying = subst (λ s. All (IsObeying (ticks_of plan.rate) until (instances steps)) s) streams h.obeying;
       })
 
   -- and a partial play has no more instances waiting
@@ -131,9 +132,9 @@ module _ (plan : PlanValue) (fine : AreOnTime plan.rate plan.streams (length pla
     pub few-wait : (k : Stream) → IsPdo plan k → (d : ℕ) → k.deadline ≡ Some d → waiting_after k.id steps ≤ div_ceil d k.period
     few-wait k pdo d e =
         let h = play.legal in
-        let g = kept plan fine (now_of all) (instances all) (record {
+        let g = kept plan fine synced (now_of all) (instances all) (record {
           legal = subst (λ s. IsLegal (ticks_of plan.rate) s (now_of all) (instances all)) streams h.legal;
-          obeying = subst (λ s. All (IsObeying (instances all)) s) streams h.obeying;
+          obeying = subst (λ s. All (IsObeying (ticks_of plan.rate) (now_of all) (instances all)) s) streams h.obeying;
         }) in
         let l : length steps ≤ length all = (let w = length-append steps play.ahead in omega arith) in
         let u = unsent-wait all k.id (now_of steps) (length steps) l (λ i r. last-first i (length steps) r refl) in

@@ -1,6 +1,6 @@
 -- Offers that are queued by the end of a run.
 use Rattle.std.proofs.Common.{◌≡◌, ℕ, ◌<◌, ◌≤◌, inl, inr, List, length, sym, ap, subst, arith, nat_le, cond}
-use Rattle.std.specs.Prelude.{Option, None, Some, slice_get, Bool}
+use Rattle.std.specs.Prelude.{Option, None, Some, slice_get, Bool, true, false, ◌==◌, if◌then◌else◌}
 use Rattle.std.specs.Option.{option_and_then}
 use Rattle.std.proofs.lemmas.Bool.{cases_lt, cases_Bool, leb-true}
 use Rattle.std.proofs.lemmas.List.{get_or_past}
@@ -34,6 +34,10 @@ pub answer-early-at : {B : Type 0} (offer : B → ℕ → Option Offer) (until p
     → ((b : B) → slice_get bs place ≡ Some b → x ≡ answer_of offer until b) → IsEarly x
 answer-early-at offer until place bs x l m is = (let w = there-is bs place m in subst IsEarly (sym (is w.0 w.1)) (answer-early offer until w.0 l))
 
+either : (v : Bool) (x : Option Offer) → IsEarly x → IsEarly (if v then x else None)
+either true x h = h
+either false x h = none-early
+
 -- the first offers are early
 pub first-early : {B : Type 0} (offer : B → ℕ → Option Offer) (agrees : B → ℕ → ℕ → Bool) (until : ℕ) (streams : List Stream) (bs cs : List B) (next : List (Option Offer)) →
     AreFirst offer agrees until streams bs cs next (length streams) → length bs ≡ length streams → until ≤ 4000000000 → (i : ℕ) → IsEarly (next_at next i)
@@ -41,6 +45,6 @@ first-early offer agrees until streams bs cs next t count l i = elim (cases_lt i
   | inl m ↦ (let k = there-is streams i m in
       let b = there-is bs i (omega (arith, m, count)) in
       let f = t.first i k.0 b.0 m k.1 b.1 in
-      subst IsEarly (sym f.2.next_is) (answer-early offer until b.0 l))
+      subst IsEarly (sym f.2.next_is) (either (k.0.every == 0) (answer_of offer until b.0) (answer-early offer until b.0 l)))
   | inr m ↦ (let n = t.long in subst IsEarly (sym (get_or_past next i None (omega (arith, m, n)))) none-early)
 ]

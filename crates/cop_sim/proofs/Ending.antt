@@ -43,7 +43,7 @@ seat-kept offer agrees until steps x a b next r r' queued f most held s =
       held = held;
       most = most ∙ s.most;
       count = s.count ∙ sym q;
-      rest = λ j. s.rest j ∙ ap (λ n. a.offer (suc (n + j))) (sym q);
+      rest = λ async j. s.rest async j ∙ ap (λ n. a.offer (suc (n + j))) (sym q);
       same = s.same;
       obeying = λ o e. ap (λ n. obeys a.stream (answer_before a n) o) q ∙ s.obeying o e;
     }

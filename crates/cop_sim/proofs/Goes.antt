@@ -80,8 +80,8 @@ module _ (tau : ℕ) (pos : 1 ≤ tau) (actors : List Actor) (until : ℕ) (ther
     end-keeps = record {
       order = in-order;
       known = goes.known (id, e) runs;
-      period = end-period (stream_of (streams_of actors) id) (last_event id (steps ++ x ∷ []) (length steps)) e id;
-      in_time = end-time (stream_of (streams_of actors) id) e id;
+      period = end-period (stream_of (streams_of actors) id) (last_event id (steps ++ x ∷ []) (length steps)) (steps ++ x ∷ []) (length steps) e id;
+      in_time = end-time (stream_of (streams_of actors) id) (steps ++ x ∷ []) (length steps) e id;
       of_length = end-length (stream_of (streams_of actors) id) e id;
       transfer = ap (λ r. fits_transfer r x) runs-here ∙ and-true (id == id) (e == e) (eq-true id id refl) (eq-true e e refl);
       to_send = refl;

@@ -10,6 +10,13 @@ use Rattle.cop_bus.specs.Judge.{id_of, stream_of, last_event, is_in_order, not_b
 use Rattle.cop_bus.specs.Growing.{KeepTheRules}
 use Rattle.cop_bus.proofs.Verdict.{Keeps}
 use Rattle.cop_bus.proofs.Found.{pass}
+use Rattle.cop_bus.specs.Run.{gap_of}
+use Rattle.cop_bus.specs.Ends.{anchor_of}
+use Rattle.cop_bus.specs.Judge as Judge
+use Rattle.cop_bus.specs.Judge.{are_apart}
+use Rattle.cop_bus.proofs.AnchorLemmas.{own_anchor, anchor_async, gap-async}
+use Rattle.cop_sim.specs.declared.behaviours.Offer.{Offer}
+use Rattle.cop_sim.specs.Play.{queued_at, queue_step, event_of, is_later, is_in_time}
 use Rattle.cop_bus.proofs.Grows.{step_at-more, nth_that-more, none-broken-there, running-more, any_waits-more, no-more, nth_that-between}
 use Rattle.cop_bus.proofs.Appended.{step_at-here, length-one, one-more}
 
@@ -57,8 +64,8 @@ pub keeps-none : (tau : ℕ) (streams : List Stream) (until : ℕ) (steps : List
 keeps-none tau streams until steps i x k =
     pass (is_in_order until steps i x) 60 _ k.order
     (pass (is_some (stream_of streams (id_of x))) 61 _ k.known
-    (pass (is_period_later (stream_of streams (id_of x)) (last_event (id_of x) steps i) x) 62 _ k.period
-    (pass (is_queued_in_time (stream_of streams (id_of x)) x) 63 _ k.in_time
+    (pass (is_period_later (stream_of streams (id_of x)) (last_event (id_of x) steps i) steps i x) 62 _ k.period
+    (pass (is_queued_in_time (stream_of streams (id_of x)) steps i x) 63 _ k.in_time
     (pass (is_of_length (stream_of streams (id_of x)) x) 64 _ k.of_length
     (pass (fits_transfer (running tau steps i) x) 65 _ k.transfer
     (pass (has_one_to_send tau streams steps i x) 66 _ k.to_send
@@ -82,26 +89,53 @@ idle-more streams steps more r moment = go (length steps) r (omega arith)
         ap (λ y. nat_le moment (at_of y) || not (any_waits (steps ++ more) (suc i) streams)) (step_at-more steps more i (omega arith))
         ∙ ap (λ b. nat_le moment (at_of (step_at steps i)) || not b) (any_waits-more steps more (suc i) streams l)
 
+-- of a stream that is not synchronous rules 62 and 63 look at the offer and the one before it, and at no step
+pub period-of : (k : Stream) (before : Option Offer) (o : Offer) (steps : List Step) (i : ℕ) → k.every ≡ 0 → is_period_later (Some k) (event_of before) steps i (queue_step k.id o) ≡ is_later k before o
+period-of k None o steps i async = refl
+period-of k (Some b) o steps i async =
+    ap (λ g. are_apart g (anchor_of k steps i b.event) (anchor_of k steps i o.event)) (gap-async k async)
+    ∙ ap (λ a. are_apart k.period a (anchor_of k steps i o.event)) (anchor_async k steps i b.event async) ∙ ap (are_apart k.period (Some (own_anchor b.event))) (anchor_async k steps i o.event async)
+
+pub time-of : (k : Stream) (o : Offer) (steps : List Step) (i : ℕ) → k.every ≡ 0 → is_queued_in_time (Some k) steps i (queue_step k.id o) ≡ is_in_time k o
+time-of k o steps i async = ap (λ a. Judge.is_in_time k.jitter a (queued_at o)) (anchor_async k steps i o.event async)
+
+-- so they say the same after other steps
+pub period-anywhere : (s : Option Stream) (k : Stream) (v : Option ℕ) (o : Offer) (steps : List Step) (i : ℕ) (steps' : List Step) (i' : ℕ) → s ≡ Some k → k.every ≡ 0 →
+    is_period_later s v steps i (queue_step k.id o) ≡ is_period_later s v steps' i' (queue_step k.id o)
+period-anywhere s k v o steps i steps' i' e async =
+    ap (λ s. is_period_later s v steps i (queue_step k.id o)) e ∙ go v ∙ sym (ap (λ s. is_period_later s v steps' i' (queue_step k.id o)) e)
+  where
+    go : (v : Option ℕ) → is_period_later (Some k) v steps i (queue_step k.id o) ≡ is_period_later (Some k) v steps' i' (queue_step k.id o)
+    go None = refl
+    go (Some b) =
+        ap (λ a. are_apart (gap_of k) a (anchor_of k steps i o.event)) (anchor_async k steps i b async ∙ sym (anchor_async k steps' i' b async))
+        ∙ ap (are_apart (gap_of k) (anchor_of k steps' i' b)) (anchor_async k steps i o.event async ∙ sym (anchor_async k steps' i' o.event async))
+
+pub time-anywhere : (s : Option Stream) (k : Stream) (o : Offer) (steps : List Step) (i : ℕ) (steps' : List Step) (i' : ℕ) → s ≡ Some k → k.every ≡ 0 →
+    is_queued_in_time s steps i (queue_step k.id o) ≡ is_queued_in_time s steps' i' (queue_step k.id o)
+time-anywhere s k o steps i steps' i' e async =
+    ap (λ s. is_queued_in_time s steps i (queue_step k.id o)) e ∙ time-of k o steps i async ∙ sym (time-of k o steps' i' async) ∙ sym (ap (λ s. is_queued_in_time s steps' i' (queue_step k.id o)) e)
+
 -- a start or an end owes nothing by rules 62 to 64
-pub start-period : (o : Option Stream) (v : Option ℕ) (at id : ℕ) → is_period_later o v (Start id at) ≡ true
-start-period (Some k) (Some b) at id = refl
-start-period (Some k) None at id = refl
-start-period None (Some b) at id = refl
-start-period None None at id = refl
+pub start-period : (o : Option Stream) (v : Option ℕ) (steps : List Step) (i at id : ℕ) → is_period_later o v steps i (Start id at) ≡ true
+start-period (Some k) (Some b) steps i at id = refl
+start-period (Some k) None steps i at id = refl
+start-period None (Some b) steps i at id = refl
+start-period None None steps i at id = refl
 
-pub end-period : (o : Option Stream) (v : Option ℕ) (at id : ℕ) → is_period_later o v (End id at) ≡ true
-end-period (Some k) (Some b) at id = refl
-end-period (Some k) None at id = refl
-end-period None (Some b) at id = refl
-end-period None None at id = refl
+pub end-period : (o : Option Stream) (v : Option ℕ) (steps : List Step) (i at id : ℕ) → is_period_later o v steps i (End id at) ≡ true
+end-period (Some k) (Some b) steps i at id = refl
+end-period (Some k) None steps i at id = refl
+end-period None (Some b) steps i at id = refl
+end-period None None steps i at id = refl
 
-pub start-time : (o : Option Stream) (at id : ℕ) → is_queued_in_time o (Start id at) ≡ true
-start-time (Some k) at id = refl
-start-time None at id = refl
+pub start-time : (o : Option Stream) (steps : List Step) (i at id : ℕ) → is_queued_in_time o steps i (Start id at) ≡ true
+start-time (Some k) steps i at id = refl
+start-time None steps i at id = refl
 
-pub end-time : (o : Option Stream) (at id : ℕ) → is_queued_in_time o (End id at) ≡ true
-end-time (Some k) at id = refl
-end-time None at id = refl
+pub end-time : (o : Option Stream) (steps : List Step) (i at id : ℕ) → is_queued_in_time o steps i (End id at) ≡ true
+end-time (Some k) steps i at id = refl
+end-time None steps i at id = refl
 
 pub start-length : (o : Option Stream) (at id : ℕ) → is_of_length o (Start id at) ≡ true
 start-length (Some k) at id = refl

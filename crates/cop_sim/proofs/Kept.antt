@@ -1,20 +1,20 @@
 -- What a partial play keeps when it has one step more.
 use Rattle.std.proofs.Common.{◌≡◌, ℕ, ◌≤◌, ◌<◌, ◌⊎◌, inl, inr, List, [], ◌∷◌, ◌++◌, length, refl, sym, ◌∙◌, ap, subst, arith, suc, Bool, true, false, cond, nat_le}
-use Rattle.std.specs.Prelude.{Option, None, Some, All, Any}
+use Rattle.std.specs.Prelude.{Option, None, Some, All, Any, ◌==◌}
 use Rattle.std.specs.Option.{option_and_then}
 use Rattle.std.proofs.lemmas.Bool.{cases_lt}
 use Rattle.std.proofs.lemmas.List.Elements.{All-weaker}
 use Rattle.cop_bus.specs.declared.steps.Step.{Step}
 use Rattle.cop_bus.specs.declared.steps.Content.{Content}
 use Rattle.cop_bus.specs.declared.steps.Step.TheVariants.{Queue, Start}
-use Rattle.cop_bus.specs.Trace.{is_queue, count_to, step_at}
+use Rattle.cop_bus.specs.Trace.{is_queue, count_to, nth_that, step_at}
 use Rattle.cop_bus.specs.Judge.{waits_after}
-use Rattle.cop_bus.proofs.Work.{true-le}
-use Rattle.cop_bus.proofs.StepLemmas.{bool_cases, one-true, one-false}
+use Rattle.cop_bus.proofs.Work.{true-le, true-eq, eq-true}
+use Rattle.cop_bus.proofs.StepLemmas.{bool_cases, one-true, one-false, nth_that-some, queue_shape, is_queue-of}
 use Rattle.cop_sim.specs.declared.behaviours.Offer.{Offer}
-use Rattle.cop_sim.specs.Play.{Actor, queued_at, queue_step, by_end, next_answer, next_offer, QueuesItsOffers, Competes, SendsTheLowest, QueuesRise, StartsBefore, answer_before}
+use Rattle.cop_sim.specs.Play.{Actor, queued_at, queue_step, by_end, answer, next_answer, next_offer, QueuesItsOffers, Competes, SendsTheLowest, QueuesRise, StartsBefore, answer_before}
 use Rattle.cop_bus.proofs.Grows.{step_at-more, count_to-more, waits_after-more}
-use Rattle.cop_bus.proofs.Appended.{step_at-here, length-one, count_to-one, nth_that-one}
+use Rattle.cop_bus.proofs.Appended.{step_at-here, length-one, count_to-one}
 
 -- a step of the longer trace is one of the steps before, or the last
 pub at-cases : (steps : List Step) (x : Step) (i : ℕ) → i < length (steps ++ x ∷ []) →
@@ -44,6 +44,20 @@ next-is until steps i a o h = elim (option_cases (next_answer steps i a)) [
   | inr w ↦ (let b = by_end-is until w.0 o (sym (ap (option_and_then (by_end until)) w.1) ∙ h) in (w.1 ∙ ap Some b.0, b.1))
 ]
 
+-- an actor that answers is not synchronous
+pub answered-is : (a : Actor) (n : ℕ) (o : Offer) → answer a n ≡ Some o → (a.stream.every ≡ 0) × (a.offer n ≡ Some o)
+answered-is a n o h = go (a.stream.every == 0) refl h
+  where
+    go : (b : Bool) → (a.stream.every == 0) ≡ b → cond b (a.offer n) None ≡ Some o → (a.stream.every ≡ 0) × (a.offer n ≡ Some o)
+    go true e f = (true-eq a.stream.every 0 e, f)
+    go false e f = absurd (cc)
+
+pub answer-async : (a : Actor) (n : ℕ) → a.stream.every ≡ 0 → answer a n ≡ a.offer n
+answer-async a n e = ap (λ b. cond b (a.offer n) None) (eq-true a.stream.every 0 e)
+
+pub next-async : (until : ℕ) (steps : List Step) (i : ℕ) (a : Actor) (o : Offer) → next_offer until steps i a ≡ Some o → a.stream.every ≡ 0
+next-async until steps i a o h = (answered-is a (count_to (is_queue a.stream.id) steps i) o (next-is until steps i a o h).0).0
+
 -- a step that does not queue an instance of the actor leaves its next offer
 pub count-kept : (p : Step → Bool) (steps : List Step) (x : Step) → p x ≡ false → count_to p (steps ++ x ∷ []) (length (steps ++ x ∷ [])) ≡ count_to p steps (length steps)
 count-kept p steps x f = let c = count_to-one p steps x in let z = one-false (p x) f in omega (arith, c, z)
@@ -52,7 +66,7 @@ pub count-raised : (p : Step → Bool) (steps : List Step) (x : Step) → p x �
 count-raised p steps x f = let c = count_to-one p steps x in let z = one-true (p x) f in omega (arith, c, z)
 
 pub next-kept : (until : ℕ) (steps : List Step) (x : Step) (a : Actor) → is_queue a.stream.id x ≡ false → next_offer until (steps ++ x ∷ []) (length (steps ++ x ∷ [])) a ≡ next_offer until steps (length steps) a
-next-kept until steps x a f = ap (λ n. option_and_then (by_end until) (a.offer n)) (count-kept (is_queue a.stream.id) steps x f)
+next-kept until steps x a f = ap (λ n. option_and_then (by_end until) (answer a n)) (count-kept (is_queue a.stream.id) steps x f)
 
 pub before-kept : (steps : List Step) (x : Step) (a : Actor) → is_queue a.stream.id x ≡ false →
     answer_before a (count_to (is_queue a.stream.id) (steps ++ x ∷ []) (length (steps ++ x ∷ []))) ≡ answer_before a (count_to (is_queue a.stream.id) steps (length steps))
@@ -65,10 +79,22 @@ before-one steps x a f = ap (answer_before a) (count-raised (is_queue a.stream.i
 -- each queues its offers still, if what is queued is the next one
 pub offers-one : (until : ℕ) (steps : List Step) (x : Step) (a : Actor) → QueuesItsOffers steps a →
     (is_queue a.stream.id x ≡ true → (o : Offer) × (next_offer until steps (length steps) a ≡ Some o) × (x ≡ queue_step a.stream.id o)) → QueuesItsOffers (steps ++ x ∷ []) a
-offers-one until steps x a h new j y e = elim (nth_that-one (is_queue a.stream.id) steps x j y e) [
-  | inl f ↦ h j y f
-  | inr f ↦ (let w = new f.2 in let n = next-is until steps (length steps) a w.0 w.1 in (w.0, ap a.offer f.0 ∙ n.0, f.1 ∙ w.2))
+offers-one until steps x a h new i at event frame l e = elim (at-cases steps x i l) [
+  | inl k ↦ (let w = h i at event frame k.0 (sym k.1 ∙ e) in (w.0, ap (answer a) (count_to-more (is_queue a.stream.id) steps (x ∷ []) i (omega (arith, k.0))) ∙ w.1, k.1 ∙ w.2))
+  | inr k ↦ (let w = new (is_queue-of a.stream.id x at event frame (sym k.1 ∙ e)) in
+      let n = next-is until steps (length steps) a w.0 w.1 in
+      let c : count_to (is_queue a.stream.id) (steps ++ x ∷ []) i ≡ count_to (is_queue a.stream.id) steps (length steps) =
+      ap (count_to (is_queue a.stream.id) (steps ++ x ∷ [])) k.0 ∙ count_to-more (is_queue a.stream.id) steps (x ∷ []) (length steps) (omega arith) in
+      (w.0, ap (answer a) c ∙ n.0, k.1 ∙ w.2))
 ]
+
+-- so number j of its queue steps is that of its answer of this number
+pub offer-by_number : (steps : List Step) (a : Actor) → QueuesItsOffers steps a → (j : ℕ) (x : Step) → nth_that (is_queue a.stream.id) j steps ≡ Some x → (o : Offer) × (answer a j ≡ Some o) × (x ≡ queue_step a.stream.id o)
+offer-by_number steps a h j x e =
+    let n = nth_that-some (is_queue a.stream.id) j steps x e in
+    let q = queue_shape a.stream.id x n.3 in
+    let w = h n.0 q.0 q.1 q.2 n.1 (n.2 ∙ q.3) in
+    (w.0, ap (answer a) (sym n.4) ∙ w.1, sym n.2 ∙ w.2)
 
 pub rising-one : (steps : List Step) (x : Step) → QueuesRise steps →
     ((i at id id' event event' : ℕ) (frame frame' : Content) → i < length steps → step_at steps i ≡ Queue id at event frame → x ≡ Queue id' at event' frame' → id ≤ id') → QueuesRise (steps ++ x ∷ [])
@@ -90,7 +116,7 @@ starts-one until steps x h new i z id l e = elim (at-cases steps x i l) [
 -- who competes at a start does so with more steps behind, and the other way round
 module _ (tau until : ℕ) (steps more : List Step) (i z : ℕ) (l : i ≤ length steps) (a : Actor) where
   same-next : next_offer until (steps ++ more) i a ≡ next_offer until steps i a
-  same-next = ap (λ n. option_and_then (by_end until) (a.offer n)) (count_to-more (is_queue a.stream.id) steps more i l)
+  same-next = ap (λ n. option_and_then (by_end until) (answer a n)) (count_to-more (is_queue a.stream.id) steps more i l)
 
   same-waits : waits_after (steps ++ more) i a.stream.id ≡ waits_after steps i a.stream.id
   same-waits = waits_after-more steps more i a.stream.id l

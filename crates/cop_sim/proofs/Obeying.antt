@@ -1,15 +1,16 @@
 -- A seeded behaviour obeys.
-use Rattle.std.proofs.Common.{◌≡◌, ℕ, ◌+◌, ◌-◌, ◌%◌, ◌≤◌, ◌^◌, inl, inr, refl, sym, ◌∙◌, subst, arith, suc, zero, true, false, max, nat_le, ◌==◌, ◌&&◌, Option, Some, None}
+use Rattle.std.proofs.Common.{◌≡◌, ℕ, ◌+◌, ◌-◌, ◌%◌, ◌≤◌, ◌^◌, inl, inr, List, length, refl, sym, ◌∙◌, ap, subst, arith, suc, zero, true, false, max, nat_le, ◌==◌, ◌&&◌, Option, Some, None}
 use Rattle.std.proofs.lemmas.Bool.{cases_lt}
 use Rattle.rand_pcg.specs.Lcg.{Lcg}
 use Rattle.cop_rta.specs.declared.streams.Stream.{Stream}
 use Rattle.cop_bus.specs.declared.steps.Step.{Step}
 use Rattle.cop_bus.specs.Run.{least_bits, worst_bits}
-use Rattle.cop_bus.specs.Judge.{is_period_later, is_queued_in_time, is_of_length}
+use Rattle.cop_bus.specs.Judge.{is_of_length}
 use Rattle.cop_bus.proofs.Demand.{and-true}
 use Rattle.cop_bus.proofs.Work.{le-true, eq-true}
 use Rattle.cop_sim.specs.declared.behaviours.Offer.{Offer}
-use Rattle.cop_sim.specs.Play.{queued_at, queue_step, event_of, is_not_before, obeys, Disobeys}
+use Rattle.cop_sim.specs.Play.{queued_at, queue_step, is_later, is_in_time, is_not_before, obeys, Actor, answer, answer_before, Disobeys}
+use Rattle.cop_sim.proofs.Kept.{next-is, answered-is, answer-async}
 use Rattle.cop_sim.specs.Drawing.{word, rest, event_after, drawn, drawn_at, fitting, words_of, seeded_actor}
 use Rattle.cop_sim.proofs.DrawingLemmas.{fits, passes, rises-on}
 
@@ -47,11 +48,11 @@ module _ (k : Stream) (before : Option Offer) (g : Lcg) (h : IsWithin k before) 
   abbrev x : Step
   x = queue_step k.id o
 
-  later : (before : Option Offer) → is_period_later (Some k) (event_of before) (queue_step k.id (drawn k before g)) ≡ true
+  later : (before : Option Offer) → is_later k before (drawn k before g) ≡ true
   later None = refl
   later (Some b) = le-true (b.event + k.period) (event_after k (Some b) (word g)) (omega arith)
 
-  in_time : is_queued_in_time (Some k) x ≡ true
+  in_time : is_in_time k o ≡ true
   in_time =
       let w = within k before g h in
       and-true (nat_le o.event (queued_at o)) (nat_le (queued_at o) (o.event + k.jitter)) (le-true o.event (queued_at o) (omega arith)) (le-true (queued_at o) (o.event + k.jitter) (omega (arith, w)))
@@ -69,9 +70,9 @@ module _ (k : Stream) (before : Option Offer) (g : Lcg) (h : IsWithin k before) 
 
   obeying : obeys k before o ≡ true
   obeying =
-      and-true (is_period_later (Some k) (event_of before) x && is_queued_in_time (Some k) x && is_of_length (Some k) x) (is_not_before before o)
-      (and-true (is_period_later (Some k) (event_of before) x && is_queued_in_time (Some k) x) (is_of_length (Some k) x)
-      (and-true (is_period_later (Some k) (event_of before) x) (is_queued_in_time (Some k) x) (later before) in_time) of_length) (not_before before)
+      and-true (is_later k before o && is_in_time k o && is_of_length (Some k) x) (is_not_before before o)
+      (and-true (is_later k before o && is_in_time k o) (is_of_length (Some k) x)
+      (and-true (is_later k before o) (is_in_time k o) (later before) in_time) of_length) (not_before before)
 
 some : {X : Type 0} (x y : X) → Some x ≡ Some y → x ≡ y
 some x y e = cc
@@ -96,12 +97,16 @@ obeys-at k before g zero p h e =
     ]
 obeys-at k before g (suc n) p h e = obeys-at k (Some (drawn k before g)) (rest (rest (rest g))) n p (within k before g h) e
 
-pub never-disobeys : (seed : ℕ) (k : Stream) (until n : ℕ) → Disobeys until (seeded_actor seed k) n → ⊥
-never-disobeys seed k until zero d =
-    let e = fitted (drawn k None (words_of seed k)) d.offer d.answered in
-    let t = subst (λ (q : Offer). obeys k None q ≡ true) e (obeying k None (words_of seed k) tt) in
-    let c : true ≡ false = sym t ∙ d.breaks in absurd (cc)
-never-disobeys seed k until (suc n) d =
-    let f = obeys-at k None (words_of seed k) n d.offer tt d.answered in
-    let t = subst (λ (q : Option Offer). obeys k q d.offer ≡ true) (sym f.1) f.2 in
-    let c : true ≡ false = sym t ∙ d.breaks in absurd (cc)
+pub never-disobeys : (tau : ℕ) (actors : List Actor) (seed : ℕ) (k : Stream) (until n : ℕ) → Disobeys tau actors until (seeded_actor seed k) n → ⊥
+never-disobeys tau actors seed k until n d = go n (ap (answer (seeded_actor seed k)) (sym d.number) ∙ (next-is until d.steps (length d.steps) (seeded_actor seed k) d.offer d.is_next).0) d.breaks
+  where
+    go : (n : ℕ) → answer (seeded_actor seed k) n ≡ Some d.offer → obeys k (answer_before (seeded_actor seed k) n) d.offer ≡ false → ⊥
+    go zero a b =
+        let e = fitted (drawn k None (words_of seed k)) d.offer (answered-is (seeded_actor seed k) zero d.offer a).1 in
+        let t = subst (λ (q : Offer). obeys k None q ≡ true) e (obeying k None (words_of seed k) tt) in
+        let c : true ≡ false = sym t ∙ b in absurd (cc)
+    go (suc n) a b =
+        let h = answered-is (seeded_actor seed k) (suc n) d.offer a in
+        let f = obeys-at k None (words_of seed k) n d.offer tt h.1 in
+        let t = subst (λ (q : Option Offer). obeys k q d.offer ≡ true) (sym (answer-async (seeded_actor seed k) n h.0 ∙ f.1)) f.2 in
+        let c : true ≡ false = sym t ∙ b in absurd (cc)

@@ -192,7 +192,7 @@ begins tau actors until = record {
   started = λ k. omega arith;
   unfinished = λ r e. absurd (cc);
   known = λ r e. absurd (cc);
-  offers = λ a c j x e. absurd (cc);
+  offers = λ a c i at event frame l. absurd (omega arith);
   lasts = λ a c. refl;
   none_left_out = λ a c f o e. omega arith;
   next = λ a c o e w. record {
@@ -221,7 +221,7 @@ nothing-yet tau actors until = record {
     legal = record { known = search rules; in_order = search rules; one_at_a_time = search rules; asked_for = search rules; joined = search rules; by_priority = search rules; never_idle = λ x l. search rules };
     obeying = all-of (streams_of actors);
   };
-  offers = all (QueuesItsOffers []) (λ a j x e. absurd (cc)) actors;
+  offers = all (QueuesItsOffers []) (λ a i at event frame l. absurd (omega arith)) actors;
   none_left_out = all (λ a. is_queue a.stream.id (last_of []) ≡ false → ForSome (next_offer until [] 0 a) (λ o. 0 ≤ queued_at o)) (λ a f o e. omega arith) actors;
   rising = λ i j at id id' event event' frame frame' l m. absurd (omega arith);
   none_at_end = λ i z id l. absurd (omega arith);
@@ -231,5 +231,5 @@ nothing-yet tau actors until = record {
     all : (P : Actor → Type 0) → ((a : Actor) → P a) → (xs : List Actor) → All P xs
     all P h xs = All-weaker (Contains xs) P (λ a c. h a) xs (All-contains_itself xs)
 
-    all-of : (ks : List Stream) → All (IsObeying []) ks
-    all-of ks = All-weaker (Contains ks) (IsObeying []) (λ k c. record { in_time = search rules; in_order = search rules }) ks (All-contains_itself ks)
+    all-of : (ks : List Stream) → All (IsObeying tau (now_of []) []) ks
+    all-of ks = All-weaker (Contains ks) (IsObeying tau (now_of []) []) (λ k c. record { in_time = search rules; in_order = search rules }) ks (All-contains_itself ks)

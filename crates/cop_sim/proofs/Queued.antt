@@ -14,11 +14,11 @@ use Rattle.cop_bus.proofs.StepLemmas.{bool_cases}
 use Rattle.cop_bus.proofs.Verdict.{Keeps, keeps}
 use Rattle.cop_bus.proofs.Found.{or-left, or-right}
 use Rattle.cop_sim.specs.declared.behaviours.Offer.{Offer}
-use Rattle.cop_sim.specs.Play.{Actor, streams_of, queued_at, queue_step, next_offer, next_answer, IsSentAhead, obeys, answer_before, event_of, is_not_before}
+use Rattle.cop_sim.specs.Play.{Actor, streams_of, queued_at, queue_step, next_offer, next_answer, IsSentAhead, obeys, answer_before, event_of, is_later, is_in_time, is_not_before}
 use Rattle.cop_bus.proofs.Grows.{step_at-more, last_event-more}
 use Rattle.cop_bus.proofs.Appended.{step_at-here, length-one, one-more, now-one, last-one, count_to-one, last_event-here}
-use Rattle.cop_sim.proofs.Going.{FindsTheSame, finds-more, finds-between, fine-one, running-kept, running-one, keeps-none, order-more, idle-more, runs-idle}
-use Rattle.cop_sim.proofs.Kept.{at-cases, next-is, count-kept, next-kept, before-kept, before-one, offers-one, rising-one, starts-one, lowest-one}
+use Rattle.cop_sim.proofs.Going.{FindsTheSame, finds-more, finds-between, fine-one, running-kept, running-one, keeps-none, order-more, idle-more, runs-idle, period-of, time-of, period-anywhere, time-anywhere}
+use Rattle.cop_sim.proofs.Kept.{at-cases, next-is, next-async, count-kept, next-kept, before-kept, before-one, offers-one, rising-one, starts-one, lowest-one}
 use Rattle.cop_sim.specs.Going.{IsNext, queued_ahead, Goes}
 use Rattle.cop_sim.proofs.Goes.{order-end, not-before}
 
@@ -35,11 +35,11 @@ by-now tau streams until steps ahead fine (suc d) i e =
 
 -- the four tests of an offer that obeys
 pub obeys-is : (k : Stream) (before : Option Offer) (o : Offer) → obeys k before o ≡ true →
-    (is_period_later (Some k) (event_of before) (queue_step k.id o) ≡ true) × (is_queued_in_time (Some k) (queue_step k.id o) ≡ true) × (is_of_length (Some k) (queue_step k.id o) ≡ true) × (is_not_before before o ≡ true)
+    (is_later k before o ≡ true) × (is_in_time k o ≡ true) × (is_of_length (Some k) (queue_step k.id o) ≡ true) × (is_not_before before o ≡ true)
 obeys-is k before o h =
     let x = queue_step k.id o in
-    let a = is_period_later (Some k) (event_of before) x in
-    let b = is_queued_in_time (Some k) x in
+    let a = is_later k before o in
+    let b = is_in_time k o in
     let c = is_of_length (Some k) x in
     let d = is_not_before before o in
     let abc = and-left (a && b && c) d h in
@@ -57,6 +57,9 @@ module _ (tau : ℕ) (actors : List Actor) (until : ℕ) (there : (a : Actor) �
 
   its : IsNext until steps a o
   its = goes.next a c o is_next obeying
+
+  async : a.stream.every ≡ 0
+  async = next-async until steps (length steps) a o is_next
 
   -- the offer comes in turn before another that is not queued before it
   ordered : (b : Actor) (p : Offer) → queued_at o ≤ queued_at p → not_before x (queue_step b.stream.id p) ≡ true
@@ -184,9 +187,10 @@ module _ (tau : ℕ) (actors : List Actor) (until : ℕ) (there : (a : Actor) �
         record {
           order = order-more until steps (x ∷ ahead) x ∙ its.in_turn;
           known = ap is_some stream-is;
-          period = ap (λ s. is_period_later s (last_event a.stream.id (steps ++ x ∷ ahead) (length steps)) x) stream-is
-              ∙ ap (λ v. is_period_later (Some a.stream) v x) (last_event-more a.stream.id steps (x ∷ ahead) (length steps) (omega arith) ∙ goes.lasts a c) ∙ t.0;
-          in_time = ap (λ s. is_queued_in_time s x) stream-is ∙ t.1;
+          period = ap (λ s. is_period_later s (last_event a.stream.id (steps ++ x ∷ ahead) (length steps)) (steps ++ x ∷ ahead) (length steps) x) stream-is
+              ∙ ap (λ v. is_period_later (Some a.stream) v (steps ++ x ∷ ahead) (length steps) x) (last_event-more a.stream.id steps (x ∷ ahead) (length steps) (omega arith) ∙ goes.lasts a c)
+              ∙ period-of a.stream (answer_before a (count_to (is_queue a.stream.id) steps (length steps))) o (steps ++ x ∷ ahead) (length steps) async ∙ t.0;
+          in_time = ap (λ s. is_queued_in_time s (steps ++ x ∷ ahead) (length steps) x) stream-is ∙ time-of a.stream o (steps ++ x ∷ ahead) (length steps) async ∙ t.1;
           of_length = ap (λ s. is_of_length s x) stream-is ∙ t.2;
           transfer = ap (λ r. fits_transfer r x) runs-before ∙ fits (running tau (steps ++ ahead) (length steps)) refl;
           to_send = refl;
@@ -218,13 +222,15 @@ module _ (tau : ℕ) (actors : List Actor) (until : ℕ) (there : (a : Actor) �
           let n = length (steps ++ x ∷ []) in
           let s : steps ++ x ∷ [] ++ ahead ≡ steps ++ x ∷ ahead = one-more steps x ahead in
           let m = next-is until steps (length steps) b p next_p in
+          let b-async = next-async until steps (length steps) b p next_p in
           keeps-none tau (streams_of actors) until ((steps ++ x ∷ []) ++ ahead) n y (record {
             order = order-more until (steps ++ x ∷ []) ahead y ∙ in-turn b p (not-after b d p next_p) m.1;
             known = k.known;
-            period = ap (λ u. is_period_later (stream_of (streams_of actors) b.stream.id) u y)
+            period = ap (λ u. is_period_later (stream_of (streams_of actors) b.stream.id) u ((steps ++ x ∷ []) ++ ahead) n y)
                 (last_event-more b.stream.id (steps ++ x ∷ []) ahead n (omega arith) ∙ ap (last_event b.stream.id (steps ++ x ∷ [])) (length-one steps x) ∙ last_event-here b.stream.id steps x []
-                ∙ ap (λ w. cond w (Some o.event) (last_event b.stream.id steps (length steps))) not-it ∙ sym (last_event-more b.stream.id steps ahead (length steps) (omega arith))) ∙ k.period;
-            in_time = k.in_time;
+                ∙ ap (λ w. cond w (Some o.event) (last_event b.stream.id steps (length steps))) not-it ∙ sym (last_event-more b.stream.id steps ahead (length steps) (omega arith)))
+                ∙ period-anywhere (stream_of (streams_of actors) b.stream.id) b.stream (last_event b.stream.id (steps ++ ahead) (length steps)) p ((steps ++ x ∷ []) ++ ahead) n (steps ++ ahead) (length steps) (there b d) b-async ∙ k.period;
+            in_time = time-anywhere (stream_of (streams_of actors) b.stream.id) b.stream p ((steps ++ x ∷ []) ++ ahead) n (steps ++ ahead) (length steps) (there b d) b-async ∙ k.in_time;
             of_length = k.of_length;
             transfer = ap (λ u. fits_transfer u y) r ∙ k.transfer;
             to_send = refl;

@@ -20,7 +20,7 @@ use Rattle.cop_sim.specs.Play.{Actor, actors_of, streams_of, queued_at, queue_st
 use Rattle.cop_sim.specs.Going.{Goes, queued_ahead}
 use Rattle.cop_sim.specs.Seats.{next_at, answer_of, IsAsked, IsDueTo}
 use Rattle.cop_sim.specs.Stages.{AtHand, queues, starts, IsHeld, IsSeat, flipped, IsAwaited, IsAt, IsQueued}
-use Rattle.cop_sim.proofs.Kept.{count-kept, count-raised, next-is, before-one}
+use Rattle.cop_sim.proofs.Kept.{count-kept, count-raised, next-is, next-async, answer-async, before-one}
 use Rattle.cop_sim.proofs.Going.{FindsTheSame, running-one}
 use Rattle.cop_sim.proofs.Queued as Queued
 use Rattle.cop_sim.proofs.Places as Places
@@ -63,6 +63,9 @@ module _ {B : Type 0} (offer : B → ℕ → Option Offer) (agrees : B → ℕ �
 
   pub is-next : next_offer until steps (length steps) a ≡ Some d.offer
   is-next = sym (Places.next-is-offer offer agrees plan until firsts bs h steps at d.place a ea) ∙ first.here
+
+  async : a.stream.every ≡ 0
+  async = next-async until steps (length steps) a d.offer is-next
 
   pub by-until : queued_at d.offer ≤ until
   by-until = (next-is until steps (length steps) a d.offer is-next).1
@@ -141,7 +144,7 @@ module _ {B : Type 0} (offer : B → ℕ → Option Offer) (agrees : B → ℕ �
     next-here = ap (λ (xs : List (Option Offer)). next_at xs d.place) asked.3 ∙ get_or-set_same h.next d.place (answer_of offer until seat.0) None (let n = at.sized.next in omega (arith, low, n))
 
     pub answer-next : answer_of offer until seat.0 ≡ next_offer until (steps ++ x ∷ []) (length (steps ++ x ∷ [])) a
-    answer-next = ap (option_and_then (by_end until)) (seat.4.rest 0 ∙ ap a.offer (let e : suc (queues a.stream.id steps + 0) ≡ queues a.stream.id (steps ++ x ∷ []) = omega (arith, raised) in e))
+    answer-next = ap (option_and_then (by_end until)) (seat.4.rest async 0 ∙ ap a.offer (let e : suc (queues a.stream.id steps + 0) ≡ queues a.stream.id (steps ++ x ∷ []) = omega (arith, raised) in e) ∙ sym (answer-async a (queues a.stream.id (steps ++ x ∷ [])) async))
 
     module _ (ahead' : List Step) (goes' : Goes tau actors until (steps ++ x ∷ []) ahead') (runs' : running tau ((steps ++ x ∷ []) ++ ahead') (length (steps ++ x ∷ [])) ≡ running tau (steps ++ at.ahead) (length steps))
         (rp : RingValue) (here : slice_get h'.rings d.place ≡ Some rp) (others : (i : ℕ) → i ≢ d.place → slice_get h'.rings i ≡ slice_get h.rings i) (many : length h'.rings ≡ length plan.streams)
@@ -151,7 +154,7 @@ module _ {B : Type 0} (offer : B → ℕ → Option Offer) (agrees : B → ℕ �
         held = subst (λ (o : Option Offer). IsHeld until (steps ++ x ∷ []) a o rp) (sym next-here) held;
         most = most ∙ seat.4.most;
         count = ap (λ (xs : List ℕ). get_or xs d.place 0) counted ∙ get_or-set_same h.queued d.place (suc (get_or h.queued d.place 0)) 0 (let n = at.sized.queued in omega (arith, low, n)) ∙ ap suc seat.4.count ∙ sym raised;
-        rest = λ j. asked.2.rest j ∙ seat.4.rest (suc j) ∙ ap a.offer (let e : suc (queues a.stream.id steps + suc j) ≡ suc (queues a.stream.id (steps ++ x ∷ []) + j) = omega (arith, raised) in e);
+        rest = λ quiet j. asked.2.rest j ∙ seat.4.rest quiet (suc j) ∙ ap a.offer (let e : suc (queues a.stream.id steps + suc j) ≡ suc (queues a.stream.id (steps ++ x ∷ []) + j) = omega (arith, raised) in e);
         same = λ z u. asked.2.same z u ∙ seat.4.same z u;
         obeying = λ o e. (let b = before-one steps x a (eq-true a.stream.id a.stream.id refl) ∙ (next-is until steps (length steps) a d.offer is-next).0 in
             ap (λ v. obeys a.stream v o) b ∙ again o a.stream e (Places.stream-of offer agrees plan until firsts bs h steps at d.place a ea));

@@ -1,14 +1,16 @@
 -- A queue step of the simulator, and why there is none.
-use Rattle.std.proofs.Common.{◌≡◌, ◌≢◌, ℕ, ◌+◌, ◌-◌, ◌≤◌, ◌<◌, ◌^◌, ◌⊎◌, inl, inr, List, [], ◌∷◌, ◌++◌, length, get_or, slice_get, Option, Some, None, Bool, true, false, nat_le, refl, sym, ap, ◌∙◌, subst, arith, suc}
+use Rattle.std.proofs.Common.{◌≡◌, ◌≢◌, ℕ, ◌+◌, ◌-◌, ◌≤◌, ◌<◌, ◌^◌, ◌⊎◌, inl, inr, List, [], ◌∷◌, ◌++◌, length, get_or, slice_get, Option, Some, None, Bool, true, false, ◌||◌, nat_le, nat_lt, refl, sym, ap, ◌∙◌, subst, arith, suc}
 use Rattle.std.specs.Int.{div_ceil}
 use Rattle.std.specs.Option.{ForSome, option_and_then, option_map_or}
-use Rattle.std.proofs.lemmas.Bool.{cases_eq, cases_lt}
+use Rattle.std.proofs.lemmas.Bool.{cases_eq, cases_lt, lt-ltb, ltb-true, or_left, or_right}
 use Rattle.std.proofs.lemmas.List.{length-set, get_or-set_other}
 use Rattle.cop_frame.specs.Rate.{ticks_of}
 use Rattle.cop_rta.specs.declared.streams.Stream.{Stream}
+use Rattle.cop_rta.specs.declared.ranges.IdRange.{IdRange}
+use Rattle.cop_rta.specs.Ranges.{first_range, second_range, IsIn, IsOutside, IsPermitted}
 use Rattle.cop_bus.specs.declared.steps.Step.{Step}
 use Rattle.cop_bus.specs.Trace.{is_queue, is_start}
-use Rattle.cop_bus.specs.Rings.{RingValue, any_in, is_pdo, most_of}
+use Rattle.cop_bus.specs.Rings.{RingValue, any_in, is_within, is_pdo, most_of}
 use Rattle.cop_bus.proofs.Work.{eq-true, le-true, true-le}
 use Rattle.cop_bus.proofs.Demand.{and-left, and-right, and-true}
 use Rattle.cop_bus.proofs.StepLemmas.{bool_cases}
@@ -17,13 +19,13 @@ use Rattle.cop_plan.specs.Values.{PlanValue}
 use Rattle.cop_sim.specs.declared.behaviours.Offer.{Offer}
 use Rattle.cop_sim.specs.declared.due.Due.{Due}
 use Rattle.cop_sim.specs.declared.faults.SimFault.TheVariants.{Disobeys as DisobeysAt, Backlog}
-use Rattle.cop_sim.specs.Play.{Actor, actors_of, queued_at, queue_step, by_end, next_offer, obeys, IsSentAhead, IsPartialPlay, answer_before}
+use Rattle.cop_sim.specs.Play.{Actor, actors_of, queued_at, queue_step, by_end, next_offer, obeys, IsSentAhead, IsPartialPlay, answer, answer_before}
 use Rattle.cop_sim.specs.Seats.{next_at, answer_of, IsDueTo}
 use Rattle.cop_sim.specs.Sinks.{IsCause}
 use Rattle.cop_sim.specs.Stages.{AtHand, IsSeat, queues, starts, IsAwaited, IsAt, instance_of, with_last, IsFull, IsQueued}
 use Rattle.cop_sim.proofs.Bounded.{few-wait}
 use Rattle.cop_sim.proofs.Held.{held-joined, held-queued}
-use Rattle.cop_sim.proofs.Kept.{count-kept, next-is, by_end-is}
+use Rattle.cop_sim.proofs.Kept.{count-kept, count-raised, next-is, by_end-is, next-async, answer-async}
 use Rattle.cop_sim.proofs.Plays.{partial}
 use Rattle.cop_sim.proofs.Places as Places
 use Rattle.cop_bus.proofs.AtPlace.{set-here, set-other, some-one}
@@ -46,15 +48,26 @@ most-pdo k d e f = rw (e, f) refl
 most-fixed : (k : Stream) → is_pdo k ≡ false → most_of k ≡ 64
 most-fixed k e = rw e refl
 
-pdo-range : (k : Stream) → 385 ≤ k.id → k.id ≤ 1407 → is_pdo k ≡ true
-pdo-range k l m = and-true (nat_le 385 k.id) (nat_le k.id 1407) (le-true 385 k.id l) (le-true k.id 1407 m)
+within : (range : IdRange) (id : ℕ) → IsIn range id → is_within range id ≡ true
+within range id h = and-true (nat_le range.least id) (nat_lt id (range.least + range.count)) (le-true range.least id h.0) (lt-ltb id (range.least + range.count) h.1)
 
-pdo-outside : (k : Stream) → (k.id < 385) ⊎ (1407 < k.id) → is_pdo k ≡ false
-pdo-outside k h = elim (bool_cases (is_pdo k)) [
+not-within : (range : IdRange) (id : ℕ) → IsOutside range id → is_within range id ≡ false
+not-within range id h = elim (bool_cases (is_within range id)) [
   | inr f ↦ f
-  | inl t ↦ (let a = true-le 385 k.id (and-left (nat_le 385 k.id) (nat_le k.id 1407) t) in let b = true-le k.id 1407 (and-right (nat_le 385 k.id) (nat_le k.id 1407) t) in
+  | inl t ↦ (let a = true-le range.least id (and-left (nat_le range.least id) (nat_lt id (range.least + range.count)) t) in
+      let b = ltb-true id (range.least + range.count) (and-right (nat_le range.least id) (nat_lt id (range.least + range.count)) t) in
       elim h [ inl l ↦ absurd (omega (arith, l, a)) | inr l ↦ absurd (omega (arith, l, b)) ])
 ]
+
+pdo-range : (pdos : ℕ) (k : Stream) → IsPermitted pdos k.id → is_pdo k ≡ true
+pdo-range pdos k (inl first) = or_left (is_within first_range k.id) (is_within second_range k.id) (within first_range k.id first)
+pdo-range pdos k (inr second) = or_right (is_within first_range k.id) (is_within second_range k.id) (within second_range k.id second.1)
+
+or-none : (a b : Bool) → a ≡ false → b ≡ false → (a || b) ≡ false
+or-none a b e f = rw (e, f) refl
+
+pdo-outside : (k : Stream) → IsOutside first_range k.id → IsOutside second_range k.id → is_pdo k ≡ false
+pdo-outside k first second = or-none (is_within first_range k.id) (is_within second_range k.id) (not-within first_range k.id first) (not-within second_range k.id second)
 
 module _ {B : Type 0} (offer : B → ℕ → Option Offer) (agrees : B → ℕ → ℕ → Bool) (plan : PlanValue) (until : ℕ) (firsts bs : List B) (h : AtHand) (steps : List Step) (at : IsAt offer agrees plan until firsts bs h steps)
     (d : Due) (first : IsDueTo plan.streams h.next (length h.next) d) (before : ForSome h.running (λ r. queued_at d.offer < r.0)) (idle : h.running ≡ None → any_in h.rings ≡ true → queued_at d.offer ≤ h.now)
@@ -144,9 +157,27 @@ module _ {B : Type 0} (offer : B → ℕ → Option Offer) (agrees : B → ℕ �
   after-disobeys n failed o e f g =
       let v = answered until (offer seat.0 0) o f in
       let m : n ≡ suc (queues a.stream.id steps) = e ∙ ap suc seat.4.count in
-      let w : a.offer n ≡ Some o = ap a.offer (let z : n ≡ suc (queues a.stream.id steps + 0) = omega (arith, m) in z) ∙ sym (seat.4.rest 0) ∙ v.0 in
-      let b : answer_before a n ≡ Some d.offer = ap (answer_before a) m ∙ (next-is until steps (length steps) a d.offer (Queueing.is-next offer agrees plan until firsts bs h steps at d first before idle a ea)).0 in
-      ((a, ea, record { offer = o; answered = w; within = v.1; breaks = ap (λ p. obeys a.stream p o) b ∙ g }), partial-after)
+      let next = Queueing.is-next offer agrees plan until firsts bs h steps at d first before idle a ea in
+      let async = next-async until steps (length steps) a d.offer next in
+      let w : answer a n ≡ Some o = answer-async a n async ∙ ap a.offer (let z : n ≡ suc (queues a.stream.id steps + 0) = omega (arith, m) in z) ∙ sym (seat.4.rest async 0) ∙ v.0 in
+      let b : answer_before a n ≡ Some d.offer = ap (answer_before a) m ∙ (next-is until steps (length steps) a d.offer next).0 in
+      let raised = count-raised (is_queue a.stream.id) steps x (eq-true a.stream.id a.stream.id refl) in
+      let number : queues a.stream.id (steps ++ x ∷ []) ≡ n = omega (arith, raised, m) in
+      let kept : by_end until o ≡ Some o = sym (ap (option_and_then (by_end until)) v.0) ∙ f in (
+        (
+          a,
+          ea,
+          record {
+            steps = steps ++ x ∷ [];
+            partial = partial-after;
+            number = number;
+            offer = o;
+            is_next = ap (λ k. option_and_then (by_end until) (answer a k)) number ∙ ap (option_and_then (by_end until)) w ∙ kept;
+            breaks = ap (λ p. obeys a.stream p o) b ∙ g;
+          },
+        ),
+        partial-after,
+      )
 
   module _ (full : IsFull h.rings h.joined d.place) where
     abbrev after-steps : List Step
@@ -171,18 +202,18 @@ module _ {B : Type 0} (offer : B → ℕ → Option Offer) (agrees : B → ℕ �
     not-pdo = elim (cases_lt d.place (length plan.ids)) [
       | inr l ↦ l
       | inl l ↦ (let id : a.stream.id ≡ _ = ap (λ o. option_map_or (λ s. s.id) o 0) (sym stream-here) ∙ at.planned.its d.place l in
-          let least = at.planned.assigned.least d.place l in
-          let greatest = at.planned.assigned.greatest d.place l in
+          let permitted = subst (λ (n : ℕ). IsPermitted (length plan.ids) n) (sym id) (at.planned.assigned.permitted d.place l) in
           let dl = at.planned.on_time.deadlines d.place l in
           let e : a.stream.deadline ≡ Some dl.0 = subst (λ o. option_and_then (λ (s : Stream). s.deadline) o ≡ Some dl.0) stream-here dl.1 in
-          let m = most-pdo a.stream dl.0 (pdo-range a.stream (omega (arith, id, least)) (omega (arith, id, greatest))) e in
-          let w = few-wait plan at.planned.on_time actors (Places.streams-same offer agrees plan until firsts bs h steps at) until after-steps partial-after a.stream (d.place, l, stream-here) dl.0 e in
+          let m = most-pdo a.stream dl.0 (pdo-range (length plan.ids) a.stream permitted) e in
+          let w = few-wait plan at.planned.on_time at.planned.synced actors (Places.streams-same offer agrees plan until firsts bs h steps at) until after-steps partial-after a.stream (d.place, l, stream-here) dl.0 e in
           let t = too-many in let f = most-full in absurd (omega (arith, m, w, t, f)))
     ]
 
     is-fixed : most_of a.stream ≡ 64
     is-fixed = most-fixed a.stream (pdo-outside a.stream
-        (subst (λ o. (option_map_or (λ s. s.id) o 0 < 385) ⊎ (1407 < option_map_or (λ s. s.id) o 0)) stream-here (at.planned.outside d.place not-pdo low)))
+        (subst (λ o. IsOutside first_range (option_map_or (λ s. s.id) o 0)) stream-here (at.planned.outside_first d.place not-pdo low))
+        (subst (λ o. IsOutside second_range (option_map_or (λ s. s.id) o 0)) stream-here (at.planned.outside_second d.place not-pdo low)))
 
     pub after-full : (failed : Bool) → IsCause plan actors (length plan.streams) until failed (Backlog d.id)
     after-full failed = (

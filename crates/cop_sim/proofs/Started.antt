@@ -17,11 +17,11 @@ use Rattle.cop_bus.proofs.StepLemmas.{bool_cases, nth_before, nth_that-at, queue
 use Rattle.cop_bus.proofs.Verdict.{Keeps, keeps}
 use Rattle.cop_bus.proofs.Found.{or-left, or-right}
 use Rattle.cop_sim.specs.declared.behaviours.Offer.{Offer}
-use Rattle.cop_sim.specs.Play.{Actor, streams_of, queued_at, queue_step, next_offer, IsSentAhead, Competes, obeys, answer_before, event_of, is_not_before}
+use Rattle.cop_sim.specs.Play.{Actor, streams_of, queued_at, queue_step, next_offer, IsSentAhead, Competes, obeys, answer_before, event_of, is_later, is_in_time, is_not_before}
 use Rattle.cop_bus.proofs.Grows.{last_event-more, count_to-more, nth_that-more, any_waits-more, lower_waits-more}
 use Rattle.cop_bus.proofs.Appended.{step_at-here, length-one, one-more, now-one, count_to-one, last_event-here}
-use Rattle.cop_sim.proofs.Going.{FindsTheSame, finds-more, fine-one, running-kept, running-one, keeps-none, order-more, idle-more, start-period, start-time, start-length, runs-idle}
-use Rattle.cop_sim.proofs.Kept.{at-cases, next-is, count-kept, count-raised, next-kept, before-kept, offers-one, rising-one, starts-one, SendsLowestHere, lowest-one}
+use Rattle.cop_sim.proofs.Going.{FindsTheSame, finds-more, fine-one, running-kept, running-one, keeps-none, order-more, idle-more, start-period, start-time, start-length, runs-idle, period-of, time-of}
+use Rattle.cop_sim.proofs.Kept.{at-cases, next-is, next-async, count-kept, count-raised, next-kept, before-kept, offers-one, rising-one, starts-one, SendsLowestHere, lowest-one}
 use Rattle.cop_sim.specs.Going.{IsNext, queued_ahead, Goes}
 use Rattle.cop_sim.proofs.Queued.{by-now, obeys-is}
 
@@ -114,8 +114,8 @@ module _ (tau : ℕ) (pos : 1 ≤ tau) (actors : List Actor) (until : ℕ) (ther
     start-keeps = record {
       order = order-more until steps (x ∷ more) x ∙ in-order (length steps) refl;
       known = ap is_some (there a c);
-      period = start-period (stream_of (streams_of actors) id) (last_event id (steps ++ x ∷ more) (length steps)) z id;
-      in_time = start-time (stream_of (streams_of actors) id) z id;
+      period = start-period (stream_of (streams_of actors) id) (last_event id (steps ++ x ∷ more) (length steps)) (steps ++ x ∷ more) (length steps) z id;
+      in_time = start-time (stream_of (streams_of actors) id) (steps ++ x ∷ more) (length steps) z id;
       of_length = start-length (stream_of (streams_of actors) id) z id;
       transfer = ap (λ r. fits_transfer r x) runs-before;
       to_send = and-true (any_waits (steps ++ x ∷ more) (length steps) (streams_of actors)) (is_soon_queued tau z (nth_that (is_queue id) (count_to (is_start id) (steps ++ x ∷ more) (length steps)) (steps ++ x ∷ more)))
@@ -177,7 +177,7 @@ module _ (tau : ℕ) (pos : 1 ≤ tau) (actors : List Actor) (until : ℕ) (ther
     abbrev y : Step
     y = queue_step id o
 
-    test : (is_period_later (Some a.stream) (event_of (answer_before a (count_to (is_queue id) steps (length steps)))) y ≡ true) × (is_queued_in_time (Some a.stream) y ≡ true) × (is_of_length (Some a.stream) y ≡ true) × (is_not_before (answer_before a (count_to (is_queue id) steps (length steps))) o ≡ true)
+    test : (is_later a.stream (answer_before a (count_to (is_queue id) steps (length steps))) o ≡ true) × (is_in_time a.stream o ≡ true) × (is_of_length (Some a.stream) y ≡ true) × (is_not_before (answer_before a (count_to (is_queue id) steps (length steps))) o ≡ true)
     test = obeys-is a.stream (answer_before a (count_to (is_queue id) steps (length steps))) o obeying
 
     all-sent : count_to (is_start id) steps (length steps) ≡ count_to (is_queue id) steps (length steps)
@@ -203,6 +203,9 @@ module _ (tau : ℕ) (pos : 1 ≤ tau) (actors : List Actor) (until : ℕ) (ther
     pub long : 1 ≤ o.frame.bits
     long = has-bits a.stream (queued_at o) id o.event o.frame test.2
 
+    async : a.stream.every ≡ 0
+    async = next-async until steps (length steps) a o is_next
+
     behind : broken_by tau (streams_of actors) until ((steps ++ x ∷ []) ++ y ∷ []) (length (steps ++ x ∷ [])) y ≡ None
     behind =
         let n = length (steps ++ x ∷ []) in
@@ -213,9 +216,10 @@ module _ (tau : ℕ) (pos : 1 ≤ tau) (actors : List Actor) (until : ℕ) (ther
         keeps-none tau (streams_of actors) until ((steps ++ x ∷ []) ++ y ∷ []) n y (record {
           order = order-more until (steps ++ x ∷ []) (y ∷ []) y ∙ i.in_turn;
           known = ap is_some (there a c);
-          period = ap (λ s. is_period_later s (last_event id ((steps ++ x ∷ []) ++ y ∷ []) n) y) (there a c)
-              ∙ ap (λ v. is_period_later (Some a.stream) v y) (last_event-more id (steps ++ x ∷ []) (y ∷ []) n (omega arith) ∙ last-after a c ∙ ap event_of (before-kept steps x a refl)) ∙ test.0;
-          in_time = ap (λ s. is_queued_in_time s y) (there a c) ∙ test.1;
+          period = ap (λ s. is_period_later s (last_event id ((steps ++ x ∷ []) ++ y ∷ []) n) ((steps ++ x ∷ []) ++ y ∷ []) n y) (there a c)
+              ∙ ap (λ v. is_period_later (Some a.stream) v ((steps ++ x ∷ []) ++ y ∷ []) n y) (last_event-more id (steps ++ x ∷ []) (y ∷ []) n (omega arith) ∙ last-after a c ∙ ap event_of (before-kept steps x a refl))
+              ∙ period-of a.stream (answer_before a (count_to (is_queue id) steps (length steps))) o ((steps ++ x ∷ []) ++ y ∷ []) n async ∙ test.0;
+          in_time = ap (λ s. is_queued_in_time s ((steps ++ x ∷ []) ++ y ∷ []) n y) (there a c) ∙ time-of a.stream o ((steps ++ x ∷ []) ++ y ∷ []) n async ∙ test.1;
           of_length = ap (λ s. is_of_length s y) (there a c) ∙ test.2;
           transfer = ap (λ u. fits_transfer u y) r ∙ lt-true (queued_at o) (z + o.frame.bits * tau) (omega (arith, soon, b));
           to_send = refl;

@@ -23,9 +23,9 @@ use Rattle.cop_bus.proofs.WholeTrace.{clean-legal}
 use Rattle.cop_bus.proofs.Grows.{step_at-more, count_to-more, any_waits-more, no-more}
 use Rattle.cop_bus.proofs.Appended.{step_at-here, length-one, one-more}
 use Rattle.cop_sim.specs.declared.behaviours.Offer.{Offer}
-use Rattle.cop_sim.specs.Play.{Actor, streams_of, queued_at, queue_step, by_end, next_offer, IsPlay, QueuesItsOffers, Competes}
+use Rattle.cop_sim.specs.Play.{Actor, streams_of, queued_at, queue_step, by_end, answer, next_offer, IsPlay, QueuesItsOffers, Competes}
 use Rattle.cop_sim.proofs.Actors.{same-all}
-use Rattle.cop_sim.proofs.Kept.{next-is, competes-more, competes-less}
+use Rattle.cop_sim.proofs.Kept.{next-is, offer-by_number, competes-more, competes-less}
 
 -- an actor of the identifier that the set finds
 actor-of : (actors : List Actor) (id : ℕ) → is_some (stream_of (streams_of actors) id) ≡ true → (a : Actor) × Contains actors a × (a.stream.id ≡ id)
@@ -203,8 +203,8 @@ module _ (rate : Rate) (actors : List Actor) (distinct : AreDistinct (streams_of
     kept : (i : ℕ) (x : Step) → i < length steps → step_at steps i ≡ x → Keeps tau (streams_of actors) until steps i x
     kept i x l e = Accepts.kept-as tau (streams_of actors) until steps distinct clean i x l e
 
-    its-offers : (a : Actor) → Contains actors a → QueuesItsOffers steps a
-    its-offers a c = All-contains (QueuesItsOffers steps) actors a play.offers c
+    its-offers : (a : Actor) → Contains actors a → (j : ℕ) (x : Step) → nth_that (is_queue a.stream.id) j steps ≡ Some x → (o : Offer) × (answer a j ≡ Some o) × (x ≡ queue_step a.stream.id o)
+    its-offers a c = offer-by_number steps a (All-contains (QueuesItsOffers steps) actors a play.offers c)
 
     -- an offer that comes next is queued by one of the steps to come
     to-come : (i : ℕ) → i ≤ length steps → (a : Actor) → Contains actors a → (o : Offer) → next_offer until steps i a ≡ Some o →
@@ -221,7 +221,7 @@ module _ (rate : Rate) (actors : List Actor) (distinct : AreDistinct (streams_of
           | inr m ↦ (let k = count_to-le p steps i (length steps) l in
               let s : count_to p steps (length steps) ≡ n = omega (arith, m, k) in
               let none = All-contains (λ b. next_offer until steps (length steps) b ≡ None) actors a play.all_queued c in
-              let f : None ≡ Some o = sym none ∙ ap (λ k. option_and_then (by_end until) (a.offer k)) s ∙ e in absurd (cc))
+              let f : None ≡ Some o = sym none ∙ ap (λ k. option_and_then (by_end until) (answer a k)) s ∙ e in absurd (cc))
         ]
 
     -- so no step comes after it
@@ -249,7 +249,7 @@ module _ (rate : Rate) (actors : List Actor) (distinct : AreDistinct (streams_of
 
     -- the bits of what a start sends are those of its actor's offer
     sends : (i z id : ℕ) → i < length steps → step_at steps i ≡ Start id z → (a : Actor) → Contains actors a → a.stream.id ≡ id →
-        bits_of (nth_that (is_queue id) (count_to (is_start id) steps i) steps) ≡ bits_offered (a.offer (count_to (is_start id) steps i))
+        bits_of (nth_that (is_queue id) (count_to (is_start id) steps i) steps) ≡ bits_offered (answer a (count_to (is_start id) steps i))
     sends i z id l e a c h =
         let n = count_to (is_start id) steps i in
         let k = kept i (Start id z) l e in
@@ -279,7 +279,7 @@ module _ (rate : Rate) (actors : List Actor) (distinct : AreDistinct (streams_of
     waits-same = any_waits-more p (x ∷ rest) n (streams_of actors) (omega arith)
 
     offer-same : (a : Actor) → next_offer until all n a ≡ next_offer until p n a
-    offer-same a = ap (λ k. option_and_then (by_end until) (a.offer k)) (count_to-more (is_queue a.stream.id) p (x ∷ rest) n (omega arith))
+    offer-same a = ap (λ k. option_and_then (by_end until) (answer a k)) (count_to-more (is_queue a.stream.id) p (x ∷ rest) n (omega arith))
 
     idle-same : (m : ℕ) → m ≡ n → (r : Option (ℕ × ℕ)) (moment : ℕ) → is_not_idle (streams_of actors) all m r moment ≡ is_not_idle (streams_of actors) p m r moment
     idle-same zero e r moment = refl
@@ -358,7 +358,7 @@ module _ (rate : Rate) (actors : List Actor) (distinct : AreDistinct (streams_of
           let c = sends (p ++ x ∷ xs) f (length p) z id (inside p x xs f) (here p x xs f ∙ e) a.0 a.1 a.2 in
           let d = sends (p ++ x ∷ ys) g (length p) z id (inside p x ys g) (here p x ys g ∙ e) a.0 a.1 a.2 in
           let m = count_to-more (is_start id) p (x ∷ xs) (length p) (omega arith) ∙ sym (count_to-more (is_start id) p (x ∷ ys) (length p) (omega arith)) in
-          ap (λ b. Some (id, z + b * tau)) (c ∙ ap (λ k. bits_offered ((a.0).offer k)) m ∙ sym d)
+          ap (λ b. Some (id, z + b * tau)) (c ∙ ap (λ k. bits_offered (answer a.0 k)) m ∙ sym d)
 
   same-rest : (p xs ys : List Step) → Play (p ++ xs) → Play (p ++ ys) → running tau (p ++ xs) (length p) ≡ running tau (p ++ ys) (length p) → xs ≡ ys
   same-rest p [] [] f g r = refl

@@ -1,12 +1,12 @@
 -- The play of behaviours: the one trace that their answers fix.
-use Rattle.std.specs.Prelude.{◌≡◌, ℕ, ◌+◌, ◌-◌, ◌≤◌, ◌<◌, ◌⊎◌, List, [], ◌∷◌, ◌++◌, Option, None, Some, Bool, true, false, zero, suc, length, map, All, Any, nat_le, ◌&&◌, if◌then◌else◌}
+use Rattle.std.specs.Prelude.{◌≡◌, ℕ, ◌+◌, ◌-◌, ◌≤◌, ◌<◌, ◌⊎◌, List, [], ◌∷◌, ◌++◌, Option, None, Some, Bool, true, false, zero, suc, length, map, All, Any, nat_le, ◌&&◌, ◌==◌, if◌then◌else◌}
 use Rattle.std.specs.Option.{ForSome, option_and_then}
 use Rattle.cop_rta.specs.declared.streams.Stream.{Stream}
 use Rattle.cop_bus.specs.declared.steps.Step.{Step}
 use Rattle.cop_bus.specs.declared.steps.Step.TheVariants.{Queue, Start}
 use Rattle.cop_bus.specs.declared.steps.Content.{Content}
 use Rattle.cop_bus.specs.Trace.{is_queue, is_start, count_to, nth_that, step_at, last_of, now_of, IsLegalTrace}
-use Rattle.cop_bus.specs.Judge.{waits_after, is_period_later, is_queued_in_time, is_of_length}
+use Rattle.cop_bus.specs.Judge.{waits_after, is_of_length}
 use Rattle.cop_sim.specs.declared.behaviours.Offer.{Offer}
 
 -- A stream and what its behaviour means: its answers to `next`, by number, and to `joins`.
@@ -31,9 +31,13 @@ queued_at o = o.event + o.delay
 abbrev pub queue_step : ℕ → Offer → Step
 queue_step id o = Queue id (queued_at o) o.event o.frame
 
+-- the answer with a number, from 0. A synchronous stream is not asked: in a play it stays silent.
+abbrev pub answer : Actor → ℕ → Option Offer
+answer a n = if a.stream.every == 0 then a.offer n else None
+
 -- the answer after those that the first i steps queue
 abbrev pub next_answer : List Step → ℕ → Actor → Option Offer
-next_answer steps i a = a.offer (count_to (is_queue a.stream.id) steps i)
+next_answer steps i a = answer a (count_to (is_queue a.stream.id) steps i)
 
 -- an offer that is queued by the end
 abbrev pub by_end : ℕ → Offer → Option Offer
@@ -43,10 +47,10 @@ by_end until o = if nat_le (queued_at o) until then Some o else None
 abbrev pub next_offer : ℕ → List Step → ℕ → Actor → Option Offer
 next_offer until steps i a = option_and_then (by_end until) (next_answer steps i a)
 
--- each queue step of its stream is that of its offer of the same number
+-- each queue step of its stream is that of its next offer after the steps before
 abbrev pub QueuesItsOffers : List Step → Actor → Type 0
-QueuesItsOffers steps a = (j : ℕ) (x : Step) → nth_that (is_queue a.stream.id) j steps ≡ Some x →
-    (o : Offer) × (a.offer j ≡ Some o) × (x ≡ queue_step a.stream.id o)
+QueuesItsOffers steps a = (i at event : ℕ) (frame : Content) → i < length steps → step_at steps i ≡ Queue a.stream.id at event frame →
+    (o : Offer) × (next_answer steps i a ≡ Some o) × (step_at steps i ≡ queue_step a.stream.id o)
 
 -- it joins the arbitration of the start at z, which comes after the first i steps
 pub record Joins (tau until : ℕ) (steps : List Step) (i z : ℕ) (a : Actor) : Type 0 where
@@ -115,7 +119,7 @@ waiting_after id steps = count_to (is_queue id) steps (length steps) - count_to 
 -- the offer before answer number n
 abbrev pub answer_before : Actor → ℕ → Option Offer
 answer_before a zero = None
-answer_before a (suc n) = a.offer n
+answer_before a (suc n) = answer a n
 
 abbrev pub event_of : Option Offer → Option ℕ
 event_of None = None
@@ -125,18 +129,27 @@ abbrev pub is_not_before : Option Offer → Offer → Bool
 is_not_before None o = true
 is_not_before (Some b) o = nat_le (queued_at b) (queued_at o)
 
+-- an event is a period or more after the one before
+abbrev pub is_later : Stream → Option Offer → Offer → Bool
+is_later k None o = true
+is_later k (Some b) o = nat_le (b.event + k.period) o.event
+
+-- queued from the event to the jitter after it
+abbrev pub is_in_time : Stream → Offer → Bool
+is_in_time k o = nat_le o.event (queued_at o) && nat_le (queued_at o) (o.event + k.jitter)
+
 -- An offer of the stream after another keeps its bounds: a period later, queued in time and not before the other,
 -- of a length and of the number of bytes of its frames.
 abbrev pub obeys : Stream → Option Offer → Offer → Bool
-obeys k before o =
-    is_period_later (Some k) (event_of before) (queue_step k.id o) && is_queued_in_time (Some k) (queue_step k.id o)
-    && is_of_length (Some k) (queue_step k.id o) && is_not_before before o
+obeys k before o = is_later k before o && is_in_time k o && is_of_length (Some k) (queue_step k.id o) && is_not_before before o
 
--- Answer number n of the actor is an offer, not past the end, that does not.
-pub record Disobeys (until : ℕ) (a : Actor) (n : ℕ) : Type 0 where
+-- After a partial play that queues so many of the actor's offers its next answer is an offer, not past the end, that does not.
+pub record Disobeys (tau : ℕ) (actors : List Actor) (until : ℕ) (a : Actor) (n : ℕ) : Type 0 where
+  pub steps : List Step
+  pub partial : IsPartialPlay tau actors until steps
+  pub number : count_to (is_queue a.stream.id) steps (length steps) ≡ n
   pub offer : Offer
-  pub answered : a.offer n ≡ Some offer
-  pub within : queued_at offer ≤ until
+  pub is_next : next_offer until steps (length steps) a ≡ Some offer
   pub breaks : obeys a.stream (answer_before a n) offer ≡ false
 
 -- how many instances of a stream that is no PDO with a deadline may wait

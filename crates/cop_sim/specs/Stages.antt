@@ -1,5 +1,5 @@
 -- The simulator between two steps.
-use Rattle.std.specs.Prelude.{◌≡◌, ◌≢◌, ℕ, ◌+◌, ◌-◌, ◌*◌, ◌<◌, ◌≤◌, ◌^◌, ◌⊎◌, List, [], ◌∷◌, ◌++◌, Option, None, Some, Bool, true, false, suc, length, map, get_or, replicate, slice_get, slice_set, Result, Ok, Err}
+use Rattle.std.specs.Prelude.{◌≡◌, ◌≢◌, ℕ, ◌+◌, ◌-◌, ◌*◌, ◌<◌, ◌≤◌, ◌^◌, ◌⊎◌, List, [], ◌∷◌, ◌++◌, Option, None, Some, Bool, true, false, suc, length, map, get_or, replicate, slice_get, slice_set, Result, Ok, Err, ◌==◌, if◌then◌else◌}
 use Rattle.cop_frame.specs.Rate.{ticks_of}
 use Rattle.cop_rta.specs.declared.streams.Stream.{Stream}
 use Rattle.cop_rta.specs.Streams.{AreDistinct}
@@ -70,7 +70,7 @@ pub record IsSeat {B : Type 0} (offer : B → ℕ → Option Offer) (agrees : B 
   pub held : IsHeld until steps a next ring
   pub most : ring.most ≡ most_of a.stream
   pub count : queued ≡ queues a.stream.id steps
-  pub rest : (j : ℕ) → offer b j ≡ a.offer (suc (queues a.stream.id steps + j))
+  pub rest : a.stream.every ≡ 0 → (j : ℕ) → offer b j ≡ a.offer (suc (queues a.stream.id steps + j))
   pub same : (z u : ℕ) → agrees b z u ≡ a.agrees z u
   pub obeying : (o : Offer) → next ≡ Some o → obeys a.stream (answer_before a (queues a.stream.id steps)) o ≡ true
 
@@ -170,10 +170,11 @@ IsTurned offer agrees takes plan until firsts bs h failed s t steps (Err fault) 
 
 -- ---- the beginning
 
--- a behaviour that was asked for its first answer, which obeys
+-- a behaviour that was asked for its first answer, which obeys; that of a synchronous stream is not asked
 pub record IsFirst {B : Type 0} (offer : B → ℕ → Option Offer) (agrees : B → ℕ → ℕ → Bool) (until : ℕ) (k : Stream) (b c : B) (next : Option Offer) : Type 0 where
-  pub asked : IsAsked offer agrees b c
-  pub next_is : next ≡ answer_of offer until b
+  pub rest : k.every ≡ 0 → (j : ℕ) → offer c j ≡ offer b (suc j)
+  pub same : (z u : ℕ) → agrees c z u ≡ agrees b z u
+  pub next_is : next ≡ (if k.every == 0 then answer_of offer until b else None)
   pub obeying : (o : Offer) → next ≡ Some o → obeys k None o ≡ true
 
 -- the first n behaviours were asked
@@ -186,7 +187,7 @@ pub record AreFirst {B : Type 0} (offer : B → ℕ → Option Offer) (agrees : 
 -- why they are not: one of them does not obey
 abbrev pub FirstFault : {B : Type 0} → (B → ℕ → Option Offer) → ℕ → List Stream → List B → SimFault → Type 0
 FirstFault {B} offer until streams bs (DisobeysAt stream instance) =
-    (stream < length streams) × (instance ≡ 0) × ((k : Stream) (b : B) → slice_get streams stream ≡ Some k → slice_get bs stream ≡ Some b → (o : Offer) × (answer_of offer until b ≡ Some o) × (obeys k None o ≡ false))
+    (stream < length streams) × (instance ≡ 0) × ((k : Stream) (b : B) → slice_get streams stream ≡ Some k → slice_get bs stream ≡ Some b → (o : Offer) × (answer_of offer until b ≡ Some o) × (obeys k None o ≡ false) × (k.every ≡ 0))
 FirstFault offer until streams bs (Backlog id) = ⊥
 FirstFault offer until streams bs Sink = ⊥
 FirstFault offer until streams bs Count = ⊥

@@ -1,8 +1,8 @@
 //! Behaviours that draw their instances from a seed.
 
-ghost use Rattle.std.specs.Prelude.{◌≡◌, ℕ, ◌+◌, ◌*◌, ◌<◌, ◌≤◌, ◌^◌};
+ghost use Rattle.std.specs.Prelude.{◌≡◌, ℕ, List, ◌+◌, ◌*◌, ◌<◌, ◌≤◌, ◌^◌};
 ghost use Rattle.cop_rta.specs.declared.streams.Stream.{Stream};
-ghost use Rattle.cop_sim.specs.Play.{Disobeys};
+ghost use Rattle.cop_sim.specs.Play.{Actor, Disobeys};
 ghost use Rattle.cop_sim.specs.Drawing.{words_of, word, rest, event_after, raised, first_byte, body_of, bits_by, drawn, fitting, seeded_offer, seeded_joins, seeded_actor, offer_of, joins_of, fresh};
 
 use crate::behaviours::{Behaviour, Offer};
@@ -159,5 +159,5 @@ impl Behaviour for Seeded {
 
 /// A seeded behaviour obeys: a simulation of such ones is never given up for an answer of theirs.
 pub fn seeded_obeys()
-    ensures { (seed : ℕ) (k : Stream) (until n : ℕ) → Disobeys until (seeded_actor seed k) n → ⊥ }
+    ensures { (tau : ℕ) (actors : List Actor) (seed : ℕ) (k : Stream) (until n : ℕ) → Disobeys tau actors until (seeded_actor seed k) n → ⊥ }
 {}

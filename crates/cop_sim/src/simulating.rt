@@ -16,7 +16,7 @@ use cop_plan::Plan;
 use std::alloc::Global;
 
 /// Hands the steps of the play of the behaviours to a sink, one by one: one behaviour for each stream of the plan, in
-/// their order.
+/// their order. That of a synchronous stream is not asked: the stream stays silent.
 pub fn simulate_into<S: Sink>(
     alloc: Global,
     plan: &Plan,

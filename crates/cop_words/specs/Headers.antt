@@ -15,3 +15,7 @@ with_commas (field ∷ next ∷ fields) = field ++ (codes "," ++ with_commas (ne
 abbrev pub header_of : Table → List ℕ
 header_of Nodes = with_commas nodes.header
 header_of Pdos = with_commas pdos.header
+
+-- the header of the table of nodes with deadlines of SDO frames
+abbrev pub header_with_deadline : List ℕ
+header_with_deadline = with_commas nodes.header_with_deadline

@@ -19,7 +19,7 @@ const STREAMS_HEADER: &str = "id,bytes,period,jitter,deadline";
 
 const TRACE_HEADER: &str = "kind,moment,id,event,bits,data";
 
-static EXPLANATIONS: [Explanation; 49] = [
+static EXPLANATIONS: [Explanation; 50] = [
     Explanation {
         number: 1,
         rule: "the table of streams begins with another header, or with none",
@@ -178,14 +178,14 @@ static EXPLANATIONS: [Explanation; 49] = [
     },
     Explanation {
         number: 40,
-        rule: "the table begins with another header, or a record has another number of fields than six",
+        rule: "the table begins with another header, or a record has another number of fields than its header",
         cause: "the two tables in the wrong order on the command line, or a missing comma",
-        right: "row,node,name,eds,period,jitter of nodes; node,tpdo,period,jitter,deadline,consumers of PDOs",
+        right: "row,node,name,eds,period,jitter of nodes, with ,deadline behind it for SDO frames; node,tpdo,period,jitter,deadline,consumers of PDOs",
     },
     Explanation {
         number: 41,
         rule: "a field is not what its column wants",
-        cause: "a unit or a point in a number, a time in milliseconds, or a name with other characters",
+        cause: "a unit or a point in a number, a time in milliseconds, a name with other characters, or a deadline of a frame that is no SDO frame or is never sent",
         right: "device,5,Valve,unit.eds,0,0 of nodes; 5,1,10000,0,670,11.1 12.3 of PDOs",
     },
     Explanation {
@@ -214,15 +214,15 @@ static EXPLANATIONS: [Explanation; 49] = [
     },
     Explanation {
         number: 46,
-        rule: "the COB-ID of the PDO cannot be switched off and then given each identifier from 181h to 57Fh",
-        cause: "sub 1 of 1800h or 1400h and on is read-only, absent, or has limits",
+        rule: "the COB-ID of the PDO cannot be switched off and then given each identifier from 181h to 57Fh, and from 680h to 6DFh where an SDO frame has a deadline and there are at most 96 PDOs",
+        cause: "sub 1 of 1800h or 1400h and on is read-only, absent, or has limits; where only 680h to 6DFh are beyond them, the table of nodes can be left without deadlines",
         right: "AccessType=rw and DataType=0x0007 in [1800sub1]",
     },
     Explanation {
         number: 47,
-        rule: "the TPDO has no transmission type, or another than 254 and 255",
-        cause: "a synchronous PDO",
-        right: "DefaultValue=255 in [1800sub2]",
+        rule: "the TPDO has no transmission type, or another than 1 to 240, 254 and 255",
+        cause: "type 0, which waits for an event and then for SYNC, 252 or 253 for remote frames, or a reserved one from 241 on; or a type that is no integer",
+        right: "DefaultValue=255 in [1800sub2] for events, or 1 for each SYNC",
     },
     Explanation {
         number: 48,
@@ -253,6 +253,12 @@ static EXPLANATIONS: [Explanation; 49] = [
         rule: "no bit rate is supported by all devices",
         cause: "BaudRate_ keys of [DeviceInfo] that are 0 or missing in one EDS file",
         right: "BaudRate_250=1",
+    },
+    Explanation {
+        number: 53,
+        rule: "the rows of the TPDO and of SYNC do not go with the TPDO's transmission type",
+        cause: "a PDO that is sent by SYNC (type 1 to 240) with a period of its own, without a row of SYNC, or more seldom than each 60 s; or one that is sent by events (254 or 255) with period 0",
+        right: "sync,0,,,10000,0 of nodes and 5,1,0,100,1620, of PDOs for type 1; 5,1,10000,0,670, for type 255",
     },
     Explanation {
         number: 60,
@@ -333,7 +339,7 @@ fn find(explanations: &'static [Explanation], number: u8) -> Option<&'static Exp
 }
 
 /// The explanation of a rule by its number: of each that a refusal can have, 1 to 6, 10 to 18, 20 to 23, 30 to 36, 40 to
-/// 52 and 60 to 69.
+/// 53 and 60 to 69.
 pub fn explained(number: u8) -> Option<&'static Explanation>
     ensures { IfSome result (λ e. e.now.number ≡ number) }
 {

@@ -4,11 +4,12 @@
 mod columns;
 mod explanations;
 mod networks;
+mod paces;
 mod places;
 mod reports;
 mod words;
 
-pub use columns::{header, wanted};
+pub use columns::{header, header_with_deadline, wanted};
 pub use explanations::{Explanation, explained};
 pub use networks::{Network, network_words};
 pub use places::{Place, line_at, record_at};

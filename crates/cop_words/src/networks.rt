@@ -1,6 +1,7 @@
 //! What is said of a network that is refused.
 
-use crate::columns::{header, name_of, wanted};
+use crate::columns::{header, header_with_deadline, name_of, wanted};
+use crate::paces::{pace_words, sender};
 use crate::places::{line_at, record_at};
 use crate::words::{Source, push_place, push_rule, push_shown};
 use cop_dict::MappingFault;
@@ -23,12 +24,50 @@ fn read(alloc: Global, files: Network<'_>) -> Result<(), PlanFault> {
     Ok(())
 }
 
+/// Whether the first record of a table of nodes is the header with deadlines.
+fn has_deadlines(nodes: &[u8]) -> bool {
+    match record_at(nodes, 0) {
+        Some(place) => place
+            .text
+            .windows(8)
+            .any(|word| word == b"deadline".as_slice()),
+        None => false,
+    }
+}
+
+/// What is wanted as the first record of a table.
+fn header_words(alloc: Global, table: Table) -> Result<String, AllocError> {
+    let header = header(table);
+    match table {
+        Table::Nodes => {
+            let other = header_with_deadline();
+            format!(in alloc; "wanted as the first record: {header}, or with deadlines {other}\n")
+        }
+        Table::Pdos => format!(in alloc; "wanted as the first record: {header}\n"),
+    }
+}
+
+/// What is wanted as the fields of a record of a table of nodes, or of PDOs.
+fn field_words(alloc: Global, table: Table, nodes: &[u8]) -> Result<String, AllocError> {
+    if table == Table::Nodes && has_deadlines(nodes) {
+        let header = header_with_deadline();
+        return format!(in alloc; "wanted are seven fields: {header}\n");
+    }
+    let header = header(table);
+    format!(in alloc; "wanted are six fields: {header}\n")
+}
+
 /// What a rule of records wants.
-fn row_words(alloc: Global, table: Table, rule: cop_rows::Rule) -> Result<String, AllocError> {
-    let (header, seen) = (header(table), "an earlier record has the same");
+fn row_words(
+    alloc: Global,
+    table: Table,
+    nodes: &[u8],
+    rule: cop_rows::Rule,
+) -> Result<String, AllocError> {
+    let seen = "an earlier record has the same";
     match rule {
-        cop_rows::Rule::Header => format!(in alloc; "wanted as the first record: {header}\n"),
-        cop_rows::Rule::Fields => format!(in alloc; "wanted are six fields: {header}\n"),
+        cop_rows::Rule::Header => header_words(alloc, table),
+        cop_rows::Rule::Fields => field_words(alloc, table, nodes),
         cop_rows::Rule::Value(column) => {
             let (name, wanted) = (name_of(column), wanted(table, column));
             format!(in alloc; "wanted in column {name}: {wanted}\n")
@@ -51,15 +90,26 @@ fn mapping_number(fault: MappingFault) -> u8 {
 }
 
 /// Adds what a rule of networks says beyond its number.
-fn push_more(words: &mut Vec<u8>, alloc: Global, refusal: &Refusal) -> Result<(), AllocError> {
+fn push_more(
+    words: &mut Vec<u8>,
+    alloc: Global,
+    files: Network<'_>,
+    refusal: &Refusal,
+) -> Result<(), AllocError> {
     match refusal.rule {
         Rule::Record(rule) => {
-            words.extend_from_slice(row_words(alloc, refusal.table, rule)?.as_bytes())?;
+            let said = row_words(alloc, refusal.table, files.nodes.text, rule)?;
+            words.extend_from_slice(said.as_bytes())?;
             Ok(())
         }
         Rule::Eds(Some(broken)) => push_rule(words, alloc, broken.rule.number()),
         Rule::Transmit(Some(fault)) => push_rule(words, alloc, mapping_number(fault)),
         Rule::Receive(Some(fault)) => push_rule(words, alloc, mapping_number(fault)),
+        Rule::Synchrony(fault) => {
+            let said = pace_words(alloc, files.nodes, files.pdos, refusal.place, fault)?;
+            words.extend_from_slice(said.as_bytes())?;
+            Ok(())
+        }
         _ => Ok(()),
     }
 }
@@ -107,13 +157,6 @@ fn push_device(words: &mut Vec<u8>, alloc: Global, device: &DeviceRow) -> Result
     Ok(())
 }
 
-/// The node of the PDO of a record.
-fn sender(alloc: Global, pdos: &[u8], record: u64) -> Option<u8> {
-    let table = read_pdos(alloc, pdos).ok()?;
-    let place = usize::try_from(record.checked_sub(1)?).ok()?;
-    Some(table.rows().get(place)?.node)
-}
-
 /// Adds what is known of the device that a refusal is about: its own record's, or that of the PDO's sender.
 fn push_devices(
     words: &mut Vec<u8>,
@@ -126,7 +169,7 @@ fn push_devices(
     };
     let sender = match refusal.table {
         Table::Nodes => None,
-        Table::Pdos => sender(alloc, files.pdos.text, refusal.place),
+        Table::Pdos => sender(alloc, files.pdos.text, refusal.place).map(|pdo| pdo.node),
     };
     for device in nodes.devices() {
         let own = refusal.table == Table::Nodes && device.place == refusal.place;
@@ -163,7 +206,7 @@ fn refusal_words(
         None => push_file(&mut words, alloc, table.name)?,
     }
     push_devices(&mut words, alloc, files, refusal)?;
-    push_more(&mut words, alloc, refusal)?;
+    push_more(&mut words, alloc, files, refusal)?;
     push_rule(&mut words, alloc, refusal.rule.number())?;
     Ok(words)
 }

@@ -76,6 +76,16 @@ fn pdos_are_read(rt: HostRuntime) -> Result<(), Fail> {
     Ok(())
 }
 
+#[test]
+fn a_pdo_without_a_period(rt: HostRuntime) -> Result<(), Fail> {
+    let table = pdos_of(rt.alloc(), "5,1,0,100,1620,\n")?;
+    match table.rows() {
+        [row] => assert!(rt; is_row(row, &(5, 1, 0, 100, 1_620, &[]))),
+        _ => assert!(rt; false),
+    }
+    Ok(())
+}
+
 const AT_THE_ENDS: &[u8] =
     b"\xEF\xBB\xBFnode,tpdo,\"period\",jitter,deadline,consumers\r\n127,512,60000000,60000000,60000000,1.1 127.512 1.1\r\n001,1,100,0,1,\"2.3\"";
 
@@ -112,6 +122,8 @@ const BROKEN_PDOS: &[(&str, u8, u64)] = &[
     ("5,0,10000,0,670,\n", 41, 1),
     ("5,513,10000,0,670,\n", 41, 1),
     ("5,1,99,0,670,\n", 41, 1),
+    ("5,1,1,0,670,\n", 41, 1),
+    ("5,1,,0,670,\n", 41, 1),
     ("5,1,60000001,0,670,\n", 41, 1),
     ("5,1,10000,60000001,670,\n", 41, 1),
     ("5,1,10000,0,,\n", 41, 1),
@@ -225,6 +237,7 @@ fn frame(place: u64, kind: FrameKind, node: u8, period: u32, jitter: u32) -> Fra
         node,
         period,
         jitter,
+        deadline: None,
     }
 }
 
@@ -323,6 +336,54 @@ fn nodes_that_break_a_rule(rt: HostRuntime) -> Result<(), Fail> {
         let refused = refused_nodes(rt.alloc(), text.as_bytes())?;
         assert!(rt; refused == Some((number, place)), "{rows}");
     }
+    Ok(())
+}
+
+const WITH_DEADLINES: &str = "row,node,name,eds,period,jitter,deadline\n";
+
+const DEADLINES: &str =
+    "device,5,Valve,unit.eds,0,0,\nsdo_request,5,,,100000,0,1\nsdo_response,5,,,100000,0,60000000\nheartbeat,5,,,100000,0,\n";
+
+#[test]
+fn sdo_frames_with_deadlines(rt: HostRuntime) -> Result<(), Fail> {
+    let text = table(rt.alloc(), WITH_DEADLINES, DEADLINES)?;
+    let nodes = read_nodes(rt.alloc(), text.as_bytes())?;
+    match nodes.frames() {
+        [request, response, heartbeat] => {
+            assert!(rt; request.kind == FrameKind::SdoRequest && request.deadline == Some(1));
+            assert!(rt; response.deadline == Some(60_000_000) && response.place == 3);
+            assert!(rt; heartbeat.deadline.is_none());
+        }
+        _ => assert!(rt; false),
+    }
+    Ok(())
+}
+
+/// Rows under the header with deadlines, the number of their refusal and its record.
+const BROKEN_DEADLINES: &[(&str, u8, u64)] = &[
+    ("device,5,Valve,unit.eds,0,0,1\n", 41, 1),
+    ("emcy,5,,,100000,0,1080\n", 41, 1),
+    ("heartbeat,5,,,100000,0,1080\n", 41, 1),
+    ("sync,0,,,100000,0,1080\n", 41, 1),
+    ("sdo_request,5,,,0,0,1080\n", 41, 1),
+    ("sdo_request,5,,,100000,0,0\n", 41, 1),
+    ("sdo_response,5,,,100000,0,60000001\n", 41, 1),
+    ("sdo_response,5,,,100000,0,1 ms\n", 41, 1),
+    ("device,5,Valve,unit.eds,0,0\n", 40, 1),
+    ("device,5,Valve,unit.eds,0,0,,\n", 40, 1),
+    ("", 42, 0),
+];
+
+#[test]
+fn deadlines_that_break_a_rule(rt: HostRuntime) -> Result<(), Fail> {
+    for case in BROKEN_DEADLINES {
+        let (rows, number, place) = *case;
+        let text = table(rt.alloc(), WITH_DEADLINES, rows)?;
+        let refused = refused_nodes(rt.alloc(), text.as_bytes())?;
+        assert!(rt; refused == Some((number, place)), "{rows}");
+    }
+    let wide = table(rt.alloc(), NODES, "device,5,Valve,unit.eds,0,0,\n")?;
+    assert!(rt; refused_nodes(rt.alloc(), wide.as_bytes())? == Some((40, 1)));
     Ok(())
 }
 

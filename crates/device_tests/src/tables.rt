@@ -1,4 +1,4 @@
-use cop_table::{Record, Records, TableError, id, number, under_header};
+use cop_table::{Record, Records, TableError, id, number, under_header, under_one_of};
 use std::alloc::{AllocError, Global};
 
 const HEADER: &[&[u8]] = &[b"id", b"bytes"];
@@ -72,6 +72,30 @@ fn records_are_lines_cut_at_commas(rt: HostRuntime) -> Result<(), AllocError> {
         let (text, wanted) = *case;
         assert!(rt; are_records(rt.alloc(), text, wanted)?);
     }
+    Ok(())
+}
+
+const HEADERS: [&[&[u8]]; 2] = [HEADER, &[b"id", b"bytes", b"period"]];
+
+/// Which of two headers a text begins with, and how many fields the record under it has.
+fn header_of(alloc: Global, text: &[u8]) -> Result<Option<(usize, usize)>, AllocError> {
+    let mut row = Record::new(alloc);
+    match under_one_of(alloc, text, &HEADERS, &mut row) {
+        Ok((header, mut records)) => {
+            records.read(&mut row)?;
+            Ok(Some((header, row.len())))
+        }
+        Err(TableError::Header) => Ok(None),
+        Err(TableError::Memory) => Err(AllocError),
+    }
+}
+
+#[test]
+fn one_of_two_headers(rt: HostRuntime) -> Result<(), AllocError> {
+    assert!(rt; header_of(rt.alloc(), b"id,bytes\n1,2\n")? == Some((0, 2)));
+    assert!(rt; header_of(rt.alloc(), b"id,bytes,period\n1,2,3\n")? == Some((1, 3)));
+    assert!(rt; header_of(rt.alloc(), b"id\n1\n")?.is_none());
+    assert!(rt; header_of(rt.alloc(), b"")?.is_none());
     Ok(())
 }
 

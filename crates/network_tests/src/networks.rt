@@ -190,6 +190,24 @@ fn the_streams_of_the_valve(rt: HostRuntime) -> Result<(), Fail> {
     Ok(())
 }
 
+#[test]
+fn an_sdo_frame_with_a_deadline(rt: HostRuntime) -> Result<(), Fail> {
+    let rows = "device,5,Valve,unit.eds,0,0,\nsdo_response,5,,,100000,0,1080\nemcy,5,,,100000,0,\n";
+    let text = format!(in rt.alloc(); "row,node,name,eds,period,jitter,deadline\n{rows}")?;
+    let nodes = read_nodes(rt.alloc(), text.as_bytes())?;
+    let pdos = pdos_of(rt.alloc(), "5,1,10000,0,670,\n")?;
+    let files = [file(rt.alloc(), "unit.eds", text_of(rt.alloc(), USUAL)?)?];
+    let valve = network(rt.alloc(), &nodes, &pdos, &files)?;
+    match valve.set().streams() {
+        [_, emergency, response] => {
+            assert!(rt; emergency.id == 0x085 && emergency.deadline.is_none());
+            assert!(rt; response.id == 0x585 && response.deadline == Some(4_320));
+        }
+        _ => assert!(rt; false),
+    }
+    Ok(())
+}
+
 /// Whether the file of a name is accepted, where there is one.
 fn is_accepted(files: &EdsFiles<'_>, name: &str) -> Option<bool> {
     match files.read(name.as_bytes()) {
@@ -315,16 +333,7 @@ const REFUSED: &[(&str, &str, Parts<'static>, Option<Refused>)] = &[
         },
         None,
     ),
-    // The transmission type is synchronous, or no number.
-    (
-        TWO,
-        "5,1,10000,0,670,\n",
-        Parts {
-            transmission: "DataType=0x0005\nAccessType=rw\nDefaultValue=1\n",
-            ..USUAL
-        },
-        Some((47, Table::Pdos, 1)),
-    ),
+    // The transmission type is no number.
     (
         TWO,
         "5,1,10000,0,670,\n",
@@ -404,6 +413,158 @@ const REFUSED: &[(&str, &str, Parts<'static>, Option<Refused>)] = &[
         Some((48, Table::Pdos, 1)),
     ),
 ];
+
+/// A transmission type, its value, a row of SYNC, a row of the PDO, and the number of the refusal.
+const TYPES: &[(&str, &str, &str, &str, Option<u8>)] = &[
+    ("0x0005", "255", "", "5,1,10000,0,670,", None),
+    ("0x0005", "254", "", "5,1,10000,0,670,", None),
+    ("0x0005", "1", "sync,0,,,10000,0", "5,1,0,100,1620,", None),
+    ("0x0002", "1", "sync,0,,,10000,0", "5,1,0,100,1620,", None),
+    // others are no types that are planned
+    (
+        "0x0005",
+        "0",
+        "sync,0,,,10000,0",
+        "5,1,0,100,1620,",
+        Some(47),
+    ),
+    (
+        "0x0005",
+        "241",
+        "sync,0,,,10000,0",
+        "5,1,0,100,1620,",
+        Some(47),
+    ),
+    (
+        "0x0005",
+        "253",
+        "sync,0,,,10000,0",
+        "5,1,0,100,1620,",
+        Some(47),
+    ),
+    (
+        "0x0001",
+        "1",
+        "sync,0,,,10000,0",
+        "5,1,0,100,1620,",
+        Some(47),
+    ),
+    ("0x0002", "-1", "", "5,1,10000,0,670,", Some(47)),
+    // a period where none is wanted, and none where one is
+    (
+        "0x0005",
+        "1",
+        "sync,0,,,10000,0",
+        "5,1,10000,0,670,",
+        Some(53),
+    ),
+    (
+        "0x0005",
+        "255",
+        "sync,0,,,10000,0",
+        "5,1,0,100,1620,",
+        Some(53),
+    ),
+    // no SYNC that is sent
+    ("0x0005", "1", "", "5,1,0,100,1620,", Some(53)),
+    ("0x0005", "1", "sync,0,,,0,0", "5,1,0,100,1620,", Some(53)),
+    // too rare, also where the product passes 32 bits
+    (
+        "0x0005",
+        "240",
+        "sync,0,,,250000,0",
+        "5,1,0,100,1620,",
+        None,
+    ),
+    (
+        "0x0005",
+        "240",
+        "sync,0,,,250001,0",
+        "5,1,0,100,1620,",
+        Some(53),
+    ),
+    (
+        "0x0005",
+        "215",
+        "sync,0,,,20000000,0",
+        "5,1,0,100,1620,",
+        Some(53),
+    ),
+    // both jitters
+    (
+        "0x0005",
+        "1",
+        "sync,0,,,10000,20000000",
+        "5,1,0,20000000,1620,",
+        None,
+    ),
+    (
+        "0x0005",
+        "1",
+        "sync,0,,,10000,20000000",
+        "5,1,0,20000001,1620,",
+        Some(53),
+    ),
+    // and then its consumers
+    ("0x0005", "1", "", "5,1,0,100,1620,7.1", Some(53)),
+    (
+        "0x0005",
+        "1",
+        "sync,0,,,10000,0",
+        "5,1,0,100,1620,7.1",
+        Some(48),
+    ),
+];
+
+/// A network of the valve alone, with a row of SYNC and a transmission type.
+fn number_of(alloc: Global, case: (&str, &str, &str, &str)) -> Result<Option<u8>, Fail> {
+    let (data_type, value, sync, pdo) = case;
+    let transmission = format!(in alloc;
+        "DataType={data_type}\nAccessType=rw\nDefaultValue={value}\n"
+    )?;
+    let parts = Parts {
+        transmission: &transmission,
+        ..USUAL
+    };
+    let nodes = format!(in alloc; "device,5,Valve,unit.eds,0,0\n{sync}\n")?;
+    let files = [file(alloc, "unit.eds", text_of(alloc, parts)?)?];
+    let refused = refused_of(alloc, &nodes, pdo, &files)?;
+    Ok(refused.map(|refused| refused.0))
+}
+
+#[test]
+fn transmission_types(rt: HostRuntime) -> Result<(), Fail> {
+    for case in TYPES {
+        let (data_type, value, sync, pdo, number) = *case;
+        let found = number_of(rt.alloc(), (data_type, value, sync, pdo))?;
+        assert!(rt; found == number, "{data_type} {value} {sync} {pdo}");
+    }
+    Ok(())
+}
+
+#[test]
+fn the_stream_of_a_pdo_that_is_sent_by_sync(rt: HostRuntime) -> Result<(), Fail> {
+    let parts = Parts {
+        transmission: "DataType=0x0005\nAccessType=rw\nDefaultValue=3\n",
+        ..USUAL
+    };
+    let nodes = nodes_of(
+        rt.alloc(),
+        "device,5,Valve,unit.eds,0,0\nsync,0,,,10000,0\n",
+    )?;
+    let pdos = pdos_of(rt.alloc(), "5,1,0,100,1620,\n")?;
+    let files = [file(rt.alloc(), "unit.eds", text_of(rt.alloc(), parts)?)?];
+    let valve = network(rt.alloc(), &nodes, &pdos, &files)?;
+    match valve.set().streams() {
+        [pdo, sync] => {
+            assert!(rt; pdo.every == 3 && pdo.period == 120_000 && pdo.jitter == 400);
+            assert!(rt; pdo.id == 0x181 && pdo.deadline == Some(6_480));
+            assert!(rt; sync.id == 0x080 && sync.every == 0 && sync.period == 40_000);
+        }
+        _ => assert!(rt; false),
+    }
+    Ok(())
+}
 
 #[test]
 fn refused_networks(rt: HostRuntime) -> Result<(), Fail> {

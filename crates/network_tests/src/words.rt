@@ -206,6 +206,20 @@ const NODE_MISTAKES: &[(&str, &str, &str)] = &[
     ),
 ];
 
+/// Mistakes under the header with deadlines.
+const DEADLINE_MISTAKES: &[(&str, &str)] = &[
+    (
+        "device,5,Valve,unit.eds,0,0,7",
+        "in column deadline: 1 to 60000000 microseconds of an sdo_request",
+    ),
+    ("emcy,5,,,100000,0,7", "in column deadline: "),
+    ("sdo_request,5,,,0,0,7", "in column deadline: "),
+    (
+        "device,5,Valve,unit.eds,0,0",
+        "wanted are seven fields: row,node,name,eds,period,jitter,deadline",
+    ),
+];
+
 /// The same of the table of PDOs.
 const PDO_MISTAKES: &[(&str, &str, &str)] = &[
     (
@@ -348,9 +362,15 @@ const EDS_MISTAKES: &[(&str, &str, &str, &str)] = &[
     ),
     (
         "DefaultValue=255",
-        "DefaultValue=1",
+        "DefaultValue=0",
         "pdos.csv, line 2: ",
         "rule 47: ",
+    ),
+    (
+        "DefaultValue=255",
+        "DefaultValue=1",
+        "pdos.csv, line 2: ",
+        "rule 53: ",
     ),
     (
         "PDOMapping=1",
@@ -377,6 +397,22 @@ fn mistakes_in_the_table_of_nodes(rt: HostRuntime) -> Result<(), Fail> {
 }
 
 #[test]
+fn mistakes_with_deadlines(rt: HostRuntime) -> Result<(), Fail> {
+    for case in DEADLINE_MISTAKES {
+        let (record, part) = *case;
+        let nodes = format!(in rt.alloc(); "row,node,name,eds,period,jitter,deadline\n{record}\n")?;
+        let said = words(rt.alloc(), &nodes, PDOS, UNIT)?;
+        assert!(rt; says(&said, "nodes.csv, line 2: ", part), "{said}");
+    }
+    let said = words(rt.alloc(), "row,node\n", PDOS, UNIT)?;
+    assert!(rt;
+        says(&said, "nodes.csv, line 1: ", "or with deadlines row,node"),
+        "{said}"
+    );
+    Ok(())
+}
+
+#[test]
 fn mistakes_in_the_table_of_pdos(rt: HostRuntime) -> Result<(), Fail> {
     for case in PDO_MISTAKES {
         let (record, begin, part) = *case;
@@ -385,6 +421,57 @@ fn mistakes_in_the_table_of_pdos(rt: HostRuntime) -> Result<(), Fail> {
         )?;
         let said = words(rt.alloc(), NODES, &pdos, UNIT)?;
         assert!(rt; says(&said, begin, part), "{said}");
+    }
+    Ok(())
+}
+
+/// A transmission type, a row of SYNC and one of the PDO that do not go together, and what is said.
+const PACES: &[(&str, &str, &str, &str)] = &[
+    (
+        "255",
+        "sync,0,,,10000,0",
+        "5,1,0,100,1620,",
+        "it is sent by events, and wanted is its period",
+    ),
+    (
+        "1",
+        "sync,0,,,10000,0",
+        "5,1,10000,0,670,",
+        "wanted are period 0 and its latency after SYNC",
+    ),
+    (
+        "1",
+        "sync,0,,,0,0",
+        "5,1,0,100,1620,",
+        "wanted is a row of SYNC with a period in nodes.csv",
+    ),
+    (
+        "240",
+        "sync,0,,,250001,0",
+        "5,1,0,100,1620,",
+        "240 times SYNC's period of 250001 is 60000240 microseconds",
+    ),
+    (
+        "1",
+        "sync,0,,,10000,20000000",
+        "5,1,0,20000001,1620,",
+        "jitter of 20000000 and the latency of 20000001 are 40000001 microseconds",
+    ),
+];
+
+#[test]
+fn rows_that_do_not_go_with_the_type(rt: HostRuntime) -> Result<(), Fail> {
+    for case in PACES {
+        let (value, sync, pdo, part) = *case;
+        let Some((before, after)) = UNIT.split_once("DefaultValue=255") else {
+            return Err(Fail::from("no such part"));
+        };
+        let eds = format!(in rt.alloc(); "{before}DefaultValue={value}{after}")?;
+        let nodes = format!(in rt.alloc(); "{NODES}{sync}\n")?;
+        let pdos = format!(in rt.alloc(); "node,tpdo,period,jitter,deadline,consumers\n{pdo}\n")?;
+        let said = words(rt.alloc(), &nodes, &pdos, &eds)?;
+        assert!(rt; says(&said, "pdos.csv, line 2: ", part), "{said}");
+        assert!(rt; said.contains("rule 53: "), "{said}");
     }
     Ok(())
 }
@@ -405,14 +492,14 @@ fn mistakes_in_the_eds_text(rt: HostRuntime) -> Result<(), Fail> {
 
 #[test]
 fn each_rule_is_explained(rt: HostRuntime) {
-    let ranges: &[(u8, u8)] = &[(1, 6), (10, 18), (20, 23), (30, 36), (40, 52), (60, 69)];
+    let ranges: &[(u8, u8)] = &[(1, 6), (10, 18), (20, 23), (30, 36), (40, 53), (60, 69)];
     for range in ranges {
         let (first, last) = *range;
         for number in first..=last {
             assert!(rt; explained(number).is_some());
         }
     }
-    assert!(rt; explained(53).is_none());
+    assert!(rt; explained(54).is_none());
 }
 
 #[test]

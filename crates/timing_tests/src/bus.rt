@@ -10,7 +10,7 @@ use cop_rta::{SetFault, Stream, StreamSet};
 use std::alloc::{AllocError, Global};
 use std::test::Fail;
 
-fn queue(at: u64, id: u16, event: u64, bits: u32, len: u8) -> Step {
+pub fn queue(at: u64, id: u16, event: u64, bits: u32, len: u8) -> Step {
     Step::Queue {
         at,
         id,
@@ -23,21 +23,21 @@ fn queue(at: u64, id: u16, event: u64, bits: u32, len: u8) -> Step {
     }
 }
 
-fn start(at: u64, id: u16) -> Step {
+pub fn start(at: u64, id: u16) -> Step {
     Step::Start { at, id }
 }
 
-fn end(at: u64, id: u16) -> Step {
+pub fn end(at: u64, id: u16) -> Step {
     Step::End { at, id }
 }
 
-fn trace(alloc: Global, until: u64, steps: &[Step]) -> Result<Trace, AllocError> {
+pub fn trace(alloc: Global, until: u64, steps: &[Step]) -> Result<Trace, AllocError> {
     let steps = Vec::from_slice(alloc, steps)?;
     Ok(Trace { until, steps })
 }
 
 /// The set of these streams.
-fn set_of(alloc: Global, streams: &[Stream]) -> Result<StreamSet, SetFault> {
+pub fn set_of(alloc: Global, streams: &[Stream]) -> Result<StreamSet, SetFault> {
     let mut set = StreamSet::new(alloc);
     for stream in streams {
         set.push(*stream)?;
@@ -55,6 +55,7 @@ fn two_streams(alloc: Global, deadline: u64) -> Result<StreamSet, SetFault>
         period: 4000,
         jitter: 0,
         deadline: None,
+        every: 0,
     };
     let second = Stream {
         id: 0x182,
@@ -62,6 +63,7 @@ fn two_streams(alloc: Global, deadline: u64) -> Result<StreamSet, SetFault>
         period: 4000,
         jitter: 0,
         deadline: Some(deadline),
+        every: 0,
     };
     set_of(alloc, &[first, second])
 }
@@ -167,6 +169,7 @@ fn pdo(id: u16, period: u64, deadline: u64) -> Stream
         period,
         jitter: 0,
         deadline: Some(deadline),
+        every: 0,
     }
 }
 

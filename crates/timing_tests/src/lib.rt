@@ -6,10 +6,16 @@
 #[cfg(test)]
 mod bus;
 #[cfg(test)]
+mod causes;
+#[cfg(test)]
 mod plans;
+#[cfg(test)]
+mod ranges;
 #[cfg(test)]
 mod refusals;
 #[cfg(test)]
 mod response_times;
 #[cfg(test)]
 mod simulator;
+#[cfg(test)]
+mod syncs;

@@ -1,4 +1,4 @@
-use cop_cert::{Evidence, Refusal};
+use cop_cert::{Cause, Evidence, Member, Refusal};
 use cop_frame::{Rate, RateSet};
 use cop_plan::{Count, Outcome, Plan, assign, can_assign};
 use cop_rta::{Stream, StreamSet, Verdict, above_by_id, read_streams, verdict};
@@ -31,21 +31,31 @@ const NONE: &[u8] = b"id,bytes,period,jitter,deadline\n";
 // What is planned for a table all of whose streams are PDOs, and what it took.
 fn answer(alloc: Global, table: &[u8], candidates: &[Rate]) -> Result<(Outcome, Count), Fail> {
     let set = read_streams(alloc, table)?;
+    let pdos = set.len();
+    answer_for(alloc, &set, pdos, candidates)
+}
+
+// What is planned for streams of which the first are PDOs, and what it took.
+pub(crate) fn answer_for(
+    alloc: Global,
+    set: &StreamSet,
+    pdos: usize,
+    candidates: &[Rate],
+) -> Result<(Outcome, Count), Fail> {
     let mut rates = RateSet::new();
     for rate in candidates {
         rates.insert(*rate);
     }
-    let pdos = set.len();
-    if !can_assign(&set, pdos) {
+    if !can_assign(set, pdos) {
         return Err(Fail::from("not to be assigned"));
     }
     let mut count = Count { trials: 0, busy: 0 };
-    let outcome = assign(alloc, &set, pdos, &rates, &mut count)?;
+    let outcome = assign(alloc, set, pdos, &rates, &mut count)?;
     Ok((outcome, count))
 }
 
 // The plan of an outcome.
-fn plan_of(outcome: Outcome) -> Result<Plan, Fail> {
+pub(crate) fn plan_of(outcome: Outcome) -> Result<Plan, Fail> {
     match outcome {
         Outcome::Planned(plan) => Ok(plan),
         Outcome::Refused(_) => Err(Fail::from("no rate passes")),
@@ -53,7 +63,7 @@ fn plan_of(outcome: Outcome) -> Result<Plan, Fail> {
 }
 
 // The response of each PDO of a plan, in ticks.
-fn responses(alloc: Global, plan: &Plan) -> Result<Vec<u64>, Fail> {
+pub(crate) fn responses(alloc: Global, plan: &Plan) -> Result<Vec<u64>, Fail> {
     let set = plan.streams();
     let mut above = [false; StreamSet::MOST];
     let above = &mut above[..set.streams().len()];
@@ -152,10 +162,18 @@ const ROWS: &[Row] = &[
     },
 ];
 
+// The members of a refusal by places.
+fn members_of(refusal: &Refusal) -> &[Member] {
+    match &refusal.cause {
+        Cause::Places { members } => members.as_slice(),
+        Cause::Sync { .. } | Cause::Sdo { .. } => &[],
+    }
+}
+
 fn are_refused(refusals: &[Refusal], rows: &[(Rate, usize)]) -> bool {
     let mut wanted = rows.iter();
     for refusal in refusals {
-        let members = refusal.members.as_slice().len();
+        let members = members_of(refusal).len();
         if wanted.next() != Some(&(refusal.rate, members)) {
             return false;
         }
@@ -165,9 +183,7 @@ fn are_refused(refusals: &[Refusal], rows: &[(Rate, usize)]) -> bool {
 
 // Whether each member has a busy period above the horizon.
 fn is_long(refusal: &Refusal) -> bool {
-    refusal
-        .members
-        .as_slice()
+    members_of(refusal)
         .iter()
         .all(|member| matches!(member.evidence, Evidence::Long { .. }))
 }
@@ -238,7 +254,7 @@ const ALONE: &[Alone] = &[
 
 // Whether the one member is the first PDO, with this evidence that its first instance is late.
 fn is_late(refusal: &Refusal, busy: &[u64], queue: &[u64]) -> bool {
-    match refusal.members.as_slice() {
+    match members_of(refusal) {
         [member] => match &member.evidence {
             Evidence::Late {
                 q,
@@ -289,6 +305,7 @@ fn largest(alloc: Global) -> Result<StreamSet, Fail> {
             period: 4_000_000,
             jitter: 0,
             deadline: Some(4_000_000),
+            every: 0,
         })?;
     }
     Ok(set)

@@ -1,11 +1,11 @@
 ghost use Rattle.std.specs.Prelude.{◌≤◌, ◌<◌};
 
 use cop_cert::{
-    Breach, CertFault, Evidence, Items, Member, Refusal, Rule, check, fail_together, make, read,
-    write,
+    Breach, Cause, CertFault, Evidence, Items, Member, Refusal, Rule, check, fail_together,
+    is_sync_long, make, read, write,
 };
 use cop_frame::Rate;
-use cop_rta::{SetFault, Stream, StreamSet};
+use cop_rta::{IdRange, SetFault, Stream, StreamSet};
 use std::alloc::{AllocError, Global};
 use std::test::Fail;
 
@@ -29,6 +29,7 @@ fn one_pdo(alloc: Global, period: u64, deadline: u64) -> Result<StreamSet, SetFa
         period,
         jitter: 0,
         deadline: Some(deadline),
+        every: 0,
     };
     set_of(alloc, &[pdo])
 }
@@ -41,6 +42,7 @@ fn valve(alloc: Global) -> Result<StreamSet, SetFault> {
         period: 40_000,
         jitter: 0,
         deadline: Some(2_680),
+        every: 0,
     };
     let emergency = Stream {
         id: 0x085,
@@ -48,6 +50,7 @@ fn valve(alloc: Global) -> Result<StreamSet, SetFault> {
         period: 400_000,
         jitter: 0,
         deadline: None,
+        every: 0,
     };
     let heartbeat = Stream {
         id: 0x705,
@@ -55,6 +58,7 @@ fn valve(alloc: Global) -> Result<StreamSet, SetFault> {
         period: 400_000,
         jitter: 0,
         deadline: None,
+        every: 0,
     };
     set_of(alloc, &[pdo, emergency, heartbeat])
 }
@@ -69,6 +73,7 @@ fn soon(id: u16) -> Stream
         period: 40_000,
         jitter: 0,
         deadline: Some(600),
+        every: 0,
     }
 }
 
@@ -78,7 +83,7 @@ fn two_pdos(alloc: Global) -> Result<StreamSet, SetFault> {
 }
 
 /// A member that is late at instance 0.
-fn late_member(
+pub(crate) fn late_member(
     alloc: Global,
     pdo: usize,
     busy: &[u64],
@@ -95,7 +100,8 @@ fn late_member(
 fn late(alloc: Global, rate: Rate, busy: &[u64], queue: &[u64]) -> Result<Refusal, AllocError> {
     let mut members = Items::new(alloc);
     members.push(late_member(alloc, 0, busy, queue)?)?;
-    Ok(Refusal { rate, members })
+    let cause = Cause::Places { members };
+    Ok(Refusal { rate, cause })
 }
 
 /// Two members that are late at instance 0, with a busy list each.
@@ -103,14 +109,15 @@ fn late_both(alloc: Global, first: &[u64], second: &[u64]) -> Result<Refusal, Al
     let mut members = Items::new(alloc);
     members.push(late_member(alloc, 0, first, &[0, 540])?)?;
     members.push(late_member(alloc, 1, second, &[0, 540])?)?;
+    let cause = Cause::Places { members };
     Ok(Refusal {
         rate: Rate::Kbit1000,
-        members,
+        cause,
     })
 }
 
 /// Whether a refusal holds for the first streams. `None` where there are not as many.
-fn holds(set: &StreamSet, pdos: usize, refusal: &Refusal) -> Option<bool> {
+pub(crate) fn holds(set: &StreamSet, pdos: usize, refusal: &Refusal) -> Option<bool> {
     if pdos <= set.len() {
         Some(check(set, pdos, refusal))
     } else {
@@ -139,9 +146,10 @@ fn valve_at_250(rt: HostRuntime) -> Result<(), Fail> {
 #[test]
 fn no_members_do_not_hold(rt: HostRuntime) -> Result<(), SetFault> {
     let set = valve(rt.alloc())?;
+    let members = Items::new(rt.alloc());
     let empty = Refusal {
         rate: Rate::Kbit250,
-        members: Items::new(rt.alloc()),
+        cause: Cause::Places { members },
     };
     assert!(rt; holds(&set, 1, &empty) == Some(false));
     Ok(())
@@ -171,15 +179,26 @@ fn made(
     rate: Rate,
     members: &[usize],
 ) -> Result<Option<Refusal>, AllocError> {
-    if pdos > set.len() || !fail_together(set, pdos, rate, members) {
+    if pdos > set.len() || members.is_empty() || is_sync_long(set, pdos, rate) {
+        return Ok(None);
+    }
+    if !fail_together(set, pdos, rate, IdRange::FIRST.least, members) {
         return Ok(None);
     }
     Ok(Some(make(alloc, set, pdos, rate, members)?))
 }
 
+/// The members of a refusal by places.
+fn members_of(refusal: &Refusal) -> &[Member] {
+    match &refusal.cause {
+        Cause::Places { members } => members.as_slice(),
+        Cause::Sync { .. } | Cause::Sdo { .. } => &[],
+    }
+}
+
 /// Whether the first member is late at instance 0 with these lists.
 fn is_late(refusal: &Refusal, busy: &[u64], queue: &[u64]) -> bool {
-    match refusal.members.as_slice() {
+    match members_of(refusal) {
         [member] => match &member.evidence {
             Evidence::Late {
                 q: 0,
@@ -250,7 +269,7 @@ fn has_busy_list(member: &Member, wanted: &[u64]) -> bool {
 
 /// Whether there are two members, each with this busy list.
 fn have_busy_list(refusal: &Refusal, wanted: &[u64]) -> bool {
-    match refusal.members.as_slice() {
+    match members_of(refusal) {
         [first, second] => has_busy_list(first, wanted) && has_busy_list(second, wanted),
         _ => false,
     }
@@ -285,7 +304,7 @@ fn members_have_busy_lists_of_their_own(rt: HostRuntime) -> Result<(), Fail> {
 
 /// The busy list of the first member, where it is long.
 fn long_list(refusal: &Refusal) -> &[u64] {
-    match refusal.members.as_slice() {
+    match members_of(refusal) {
         [member] => match &member.evidence {
             Evidence::Long { busy } => busy.as_slice(),
             Evidence::Late { .. } => &[],
@@ -337,14 +356,18 @@ fn busy_for_one_frame(rt: HostRuntime) -> Result<(), Fail> {
 }
 
 /// The header and the version.
-const BEGIN: &[u8] = b"rate,pdo,what,value\n0,0,version,1\n";
+pub(crate) const BEGIN: &[u8] = b"rate,pdo,what,value\n0,0,version,1\n";
 
 /// The refusal of the valve at 250 kbit/s.
 const VALVE_AT_250: &[u8] =
     b"rate,pdo,what,value\n0,0,version,1\n250,1,late,0\n250,1,busy,1\n250,1,busy,5360\n250,1,queue,1040\n250,1,queue,3200\n";
 
 /// Whether these refusals are written so.
-fn are_written(alloc: Global, refusals: &[Refusal], wanted: &[u8]) -> Result<bool, AllocError> {
+pub(crate) fn are_written(
+    alloc: Global,
+    refusals: &[Refusal],
+    wanted: &[u8],
+) -> Result<bool, AllocError> {
     Ok(write(alloc, refusals)?.as_slice() == wanted)
 }
 
@@ -384,7 +407,7 @@ const BROKEN: &[(&[u8], &[u8], Rule, u64)] = &[
     (b"rate,pdo,what,value\n", b"", Rule::Version, 1),
     (b"rate,pdo,what,value\n0,0,version\n", b"", Rule::Fields, 1),
     (
-        b"rate,pdo,what,value\n0,0,version,2\n",
+        b"rate,pdo,what,value\n0,0,version,3\n",
         b"",
         Rule::Version,
         1,
@@ -422,14 +445,14 @@ const BROKEN: &[(&[u8], &[u8], Rule, u64)] = &[
 ];
 
 /// Two texts in one.
-fn joined(alloc: Global, begin: &[u8], end: &[u8]) -> Result<Vec<u8>, AllocError> {
+pub(crate) fn joined(alloc: Global, begin: &[u8], end: &[u8]) -> Result<Vec<u8>, AllocError> {
     let mut text = Vec::from_slice(alloc, begin)?;
     text.extend_from_slice(end)?;
     Ok(text)
 }
 
 /// The rule that a text breaks, and where.
-fn breach(alloc: Global, text: &[u8]) -> Result<Option<Breach>, CertFault> {
+pub(crate) fn breach(alloc: Global, text: &[u8]) -> Result<Option<Breach>, CertFault> {
     match read(alloc, text) {
         Ok(_) => Ok(None),
         Err(CertFault::Refused(breach)) => Ok(Some(breach)),

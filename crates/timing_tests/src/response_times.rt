@@ -1,9 +1,10 @@
 ghost use Rattle.std.specs.Prelude.{◌<◌, ◌≤◌};
+ghost use Rattle.std.specs.Option.{ForSome};
 
 use cop_frame::Rate;
 use cop_rta::{
     Busy, HORIZON, Search, SetFault, Stream, StreamSet, TableFault, Verdict, least, read_streams,
-    seek_least, verdict, verdicts_by_id,
+    seek_least, sync_response, verdict, verdicts_by_id,
 };
 use std::alloc::{AllocError, Global};
 use std::test::Fail;
@@ -34,6 +35,7 @@ fn pdo(id: u16, period: u64, deadline: u64) -> Stream
         period,
         jitter: 0,
         deadline: Some(deadline),
+        every: 0,
     }
 }
 
@@ -49,6 +51,7 @@ fn alone(period: u64, jitter: u64, deadline: u64) -> Stream
         period,
         jitter,
         deadline: Some(deadline),
+        every: 0,
     }
 }
 
@@ -60,7 +63,32 @@ fn frequent() -> Stream {
         period: 400,
         jitter: 0,
         deadline: None,
+        every: 0,
     }
+}
+
+/// SYNC with its deadline in ticks, and a PDO that is sent at each SYNC within a latency of 400 ticks, with its deadline.
+fn synchronous(sync_deadline: Option<u64>, deadline: u64) -> [Stream; 2]
+    requires sync { ForSome sync_deadline (λ d. (1 ≤ d) × (d ≤ 240000000)) }
+    requires deadline { (1 ≤ deadline) × (deadline ≤ 240000000) }
+{
+    let sync = Stream {
+        id: 0x80,
+        bytes: 0,
+        period: 40_000,
+        jitter: 0,
+        deadline: sync_deadline,
+        every: 0,
+    };
+    let pdo = Stream {
+        id: 0x181,
+        bytes: 8,
+        period: 40_000,
+        jitter: 400,
+        deadline: Some(deadline),
+        every: 1,
+    };
+    [sync, pdo]
 }
 
 const FIRST: Verdict = Verdict::Pass { response: 8000 };
@@ -94,6 +122,40 @@ fn three_streams_at_once(rt: HostRuntime) -> Result<(), TableFault> {
     let set = read_streams(rt.alloc(), table)?;
     let verdicts = verdicts_by_id(rt.alloc(), &set, Rate::Kbit125)?;
     assert!(rt; verdicts.as_slice() == [THIRD, FIRST, SECOND].as_slice());
+    Ok(())
+}
+
+#[test]
+fn one_synchronous_stream(rt: HostRuntime) -> Result<(), Fail> {
+    // SYNC waits for the PDO and is sent, 135 and 55 bits; the PDO is queued 400 ticks later, and SYNC is sent before it
+    let pass = Verdict::Pass { response: 6480 };
+    let late = Verdict::Late {
+        q: 0,
+        response: 6480,
+    };
+    let sync = Verdict::Pass { response: 3040 };
+    let sync_late = Verdict::Late {
+        q: 0,
+        response: 3040,
+    };
+    // SYNC and the PDO, and the verdicts at 250 kbit/s: the PDO's jitter stands on SYNC's response, not on its verdict
+    let cases: &[([Stream; 2], [Verdict; 2])] = &[
+        (synchronous(None, 6480), [sync, pass]),
+        (synchronous(None, 6476), [sync, late]),
+        (synchronous(Some(3036), 6480), [sync_late, pass]),
+    ];
+    for case in cases {
+        let (streams, wanted) = *case;
+        let set = set_of(rt.alloc(), &streams)?;
+        assert!(rt; sync_response(&set, Rate::Kbit250) == Some(3040));
+        let verdicts = verdicts_by_id(rt.alloc(), &set, Rate::Kbit250)?;
+        assert!(rt; verdicts.as_slice() == wanted.as_slice());
+        assert!(rt; is_judged(&set, &[true, false], 1, Rate::Kbit250, wanted[1]));
+    }
+    let set = set_of(rt.alloc(), &synchronous(None, 6480))?;
+    assert!(rt; sync_response(&set, Rate::Kbit500) == Some(1520));
+    let faster = Verdict::Pass { response: 3440 };
+    assert!(rt; is_judged(&set, &[true, false], 1, Rate::Kbit500, faster));
     Ok(())
 }
 

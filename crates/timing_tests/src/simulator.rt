@@ -552,6 +552,7 @@ fn offers_of_a_seed(rt: HostRuntime) -> Result<(), Fail> {
         period: 40000,
         jitter: 99,
         deadline: None,
+        every: 0,
     };
     let mut seeded = Seeded::new(42, &stream);
     for case in SEEDED {

@@ -1,4 +1,4 @@
-use Rattle.cop_bus.proofs.Sound.{sound}
+use Rattle.cop_bus.proofs.Synced.{sound}
 use Rattle.cop_bus.proofs.laws.passing_is_on_time.Goals as goal
 
 pub returns : goal.returns

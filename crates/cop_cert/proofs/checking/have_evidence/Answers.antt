@@ -11,14 +11,14 @@ use Rattle.cop_cert.proofs.checking.have_evidence.Goals as goal
 pub loop-member-preserved : goal.loop-member-preserved
 loop-member-preserved c =
     let below : c.loop-member.member-index < length c.args.members.now = omega (arith, c.loop-member-test.true) in
-    let trial : Flags = record { streams = c.args.set.now; flags = c.args.above.now; rate = c.args.rate } in
+    let trial : Flags = record { streams = c.args.at.now.streams; flags = c.args.above.now; rate = c.args.at.now.rate } in
     record {
       known = end_for_each trial c.member-item.result.pdo
           (rw (← c.member-item.is) at (c.requires.inside c.loop-member.member-index c.member-item.result below))
           (rw (← c.member-item.is) at (c.requires.flagged c.loop-member.member-index c.member-item.result below))
-          c.busy-before.result.now c.busy_end_after-end.result (rw (← c.busy-before.ensures) at c.busy_end_after-end.ensures);
-      shown = All-more (λ (m : Member). IsEvidence (flagged_place c.args.set.now c.args.above.now m.pdo c.args.rate) m.evidence) c.args.members.now c.loop-member.member-index c.member-item.result below c.loop-member.invariant.shown
-          (rw (← c.member-item.is) (c.has_evidence.ensures.0 c.if-not-has_evidence.false));
+          c.busy-before.result.now c.busy_end_after-end.result (rw (← c.busy-before.ensures, c.among-busy.ensures) at c.busy_end_after-end.ensures);
+      shown = All-more (λ (m : Member). IsEvidence (flagged_place c.args.at.now.streams c.args.above.now m.pdo c.args.at.now.rate) m.evidence) c.args.members.now c.loop-member.member-index c.member-item.result below c.loop-member.invariant.shown
+          (rw (← c.member-item.is) (rw c.among-busy.ensures at (c.has_evidence.ensures.0 c.if-not-has_evidence.false)));
     }
 
 pub returns : goal.returns

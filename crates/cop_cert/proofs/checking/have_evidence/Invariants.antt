@@ -6,6 +6,6 @@ use Rattle.cop_cert.proofs.checking.have_evidence.Given as goal
 -- the list of the member before, and the members so far
 abbrev pub invariant-loop-member : goal.invariant-loop-member
 invariant-loop-member l = record {
-  known : (k : ℕ) → k < length l.set → is_flagged l.above k ≡ true → IsBusyEnd (flagged_place l.set l.above k l.rate) l.before l.end;
-  shown : All (λ m. IsEvidence (flagged_place l.set l.above m.pdo l.rate) m.evidence) (take l.member-index l.members);
+  known : (k : ℕ) → k < length l.at.streams → is_flagged l.above k ≡ true → IsBusyEnd (flagged_place l.at.streams l.above k l.at.rate) l.before l.end;
+  shown : All (λ m. IsEvidence (flagged_place l.at.streams l.above m.pdo l.at.rate) m.evidence) (take l.member-index l.members);
 }

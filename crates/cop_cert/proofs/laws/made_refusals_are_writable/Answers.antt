@@ -1,6 +1,5 @@
-use Rattle.cop_cert.specs.Assignments.{least_id}
 use Rattle.cop_cert.proofs.MadeLemmas.{made_is_writable}
 use Rattle.cop_cert.proofs.laws.made_refusals_are_writable.Goals as goal
 
 pub returns : goal.returns
-returns c = made_is_writable least_id
+returns c = made_is_writable

@@ -20,4 +20,4 @@ returns c =
     let within = start_within (place_of c.args.busy.now) c.requires.index c.args.q c.requires.late.0 c.requires.late.1 in
     queue_all (place_of c.args.busy.now) c.requires.index c.args.q c.requires.late.0 c.requires.late.1 c.chain.result
     (whole_all (queueing_at (place_of c.args.busy.now) c.args.q) (blocking (place_of c.args.busy.now) + c.args.q * cost_at (place_of c.args.busy.now)) c.chain.result
-    (queueing_small (place_of c.args.busy.now) c.requires.few c.args.q within) (rw (c.queueing.ensures, c.start_of-start.ensures) at c.chain.ensures))
+    (queueing_small (place_of c.args.busy.now) c.requires.few c.requires.ahead c.args.q within) (rw (c.queueing.ensures, c.start_of-start.ensures) at c.chain.ensures))

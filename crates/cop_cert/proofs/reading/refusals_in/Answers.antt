@@ -8,7 +8,7 @@ pub returns-in_err-take : goal.returns-in_err-take
 returns-in_err-take c =
     let next = rw c.if-branch.true at c.in_ok-read.ensures.next in
     let p = err_from_is_err_and c.from_residual-in_err-take.result c.from_residual-in_err-take.ensures.1 in
-    rw (p.1, p.2) (fails c.rows.place c.rows.draft _ c.read.new.self c.rows.rows (breach_of c.in_err-take.field-0.0) _ next c.in_err-take.ensures c.rows.invariant.same)
+    rw (p.1, p.2) (fails c.args.version c.rows.place c.rows.draft _ c.read.new.self c.rows.rows (breach_of c.in_err-take.field-0.0) _ next c.in_err-take.ensures c.rows.invariant.same)
 
 pub rows-preserved : goal.rows-preserved
 rows-preserved c =
@@ -16,5 +16,5 @@ rows-preserved c =
     let count : length c.rows.rows ≡ length c.read.new.self + 1 = rw next (omega arith) in
     record {
       small = omega (arith, c.rows.invariant.small, count);
-      same = goes_on c.rows.place c.rows.draft _ _ c.read.new.self c.rows.rows _ next c.in_ok-take.ensures c.rows.invariant.same;
+      same = goes_on c.args.version c.rows.place c.rows.draft _ _ c.read.new.self c.rows.rows _ next c.in_ok-take.ensures c.rows.invariant.same;
     }

@@ -7,7 +7,7 @@ use Rattle.cop_cert.proofs.reading.refusals_in.Given as goal
 abbrev pub invariant-rows : goal.invariant-rows
 invariant-rows l = record {
   small : l.place + length l.rows < 2 ^ 64;
-  same : (rows_from taken (l.place + 1) l.draft l.rows >>= ended (l.place + length l.rows)) ≡ refusals_in l.initial.rows;
+  same : (rows_from (taken l.version) (l.place + 1) l.draft l.rows >>= ended (l.place + length l.rows)) ≡ refusals_in l.version l.initial.rows;
 }
 
 abbrev pub decreases-rows : goal.decreases-rows

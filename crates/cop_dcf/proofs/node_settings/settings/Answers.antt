@@ -11,7 +11,7 @@ pub add_ons-requires : goal.add_ons-requires
 add_ons-requires c =
     let net = c.args.network.now in
     let plan = c.args.plan.now in
-    let small : All (λ id. id < 2048) c.ids.result.now = rw c.ids.ensures.ids (ids_small net.equipment.rates net.set (length net.rows) plan c.requires c.rows.ensures.network.rows.count) in
+    let small : All (λ id. id < 2048) c.ids.result.now = rw c.ids.ensures.ids (ids_small net.equipment.rates net.set (length net.rows) plan c.requires) in
     λ index. noted_small c.identifiers-places.result c.rows.result.now c.ids.result.now c.args.node index c.identifiers-places.ensures small
 
 pub returns : goal.returns

@@ -7,4 +7,4 @@ pub new-requires : goal.new-requires
 new-requires c =
     let net = c.args.network.now in
     can_manage net c.args.plan.now.ids c.in_ok-plan_of.plan_of.entries c.args.nodes.now c.requires.network
-    (ids_small net.equipment.rates net.set (length net.rows) c.args.plan.now c.requires.planned c.requires.network.rows.count) c.requires.nodes c.in_ok-plan_of.ensures
+    (ids_small net.equipment.rates net.set (length net.rows) c.args.plan.now c.requires.planned) c.requires.nodes c.in_ok-plan_of.ensures

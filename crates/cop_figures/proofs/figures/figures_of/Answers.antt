@@ -1,4 +1,4 @@
-use Rattle.std.proofs.Common.{◌≡◌, ◌≤◌, length, refl, ap, ◌∙◌, Some}
+use Rattle.std.proofs.Common.{length, refl, ap, Some}
 use Rattle.cop_plan.specs.Plans.{IsPlan, AreAllRefused}
 use Rattle.cop_figures.proofs.ReasonLemmas.{all_measured, all_tested}
 use Rattle.cop_figures.proofs.figures.figures_of.Goals as goal
@@ -6,14 +6,14 @@ use Rattle.cop_figures.proofs.figures.figures_of.Goals as goal
 pub all_refused-requires : goal.all_refused-requires
 all_refused-requires c =
     let is : IsPlan c.args.network.now.equipment.rates c.args.network.now.set (length c.args.network.now.rows) c.in-Planned.plan = rw c.in-Planned.is at c.requires in
-    rw (c.refusals.ensures, c.streams-streams.ensures.items, c.set.ensures.set)
-    (all_measured c.args.network.now.set (length c.args.network.now.rows) c.set.ensures.network.streams.count c.in-Planned.plan.refusals is.refused.each)
+    rw (c.refusals.ensures, c.set-set.ensures.set)
+    (all_measured c.args.network.now.set (length c.args.network.now.rows) c.set-set.ensures.network.streams.count c.in-Planned.plan.refusals is.refused.each)
 
 pub all_refused-requires-in-Refused : goal.all_refused-requires-in-Refused
 all_refused-requires-in-Refused c =
     let is : AreAllRefused c.args.network.now.equipment.rates c.args.network.now.set (length c.args.network.now.rows) c.in-Refused.refusals = rw c.in-Refused.is at c.requires in
-    rw (c.as_slice.ensures, c.streams-streams.ensures.items, c.set.ensures.set)
-    (all_measured c.args.network.now.set (length c.args.network.now.rows) c.set.ensures.network.streams.count c.in-Refused.refusals is.refused.each)
+    rw (c.as_slice.ensures, c.set-set.ensures.set)
+    (all_measured c.args.network.now.set (length c.args.network.now.rows) c.set-set.ensures.network.streams.count c.in-Refused.refusals is.refused.each)
 
 pub returns-in_ok-all_refused-in-Planned : goal.returns-in_ok-all_refused-in-Planned
 returns-in_ok-all_refused-in-Planned c =
@@ -23,8 +23,8 @@ returns-in_ok-all_refused-in-Planned c =
       c.in_ok-times_of-in-Planned.ensures,
       c.in_ok-loads.ensures,
       record {
-        shown_are = rw (c.refusals.ensures, c.streams-streams.ensures.items, c.set.ensures.set) at c.in_ok-all_refused-in-Planned.ensures;
-        tested = all_tested c.args.network.now.set (length c.args.network.now.rows) c.set.ensures.network.streams.count c.in-Planned.plan.refusals is.refused.each;
+        shown_are = rw (c.refusals.ensures, c.set-set.ensures.set, c.pdos-pdos.ensures.count) at c.in_ok-all_refused-in-Planned.ensures;
+        tested = all_tested c.args.network.now.set (length c.args.network.now.rows) c.set-set.ensures.network.streams.count c.in-Planned.plan.refusals (rw (c.streams.ensures.items, c.set-set.ensures.set) at c.streams.ensures.distinct) is.refused.each;
       },
     )
 
@@ -36,7 +36,7 @@ returns-in_ok-all_refused-in-Refused c =
       c.new.ensures.items,
       c.in_ok-loads.ensures,
       record {
-        shown_are = rw (c.as_slice.ensures, c.streams-streams.ensures.items, c.set.ensures.set) at c.in_ok-all_refused-in-Refused.ensures;
-        tested = all_tested c.args.network.now.set (length c.args.network.now.rows) c.set.ensures.network.streams.count c.in-Refused.refusals is.refused.each;
+        shown_are = rw (c.as_slice.ensures, c.set-set.ensures.set, c.pdos-pdos.ensures.count) at c.in_ok-all_refused-in-Refused.ensures;
+        tested = all_tested c.args.network.now.set (length c.args.network.now.rows) c.set-set.ensures.network.streams.count c.in-Refused.refusals (rw (c.streams.ensures.items, c.set-set.ensures.set) at c.streams.ensures.distinct) is.refused.each;
       },
     )

@@ -11,24 +11,24 @@ pub loop-row-init : goal.loop-row-init
 loop-row-init c = record {
   pdos = no_pdos _ (ap (map entry_of) c.new.ensures);
   count = ap (λ s. length (map entry_of s)) c.new.ensures;
-  same = starts c.args.devices.now.devices c.args.rows.now _ (ap (map entry_of) c.new.ensures) (none_yet _ c.in_ok-new.ensures);
+  same = starts c.args.devices.now.devices c.args.signals c.args.rows.now _ (ap (map entry_of) c.new.ensures) (none_yet _ c.in_ok-new.ensures);
 }
 
 pub returns-in_err-add : goal.returns-in_err-add
 returns-in_err-add c =
     let p = err_from_is_err_and c.from_residual-in_err-add.result c.from_residual-in_err-add.ensures.1 in
     rw (p.1, p.2)
-    (fails_at (pdo_added c.args.devices.now.devices) c.args.rows.now c.loop-row.row-index c.row-item.result c.loop-row.found (refusal c.in_err-add.field-0.0) _
+    (fails_at (pdo_added c.args.devices.now.devices c.args.signals) c.args.rows.now c.loop-row.row-index c.row-item.result c.loop-row.found (refusal c.in_err-add.field-0.0) _
     c.loop-row-test.true c.row-item.is c.loop-row.invariant.same c.in_err-add.ensures.exact)
 
 pub loop-row-preserved : goal.loop-row-preserved
 loop-row-preserved c = record {
-  pdos = pdos_after c.args.devices.now.devices c.loop-row.found c.add.new.self c.row-item.result c.in_ok-add.ensures.exact c.loop-row.invariant.pdos;
-  count = one_more c.args.devices.now.devices c.loop-row.found c.add.new.self c.row-item.result c.loop-row.row-index c.in_ok-add.ensures.exact c.loop-row.invariant.count;
-  same = goes_on_at (pdo_added c.args.devices.now.devices) c.args.rows.now c.loop-row.row-index c.row-item.result c.loop-row.found c.add.new.self _
+  pdos = pdos_after c.args.devices.now.devices c.args.signals c.loop-row.found c.add.new.self c.row-item.result c.in_ok-add.ensures.exact c.loop-row.invariant.pdos;
+  count = one_more c.args.devices.now.devices c.args.signals c.loop-row.found c.add.new.self c.row-item.result c.loop-row.row-index c.in_ok-add.ensures.exact c.loop-row.invariant.count;
+  same = goes_on_at (pdo_added c.args.devices.now.devices c.args.signals) c.args.rows.now c.loop-row.row-index c.row-item.result c.loop-row.found c.add.new.self _
       c.loop-row-test.true c.row-item.is c.in_ok-add.ensures.exact c.loop-row.invariant.same;
 }
 
 pub returns : goal.returns
 returns c =
-    ends (pdo_added c.args.devices.now.devices) c.args.rows.now c.loop-row.row-index c.loop-row.found _ c.loop-row-test.false c.loop-row.invariant.same
+    ends (pdo_added c.args.devices.now.devices c.args.signals) c.args.rows.now c.loop-row.row-index c.loop-row.found _ c.loop-row-test.false c.loop-row.invariant.same

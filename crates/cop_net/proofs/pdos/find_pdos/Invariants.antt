@@ -7,5 +7,5 @@ abbrev pub invariant-loop-row : goal.invariant-loop-row
 invariant-loop-row l = record {
   pdos : ArePdos l.found.streams;
   count : length l.found.streams ≡ l.row-index;
-  same : folded (pdo_added l.devices.devices) l.found (drop l.row-index l.rows) ≡ pdos_of l.devices.devices l.rows;
+  same : folded (pdo_added l.devices.devices l.signals) l.found (drop l.row-index l.rows) ≡ pdos_of l.devices.devices l.signals l.rows;
 }

@@ -1,45 +1,45 @@
-use Rattle.std.proofs.Common.{◌+◌, ◌*◌, arith, length-append, length}
+use Rattle.std.proofs.Common.{◌≡◌, ◌+◌, ◌*◌, arith, length}
+use Rattle.std.proofs.lemmas.List.{length-append}
+use Rattle.cop_plan.specs.Fillings.{ids_in_ranges}
 use Rattle.cop_plan.proofs.FillingLemmas.{no_bit}
-use Rattle.cop_plan.proofs.AssignLemmas.{stuck_fails, greatest_is_made, passed_over, one_more, all_refused, refused_is_ruled_out, trials_more, busy_more, least_more, plan_is}
+use Rattle.cop_plan.proofs.AssignLemmas.{passed_over, one_more, all_refused, refused_is_ruled_out, trials_more, busy_more, plan_is, members_push, filled_push}
 use Rattle.cop_plan.proofs.RateLemmas.{rate_at}
 use Rattle.cop_plan.proofs.assigning.assign.Goals as goal
-use Rattle.cop_plan.proofs.assigning.assign.Goals.{then-contains+in_ok-fill+in-Stuck+in_ok-make-in-Stuck+in_ok-push-in-Stuck, else-contains}
+use Rattle.cop_plan.proofs.assigning.assign.Goals.{then-contains+in_ok-lower+in-Refused+in_ok-push-in-Refused, else-contains}
 
-pub returns-in-Whole-clause-outcome : goal.returns-in-Whole-clause-outcome
-returns-in-Whole-clause-outcome c =
-    let found = rw c.in-Whole.is at c.in_ok-fill.ensures.found in
-    let made = c.in_ok-planned-in-Whole.ensures in
-    plan_is c.args.rates.now c.args.set.now c.args.pdos (length c.in-Whole.fill.items) c.loop-rate.rate-index c.in_ok-planned-in-Whole.field-0 c.loop-rate.refusals
-    found.0.count c.requires.can.count c.requires.can.few c.loop-rate-test.true (c.contains.ensures.0 c.if-contains.true) made.rate made.refusals made.count made.order made.by_priority made.renamed
-    c.loop-rate.invariant.refused
+pub returns-in-Placed-clause-outcome : goal.returns-in-Placed-clause-outcome
+returns-in-Placed-clause-outcome c =
+    let made = c.in_ok-plan-in-Placed.ensures in
+    plan_is c.args.rates.now c.args.set.now c.args.pdos c.loop-rate.rate-index c.in_ok-plan-in-Placed.plan c.loop-rate.refusals c.requires.can.count c.loop-rate-test.true
+    (c.contains.ensures.0 c.if-contains.true) made.rate made.refusals made.count made.passing made.order made.by_priority made.renamed c.loop-rate.invariant.refused
 
-pub returns-in-Whole-clause-least : goal.returns-in-Whole-clause-least
-returns-in-Whole-clause-least c =
-    rw c.in_ok-planned-in-Whole.ensures.refusals (omega (arith, c.loop-rate.invariant.least, (rw c.in-Whole.is at c.in_ok-fill.ensures.least)))
+pub returns-in-Placed-clause-trials : goal.returns-in-Placed-clause-trials
+returns-in-Placed-clause-trials c =
+    rw c.in_ok-plan-in-Placed.ensures.refusals (trials_more c.loop-rate.count.trials c.at_rate.new.count.trials c.args.count.now.trials (length c.loop-rate.refusals) (3 * (c.args.pdos * (c.args.pdos + 1)))
+    c.at_rate.ensures.trials c.loop-rate.invariant.trials)
 
-pub make-requires-clause-fail : goal.make-requires-clause-fail
-make-requires-clause-fail c =
-    rw c.deref.ensures.value (stuck_fails (rate_at c.loop-rate.rate-index) c.args.set.now c.args.pdos c.in-Stuck.members.items (rw c.in-Stuck.is at c.in_ok-fill.ensures.found))
+pub returns-in-Placed-clause-busy : goal.returns-in-Placed-clause-busy
+returns-in-Placed-clause-busy c =
+    rw c.in_ok-plan-in-Placed.ensures.refusals (busy_more c.loop-rate.count.busy c.at_rate.new.count.busy c.args.count.now.busy (length c.loop-rate.refusals) (3 * c.args.pdos)
+    c.at_rate.ensures.busy_most c.loop-rate.invariant.busy)
 
 pub loop-rate-preserved : goal.loop-rate-preserved
 loop-rate-preserved c = elim c.if-contains.branch [
-  | then-contains+in_ok-fill+in-Stuck+in_ok-make-in-Stuck+in_ok-push-in-Stuck w ↦
-      rw (w.count-is, w.refusals-is, w.in_ok-push-in-Stuck.ensures.ok) (record {
-        refused = one_more c.args.set.now c.args.pdos c.args.rates.now c.loop-rate.rate-index c.loop-rate.refusals w.in_ok-make-in-Stuck.field-0 c.loop-rate-test.true
-            (c.contains.ensures.0 w.if-contains.true) w.in_ok-make-in-Stuck.ensures.made.rate_is
-            (greatest_is_made (rate_at c.loop-rate.rate-index) c.args.set.now c.args.pdos w.deref.result.now w.in_ok-make-in-Stuck.field-0
-            (rw w.deref.ensures.value (rw w.in-Stuck.is at w.in_ok-fill.ensures.found)) w.in_ok-make-in-Stuck.ensures.made w.in_ok-make-in-Stuck.ensures.checks)
-            c.loop-rate.invariant.refused;
+  | then-contains+in_ok-lower+in-Refused+in_ok-push-in-Refused w ↦
+      let found = rw w.in-Refused.is at w.in_ok-lower.ensures.found in
+      let least = rw w.in-Refused.is at w.in_ok-lower.ensures.least in
+      let filled = rw w.in-Refused.is at w.in_ok-lower.ensures.busy_least in
+      rw (w.count-is, w.refusals-is, w.in_ok-push-in-Refused.ensures.ok) (record {
+        refused = one_more c.args.set.now c.args.pdos c.args.rates.now c.loop-rate.rate-index c.loop-rate.refusals w.in-Refused.refusal c.loop-rate-test.true
+            (c.contains.ensures.0 w.if-contains.true) found.0 found.1 c.loop-rate.invariant.refused;
         tried = simp length-append (omega (arith, c.loop-rate.invariant.tried));
-        rises = omega (arith, c.loop-rate.invariant.rises, w.in_ok-fill.ensures.rises);
-        least = least_more c.loop-rate.refusals w.in_ok-make-in-Stuck.field-0 w.deref.result.now c.args.count.now.trials c.loop-rate.count.trials w.fill.new.count.trials
-            w.in_ok-make-in-Stuck.ensures.made.members_are.pdos_are c.loop-rate.invariant.least
-            (rw (w.in-Stuck.is, ← w.deref.ensures.value) at w.in_ok-fill.ensures.least);
-        busy_rises = omega (arith, c.loop-rate.invariant.busy_rises, w.in_ok-fill.ensures.busy_rises);
-        busy = simp length-append (busy_more c.loop-rate.count.busy w.fill.new.count.busy c.args.count.now.busy (length c.loop-rate.refusals) c.args.pdos w.in_ok-fill.ensures.busy_most c.loop-rate.invariant.busy);
-        busy_least = λ some. simp length-append (omega (arith, c.loop-rate.invariant.busy_least some, w.in_ok-fill.ensures.busy_some some));
-        trials = simp length-append (trials_more c.loop-rate.count.trials w.fill.new.count.trials c.args.count.now.trials (length c.loop-rate.refusals) (c.args.pdos * (c.args.pdos + 1))
-            w.in_ok-fill.ensures.trials c.loop-rate.invariant.trials);
+        rises = omega (arith, c.loop-rate.invariant.rises, w.at_rate.ensures.rises);
+        least = rw (members_push c.loop-rate.refusals w.in-Refused.refusal) (omega (arith, c.loop-rate.invariant.least, least));
+        busy_rises = omega (arith, c.loop-rate.invariant.busy_rises, w.at_rate.ensures.busy_rises);
+        busy = simp length-append (busy_more c.loop-rate.count.busy w.at_rate.new.count.busy c.args.count.now.busy (length c.loop-rate.refusals) (3 * c.args.pdos) w.at_rate.ensures.busy_most c.loop-rate.invariant.busy);
+        busy_least = λ some. rw (filled_push c.loop-rate.refusals w.in-Refused.refusal) (omega (arith, c.loop-rate.invariant.busy_least some, filled some));
+        trials = simp length-append (trials_more c.loop-rate.count.trials w.at_rate.new.count.trials c.args.count.now.trials (length c.loop-rate.refusals) (3 * (c.args.pdos * (c.args.pdos + 1)))
+            w.at_rate.ensures.trials c.loop-rate.invariant.trials);
       })
   | else-contains w ↦ rw (w.count-is, w.refusals-is) (record {
     refused = passed_over c.args.set.now c.args.pdos c.args.rates.now c.loop-rate.rate-index c.loop-rate.refusals c.loop-rate-test.true

@@ -1,37 +1,62 @@
-use Rattle.std.proofs.Common.{◌≡◌, sym, ◌∙◌}
-use Rattle.cop_plan.proofs.PlannedLemmas.{HasPlaces, places_inside, places_distinct, has_places, order_of_places, apart_of_places, priority_of_places, planned_of_places}
+use Rattle.std.proofs.Common.{◌≡◌, ◌++◌, reverse, refl, sym, ◌∙◌, arith}
+use Rattle.cop_plan.proofs.PlannedLemmas.{HasPlaces, order_count, order_room, order_inside_length, places_distinct, ids_count, order_of_places, passing_of_places, apart_of_places, by_priority_of_places, have_of_places, planned_of_places}
 use Rattle.cop_plan.proofs.plans.planned.Goals as goal
 
+listed : (c : goal.After-deref) → c.deref.result.now ≡ reverse c.args.upper.now ++ reverse c.args.lower.now
+listed c = c.deref.ensures.value ∙ c.in_ok-order.ensures
+
+pub identifiers-requires-clause-few : goal.identifiers-requires-clause-few
+identifiers-requires-clause-few c = omega (arith, order_count c.args.pdos c.args.lower.now c.args.upper.now c.requires.placed c.deref.result.now (listed c), c.requires.can.few)
+
+pub identifiers-requires-clause-first : goal.identifiers-requires-clause-first
+identifiers-requires-clause-first c = omega (arith, order_count c.args.pdos c.args.lower.now c.args.upper.now c.requires.placed c.deref.result.now (listed c), c.requires.placed.count)
+
+pub identifiers-requires-clause-room : goal.identifiers-requires-clause-room
+identifiers-requires-clause-room c = order_room c.args.pdos c.args.lower.now c.args.upper.now c.requires.placed c.deref.result.now (listed c)
+
 pub identifiers-requires-clause-inside : goal.identifiers-requires-clause-inside
-identifiers-requires-clause-inside c = places_inside c.args.fill.items c.deref.result.now c.requires.whole (c.deref.ensures.value ∙ c.reverse.ensures.items)
+identifiers-requires-clause-inside c = order_inside_length c.args.pdos c.args.lower.now c.args.upper.now c.requires.placed c.deref.result.now (listed c)
 
 pub identifiers-requires-clause-distinct : goal.identifiers-requires-clause-distinct
-identifiers-requires-clause-distinct c = places_distinct c.args.fill.items c.deref.result.now c.requires.whole (c.deref.ensures.value ∙ c.reverse.ensures.items)
+identifiers-requires-clause-distinct c = places_distinct c.args.pdos c.args.lower.now c.args.upper.now c.requires.placed c.deref.result.now (listed c)
+
+has : (c : goal.After-deref-2) → HasPlaces c.args.rate c.args.set.now c.args.pdos c.args.lower.now c.args.upper.now c.deref.result.now c.deref-2.result.now
+has c = rw c.deref-2.ensures.value (record {
+  can = c.requires.can;
+  placed = c.requires.placed;
+  plan = c.requires.order;
+  listed = c.deref.ensures.value ∙ c.in_ok-order.ensures;
+  count = c.in_ok-ids.ensures.count;
+  places = c.in_ok-ids.ensures.places;
+})
 
 pub renamed-requires-clause-apart : goal.renamed-requires-clause-apart
-renamed-requires-clause-apart c =
-    apart_of_places c.args.rate c.args.set.now c.args.fill.items c.deref-2.result.now c.requires.pdos c.requires.few c.requires.outside c.requires.whole c.requires.filled
-    (has_places c.args.fill.items c.deref.result.now c.in_ok-ids.ids.items c.deref-2.result.now (c.deref.ensures.value ∙ c.reverse.ensures.items) c.deref-2.ensures.value c.in_ok-ids.ensures.count c.in_ok-ids.ensures.places)
+renamed-requires-clause-apart c = apart_of_places (has c)
 
-has : (c : goal.After-into-2) → HasPlaces c.args.fill.items c.deref-2.result.now
-has c = has_places c.args.fill.items c.deref.result.now c.in_ok-ids.ids.items c.deref-2.result.now (c.deref.ensures.value ∙ c.reverse.ensures.items) c.deref-2.ensures.value c.in_ok-ids.ensures.count c.in_ok-ids.ensures.places
+-- of the plan's lists
+made : (c : goal.After-into-2) → HasPlaces c.args.rate c.args.set.now c.args.pdos c.args.lower.now c.args.upper.now c.into.result c.into-2.result
+made c = rw (c.into.ensures, c.into-2.ensures) (record {
+  can = c.requires.can;
+  placed = c.requires.placed;
+  plan = c.requires.order;
+  listed = c.in_ok-order.ensures;
+  count = rw c.deref.ensures.value at c.in_ok-ids.ensures.count;
+  places = rw c.deref.ensures.value at c.in_ok-ids.ensures.places;
+})
 
-same_ids : (c : goal.After-into-2) → c.into-2.result ≡ c.deref-2.result.now
-same_ids c = c.into-2.ensures ∙ sym c.deref-2.ensures.value
+same_ids : (c : goal.After-into-2) → c.deref-2.result.now ≡ c.into-2.result
+same_ids c = c.deref-2.ensures.value ∙ sym c.into-2.ensures
 
 pub invariant_of-result : goal.invariant_of-result
-invariant_of-result c =
-    rw (same_ids c)
-    (planned_of_places c.args.rate c.args.set.now c.args.fill.items c.deref-2.result.now c.requires.pdos c.requires.few c.requires.outside c.requires.whole c.requires.filled (has c)
-    c.into.result _ c.in_ok-streams.streams (c.into.ensures ∙ c.reverse.ensures.items) c.in_ok-streams.ensures c.requires.deadlines)
+invariant_of-result c = planned_of_places (made c) c.in_ok-streams.streams (rw (same_ids c) at c.in_ok-streams.ensures) c.args.refusals c.requires.tested
 
-pub returns-clause-order : goal.returns-clause-order
-returns-clause-order c =
-    rw (same_ids c)
-    (order_of_places c.args.rate c.args.set.now c.args.fill.items c.deref-2.result.now c.requires.pdos c.requires.few c.requires.outside c.requires.whole c.requires.filled (has c))
-
-pub returns-clause-by_priority : goal.returns-clause-by_priority
-returns-clause-by_priority c =
-    rw (same_ids c)
-    (priority_of_places c.args.rate c.args.set.now c.args.fill.items c.deref-2.result.now c.requires.pdos c.requires.few c.requires.outside c.requires.whole c.requires.filled (has c)
-    c.into.result (c.into.ensures ∙ c.reverse.ensures.items))
+pub returns : goal.returns
+returns c = record {
+  rate = refl;
+  refusals = refl;
+  count = ids_count (made c);
+  passing = passing_of_places (made c);
+  order = order_of_places (made c);
+  by_priority = by_priority_of_places (made c);
+  renamed = have_of_places (made c) c.in_ok-streams.streams (rw (same_ids c) at c.in_ok-streams.ensures);
+}

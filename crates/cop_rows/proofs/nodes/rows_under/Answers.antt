@@ -10,11 +10,11 @@ rows-preserved c =
     let next = rw c.if-branch.true at c.in_ok-read.ensures.next in
     let count : length c.rows.rows ≡ length c.read.new.self + 1 = rw next (omega arith) in (
       omega (arith, c.rows.invariant.0, count),
-      sym (goes_on added (c.rows.place + 1) c.rows.nodes _ _ c.read.new.self c.rows.rows next c.in_ok-add.ensures) ∙ c.rows.invariant.1,
+      sym (goes_on (added c.args.width) (c.rows.place + 1) c.rows.nodes _ _ c.read.new.self c.rows.rows next c.in_ok-add.ensures) ∙ c.rows.invariant.1,
     )
 
 pub returns-in_err-add : goal.returns-in_err-add
 returns-in_err-add c =
     let next = rw c.if-branch.true at c.in_ok-read.ensures.next in
     let p = err_from_is_err_and c.from_residual-in_err-add.result c.from_residual-in_err-add.ensures.1 in
-    rw (p.1, p.2) (fails added (c.rows.place + 1) c.rows.nodes (refusal c.in_err-add.field-0.0) _ c.read.new.self c.rows.rows _ next c.rows.invariant.1 c.in_err-add.ensures)
+    rw (p.1, p.2) (fails (added c.args.width) (c.rows.place + 1) c.rows.nodes (refusal c.in_err-add.field-0.0) _ c.read.new.self c.rows.rows _ next c.rows.invariant.1 c.in_err-add.ensures)

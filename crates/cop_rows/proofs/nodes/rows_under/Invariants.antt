@@ -4,7 +4,7 @@ use Rattle.cop_rows.specs.NodeReading.{added, no_rows}
 use Rattle.cop_rows.proofs.nodes.rows_under.Given as goal
 
 abbrev pub invariant-rows : goal.invariant-rows
-invariant-rows l = (l.place + length l.rows < 2 ^ 64) × (rows_from added (l.place + 1) l.nodes l.rows ≡ rows_from added 1 no_rows l.initial.rows)
+invariant-rows l = (l.place + length l.rows < 2 ^ 64) × (rows_from (added l.width) (l.place + 1) l.nodes l.rows ≡ rows_from (added l.width) 1 no_rows l.initial.rows)
 
 abbrev pub decreases-rows : goal.decreases-rows
 decreases-rows l = length l.rows

@@ -1,7 +1,7 @@
 use Rattle.std.proofs.Common.{ℕ, arith, max, subst, zero-le, ◌≡◌, ◌≤◌, ◌+◌}
 use Rattle.std.specs.Int.{div_ceil}
 use Rattle.std.proofs.lemmas.Grind.{common_steps}
-use Rattle.cop_rta.specs.Test.{place_of, cost_of, horizon, IsResponse}
+use Rattle.cop_rta.specs.Test.{place_of, jitter_of, cost_of, horizon, IsResponse}
 use Rattle.cop_rta.specs.Waits.{IsBelowWait}
 use Rattle.cop_rta.proofs.VerdictLemmas.{Surveyed-none, first_late, one_more, passes_by}
 use Rattle.cop_rta.proofs.WaitLemmas.{next_from, none_below, wait_below}
@@ -12,7 +12,7 @@ cost_is : (c : After-cost-cost) → c.cost-cost.result ≡ cost_of c.args.busy.n
 cost_is c = rw c.stream-stream.ensures at c.cost-cost.ensures.value
 
 answers : (c : After-response-response) → IsResponse (place_of c.args.busy.now) c.loop-q.q c.response-response.result
-answers c = record { wait = c.wait-wait.result; queueing = c.wait-wait.ensures.wait; response = c.response-response.ensures }
+answers c = record { wait = c.wait-wait.result; queueing = c.wait-wait.ensures.wait; response = c.response-response.ensures.value }
 
 -- the wait of the first instance
 first_wait : (c : Joined-q-eq0) → IsBelowWait (place_of c.args.busy.now) 0 c.if-q-eq0.first × (c.if-q-eq0.first ≤ horizon)
@@ -51,7 +51,7 @@ returns-then-is_late-clause-judged c =
 
 pub returns-clause-judged : goal.returns-clause-judged
 returns-clause-judged c =
-    let all : c.loop-q.q ≡ div_ceil (c.in-Some.time + c.stream-stream.result.now.jitter) c.stream-stream.result.now.period =
+    let all : c.loop-q.q ≡ div_ceil (c.in-Some.time + jitter_of c.args.busy.now.ahead c.stream-stream.result.now) c.stream-stream.result.now.period =
     omega (arith, (rw c.stream-stream.ensures at c.instances-instances.ensures.count)) in
     rw c.new-2.ensures (passes_by (place_of c.args.busy.now) c.stream-stream.result.now c.in-Some.time c.loop-q.q c.loop-q.greatest c.stream-stream.ensures (rw c.in-Some.is at c.requires.found) (rw c.in-Some.is at c.requires.within) all c.loop-q.invariant.survey)
 
@@ -59,6 +59,4 @@ pub returns-then-is_late-clause-wait : goal.returns-then-is_late-clause-wait
 returns-then-is_late-clause-wait c = rw c.new-then-is_late.ensures ((first_wait (goal.at.returns-then-is_late-clause-wait c).Joined-q-eq0).0)
 
 pub overflow_cast-response : goal.overflow_cast-response
-overflow_cast-response c =
-    let is = rw c.stream-stream.ensures at c.response-response.ensures in
-    omega (arith, is, cost_is (goal.at.overflow_cast-response c).After-cost-cost, c.stream-stream.result.now.jitter_in_range, c.wait-wait.ensures.within, c.cost-cost.ensures.most)
+overflow_cast-response c = omega (arith, c.response-response.ensures.most, c.wait-wait.ensures.within)

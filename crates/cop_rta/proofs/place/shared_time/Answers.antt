@@ -7,10 +7,10 @@ use Rattle.cop_rta.proofs.place.shared_time.Goals as goal
 use Rattle.cop_rta.proofs.place.shared_time.Goals.{After-first_above-index}
 
 abbrev here : After-first_above-index → Flags
-here c = record { streams = c.args.set.now; flags = flags_above true c.args.below.now; rate = c.args.rate }
+here c = record { streams = c.args.at.now.streams; flags = flags_above true c.args.below.now; rate = c.args.at.now.rate }
 
-inside : (c : After-first_above-index) → c.first_above-index.result < length c.args.set.now
-inside c = omega (arith, c.first_above-index.ensures.inside, c.len.ensures)
+inside : (c : After-first_above-index) → c.first_above-index.result < length c.args.at.now.streams
+inside c = omega (arith, c.first_above-index.ensures.inside, rw c.set-set.ensures at c.len.ensures)
 
 above : (c : After-first_above-index) → is_flagged (flags_above true c.args.below.now) c.first_above-index.result ≡ true
 above c = rw c.unflagged-above.ensures at c.first_above-index.ensures.above
@@ -23,10 +23,10 @@ time_from-requires-clause-started c =
 pub time_from-requires-clause-from : goal.time_from-requires-clause-from
 time_from-requires-clause-from c =
     let at = (goal.at.time_from-requires-clause-from c).After-first_above-index in
-    rw (c.in_row-busy.ensures, c.unflagged-above.ensures, c.requires.blocking, c.requires.costs) (busy_from (here at) c.first_above-index.result (inside at) (above at))
+    rw (c.in_row-busy.ensures, c.set-set.ensures, c.clock-clock.ensures.rate, c.clock-clock.ensures.ahead, c.unflagged-above.ensures, c.requires.blocking, c.requires.costs) (busy_from (here at) c.first_above-index.result (inside at) (above at))
 
 pub returns : goal.returns
 returns c =
     let at = (goal.at.returns c).After-first_above-index in
     shared_of (here at) c.first_above-index.result (inside at) (above at) c.time_from.result
-    (rw (c.in_row-busy.ensures, c.unflagged-above.ensures) at c.time_from.ensures.found) c.time_from.ensures.within (rw (c.in_row-busy.ensures, c.unflagged-above.ensures) at c.time_from.ensures.none)
+    (rw (c.in_row-busy.ensures, c.set-set.ensures, c.clock-clock.ensures.rate, c.clock-clock.ensures.ahead, c.unflagged-above.ensures) at c.time_from.ensures.found) c.time_from.ensures.within (rw (c.in_row-busy.ensures, c.set-set.ensures, c.clock-clock.ensures.rate, c.clock-clock.ensures.ahead, c.unflagged-above.ensures) at c.time_from.ensures.none)

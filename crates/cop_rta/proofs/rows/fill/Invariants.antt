@@ -8,6 +8,6 @@ use Rattle.cop_rta.proofs.rows.fill.Given as goal
 
 abbrev pub invariant-loop-k : goal.invariant-loop-k
 invariant-loop-k l = record {
-  sums : (rate : Rate) (time : ℕ) → time ≤ last_time → sum_by (bits_in time) l.row.items * ticks_of rate ≡ sum_where (is_flagged l.above) (of_stream (load_of rate time) l.set) l.k;
+  sums : (rate : Rate) (time : ℕ) → time ≤ last_time → sum_by (bits_in time) l.row.items * ticks_of rate ≡ sum_where (is_flagged l.above) (of_stream (load_of rate l.ahead time) l.set) l.k;
   few : length l.row.items ≤ l.k;
 }

@@ -3,6 +3,7 @@ use Rattle.std.proofs.lemmas.List.{length-set, with_items_is}
 use Rattle.cop_rta.specs.declared.verdicts.Verdict.TheVariants.{Long}
 use Rattle.cop_rta.proofs.SweepLemmas.{missing, swept_past, swept_one, not_yet, swept_none}
 use Rattle.cop_rta.proofs.NextStarts.{row_more, no_row}
+use Rattle.cop_rta.proofs.PaceLemmas.{pace_with, pace_small}
 use Rattle.cop_rta.proofs.sweeps.verdicts_by_id.Goals as goal
 use Rattle.cop_rta.proofs.sweeps.verdicts_by_id.Goals.{in-Some+in_ok-push, in_default}
 
@@ -19,12 +20,13 @@ loop-id-preserved c = elim c.match-place_of.branch [
       ∙ w.judge_next-swept.ensures.above
       ∙ ap (λ (flags : List Bool). set flags w.in-Some.index true) old in
       rw (w.verdicts-is, w.row-is, w.last-is, above) (record {
-        swept = swept_one c.args.rate c.args.set.now c.loop-id.above.items c.loop-id.verdicts.items c.loop-id.id c.loop-id.invariant.swept (rw c.streams-count.ensures.items at c.streams-count.ensures.distinct) w.in-Some.index (rw w.in-Some.is at (sym c.place_of.ensures.place)) w.in-Some.ensures.within w.judge_next-swept.result.verdict (rw old at w.judge_next-swept.ensures.judged);
-        row = rw w.in_ok-push.ensures.items (row_more c.args.set.now c.loop-id.above.items c.loop-id.row.items w.paces.result.now w.in-Some.index w.index-paces-index.result w.paces.ensures.paces c.loop-id.invariant.swept.size w.in-Some.ensures.within w.index-paces-index.is
+        swept = swept_one c.args.rate c.args.set.now c.loop-id.above.items c.loop-id.verdicts.items c.loop-id.id c.loop-id.invariant.swept (rw c.streams-count.ensures.items at c.streams-count.ensures.distinct) w.in-Some.index (rw w.in-Some.is at (sym c.place_of.ensures.place)) w.in-Some.ensures.within w.judge_next-swept.result.verdict (rw (old, c.clock-clock.ensures.rate, c.new.ensures) at w.judge_next-swept.ensures.judged);
+        row = rw w.in_ok-push.ensures.items (row_more c.args.set.now c.clock-clock.result.ahead c.loop-id.above.items c.loop-id.row.items w.in-Some.index w.after.result c.loop-id.invariant.swept.size w.in-Some.ensures.within
+            (pace_with c.clock-clock.result.ahead c.clock-clock.result.ahead_most c.args.set.now w.paces.result.now w.paces.ensures.paces w.in-Some.index w.index-paces-index.result w.after.result w.in-Some.ensures.within w.index-paces-index.is w.after.ensures)
             (not_yet c.args.rate c.args.set.now c.loop-id.above.items c.loop-id.verdicts.items c.loop-id.id c.loop-id.invariant.swept (rw c.streams-count.ensures.items at c.streams-count.ensures.distinct) w.in-Some.index (rw w.in-Some.is at (sym c.place_of.ensures.place)) w.in-Some.ensures.within)
             c.loop-id.invariant.row);
         few = rw w.in_ok-push.ensures.items (simp length-append (omega (arith, c.loop-id.invariant.few)));
-        last = rw old at w.judge_next-swept.ensures.last;
+        last = rw (old, c.clock-clock.ensures.rate, c.new.ensures) at w.judge_next-swept.ensures.last;
       })
   | in_default w ↦ rw (w.above-is, w.verdicts-is, w.row-is, w.last-is) (record {
     swept = swept_past c.args.rate c.args.set.now c.loop-id.above.items c.loop-id.verdicts.items c.loop-id.id c.loop-id.invariant.swept (missing _ (λ k here. w.in_default.not-Some k (c.place_of.ensures.place ∙ here)));
@@ -38,14 +40,18 @@ pub loop-id-init : goal.loop-id-init
 loop-id-init c =
     let flags : c.in_ok-above.above.items ≡ replicate (length c.args.set.now) false = rw c.streams-count.ensures.items at (c.in_ok-above.ensures.items_if_clones_equal (search rules)) in
     let verdicts : c.in_ok-verdicts.verdicts.items ≡ replicate (length c.args.set.now) Long = rw c.streams-count.ensures.items at (c.in_ok-verdicts.ensures.items_if_clones_equal (search rules)) in
-    rw (flags, verdicts, c.new-row.ensures.items) (record { swept = swept_none c.args.rate c.args.set.now; row = no_row c.args.set.now (length c.args.set.now); few = omega arith; last = tt })
+    rw (flags, verdicts, c.new-row.ensures.items) (record { swept = swept_none c.args.rate c.args.set.now; row = no_row c.args.set.now c.clock-clock.result.ahead (length c.args.set.now); few = omega arith; last = tt })
 
 pub judge_next-swept-requires-clause-row : goal.judge_next-swept-requires-clause-row
 judge_next-swept-requires-clause-row c =
-    rw (c.deref.ensures.value, c.in_ok-push.ensures.items, c.deref_mut.ensures.value) (row_more c.args.set.now c.loop-id.above.items c.loop-id.row.items c.paces.result.now c.in-Some.index c.index-paces-index.result c.paces.ensures.paces c.loop-id.invariant.swept.size c.in-Some.ensures.within c.index-paces-index.is
+    rw (c.deref.ensures.value, c.in_ok-push.ensures.items, c.deref_mut.ensures.value) (row_more c.args.set.now c.clock-clock.result.ahead c.loop-id.above.items c.loop-id.row.items c.in-Some.index c.after.result c.loop-id.invariant.swept.size c.in-Some.ensures.within
+    (pace_with c.clock-clock.result.ahead c.clock-clock.result.ahead_most c.args.set.now c.paces.result.now c.paces.ensures.paces c.in-Some.index c.index-paces-index.result c.after.result c.in-Some.ensures.within c.index-paces-index.is c.after.ensures)
     (not_yet c.args.rate c.args.set.now c.loop-id.above.items c.loop-id.verdicts.items c.loop-id.id c.loop-id.invariant.swept (rw c.streams-count.ensures.items at c.streams-count.ensures.distinct) c.in-Some.index (rw c.in-Some.is at (sym c.place_of.ensures.place)) c.in-Some.ensures.within)
     c.loop-id.invariant.row)
 
 -- written here so that a body that breaks it is refused at once
 pub returns-clause-judged : goal.returns-clause-judged
 returns-clause-judged c = search rules
+
+pub after-requires-clause-own : goal.after-requires-clause-own
+after-requires-clause-own c = pace_small c.args.set.now c.paces.result.now c.paces.ensures.paces c.in-Some.index c.index-paces-index.result c.in-Some.ensures.within c.index-paces-index.is

@@ -10,9 +10,9 @@ use Rattle.cop_sim.proofs.playing.first_offers.Goals as goal
 
 pub loop-i-preserved : goal.loop-i-preserved
 loop-i-preserved g c =
-    subst (λ (next : List (Option Offer)). AreFirst g.B.Behaviour.offer g.B.Behaviour.agrees c.args.until c.args.streams.now c.args.behaviours.now.items c.ask.new.behaviours.items next (c.loop-i.i + 1)) (sym c.in_ok-push-in-Ok.ensures.ok)
-    (first-more g.B.Behaviour.offer g.B.Behaviour.agrees c.args.until c.args.streams.now c.args.behaviours.now.items c.loop-i.behaviours.items c.ask.new.behaviours.items c.loop-i.next.items c.loop-i.i c.index-streams-i.result c.in-Ok.offer
-    c.loop-i.invariant (omega (arith, c.loop-i-test.true, c.requires)) c.index-streams-i.is c.in-Ok.ensures.asked c.in-Ok.ensures.answer c.in-Ok.ensures.obeys)
+    subst (λ (next : List (Option Offer)). AreFirst g.B.Behaviour.offer g.B.Behaviour.agrees c.args.until c.args.streams.now c.args.behaviours.now.items c.ask_first.new.behaviours.items next (c.loop-i.i + 1)) (sym c.in_ok-push-in-Ok.ensures.ok)
+    (first-more g.B.Behaviour.offer g.B.Behaviour.agrees c.args.until c.args.streams.now c.args.behaviours.now.items c.loop-i.behaviours.items c.ask_first.new.behaviours.items c.loop-i.next.items c.loop-i.i c.index-streams-i.result c.in-Ok.offer
+    c.loop-i.invariant (omega (arith, c.loop-i-test.true, c.requires)) c.index-streams-i.is c.in-Ok.ensures.first)
 
 pub returns-in_err-push-in-Ok-clause-fault : goal.returns-in_err-push-in-Ok-clause-fault
 returns-in_err-push-in-Ok-clause-fault g c = err-if c.from_residual.result _ Memory c.from_residual.ensures.1 tt
@@ -24,6 +24,7 @@ returns-in-Err-clause-fault g c = (
   λ k b e f. (
     c.in-Err.field-0,
     c.in-Err.ensures.fault b (c.loop-i.invariant.rest c.loop-i.i (omega arith) ∙ f),
-    subst (λ (v : Stream). obeys v None c.in-Err.field-0 ≡ false) (same_stream c.args.streams.now c.loop-i.i c.index-streams-i.result k c.index-streams-i.is e) c.in-Err.ensures.breaks,
+    subst (λ (v : Stream). obeys v None c.in-Err.field-0 ≡ false) (same_stream c.args.streams.now c.loop-i.i c.index-streams-i.result k c.index-streams-i.is e) c.in-Err.ensures.breaks.0,
+    subst (λ (v : Stream). v.every ≡ 0) (same_stream c.args.streams.now c.loop-i.i c.index-streams-i.result k c.index-streams-i.is e) c.in-Err.ensures.breaks.1,
   ),
 )

@@ -3,4 +3,4 @@ use Rattle.cop_rta.proofs.PaceLemmas.{pace_made}
 use Rattle.cop_rta.proofs.paces.Pace.new.Goals as goal
 
 pub returns : goal.returns
-returns c = pace_made c.args.stream.now _ (search rules) refl refl
+returns c = pace_made c.args.stream.now _ (search rules) refl refl refl

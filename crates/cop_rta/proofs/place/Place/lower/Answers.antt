@@ -9,12 +9,12 @@ use Rattle.cop_rta.proofs.place.Place.lower.Goals as goal
 use Rattle.cop_rta.proofs.place.Place.lower.Goals.{After-max-from_below}
 
 abbrev before : After-max-from_below → Flags
-before c = record { streams = c.self.inside.set.now; flags = map not c.self.inside.below.now; rate = c.self.inside.rate }
+before c = record { streams = c.self.inside.at.streams; flags = map not c.self.inside.below.now; rate = c.self.inside.at.rate }
 
 abbrev then : After-max-from_below → Flags
-then c = record { streams = c.self.inside.set.now; flags = map not (set c.self.inside.below.now c.args.index true); rate = c.self.inside.rate }
+then c = record { streams = c.self.inside.at.streams; flags = map not (set c.self.inside.below.now c.args.index true); rate = c.self.inside.at.rate }
 
-inside : (c : After-max-from_below) → c.args.index < length c.self.inside.set.now
+inside : (c : After-max-from_below) → c.args.index < length c.self.inside.at.streams
 inside c = rw (← c.self.view_is) at c.requires.index
 
 flag : (c : After-max-from_below) → is_flagged (map not c.self.inside.below.now) c.args.index ≡ true
@@ -39,10 +39,10 @@ pub shared_time-busy-requires-clause-some : goal.shared_time-busy-requires-claus
 shared_time-busy-requires-clause-some c = rw (turned c.self.inside.below.now c.args.index) (rw (← c.self.view_is) at c.requires.some)
 
 pub shared_time-busy-requires-clause-blocking : goal.shared_time-busy-requires-clause-blocking
-shared_time-busy-requires-clause-blocking c = longest (goal.at.shared_time-busy-requires-clause-blocking c).After-max-from_below
+shared_time-busy-requires-clause-blocking c = rw c.again-at.ensures (longest (goal.at.shared_time-busy-requires-clause-blocking c).After-max-from_below)
 
 pub shared_time-busy-requires-clause-costs : goal.shared_time-busy-requires-clause-costs
-shared_time-busy-requires-clause-costs c = costs (goal.at.shared_time-busy-requires-clause-costs c).After-max-from_below
+shared_time-busy-requires-clause-costs c = rw c.again-at.ensures (costs (goal.at.shared_time-busy-requires-clause-costs c).After-max-from_below)
 
 pub invariant_of-self : goal.invariant_of-self
 invariant_of-self c =
@@ -53,9 +53,9 @@ invariant_of-self c =
       most = omega (arith, longest at, c.max-from_below.ensures, c.self.invariant.most, c.cost-own.ensures.most);
       costs_are = costs at;
       costs_most = omega (arith, c.self.invariant.costs_most);
-      is_row = rw c.unflagged.ensures at c.fill.ensures;
-      shared = c.shared_time-busy.ensures;
+      is_row = rw (c.set.ensures, c.clock.ensures.ahead, c.again-at.ensures, c.unflagged-above.ensures) at c.fill.ensures;
+      shared = rw c.again-at.ensures at c.shared_time-busy.ensures;
     }
 
 pub returns : goal.returns
-returns c = rw (← c.self.view_is) (ap (λ (flags : List Bool). record { streams = c.self.inside.set.now; flags = flags; rate = c.self.inside.rate }) (turned c.self.inside.below.now c.args.index))
+returns c = rw (← c.self.view_is) (ap (λ (flags : List Bool). record { streams = c.self.inside.at.streams; flags = flags; rate = c.self.inside.at.rate }) (turned c.self.inside.below.now c.args.index))

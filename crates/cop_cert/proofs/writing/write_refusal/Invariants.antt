@@ -1,8 +1,0 @@
-use Rattle.std.proofs.Common.{take}
-use Rattle.std.specs.List.{flat_map}
-use Rattle.cop_cert.specs.Format.{member_rows}
-use Rattle.cop_cert.specs.Writer.{Adds}
-use Rattle.cop_cert.proofs.writing.write_refusal.Given as goal
-
-abbrev pub invariant-loop-member : goal.invariant-loop-member
-invariant-loop-member l = Adds l.fn.writer l.writer (flat_map (member_rows l.refusal.rate) (take l.member-index l.refusal.members))

@@ -1,0 +1,145 @@
+-- The streams of a plan: those of the rows of both tables, and which of them are tested.
+use Rattle.std.proofs.Common.{◌≡◌, ◌≢◌, ℕ, ◌*◌, ◌<◌, ◌≤◌, List, length, map, slice_get, option_map, Option, Some, None, IsSome, Contains, refl, sym, ap, ◌∙◌, subst, arith}
+use Rattle.std.specs.Option.{option_and_then, option_map_or}
+use Rattle.std.proofs.lemmas.Option.{slice_get-map, slice_get_within, get_or_from_slice_get}
+use Rattle.cop_rta.specs.declared.streams.Stream.{Stream}
+use Rattle.cop_rta.specs.Entries.{Entry, entry_of}
+use Rattle.cop_rta.specs.Test.{of_stream}
+use Rattle.cop_rta.specs.Greatest.{AreSynced}
+use Rattle.cop_cert.specs.Assignments.{least_id, IsTested, id_under}
+use Rattle.cop_rows.specs.declared.pdo_table.PdoRow.{PdoRow}
+use Rattle.cop_rows.specs.declared.node_table.FrameRow.{FrameRow}
+use Rattle.cop_net.specs.Fixed.{ticks, frame_stream}
+use Rattle.cop_net.specs.Pdos.{period_of, pdo_stream}
+use Rattle.cop_net.specs.Signals.{signals_of}
+use Rattle.cop_net.specs.Network.{IsNetwork, deadline_at}
+use Rattle.cop_plan.specs.Values.{PlanValue, Timing, timing_of, id_of, HaveDeadlines, ArePdosHigh, AreOnTime}
+use Rattle.cop_plan.specs.Plans.{IsPlan}
+use Rattle.cop_plan.proofs.RenameLemmas.{id_of_pdo, id_of_fixed, none_lower, still_tested, on_time_renamed, synced_renamed}
+use Rattle.cop_engine.specs.Guarantee.{IsFrameOf, IsPdoOf}
+use Rattle.cop_engine.specs.Networks.{Found, net_of}
+use Rattle.cop_engine.proofs.RowStreams.{row_stream, by_events, by_sync}
+use Rattle.cop_engine.proofs.FrameStreams.{frame_there, sync_row}
+
+-- what a function made something of was there
+pub was_there : {A B : Type 0} (f : A → B) (o : Option A) (b : B) → option_map f o ≡ Some b → (a : A) × (o ≡ Some a) × (f a ≡ b)
+was_there f None b h = absurd (cc)
+was_there f (Some a) b h = (a, refl, same (f a) b h)
+  where
+    same : {B : Type 0} (x y : B) → Some x ≡ Some y → x ≡ y
+    same x y e = cc
+
+some_is : (o : Option ℕ) → IsSome o → (d : ℕ) × (o ≡ Some d)
+some_is None h = absurd (cc)
+some_is (Some d) h = (d, refl)
+
+-- what a stream has of its table, whatever its identifier is
+abbrev timing_in : Entry → Timing
+timing_in e = record { bytes = e.bytes; period = e.period; jitter = e.jitter; deadline = e.deadline; every = e.every }
+
+module _ (found : Found) (streams : List Stream) (is : IsNetwork (net_of found streams)) (plan : PlanValue) (planned : IsPlan found.network.equipment.rates streams (length found.rows) plan) where
+  abbrev pdos : ℕ
+  pdos = length found.rows
+
+  have_deadlines : HaveDeadlines streams pdos
+  have_deadlines p h = some_is (deadline_at streams p) (is.streams.deadlines p h)
+
+  provisional : ArePdosHigh streams pdos
+  provisional p h = omega (arith, is.streams.provisional p h)
+
+  chosen : (p : ℕ) → p < pdos → least_id ≤ id_of plan.ids p
+  chosen = none_lower pdos (id_of plan.ids) planned.passing.0
+
+  -- each PDO and each tested frame passes under the plan's identifiers
+  pub fine : AreOnTime plan.rate plan.streams (length plan.ids)
+  fine = subst (λ (n : ℕ). AreOnTime plan.rate plan.streams n) (sym planned.count)
+      (on_time_renamed plan.rate streams plan.streams pdos (id_of plan.ids) planned.renamed is.streams.count have_deadlines provisional chosen planned.passing.1)
+
+  pub synced : AreSynced plan.streams
+  synced = synced_renamed plan.rate streams plan.streams pdos (id_of plan.ids) planned.renamed provisional chosen is.synced
+
+  -- each stream of the network stands in the plan, with its times
+  renamed_at : (f : ℕ) (e : Entry) → slice_get (map entry_of streams) f ≡ Some e → (k : Stream) × (slice_get plan.streams f ≡ Some k) × (timing_of k ≡ timing_in e)
+  renamed_at f e there =
+      let s = was_there entry_of (slice_get streams f) e (sym (slice_get-map entry_of streams f) ∙ there) in
+      let t : option_map timing_of (slice_get plan.streams f) ≡ Some (timing_of s.0) =
+      sym (slice_get-map timing_of plan.streams f) ∙ ap (λ (ts : List Timing). slice_get ts f) planned.renamed.timings ∙ slice_get-map timing_of streams f ∙ ap (λ (o : Option Stream). option_map timing_of o) s.1 in
+      let k = was_there timing_of (slice_get plan.streams f) (timing_of s.0) t in
+      (k.0, k.1, k.2 ∙ ap timing_in s.2)
+
+  inside : (f : ℕ) (e : Entry) → slice_get (map entry_of streams) f ≡ Some e → f < length streams
+  inside f e there = let s = was_there entry_of (slice_get streams f) e (sym (slice_get-map entry_of streams f) ∙ there) in slice_get_within streams f s.0 s.1
+
+  id_renamed : (f : ℕ) (k : Stream) → slice_get plan.streams f ≡ Some k → f < length streams → k.id ≡ id_under streams pdos (id_of plan.ids) f
+  id_renamed f k here low =
+      let id : of_stream (λ s. s.id) plan.streams f ≡ id_under streams pdos (id_of plan.ids) f = planned.renamed.each f low in
+      rw here at id
+
+  -- and past the PDOs with its identifier
+  id_kept : (f : ℕ) (e : Entry) (k : Stream) → pdos ≤ f → slice_get (map entry_of streams) f ≡ Some e → slice_get plan.streams f ≡ Some k → k.id ≡ e.id
+  id_kept f e k past there here =
+      let s = was_there entry_of (slice_get streams f) e (sym (slice_get-map entry_of streams f) ∙ there) in
+      let id : of_stream (λ s. s.id) streams f ≡ s.0.id = ap (λ (o : Option Stream). option_map_or (λ (s : Stream). s.id) o 0) s.1 in
+      id_renamed f k here (inside f e there) ∙ id_of_fixed streams pdos (id_of plan.ids) f past ∙ id ∙ ap (λ (e : Entry). e.id) s.2
+
+  -- the stream of a row of the table of nodes, past the PDOs
+  pub frame_at : (row : FrameRow) → Contains found.nodes.frames row → row.period ≢ 0 → (f : ℕ) × (pdos ≤ f) × (k : Stream) × (slice_get plan.streams f ≡ Some k) × IsFrameOf plan row k
+  frame_at row at some =
+      let t = frame_there (net_of found streams) is row at some in
+      let k = renamed_at t.0 (frame_stream row) t.2 in (
+        t.0,
+        t.1,
+        k.0,
+        k.1,
+        record {
+          here = (t.0, slice_get_within plan.streams t.0 k.0 k.1, get_or_from_slice_get plan.streams t.0 k.0 k.0 k.1);
+          id = id_kept t.0 (frame_stream row) k.0 t.1 t.2 k.1;
+          period = ap (λ (t : Timing). t.period) k.2;
+          jitter = ap (λ (t : Timing). t.jitter) k.2;
+          deadline = ap (λ (t : Timing). t.deadline) k.2;
+          every = ap (λ (t : Timing). t.every) k.2;
+        },
+      )
+
+  -- the stream of a row of the table of PDOs
+  pub pdo_of : (p : ℕ) (row : PdoRow) → slice_get found.rows p ≡ Some row → (k : Stream) × IsPdoOf found plan p row k
+  pdo_of p row there =
+      let low : p < pdos = slice_get_within found.rows p row there in
+      let signals = signals_of found.nodes.frames pdos in
+      let r = row_stream (net_of found streams) is p row there in
+      let k = renamed_at p (pdo_stream signals p r.sent row) r.there in
+      let every : k.0.every ≡ r.sent.every = ap (λ (t : Timing). t.every) k.2 in
+      let period : k.0.period ≡ ticks (period_of signals.sync row r.sent.every) = ap (λ (t : Timing). t.period) k.2 in (
+        k.0,
+        record {
+          here = k.1;
+          id = id_renamed p k.0 k.1 (inside p (pdo_stream signals p r.sent row) r.there) ∙ id_of_pdo streams pdos (id_of plan.ids) p low;
+          type = rw every r.type;
+          by_events = λ none. period ∙ ap ticks (by_events signals.sync row r.sent.every (sym every ∙ none));
+          by_sync = λ some.
+              let s = by_sync signals.sync row r.sent.every (omega (arith, some, every)) r.paced in
+              let its = sync_row found.nodes.frames s.1 s.2 in
+              let stream = frame_at s.1 its.0 its.1 in
+              record {
+                no_period = s.0;
+                sync = s.1;
+                is_sync = s.2;
+                stream = (stream.2, stream.4);
+                period = period ∙ s.3 ∙ ap (λ (n : ℕ). n * ticks s.1.period) (sym every);
+              };
+          jitter = ap (λ (t : Timing). t.jitter) k.2;
+          deadline = ap (λ (t : Timing). t.deadline) k.2;
+        },
+      )
+
+  -- a stream past the PDOs that has a deadline is an SDO frame that is tested
+  pub tested_at : (f : ℕ) (k : Stream) (d : ℕ) → length plan.ids ≤ f → slice_get plan.streams f ≡ Some k → k.deadline ≡ Some d → IsTested plan.streams (length plan.ids) f
+  tested_at f k d past here dated =
+      let s = was_there timing_of (slice_get streams f) (timing_of k)
+      (sym (slice_get-map timing_of streams f) ∙ ap (λ (ts : List Timing). slice_get ts f) (sym planned.renamed.timings) ∙ slice_get-map timing_of plan.streams f ∙ ap (λ (o : Option Stream). option_map timing_of o) here) in
+      let fixed : pdos ≤ f = omega (arith, past, planned.count) in
+      let low = slice_get_within streams f s.0 s.1 in
+      let deadline : deadline_at streams f ≡ Some d = ap (λ (o : Option Stream). option_and_then (λ (s : Stream). s.deadline) o) s.1 ∙ ap (λ (t : Timing). t.deadline) s.2 ∙ dated in
+      let some : IsSome (deadline_at streams f) = rw deadline cc in
+      subst (λ (n : ℕ). IsTested plan.streams n f) (sym planned.count)
+      (still_tested plan.rate streams plan.streams pdos (id_of plan.ids) planned.renamed f (record { fixed = fixed; inside = low; sdo = is.streams.dated f fixed low some; deadline = (d, deadline) }))

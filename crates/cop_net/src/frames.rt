@@ -1,0 +1,133 @@
+//! The frames of a table of nodes, by their places.
+
+ghost use Rattle.std.specs.Prelude.{◌≡◌, ◌<◌, ◌≤◌, ◌==◌, All, IfSome, find};
+ghost use Rattle.cop_rows.specs.declared.node_table.FrameRow.{FrameRow};
+ghost use Rattle.cop_net.specs.Fixed.{rank_of, key_of, IsTimed, KnowsFrames};
+ghost use Rattle.cop_net.specs.Heartbeats.{time_in, heartbeat_of};
+ghost use Rattle.cop_net.specs.Signals.{sync_of, has_sdo_deadline};
+ghost use Rattle.cop_net.specs.Pdos.{IsSync};
+
+use cop_rows::{FrameKind, FrameRow};
+use std::marker::Model;
+
+/// How many places the frames of all nodes have in their order.
+pub const PLACES: usize = 768;
+
+/// The place of a kind in the order of the frames of one node.
+fn rank(kind: FrameKind) -> usize
+    ensures value { result ≡ rank_of kind }
+    ensures most { result < 6 }
+{
+    match kind {
+        FrameKind::Nmt => 0,
+        FrameKind::Sync => 1,
+        FrameKind::Emcy => 2,
+        FrameKind::SdoResponse => 3,
+        FrameKind::SdoRequest => 4,
+        FrameKind::Heartbeat => 5,
+    }
+}
+
+/// The place of a row in the order of the frames: by rising node, and of one node by kind.
+fn key(row: FrameRow) -> usize
+    requires { row.node ≤ 127 }
+    ensures value { result ≡ key_of row }
+    ensures most { result < 768 }
+{
+    6 * usize::from(row.node) + rank(row.kind)
+}
+
+/// The rows by their places in the order of the frames.
+fn by_place(frames: &[FrameRow]) -> [Option<FrameRow>; PLACES]
+    requires { All IsTimed frames.now }
+    ensures { KnowsFrames result frames.now }
+{
+    let mut places = [None; PLACES];
+    for row in frames {
+        let key = key(*row);
+        if places[key].is_none() {
+            places[key] = Some(*row);
+        }
+    }
+    places
+}
+
+/// The time of a row in ms, 0 where there is none.
+fn time_in(row: Option<FrameRow>) -> u16
+    requires { IfSome row IsTimed }
+    ensures { result ≡ time_in row }
+{
+    match row {
+        Some(row) => (row.period / 1000) as u16,
+        None => 0,
+    }
+}
+
+/// The frames of a table, which stand at their places too. Contracts see them in the order of the records.
+#[derive(Drop)]
+pub struct Frames<'a> {
+    rows: &'a [FrameRow],
+    places: [Option<FrameRow>; PLACES],
+}
+
+impl<'a> Model for Frames<'a> {
+    ghost use Rattle.std.specs.Prelude.{List, All};
+    ghost use Rattle.cop_rows.specs.declared.node_table.FrameRow.{FrameRow};
+    ghost use Rattle.cop_net.specs.Fixed.{IsTimed, KnowsFrames};
+
+    ghost Value = { List FrameRow };
+
+    ghost view = { λ f. f.rows.now };
+
+    ghost invariant = { λ f. All IsTimed f.rows.now × KnowsFrames f.places f.rows.now };
+}
+
+impl<'a> Frames<'a> {
+    /// The frames of a table.
+    pub fn new(rows: &'a [FrameRow]) -> Frames<'a>
+        requires { All IsTimed rows.now }
+        ensures { result ≡ rows.now }
+    {
+        Frames {
+            rows,
+            places: by_place(rows),
+        }
+    }
+
+    /// The frame at a place.
+    pub fn at(&self, place: usize) -> Option<FrameRow>
+        ensures row { result ≡ find (λ row. key_of row == place) self.now }
+        ensures timed { IfSome result IsTimed }
+    {
+        if place < PLACES {
+            self.places[place]
+        } else {
+            None
+        }
+    }
+
+    /// The time of a node's heartbeat in ms, 0 where it has none.
+    pub fn time(&self, node: u8) -> u16
+        ensures { result ≡ heartbeat_of self.now node }
+    {
+        time_in(self.at(6 * usize::from(node) + 5))
+    }
+
+    /// The row of SYNC, where it is sent.
+    pub fn sync(&self) -> Option<FrameRow>
+        ensures row { result ≡ sync_of self.now }
+        ensures times { IfSome result IsSync }
+    {
+        match self.at(1) {
+            Some(row) if row.period != 0 => Some(row),
+            _ => None,
+        }
+    }
+
+    /// Whether some SDO frame has a deadline.
+    pub fn has_sdo_deadline(&self) -> bool
+        ensures { result ≡ has_sdo_deadline self.now }
+    {
+        self.rows.iter().any(|row| row.deadline.is_some())
+    }
+}

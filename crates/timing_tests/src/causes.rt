@@ -1,0 +1,516 @@
+//! Refusals by SYNC and by SDO frames, and refusal files of version 2.
+
+ghost use Rattle.std.specs.Prelude.{◌≤◌, ◌<◌};
+
+use crate::plans::answer_for;
+use crate::ranges::{ONE_TOO_MANY, RATES, TOO_LATE, many, synchronous};
+use crate::refusals::{BEGIN, are_written, breach, holds, joined, late_member};
+use cop_cert::{
+    Breach, Cause, CertFault, Evidence, Items, Member, Refusal, Rule, fail_together, is_sync_long,
+    is_tested, make_for_sync, read, write,
+};
+use cop_frame::Rate;
+use cop_plan::Outcome;
+use cop_rta::{IdRange, SetFault, Stream, StreamSet, read_streams};
+use std::alloc::{AllocError, Global};
+use std::test::Fail;
+
+/// SYNC's busy list at 250 kbit/s where SYNC and a PDO of 8 bytes are sent each 100 us.
+const SYNC_BUSY: &[u64] = &[
+    1, 3_040, 9_200, 22_400, 51_440, 115_680, 257_360, 568_880, 1_254_400, 2_761_840, 6_078_560,
+    13_375_520, 29_428_480, 64_745_520,
+];
+
+fn numbers(alloc: Global, list: &[u64]) -> Result<Items<u64>, AllocError> {
+    Ok(Items::from(Vec::from_slice(alloc, list)?))
+}
+
+/// A refusal by SYNC with this busy list.
+fn by_sync(alloc: Global, rate: Rate, list: &[u64]) -> Result<Refusal, AllocError> {
+    let busy = numbers(alloc, list)?;
+    let cause = Cause::Sync { busy };
+    Ok(Refusal { rate, cause })
+}
+
+/// A refusal by the first PDO alone, which is busy past the horizon, with this busy list.
+fn by_first(alloc: Global, rate: Rate, list: &[u64]) -> Result<Refusal, AllocError> {
+    let busy = numbers(alloc, list)?;
+    let mut members = Items::new(alloc);
+    members.push(Member {
+        pdo: 0,
+        evidence: Evidence::Long { busy },
+    })?;
+    let cause = Cause::Places { members };
+    Ok(Refusal { rate, cause })
+}
+
+/// The refusal by SYNC, where SYNC is past the horizon.
+fn made(
+    alloc: Global,
+    set: &StreamSet,
+    pdos: usize,
+    rate: Rate,
+) -> Result<Option<Refusal>, AllocError> {
+    if pdos > set.len() || !is_sync_long(set, pdos, rate) {
+        return Ok(None);
+    }
+    Ok(Some(make_for_sync(alloc, set, pdos, rate)?))
+}
+
+/// The busy list of a refusal by SYNC.
+fn sync_list(refusal: &Refusal) -> &[u64] {
+    match &refusal.cause {
+        Cause::Sync { busy } => busy.as_slice(),
+        Cause::Places { .. } | Cause::Sdo { .. } => &[],
+    }
+}
+
+#[test]
+fn refusals_by_sync_are_made(rt: HostRuntime) -> Result<(), Fail> {
+    let set = synchronous(rt.alloc(), 400, 6_480)?;
+    let refusal = made(rt.alloc(), &set, 1, Rate::Kbit250)?.ok_or("SYNC is not long")?;
+    assert!(rt; sync_list(&refusal) == SYNC_BUSY);
+    assert!(rt; holds(&set, 1, &refusal) == Some(true));
+    assert!(rt; made(rt.alloc(), &set, 1, Rate::Kbit500)?.is_some());
+    assert!(rt; made(rt.alloc(), &set, 1, Rate::Kbit1000)?.is_none());
+    let slower = synchronous(rt.alloc(), 40_000, 6_480)?;
+    assert!(rt; made(rt.alloc(), &slower, 1, Rate::Kbit250)?.is_none());
+    Ok(())
+}
+
+/// Busy lists of SYNC, and whether they show that it is past the horizon.
+const SYNC_LISTS: &[(&[u64], bool)] = &[
+    (SYNC_BUSY, true),
+    (
+        &[
+            1, 3_000, 9_200, 22_400, 51_440, 115_680, 257_360, 568_880, 1_254_400, 2_761_840,
+            6_078_560, 13_375_520, 29_428_480, 40_000_001,
+        ],
+        true,
+    ),
+    (
+        &[
+            1, 3_040, 9_200, 22_400, 51_440, 115_680, 257_360, 568_880, 1_254_400, 2_761_840,
+            6_078_560, 13_375_520, 29_428_480, 40_000_000,
+        ],
+        false,
+    ),
+    (
+        &[
+            1, 3_041, 9_200, 22_400, 51_440, 115_680, 257_360, 568_880, 1_254_400, 2_761_840,
+            6_078_560, 13_375_520, 29_428_480, 64_745_520,
+        ],
+        false,
+    ),
+    (&[29_428_480, 64_745_520], false),
+    (&[], false),
+];
+
+#[test]
+fn busy_lists_of_sync_are_checked(rt: HostRuntime) -> Result<(), Fail> {
+    let set = synchronous(rt.alloc(), 400, 6_480)?;
+    for (k, case) in SYNC_LISTS.iter().enumerate() {
+        let (list, wanted) = *case;
+        let refusal = by_sync(rt.alloc(), Rate::Kbit250, list)?;
+        assert!(rt; holds(&set, 1, &refusal) == Some(wanted), "list {k}");
+    }
+    Ok(())
+}
+
+/// SYNC and a PDO that are sent each 100 us, which is synchronous or not.
+fn often(alloc: Global, every: u8) -> Result<StreamSet, SetFault>
+    requires { every ≤ 1 }
+{
+    let mut set = StreamSet::new(alloc);
+    for (id, bytes, every) in [(0x181, 8, every), (0x80, 0, 0)] {
+        set.push(Stream {
+            id,
+            bytes,
+            period: 400,
+            jitter: 0,
+            deadline: Some(6_480),
+            every,
+        })?;
+    }
+    Ok(set)
+}
+
+#[test]
+fn sync_past_the_horizon_is_the_cause_where_a_pdo_is_synchronous(
+    rt: HostRuntime,
+) -> Result<(), Fail> {
+    for every in [0, 1] {
+        let set = often(rt.alloc(), every)?;
+        let by_sync = by_sync(rt.alloc(), Rate::Kbit250, SYNC_BUSY)?;
+        let by_first = by_first(rt.alloc(), Rate::Kbit250, SYNC_BUSY)?;
+        assert!(rt; holds(&set, 1, &by_sync) == Some(every == 1));
+        assert!(rt; holds(&set, 1, &by_first) == Some(every == 0));
+    }
+    Ok(())
+}
+
+/// The refusals of an outcome.
+fn refusals_of(outcome: &Outcome) -> &[Refusal] {
+    match outcome {
+        Outcome::Planned(plan) => plan.refusals(),
+        Outcome::Refused(refusals) => refusals.as_slice(),
+    }
+}
+
+fn all_hold(set: &StreamSet, pdos: usize, refusals: &[Refusal]) -> bool {
+    refusals
+        .iter()
+        .all(|refusal| holds(set, pdos, refusal) == Some(true))
+}
+
+/// An SDO frame is late at 250 kbit/s above all PDOs.
+const FRAME_AT_250: &[u8] =
+    b"rate,pdo,what,value\n0,0,version,2\n250,0,sdo,1413\n250,0,late,0\n250,0,busy,1\n250,0,busy,4320\n250,0,queue,2160\n";
+
+/// The first PDO cannot stand below the SDO frames, and below it one of them is late.
+const BELOW_FIRST_AT_250: &[u8] =
+    b"rate,pdo,what,value\n0,0,version,2\n250,1,uplate,0\n250,1,busy,1\n250,1,busy,6480\n250,1,queue,2160\n250,1,queue,4320\n250,0,sdo,1413\n250,0,late,0\n250,0,busy,1\n250,0,busy,6480\n250,0,queue,2160\n250,0,queue,4320\n";
+
+/// A table whose first streams are PDOs, and the file of its plan's refusals.
+const FILES: &[(&[u8], usize, &[u8])] = &[
+    (TOO_LATE, 2, FRAME_AT_250),
+    (ONE_TOO_MANY, 3, BELOW_FIRST_AT_250),
+];
+
+#[test]
+fn refusals_by_sdo_frames_are_written_and_read(rt: HostRuntime) -> Result<(), Fail> {
+    for case in FILES {
+        let (table, pdos, file) = *case;
+        let set = read_streams(rt.alloc(), table)?;
+        let (outcome, _) = answer_for(rt.alloc(), &set, pdos, RATES)?;
+        assert!(rt; are_written(rt.alloc(), refusals_of(&outcome), file)?);
+        let refusals = read(rt.alloc(), file)?;
+        assert!(rt; refusals.len() == 1 && all_hold(&set, pdos, &refusals));
+        assert!(rt; are_written(rt.alloc(), &refusals, file)?);
+    }
+    Ok(())
+}
+
+/// Where a file with refusals by SYNC begins.
+const SYNC_AT_250: &[u8] =
+    b"rate,pdo,what,value\n0,0,version,2\n250,0,sync,0\n250,0,busy,1\n250,0,busy,3040\n250,0,busy,9200\n";
+
+#[test]
+fn refusals_by_sync_are_written_and_read(rt: HostRuntime) -> Result<(), Fail> {
+    let set = synchronous(rt.alloc(), 400, 6_480)?;
+    let (outcome, _) = answer_for(rt.alloc(), &set, 1, RATES)?;
+    let file = write(rt.alloc(), refusals_of(&outcome))?;
+    assert!(rt; file.starts_with(SYNC_AT_250));
+    let refusals = read(rt.alloc(), &file)?;
+    assert!(rt; refusals.len() == 3 && all_hold(&set, 1, &refusals));
+    assert!(rt; are_written(rt.alloc(), &refusals, &file)?);
+    Ok(())
+}
+
+/// A refusal at 250 kbit/s by an SDO frame below some PDOs, which are all late at the first instance by one and the same evidence.
+fn by_frame(alloc: Global, up: &[usize], id: u16) -> Result<Refusal, AllocError> {
+    let mut members = Items::new(alloc);
+    for pdo in up {
+        members.push(late_member(alloc, *pdo, &[1, 6_480], &[2_160, 4_320])?)?;
+    }
+    let frame = late_member(alloc, 0, &[1, 6_480], &[2_160, 4_320])?;
+    let cause = Cause::Sdo {
+        up: members,
+        id,
+        evidence: frame.evidence,
+    };
+    Ok(Refusal {
+        rate: Rate::Kbit250,
+        cause,
+    })
+}
+
+/// The PDOs above the SDO frame, its identifier, and whether that is a refusal: the first PDO alone fails below the frame.
+const BY_FRAME: &[(&[usize], u16, bool)] = &[
+    (&[0], 0x585, true),
+    (&[], 0x585, false),
+    (&[1], 0x585, false),
+    (&[0, 1], 0x585, false),
+    (&[0, 0], 0x585, false),
+    (&[0, 4], 0x585, false),
+    (&[0], 0x605, false),
+    (&[0], 0x181, false),
+];
+
+#[test]
+fn members_above_an_sdo_frame_are_proved(rt: HostRuntime) -> Result<(), Fail> {
+    let set = read_streams(rt.alloc(), ONE_TOO_MANY)?;
+    for (k, case) in BY_FRAME.iter().enumerate() {
+        let (up, id, wanted) = *case;
+        let refusal = by_frame(rt.alloc(), up, id)?;
+        assert!(rt; holds(&set, 3, &refusal) == Some(wanted), "case {k}");
+    }
+    Ok(())
+}
+
+/// PDOs of that table, the range, and whether each fails with the others above it, at 250 kbit/s.
+const TOGETHER: &[(&[usize], u16, bool)] = &[
+    (&[0], IdRange::SECOND.least, true),
+    (&[0], IdRange::FIRST.least, false),
+    (&[0, 1], IdRange::SECOND.least, false),
+    (&[], IdRange::SECOND.least, true),
+];
+
+#[test]
+fn pdos_fail_in_the_second_range_sooner(rt: HostRuntime) -> Result<(), Fail> {
+    let set = read_streams(rt.alloc(), ONE_TOO_MANY)?;
+    assert!(rt; set.len() == 4);
+    for (k, case) in TOGETHER.iter().enumerate() {
+        let (pdos, least, wanted) = *case;
+        let found = fail_together(&set, 3, Rate::Kbit250, least, pdos);
+        assert!(rt; found == wanted, "case {k}");
+    }
+    Ok(())
+}
+
+/// The busy list at 250 kbit/s of a frame that is sent each 100 us and waits for a PDO.
+const FRAME_BUSY: &[u64] = &[
+    1,
+    4_320,
+    25_920,
+    142_560,
+    773_280,
+    4_179_600,
+    22_572_000,
+    121_890_960,
+];
+
+/// The frame's identifier, its deadline in ticks, and whether it is tested.
+const FRAMES: &[(u16, Option<u64>, bool)] = &[
+    (0x605, Some(4_000), true),
+    (0x605, None, false),
+    (0x580, Some(4_000), false),
+    (0x581, Some(4_000), true),
+    (0x5FF, Some(4_000), true),
+    (0x600, Some(4_000), false),
+    (0x601, Some(4_000), true),
+    (0x67F, Some(4_000), true),
+    (0x680, Some(4_000), false),
+];
+
+/// A PDO, and a frame that is sent each 100 us, of 8 bytes.
+fn beside(alloc: Global, id: u16, deadline: Option<u64>) -> Result<StreamSet, Fail> {
+    let mut set = StreamSet::new(alloc);
+    let frame = Stream {
+        id: id.min(0x7FF),
+        bytes: 8,
+        period: 400,
+        jitter: 0,
+        deadline: deadline.map(|ticks| ticks.clamp(1, 4_000)),
+        every: 0,
+    };
+    set.push(Stream {
+        id: 0x181,
+        bytes: 8,
+        period: 40_000,
+        jitter: 0,
+        deadline: Some(40_000),
+        every: 0,
+    })?;
+    set.push(frame)?;
+    Ok(set)
+}
+
+#[test]
+fn sdo_frames_with_deadlines_are_tested(rt: HostRuntime) -> Result<(), Fail> {
+    for case in FRAMES {
+        let (id, deadline, wanted) = *case;
+        let set = beside(rt.alloc(), id, deadline)?;
+        let streams = set.streams();
+        assert!(rt; streams.len() == 2);
+        assert!(rt;
+            is_tested(streams, 1, 1) == wanted && !is_tested(streams, 2, 1),
+            "{id}"
+        );
+        let busy = numbers(rt.alloc(), FRAME_BUSY)?;
+        let cause = Cause::Sdo {
+            up: Items::new(rt.alloc()),
+            id,
+            evidence: Evidence::Long { busy },
+        };
+        let rate = Rate::Kbit250;
+        assert!(rt;
+            holds(&set, 1, &Refusal { rate, cause }) == Some(wanted),
+            "{id}"
+        );
+    }
+    Ok(())
+}
+
+/// How many PDOs there are, and the evidence against an SDO frame at 1 Mbit/s: above 96 all are above it, else none.
+const ABOVE: &[(u16, &[u64], &[u64])] = &[
+    (96, &[1, 1_080], &[540]),
+    (97, &[1, 52_920], &[0, 52_380]),
+];
+
+/// Whether no PDO is named, and the SDO frame is late by these lists.
+fn is_late(refusal: &Refusal, busy: &[u64], queue: &[u64]) -> bool {
+    match &refusal.cause {
+        Cause::Sdo {
+            up,
+            id: 0x585,
+            evidence: Evidence::Late {
+                q: 0,
+                busy: longer,
+                queue: waits,
+            },
+        } => up.as_slice().is_empty() && longer.as_slice() == busy && waits.as_slice() == queue,
+        _ => false,
+    }
+}
+
+#[test]
+fn above_96_all_pdos_are_above_the_sdo_frames(rt: HostRuntime) -> Result<(), Fail> {
+    for case in ABOVE {
+        let (pdos, busy, queue) = *case;
+        let set = many(rt.alloc(), pdos.min(512), 1_076)?;
+        let pdos = usize::from(pdos);
+        let (outcome, _) = answer_for(rt.alloc(), &set, pdos, &[Rate::Kbit1000])?;
+        let refusal = refusals_of(&outcome).last().ok_or("no refusal")?;
+        assert!(rt; is_late(refusal, busy, queue), "{pdos}");
+        assert!(rt; holds(&set, pdos, refusal) == Some(true), "{pdos}");
+    }
+    Ok(())
+}
+
+/// The header and the second version.
+const SECOND: &[u8] = b"rate,pdo,what,value\n0,0,version,2\n";
+
+/// The two parts of a file, the rule that it breaks, and where.
+const BROKEN: &[(&[u8], &[u8], Rule, u64)] = &[
+    // numbers out of range
+    (SECOND, b"250,513,uplong,0\n", Rule::Number, 2),
+    (SECOND, b"250,1,uplong,1\n", Rule::Number, 2),
+    (SECOND, b"250,0,sync,1\n", Rule::Number, 2),
+    (SECOND, b"250,0,sdo,1408\n", Rule::Number, 2),
+    (SECOND, b"250,0,sdo,1536\n", Rule::Number, 2),
+    (SECOND, b"250,0,sdo,1664\n", Rule::Number, 2),
+    (SECOND, b"250,0,sdo,66949\n", Rule::Number, 2),
+    (BEGIN, b"250,0,sync,0\n", Rule::Number, 2),
+    // a second cause at one rate, or a lower rate
+    (
+        SECOND,
+        b"250,0,sync,0\n250,0,busy,1\n125,0,sync,0\n",
+        Rule::Rates,
+        4,
+    ),
+    (
+        SECOND,
+        b"250,0,sync,0\n250,0,busy,1\n250,1,long,0\n",
+        Rule::Rates,
+        4,
+    ),
+    (
+        SECOND,
+        b"250,1,long,0\n250,1,busy,1\n250,0,sync,0\n",
+        Rule::Rates,
+        4,
+    ),
+    (
+        SECOND,
+        b"250,1,long,0\n250,1,busy,1\n250,2,uplong,0\n",
+        Rule::Rates,
+        4,
+    ),
+    (
+        SECOND,
+        b"250,1,long,0\n250,1,busy,1\n250,0,sdo,1413\n",
+        Rule::Rates,
+        4,
+    ),
+    (
+        SECOND,
+        b"250,0,sdo,1413\n250,0,long,0\n250,0,busy,1\n250,0,sdo,1414\n",
+        Rule::Rates,
+        5,
+    ),
+    (
+        SECOND,
+        b"250,2,uplong,0\n250,2,busy,1\n250,1,uplong,0\n",
+        Rule::Members,
+        4,
+    ),
+    // the first version has no words for other causes
+    (BEGIN, b"250,1,uplong,0\n", Rule::Misplaced, 2),
+    (BEGIN, b"250,1,uplate,0\n", Rule::Misplaced, 2),
+    (BEGIN, b"250,1,sync,0\n", Rule::Misplaced, 2),
+    (BEGIN, b"250,1,sdo,1413\n", Rule::Misplaced, 2),
+    // words at numbers where they may not stand
+    (SECOND, b"250,1,sync,0\n", Rule::Misplaced, 2),
+    (SECOND, b"250,1,sdo,1413\n", Rule::Misplaced, 2),
+    (SECOND, b"250,0,uplong,0\n", Rule::Misplaced, 2),
+    (SECOND, b"250,0,uplate,0\n", Rule::Misplaced, 2),
+    (SECOND, b"250,0,long,0\n", Rule::Misplaced, 2),
+    (SECOND, b"250,0,busy,1\n", Rule::Misplaced, 2),
+    (SECOND, b"250,0,sync,0\n250,0,queue,1\n", Rule::Misplaced, 3),
+    (SECOND, b"250,0,sync,0\n250,0,long,0\n", Rule::Misplaced, 3),
+    (SECOND, b"250,0,sync,0\n250,1,busy,1\n", Rule::Misplaced, 3),
+    (
+        SECOND,
+        b"250,0,sdo,1413\n250,0,busy,1\n",
+        Rule::Misplaced,
+        3,
+    ),
+    (
+        SECOND,
+        b"250,0,sdo,1413\n500,0,long,0\n",
+        Rule::Misplaced,
+        3,
+    ),
+    (
+        SECOND,
+        b"250,0,sdo,1413\n250,1,long,0\n",
+        Rule::Misplaced,
+        3,
+    ),
+    // parts that are missing
+    (SECOND, b"250,0,sync,0\n", Rule::Misplaced, 2),
+    (SECOND, b"250,0,sync,0\n500,0,sync,0\n", Rule::Misplaced, 3),
+    (SECOND, b"250,0,sdo,1413\n", Rule::Misplaced, 2),
+    (
+        SECOND,
+        b"250,0,sdo,1413\n250,0,long,0\n",
+        Rule::Misplaced,
+        3,
+    ),
+    (
+        SECOND,
+        b"250,1,uplong,0\n250,1,busy,1\n",
+        Rule::Misplaced,
+        3,
+    ),
+    (
+        SECOND,
+        b"250,1,uplong,0\n250,1,busy,1\n250,2,long,0\n",
+        Rule::Misplaced,
+        4,
+    ),
+    (
+        SECOND,
+        b"250,1,uplong,0\n250,0,sdo,1413\n",
+        Rule::Misplaced,
+        3,
+    ),
+    (
+        SECOND,
+        b"250,1,uplong,0\n250,1,busy,1\n500,1,long,0\n",
+        Rule::Misplaced,
+        4,
+    ),
+];
+
+#[test]
+fn broken_files_of_both_versions_are_refused(rt: HostRuntime) -> Result<(), CertFault> {
+    for (k, case) in BROKEN.iter().enumerate() {
+        let (begin, end, rule, place) = *case;
+        let text = joined(rt.alloc(), begin, end)?;
+        let found = breach(rt.alloc(), &text)?;
+        assert!(rt; found == Some(Breach { rule, place }), "file {k}");
+    }
+    Ok(())
+}
