@@ -1,7 +1,7 @@
 -- Before the first step: each behaviour was asked once.
 use Rattle.std.proofs.Common.{◌≡◌, ℕ, zero, ◌+◌, ◌<◌, inl, inr, List, [], ◌∷◌, ◌++◌, length, get_or, slice_get, slice_set, replicate, Option, Some, None, Result, Ok, Err, IsErrAnd, IfErr, Bool, true, false, refl, sym, ap, ◌∙◌, subst, arith, suc, length-append, map}
 use Rattle.std.specs.Prelude.{◌==◌, if◌then◌else◌}
-use Rattle.std.specs.Option.{option_and_then}
+use Rattle.std.specs.Option.{ForSome, option_and_then}
 use Rattle.std.proofs.lemmas.Bool.{cases_lt}
 use Rattle.std.proofs.lemmas.Option.{slice_get_within, get_or_from_slice_get}
 use Rattle.std.proofs.lemmas.List.{length-map, length-set}
@@ -19,13 +19,14 @@ use Rattle.cop_bus.specs.declared.steps.Step.{Step}
 use Rattle.cop_sim.specs.declared.faults.SimFault.{SimFault}
 use Rattle.cop_sim.specs.declared.faults.SimFault.TheVariants.{Count, Disobeys as DisobeysAt, Backlog, Sink, Memory}
 use Rattle.cop_sim.specs.Play.{Actor, actors_of, by_end, next_offer, obeys, IsPartialPlay}
-use Rattle.cop_sim.specs.Seats.{next_at, answer_of}
+use Rattle.cop_sim.specs.Cues.{from_of}
+use Rattle.cop_sim.specs.Seats.{next_at, answer_of, asks, IsCued}
+use Rattle.cop_sim.specs.declared.cues.Cue.{Cue}
 use Rattle.cop_sim.specs.Sinks.{IsCause, Took, LeftOff}
-use Rattle.cop_sim.specs.Stages.{IsSeat, IsAt, actor_of, IsFirst, AreFirst, FirstFault, IsLeft}
+use Rattle.cop_sim.specs.Stages.{no_syncs, IsSeat, IsAt, actor_of, first_cue, IsFirst, AreFirst, FirstFault, IsLeft}
 use Rattle.cop_sim.proofs.Plays.{begins, nothing-yet}
-use Rattle.cop_bus.proofs.AtPlace.{set-here, set-other, there-is, some-one}
+use Rattle.cop_bus.proofs.AtPlace.{set-here, set-other, there-is, some-one, contained}
 use Rattle.cop_sim.proofs.Places.{actor-at, stream-at}
-use Rattle.cop_sim.proofs.Kept.{answer-async}
 
 module _ {B : Type 0} (offer : B → ℕ → Option Offer) (agrees : B → ℕ → ℕ → Bool) (until : ℕ) (streams : List Stream) (bs : List B) where
   -- one more was asked
@@ -59,6 +60,21 @@ module _ {B : Type 0} (offer : B → ℕ → Option Offer) (agrees : B → ℕ �
         rest = λ i l. ap (λ (v : List B). slice_get v i) c.1 ∙ set-other cs n i c.0 (λ z. (let p = l in omega (arith, z, p))) ∙ h.rest i (omega (arith, l));
       }
 
+-- a behaviour that was asked for its first answer
+pub first-asked : {B : Type 0} (offer : B → ℕ → Option Offer) (agrees : B → ℕ → ℕ → Bool) (until : ℕ) (k : Stream) (cue : Cue) → cue ≡ first_cue k → (bs cs : List B) (place : ℕ) (o : Option Offer) →
+    ((b : B) → slice_get bs place ≡ Some b → (c : B) × (cs ≡ slice_set bs place c) × IsCued offer agrees cue b c) → ((b : B) → slice_get bs place ≡ Some b → o ≡ answer_of offer until cue None b) →
+    ForSome o (λ o. obeys k None (from_of cue o) o ≡ true) → (b : B) → slice_get bs place ≡ Some b → (c : B) × (cs ≡ slice_set bs place c) × IsFirst offer agrees until k b c o
+first-asked offer agrees until k cue e bs cs place o asked answer fine b f =
+    let w = asked b f in (
+      w.0,
+      w.1,
+      record {
+        asked = subst (λ (u : Cue). IsCued offer agrees u b w.0) e w.2;
+        next_is = answer b f ∙ ap (λ u. answer_of offer until u None b) e;
+        obeying = λ p q. ap (λ u. obeys k None (from_of u p) p) (sym e) ∙ fine p q;
+      },
+    )
+
 -- what an actor was made of
 first-at : {B : Type 0} (offer : B → ℕ → Option Offer) (agrees : B → ℕ → ℕ → Bool) (ks : List Stream) (bs : List B) (i : ℕ) (a : Actor) → slice_get (actors_of offer agrees ks bs) i ≡ Some a → (f : B) × (slice_get bs i ≡ Some f) × (actor_of offer agrees a.stream f ≡ a)
 first-at offer agrees [] bs i a e = absurd (cc)
@@ -87,7 +103,7 @@ ring-at (l ∷ ks) (suc i) k r e f = ring-at ks i k r e f
 module _ {B : Type 0} (offer : B → ℕ → Option Offer) (agrees : B → ℕ → ℕ → Bool) (plan : PlanValue) (until : ℕ) (bs cs : List B) (next : List (Option Offer)) (queued : List ℕ) where
   -- no step was taken
   pub begun : IsPlanned plan → AreDistinct plan.streams → length bs ≡ length plan.streams → AreFirst offer agrees until plan.streams bs cs next (length plan.streams) → length queued ≡ length plan.streams → ((k : ℕ) → get_or queued k 0 ≡ 0) →
-      IsAt offer agrees plan until bs cs (record { ids = ids_of plan.streams; next = next; rings = rings_of plan.streams; queued = queued; running = None; joined = None; now = 0 }) []
+      IsAt offer agrees plan until bs cs (record { ids = ids_of plan.streams; next = next; rings = rings_of plan.streams; queued = queued; running = None; joined = None; now = 0; syncs = no_syncs plan.streams }) []
   begun planned distinct count firsts many zero-each = record {
     planned = planned;
     distinct = distinct;
@@ -101,15 +117,10 @@ module _ {B : Type 0} (offer : B → ℕ → Option Offer) (agrees : B → ℕ �
     runs = refl;
     now_is = refl;
     awaited = refl;
+    noted = record { events = λ s. refl; ends = λ s. refl };
+    synchronous = refl;
   }
     where
-      at-first : (k : Stream) (f : B) → (if k.every == 0 then answer_of offer until f else None) ≡ next_offer until [] 0 (actor_of offer agrees k f)
-      at-first k f = go (k.every == 0)
-        where
-          go : (v : Bool) → (if v then answer_of offer until f else None) ≡ option_and_then (by_end until) (if v then offer f 0 else None)
-          go true = refl
-          go false = refl
-
       seat : (i : ℕ) (a : Actor) (b : B) (r : RingValue) → slice_get (actors_of offer agrees plan.streams bs) i ≡ Some a → slice_get cs i ≡ Some b → slice_get (rings_of plan.streams) i ≡ Some r →
           IsSeat offer agrees until [] a b (next_at next i) r (get_or queued i 0)
       seat i a b r e f g =
@@ -121,21 +132,21 @@ module _ {B : Type 0} (offer : B → ℕ → Option Offer) (agrees : B → ℕ �
           let h : IsFirst offer agrees until a.stream v.0 b (next_at next i) = subst (λ (t : B). IsFirst offer agrees until a.stream v.0 t (next_at next i)) same w.2 in
           subst (λ (t : Actor). IsSeat offer agrees until [] t b (next_at next i) r (get_or queued i 0)) v.2 (record {
             held = record {
-              offer = h.next_is ∙ at-first a.stream v.0;
+              offer = h.next_is;
               its = ring.0;
               count = ap (λ (ys : List Instance). length ys) ring.1;
               each = λ j y q. (let z : None ≡ Some y = sym (ap (λ (ys : List Instance). slice_get ys j) ring.1) ∙ q in absurd (cc));
             };
             most = ring.2;
             count = zero-each i;
-            rest = λ async j. h.rest async j ∙ ap (offer v.0) (let z : suc j ≡ suc (0 + j) = omega arith in z);
-            same = h.same;
+            rest = λ j. h.asked.rest j ∙ ap (offer v.0) (let z : asks (first_cue a.stream) + j ≡ 0 + (asks (first_cue a.stream) + j) = omega arith in z);
+            same = h.asked.same;
             obeying = λ o q. h.obeying o q;
           })
 
   -- the first answer of a behaviour does not obey
   pub first-disobeys : (i n : ℕ) (failed : Bool) (m : ℕ) → length bs ≡ length plan.streams → i < length plan.streams → n ≡ 0 →
-      ((k : Stream) (b : B) → slice_get plan.streams i ≡ Some k → slice_get bs i ≡ Some b → (o : Offer) × (answer_of offer until b ≡ Some o) × (obeys k None o ≡ false) × (k.every ≡ 0)) →
+      ((k : Stream) (b : B) → slice_get plan.streams i ≡ Some k → slice_get bs i ≡ Some b → (o : Offer) × (answer_of offer until (first_cue k) None b ≡ Some o) × (obeys k None (from_of (first_cue k) o) o ≡ false)) →
       IsCause plan (actors_of offer agrees plan.streams bs) m until failed (DisobeysAt i n)
   first-disobeys i n failed m count low e h =
       let k = there-is plan.streams i low in
@@ -146,22 +157,24 @@ module _ {B : Type 0} (offer : B → ℕ → Option Offer) (agrees : B → ℕ �
         actor_of offer agrees k.0 b.0,
         a,
         record {
+          its = contained (actors_of offer agrees plan.streams bs) i (actor_of offer agrees k.0 b.0) a;
           steps = [];
           partial = nothing-yet (ticks_of plan.rate) (actors_of offer agrees plan.streams bs) until;
           number = refl;
           offer = w.0;
-          is_next = ap (option_and_then (by_end until)) (answer-async (actor_of offer agrees k.0 b.0) 0 w.3) ∙ w.1;
+          is_next = w.1;
           breaks = w.2;
         },
       )
 
   pub begun-of : (ss : List Stream) (ids : List ℕ) (rings : List RingValue) → plan.streams ≡ ss → IsPlanned plan → AreDistinct plan.streams → length bs ≡ length ss → AreFirst offer agrees until ss bs cs next (length ss) → ids ≡ ids_of ss → rings ≡ rings_of ss → length queued ≡ length ss → ((k : ℕ) → get_or queued k 0 ≡ 0) →
-      IsAt offer agrees plan until bs cs (record { ids = ids; next = next; rings = rings; queued = queued; running = None; joined = None; now = 0 }) []
+      IsAt offer agrees plan until bs cs (record { ids = ids; next = next; rings = rings; queued = queued; running = None; joined = None; now = 0; syncs = no_syncs ss }) []
   begun-of ss ids rings e planned distinct count firsts named are many zero-each =
       let long : length ss ≡ length plan.streams = ap (λ (s : List Stream). length s) (sym e) in
-      subst (λ (is : List ℕ). IsAt offer agrees plan until bs cs (record { ids = is; next = next; rings = rings; queued = queued; running = None; joined = None; now = 0 }) []) (ap ids_of e ∙ sym named)
-      (subst (λ (rs : List RingValue). IsAt offer agrees plan until bs cs (record { ids = ids_of plan.streams; next = next; rings = rs; queued = queued; running = None; joined = None; now = 0 }) []) (ap rings_of e ∙ sym are)
-      (begun planned distinct (count ∙ long) (subst (λ (s : List Stream). AreFirst offer agrees until s bs cs next (length s)) (sym e) firsts) (many ∙ long) zero-each))
+      subst (λ (is : List ℕ). IsAt offer agrees plan until bs cs (record { ids = is; next = next; rings = rings; queued = queued; running = None; joined = None; now = 0; syncs = no_syncs ss }) []) (ap ids_of e ∙ sym named)
+      (subst (λ (rs : List RingValue). IsAt offer agrees plan until bs cs (record { ids = ids_of plan.streams; next = next; rings = rs; queued = queued; running = None; joined = None; now = 0; syncs = no_syncs ss }) []) (ap rings_of e ∙ sym are)
+      (subst (λ (ks : List Stream). IsAt offer agrees plan until bs cs (record { ids = ids_of plan.streams; next = next; rings = rings_of plan.streams; queued = queued; running = None; joined = None; now = 0; syncs = no_syncs ks }) []) e
+      (begun planned distinct (count ∙ long) (subst (λ (s : List Stream). AreFirst offer agrees until s bs cs next (length s)) (sym e) firsts) (many ∙ long) zero-each)))
 
   pub first-cause : (ss : List Stream) (failed : Bool) (m : ℕ) (fault : SimFault) → ss ≡ plan.streams → length bs ≡ length plan.streams → FirstFault offer until ss bs fault → IsCause plan (actors_of offer agrees plan.streams bs) m until failed fault
   first-cause ss failed m (DisobeysAt i n) e count h =
@@ -207,4 +220,4 @@ left-off takes partial steps s m t Sink w h = (steps, h, (m, w))
 left-off takes partial steps s m t (Backlog id) w h = (steps, h.0, took-same takes steps s m t w h.1)
 left-off takes partial steps s m t (DisobeysAt i n) w h = (steps ++ h.0 ∷ [], h.1, took-one takes steps h.0 s m t w h.2)
 left-off takes partial steps s m t Count w h = absurd h
-left-off takes partial steps s m t Memory w h = absurd h
+left-off takes partial steps s m t Memory w h = (steps ++ h.0 ∷ [], h.1, took-one takes steps h.0 s m t w h.2)

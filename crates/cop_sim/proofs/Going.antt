@@ -10,13 +10,6 @@ use Rattle.cop_bus.specs.Judge.{id_of, stream_of, last_event, is_in_order, not_b
 use Rattle.cop_bus.specs.Growing.{KeepTheRules}
 use Rattle.cop_bus.proofs.Verdict.{Keeps}
 use Rattle.cop_bus.proofs.Found.{pass}
-use Rattle.cop_bus.specs.Run.{gap_of}
-use Rattle.cop_bus.specs.Ends.{anchor_of}
-use Rattle.cop_bus.specs.Judge as Judge
-use Rattle.cop_bus.specs.Judge.{are_apart}
-use Rattle.cop_bus.proofs.AnchorLemmas.{own_anchor, anchor_async, gap-async}
-use Rattle.cop_sim.specs.declared.behaviours.Offer.{Offer}
-use Rattle.cop_sim.specs.Play.{queued_at, queue_step, event_of, is_later, is_in_time}
 use Rattle.cop_bus.proofs.Grows.{step_at-more, nth_that-more, none-broken-there, running-more, any_waits-more, no-more, nth_that-between}
 use Rattle.cop_bus.proofs.Appended.{step_at-here, length-one, one-more}
 
@@ -88,33 +81,6 @@ idle-more streams steps more r moment = go (length steps) r (omega arith)
     go (suc i) None l =
         ap (λ y. nat_le moment (at_of y) || not (any_waits (steps ++ more) (suc i) streams)) (step_at-more steps more i (omega arith))
         ∙ ap (λ b. nat_le moment (at_of (step_at steps i)) || not b) (any_waits-more steps more (suc i) streams l)
-
--- of a stream that is not synchronous rules 62 and 63 look at the offer and the one before it, and at no step
-pub period-of : (k : Stream) (before : Option Offer) (o : Offer) (steps : List Step) (i : ℕ) → k.every ≡ 0 → is_period_later (Some k) (event_of before) steps i (queue_step k.id o) ≡ is_later k before o
-period-of k None o steps i async = refl
-period-of k (Some b) o steps i async =
-    ap (λ g. are_apart g (anchor_of k steps i b.event) (anchor_of k steps i o.event)) (gap-async k async)
-    ∙ ap (λ a. are_apart k.period a (anchor_of k steps i o.event)) (anchor_async k steps i b.event async) ∙ ap (are_apart k.period (Some (own_anchor b.event))) (anchor_async k steps i o.event async)
-
-pub time-of : (k : Stream) (o : Offer) (steps : List Step) (i : ℕ) → k.every ≡ 0 → is_queued_in_time (Some k) steps i (queue_step k.id o) ≡ is_in_time k o
-time-of k o steps i async = ap (λ a. Judge.is_in_time k.jitter a (queued_at o)) (anchor_async k steps i o.event async)
-
--- so they say the same after other steps
-pub period-anywhere : (s : Option Stream) (k : Stream) (v : Option ℕ) (o : Offer) (steps : List Step) (i : ℕ) (steps' : List Step) (i' : ℕ) → s ≡ Some k → k.every ≡ 0 →
-    is_period_later s v steps i (queue_step k.id o) ≡ is_period_later s v steps' i' (queue_step k.id o)
-period-anywhere s k v o steps i steps' i' e async =
-    ap (λ s. is_period_later s v steps i (queue_step k.id o)) e ∙ go v ∙ sym (ap (λ s. is_period_later s v steps' i' (queue_step k.id o)) e)
-  where
-    go : (v : Option ℕ) → is_period_later (Some k) v steps i (queue_step k.id o) ≡ is_period_later (Some k) v steps' i' (queue_step k.id o)
-    go None = refl
-    go (Some b) =
-        ap (λ a. are_apart (gap_of k) a (anchor_of k steps i o.event)) (anchor_async k steps i b async ∙ sym (anchor_async k steps' i' b async))
-        ∙ ap (are_apart (gap_of k) (anchor_of k steps' i' b)) (anchor_async k steps i o.event async ∙ sym (anchor_async k steps' i' o.event async))
-
-pub time-anywhere : (s : Option Stream) (k : Stream) (o : Offer) (steps : List Step) (i : ℕ) (steps' : List Step) (i' : ℕ) → s ≡ Some k → k.every ≡ 0 →
-    is_queued_in_time s steps i (queue_step k.id o) ≡ is_queued_in_time s steps' i' (queue_step k.id o)
-time-anywhere s k o steps i steps' i' e async =
-    ap (λ s. is_queued_in_time s steps i (queue_step k.id o)) e ∙ time-of k o steps i async ∙ sym (time-of k o steps' i' async) ∙ sym (ap (λ s. is_queued_in_time s steps' i' (queue_step k.id o)) e)
 
 -- a start or an end owes nothing by rules 62 to 64
 pub start-period : (o : Option Stream) (v : Option ℕ) (steps : List Step) (i at id : ℕ) → is_period_later o v steps i (Start id at) ≡ true

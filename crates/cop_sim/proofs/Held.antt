@@ -14,6 +14,7 @@ use Rattle.cop_bus.specs.Rings.{RingValue}
 use Rattle.cop_sim.specs.Stages.{queues, starts, IsHeld}
 use Rattle.cop_bus.proofs.Grows.{nth_that-more, count_to-more}
 use Rattle.cop_bus.proofs.Appended.{step_at-here, length-one}
+use Rattle.cop_sim.proofs.Cued.{EndQueued}
 use Rattle.cop_sim.proofs.Kept.{count-kept, count-raised, next-kept}
 
 -- an instance waits where the ring is not empty
@@ -26,28 +27,28 @@ held-none until steps a next ring h l = elim (bool_cases (waits_after steps (len
   | inl t ↦ (let m = true-lt (starts a.stream.id steps) (queues a.stream.id steps) t in let c = h.count in absurd (omega (arith, m, c, l)))
 ]
 
--- a step of another stream leaves all as it is
-pub held-other : (until : ℕ) (steps : List Step) (x : Step) (a : Actor) (next : Option Offer) (ring : RingValue) → is_queue a.stream.id x ≡ false → is_start a.stream.id x ≡ false →
-    IsHeld until steps a next ring → IsHeld until (steps ++ x ∷ []) a next ring
-held-other until steps x a next ring f g h =
+-- a step of another stream leaves its ring as it is
+pub held-other : (until : ℕ) (steps : List Step) (x : Step) (a : Actor) (next after : Option Offer) (ring : RingValue) → is_queue a.stream.id x ≡ false → is_start a.stream.id x ≡ false →
+    after ≡ next_offer until (steps ++ x ∷ []) (length (steps ++ x ∷ [])) a → IsHeld until steps a next ring → IsHeld until (steps ++ x ∷ []) a after ring
+held-other until steps x a next after ring f g again h =
     let q = count-kept (is_queue a.stream.id) steps x f in
     let s = count-kept (is_start a.stream.id) steps x g in
     record {
-      offer = h.offer ∙ sym (next-kept until steps x a f);
+      offer = again;
       its = h.its;
       count = (let c = h.count in omega (arith, q, s, c));
       each = λ k y e. ap (λ n. nth_that (is_queue a.stream.id) (n + k) (steps ++ x ∷ [])) s ∙ nth_that-more (is_queue a.stream.id) (starts a.stream.id steps + k) steps (x ∷ []) (Queue a.stream.id y.at y.event y.frame) (h.each k y e);
     }
 
 -- the start of an instance that waits takes it out
-pub held-started : (until : ℕ) (steps : List Step) (z : ℕ) (a : Actor) (next : Option Offer) (ring : RingValue) → 0 < length ring.waiting → IsHeld until steps a next ring →
+pub held-started : (until : ℕ) (steps : List Step) (z : ℕ) (a : Actor) (next : Option Offer) (ring : RingValue) → EndQueued steps → 0 < length ring.waiting → IsHeld until steps a next ring →
     IsHeld until (steps ++ Start a.stream.id z ∷ []) a next (record { id = ring.id; waiting = drop 1 ring.waiting; most = ring.most })
-held-started until steps z a next ring l h =
+held-started until steps z a next ring few l h =
     let x = Start a.stream.id z in
     let q = count-kept (is_queue a.stream.id) steps x refl in
     let s = count-raised (is_start a.stream.id) steps x (eq-true a.stream.id a.stream.id refl) in
     record {
-      offer = h.offer ∙ sym (next-kept until steps x a refl);
+      offer = h.offer ∙ sym (next-kept until steps x a refl refl few);
       its = h.its;
       count = shorter ring.waiting ∙ (let c = h.count in omega (arith, q, s, c));
       each = λ k y e. (let n : starts a.stream.id (steps ++ x ∷ []) + k ≡ starts a.stream.id steps + suc k = omega (arith, s) in
@@ -63,14 +64,14 @@ held-started until steps z a next ring l h =
     further (v ∷ ys) k y e = e
 
 -- the start of a joiner leaves its ring empty
-pub held-joiner : (until : ℕ) (steps : List Step) (z : ℕ) (a : Actor) (next : Option Offer) (ring : RingValue) → length ring.waiting ≡ 0 → IsHeld until steps a next ring →
+pub held-joiner : (until : ℕ) (steps : List Step) (z : ℕ) (a : Actor) (next : Option Offer) (ring : RingValue) → EndQueued steps → length ring.waiting ≡ 0 → IsHeld until steps a next ring →
     IsHeld until (steps ++ Start a.stream.id z ∷ []) a next ring
-held-joiner until steps z a next ring l h =
+held-joiner until steps z a next ring few l h =
     let x = Start a.stream.id z in
     let q = count-kept (is_queue a.stream.id) steps x refl in
     let s = count-raised (is_start a.stream.id) steps x (eq-true a.stream.id a.stream.id refl) in
     record {
-      offer = h.offer ∙ sym (next-kept until steps x a refl);
+      offer = h.offer ∙ sym (next-kept until steps x a refl refl few);
       its = h.its;
       count = (let c = h.count in omega (arith, q, s, c, l));
       each = λ k y e. none ring.waiting l k y e;

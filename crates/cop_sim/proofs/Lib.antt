@@ -1,12 +1,15 @@
 pub mod GuaranteeLemmas
 pub mod Going
+pub mod Cued
 pub mod Kept
+pub mod Marks
 pub mod Goes
 pub mod Queued
 pub mod Started
 pub mod Plays
 pub mod Bounded
 pub mod Held
+pub mod Noted
 pub mod Competing
 pub mod Actors
 pub mod Chosen
@@ -14,6 +17,7 @@ pub mod HandLemmas
 pub mod EarlyLemmas
 pub mod Taken
 pub mod TurnLemmas
+pub mod Asking
 pub mod Places
 pub mod Ending
 pub mod Queueing

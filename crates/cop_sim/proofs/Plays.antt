@@ -24,7 +24,7 @@ use Rattle.cop_bus.proofs.Appended.{step_at-here, length-one, now-one}
 use Rattle.cop_sim.proofs.Going.{keeps-none}
 use Rattle.cop_sim.proofs.Kept.{at-cases, next-is}
 use Rattle.cop_sim.specs.Going.{Goes}
-use Rattle.cop_sim.proofs.Queued.{by-now}
+use Rattle.cop_sim.proofs.Goes.{by-now}
 
 -- a trace of which each step keeps the rules, and the end too
 pub first-none : (tau : ℕ) (streams : List Stream) (until : ℕ) (steps : List Step) → ((i : ℕ) → i < length steps → broken_by tau streams until steps i (step_at steps i) ≡ None) →
@@ -193,7 +193,7 @@ begins tau actors until = record {
   unfinished = λ r e. absurd (cc);
   known = λ r e. absurd (cc);
   offers = λ a c i at event frame l. absurd (omega arith);
-  lasts = λ a c. refl;
+  ended = omega arith;
   none_left_out = λ a c f o e. omega arith;
   next = λ a c o e w. record {
     in_turn = le-true (queued_at o) until (next-is until [] 0 a o e).1;

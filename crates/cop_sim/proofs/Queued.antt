@@ -6,7 +6,8 @@ use Rattle.cop_rta.specs.declared.streams.Stream.{Stream}
 use Rattle.cop_bus.specs.declared.steps.Step.{Step}
 use Rattle.cop_bus.specs.declared.steps.Step.TheVariants.{Queue}
 use Rattle.cop_bus.specs.Trace.{is_queue, is_start, count_to, step_at, running, at_of, now_of}
-use Rattle.cop_bus.specs.Growing.{KeepTheRules}
+use Rattle.cop_bus.specs.Ends.{is_end}
+use Rattle.cop_rta.specs.Test.{sync_id}
 use Rattle.cop_bus.specs.Judge.{stream_of, last_event, is_in_order, not_before, is_period_later, is_queued_in_time, is_of_length, fits_transfer, is_not_idle, broken_by}
 use Rattle.cop_bus.proofs.Demand.{and-left, and-right, and-true}
 use Rattle.cop_bus.proofs.Work.{true-le, le-true, lt-true, true-eq, eq-true}
@@ -14,42 +15,21 @@ use Rattle.cop_bus.proofs.StepLemmas.{bool_cases}
 use Rattle.cop_bus.proofs.Verdict.{Keeps, keeps}
 use Rattle.cop_bus.proofs.Found.{or-left, or-right}
 use Rattle.cop_sim.specs.declared.behaviours.Offer.{Offer}
-use Rattle.cop_sim.specs.Play.{Actor, streams_of, queued_at, queue_step, next_offer, next_answer, IsSentAhead, obeys, answer_before, event_of, is_later, is_in_time, is_not_before}
+use Rattle.cop_sim.specs.Play.{Actor, streams_of, queued_at, queue_step, next_offer, next_answer, IsSentAhead, obeys, obeys_after, queued_before}
+use Rattle.cop_sim.specs.Cues.{cue_of, from_of}
 use Rattle.cop_bus.proofs.Grows.{step_at-more, last_event-more}
 use Rattle.cop_bus.proofs.Appended.{step_at-here, length-one, one-more, now-one, last-one, count_to-one, last_event-here}
-use Rattle.cop_sim.proofs.Going.{FindsTheSame, finds-more, finds-between, fine-one, running-kept, running-one, keeps-none, order-more, idle-more, runs-idle, period-of, time-of, period-anywhere, time-anywhere}
-use Rattle.cop_sim.proofs.Kept.{at-cases, next-is, next-async, count-kept, next-kept, before-kept, before-one, offers-one, rising-one, starts-one, lowest-one}
+use Rattle.cop_sim.proofs.Going.{FindsTheSame, finds-more, finds-between, fine-one, running-kept, running-one, keeps-none, order-more, idle-more, runs-idle}
+use Rattle.cop_sim.proofs.Cued.{EndQueued, before-own}
+use Rattle.cop_sim.proofs.Marks.{AnchorsAgree, anchors-more, anchors-kept, period-same, time-same, obeys-is, hangs}
+use Rattle.cop_sim.proofs.Kept.{at-cases, next-is, count-kept, next-kept, next-stays, obeys-kept, offers-one, rising-one, starts-one, lowest-one}
 use Rattle.cop_sim.specs.Going.{IsNext, queued_ahead, Goes}
-use Rattle.cop_sim.proofs.Goes.{order-end, not-before}
-
--- no step comes after the last
-pub by-now : (tau : ℕ) (streams : List Stream) (until : ℕ) (steps ahead : List Step) → KeepTheRules tau streams until steps ahead → (d i : ℕ) → i + suc d ≡ length steps → at_of (step_at steps i) ≤ now_of steps
-by-now tau streams until steps ahead fine zero i e = let q : length steps - 1 ≡ i = omega arith in subst (λ n. at_of (step_at steps i) ≤ at_of (step_at steps n)) (sym q) (omega arith)
-by-now tau streams until steps ahead fine (suc d) i e =
-    let l : suc i < length steps = omega arith in
-    let r = by-now tau streams until steps ahead fine d (suc i) (omega arith) in
-    let k = keeps tau streams until (steps ++ ahead) (suc i) (step_at steps (suc i)) (fine (suc i) l) in
-    let w = and-right (nat_le (at_of (step_at steps (suc i))) until) (not_before (step_at (steps ++ ahead) i) (step_at steps (suc i))) k.order in
-    let m = not-before (step_at steps i) (step_at steps (suc i)) (sym (ap (λ y. not_before y (step_at steps (suc i))) (step_at-more steps ahead i (omega arith))) ∙ w) in
-    omega (arith, r, m)
-
--- the four tests of an offer that obeys
-pub obeys-is : (k : Stream) (before : Option Offer) (o : Offer) → obeys k before o ≡ true →
-    (is_later k before o ≡ true) × (is_in_time k o ≡ true) × (is_of_length (Some k) (queue_step k.id o) ≡ true) × (is_not_before before o ≡ true)
-obeys-is k before o h =
-    let x = queue_step k.id o in
-    let a = is_later k before o in
-    let b = is_in_time k o in
-    let c = is_of_length (Some k) x in
-    let d = is_not_before before o in
-    let abc = and-left (a && b && c) d h in
-    let ab = and-left (a && b) c abc in
-    (and-left a b ab, and-right a b ab, and-right (a && b) c abc, and-right (a && b && c) d h)
+use Rattle.cop_sim.proofs.Goes.{order-end, by-now}
 
 module _ (tau : ℕ) (actors : List Actor) (until : ℕ) (there : (a : Actor) → Contains actors a → stream_of (streams_of actors) a.stream.id ≡ Some a.stream)
     (same : (a b : Actor) → Contains actors a → Contains actors b → a.stream.id ≡ b.stream.id → a ≡ b)
     (steps ahead : List Step) (goes : Goes tau actors until steps ahead) (a : Actor) (c : Contains actors a) (o : Offer) (is_next : next_offer until steps (length steps) a ≡ Some o)
-    (obeying : obeys a.stream (answer_before a (count_to (is_queue a.stream.id) steps (length steps))) o ≡ true)
+    (obeying : obeys_after steps (length steps) a.stream o ≡ true)
     (least : (b : Actor) → Contains actors b → (p : Offer) → next_offer until steps (length steps) b ≡ Some p → (queued_at o < queued_at p) ⊎ ((queued_at o ≡ queued_at p) × (a.stream.id ≤ b.stream.id)))
     (before_end : (r : ℕ × ℕ) → running tau (steps ++ ahead) (length steps) ≡ Some r → queued_at o < r.1) where
   abbrev x : Step
@@ -58,8 +38,13 @@ module _ (tau : ℕ) (actors : List Actor) (until : ℕ) (there : (a : Actor) �
   its : IsNext until steps a o
   its = goes.next a c o is_next obeying
 
-  async : a.stream.every ≡ 0
-  async = next-async until steps (length steps) a o is_next
+  -- no SYNC ends
+  still-ended : EndQueued (steps ++ x ∷ [])
+  still-ended = let n = count-kept (is_end sync_id) steps x refl in let q = count_to-one (is_queue sync_id) steps x in let few = goes.ended in omega (arith, n, q, few)
+
+  -- what it hangs on keeps the rules
+  hang : (is_period_later (Some a.stream) (last_event a.stream.id steps (length steps)) steps (length steps) x ≡ true) × (is_queued_in_time (Some a.stream) steps (length steps) x ≡ true)
+  hang = hangs tau (streams_of actors) until steps ahead goes.fine goes.ended a (goes.offers a c) o (next-is until steps (length steps) a o is_next).0 obeying
 
   -- the offer comes in turn before another that is not queued before it
   ordered : (b : Actor) (p : Offer) → queued_at o ≤ queued_at p → not_before x (queue_step b.stream.id p) ≡ true
@@ -79,10 +64,10 @@ module _ (tau : ℕ) (actors : List Actor) (until : ℕ) (there : (a : Actor) �
 
   -- what comes after another's queue step
   other : (b : Actor) → Contains actors b → is_queue b.stream.id x ≡ false → (p : Offer) → next_offer until steps (length steps) b ≡ Some p →
-      obeys b.stream (answer_before b (count_to (is_queue b.stream.id) steps (length steps))) p ≡ true → IsNext until (steps ++ x ∷ []) b p
+      obeys_after steps (length steps) b.stream p ≡ true → IsNext until (steps ++ x ∷ []) b p
   other b d f p q w0 = record {
     in_turn = in-turn b p (not-after b d p q) (next-is until steps (length steps) b p q).1;
-    obeying = ap (λ v. obeys b.stream v p) (before-kept steps x b f) ∙ w0;
+    obeying = obeys-kept steps x b.stream p f refl goes.ended ∙ w0;
     rising = λ i k event frame j e. (elim (at-cases steps x i j) [
       | inl w ↦ (goes.next b d p q w0).rising i k event frame w.0 (sym w.1 ∙ e)
       | inr w ↦ (let z : Queue a.stream.id (queued_at o) o.event o.frame ≡ Queue k (queued_at p) event frame = sym w.1 ∙ e in
@@ -92,13 +77,14 @@ module _ (tau : ℕ) (actors : List Actor) (until : ℕ) (there : (a : Actor) �
   }
 
   -- and what comes after its own
-  own : (p : Offer) → queued_at p ≤ until → obeys a.stream (Some o) p ≡ true → IsNext until (steps ++ x ∷ []) a p
+  own : (p : Offer) → queued_at p ≤ until → obeys_after (steps ++ x ∷ []) (length (steps ++ x ∷ [])) a.stream p ≡ true → IsNext until (steps ++ x ∷ []) a p
   own p m h =
-      let t = true-le (queued_at o) (queued_at p) (obeys-is a.stream (Some o) p h).3 in
-      let n = next-is until steps (length steps) a o is_next in
+      let from = from_of (cue_of (steps ++ x ∷ []) (length (steps ++ x ∷ [])) a.stream) p in
+      let u : obeys a.stream (Some o) from p ≡ true = sym (ap (λ v. obeys a.stream v from p) (before-own a.stream.id steps o)) ∙ h in
+      let t = true-le (queued_at o) (queued_at p) (obeys-is a.stream (Some o) from p u).3 in
       record {
         in_turn = in-turn a p t m;
-        obeying = ap (λ v. obeys a.stream v p) (before-one steps x a (eq-true a.stream.id a.stream.id refl) ∙ n.0) ∙ h;
+        obeying = h;
         rising = λ i k event frame j e. (elim (at-cases steps x i j) [
           | inl w ↦ elim (cases_lt (queued_at o) (queued_at p)) [
             | inl g ↦ (let u = by-now tau (streams_of actors) until steps ahead goes.fine (length steps - suc i) i (let wl = w.0 in omega arith) in
@@ -119,24 +105,14 @@ module _ (tau : ℕ) (actors : List Actor) (until : ℕ) (there : (a : Actor) �
     runs-after = running-one tau (streams_of actors) until steps ahead more x look goes.fine
 
     next-after : (b : Actor) → Contains actors b → (p : Offer) → next_offer until (steps ++ x ∷ []) (length (steps ++ x ∷ [])) b ≡ Some p →
-        obeys b.stream (answer_before b (count_to (is_queue b.stream.id) (steps ++ x ∷ []) (length (steps ++ x ∷ [])))) p ≡ true → IsNext until (steps ++ x ∷ []) b p
+        obeys_after (steps ++ x ∷ []) (length (steps ++ x ∷ [])) b.stream p ≡ true → IsNext until (steps ++ x ∷ []) b p
     next-after b d p q w = elim (bool_cases (a.stream.id == b.stream.id)) [
-      | inr f ↦ other b d f p (sym (next-kept until steps x b f) ∙ q) (ap (λ v. obeys b.stream v p) (sym (before-kept steps x b f)) ∙ w)
+      | inr f ↦ other b d f p (sym (next-kept until steps x b f refl goes.ended) ∙ q) (sym (obeys-kept steps x b.stream p f refl goes.ended) ∙ w)
       | inl t ↦ (let e : a ≡ b = same a b c d (true-eq a.stream.id b.stream.id t) in
           let r = subst (λ v. next_offer until (steps ++ x ∷ []) (length (steps ++ x ∷ [])) v ≡ Some p) (sym e) q in
-          let u = subst (λ v. obeys v.stream (answer_before v (count_to (is_queue v.stream.id) (steps ++ x ∷ []) (length (steps ++ x ∷ [])))) p ≡ true) (sym e) w in
-          let n = before-one steps x a (eq-true a.stream.id a.stream.id refl) ∙ (next-is until steps (length steps) a o is_next).0 in
-          subst (λ v. IsNext until (steps ++ x ∷ []) v p) e (own p (next-is until (steps ++ x ∷ []) (length (steps ++ x ∷ [])) a p r).1 (ap (λ v. obeys a.stream v p) (sym n) ∙ u)))
+          let u = subst (λ v. obeys_after (steps ++ x ∷ []) (length (steps ++ x ∷ [])) v.stream p ≡ true) (sym e) w in
+          subst (λ v. IsNext until (steps ++ x ∷ []) v p) e (own p (next-is until (steps ++ x ∷ []) (length (steps ++ x ∷ [])) a p r).1 u))
     ]
-
-    last-after : (b : Actor) → Contains actors b → last_event b.stream.id (steps ++ x ∷ []) (length (steps ++ x ∷ [])) ≡ event_of (answer_before b (count_to (is_queue b.stream.id) (steps ++ x ∷ []) (length (steps ++ x ∷ []))))
-    last-after b d =
-        ap (last_event b.stream.id (steps ++ x ∷ [])) (length-one steps x) ∙ last_event-here b.stream.id steps x [] ∙ elim (bool_cases (a.stream.id == b.stream.id)) [
-          | inr f ↦ ap (λ v. cond v (Some o.event) (last_event b.stream.id steps (length steps))) f ∙ goes.lasts b d ∙ ap event_of (sym (before-kept steps x b f))
-          | inl t ↦ (let e : a ≡ b = same a b c d (true-eq a.stream.id b.stream.id t) in
-              ap (λ v. cond v (Some o.event) (last_event b.stream.id steps (length steps))) t
-              ∙ sym (ap event_of (before-one steps x b t ∙ subst (λ v. next_answer steps (length steps) v ≡ Some o) e (next-is until steps (length steps) a o is_next).0)))
-        ]
 
     pub queued : Goes tau actors until (steps ++ x ∷ []) more
     queued = record {
@@ -148,10 +124,10 @@ module _ (tau : ℕ) (actors : List Actor) (until : ℕ) (there : (a : Actor) �
       unfinished = λ r q. (let l = before_end r (sym runs-after ∙ q) in let n = now-one steps x in omega (arith, l, n));
       known = λ r q. goes.known r (sym runs-after ∙ q);
       offers = λ b d. offers-one until steps x b (goes.offers b d) (λ t. (let e : a ≡ b = same a b c d (true-eq a.stream.id b.stream.id t) in (o, subst (λ v. next_offer until steps (length steps) v ≡ Some o) e is_next, ap (λ v. queue_step v.stream.id o) e)));
-      lasts = last-after;
+      ended = still-ended;
       next = next-after;
       none_left_out = λ b d f p q. (let z = sym (ap (is_queue b.stream.id) (last-one steps x)) ∙ f in
-          let l = not-after b d p (sym (next-kept until steps x b z) ∙ q) in let n = now-one steps x in omega (arith, l, n));
+          let l = not-after b d p (sym (next-kept until steps x b z refl goes.ended) ∙ q) in let n = now-one steps x in omega (arith, l, n));
       rising = rising-one steps x goes.rising (λ i at k k' event event' frame frame' l q p. (let m1 : at ≡ queued_at o = cc in let k1 : k' ≡ a.stream.id = cc in
           let g = its.rising i k event frame l (q ∙ ap (λ m. Queue k m event frame) m1) in omega (arith, g, k1)));
       none_at_end = starts-one until steps x goes.none_at_end (λ z k p. absurd (cc));
@@ -183,14 +159,14 @@ module _ (tau : ℕ) (actors : List Actor) (until : ℕ) (there : (a : Actor) �
 
     queue-keeps : Keeps tau (streams_of actors) until (steps ++ x ∷ ahead) (length steps) x
     queue-keeps =
-        let t = obeys-is a.stream (answer_before a (count_to (is_queue a.stream.id) steps (length steps))) o its.obeying in
+        let t = obeys-is a.stream (queued_before a.stream.id steps (length steps)) (from_of (cue_of steps (length steps) a.stream) o) o its.obeying in
         record {
           order = order-more until steps (x ∷ ahead) x ∙ its.in_turn;
           known = ap is_some stream-is;
           period = ap (λ s. is_period_later s (last_event a.stream.id (steps ++ x ∷ ahead) (length steps)) (steps ++ x ∷ ahead) (length steps) x) stream-is
-              ∙ ap (λ v. is_period_later (Some a.stream) v (steps ++ x ∷ ahead) (length steps) x) (last_event-more a.stream.id steps (x ∷ ahead) (length steps) (omega arith) ∙ goes.lasts a c)
-              ∙ period-of a.stream (answer_before a (count_to (is_queue a.stream.id) steps (length steps))) o (steps ++ x ∷ ahead) (length steps) async ∙ t.0;
-          in_time = ap (λ s. is_queued_in_time s (steps ++ x ∷ ahead) (length steps) x) stream-is ∙ time-of a.stream o (steps ++ x ∷ ahead) (length steps) async ∙ t.1;
+              ∙ ap (λ v. is_period_later (Some a.stream) v (steps ++ x ∷ ahead) (length steps) x) (last_event-more a.stream.id steps (x ∷ ahead) (length steps) (omega arith))
+              ∙ period-same (Some a.stream) a.stream (last_event a.stream.id steps (length steps)) o (steps ++ x ∷ ahead) (length steps) steps (length steps) refl (anchors-more a.stream steps (x ∷ ahead) goes.ended) ∙ hang.0;
+          in_time = ap (λ s. is_queued_in_time s (steps ++ x ∷ ahead) (length steps) x) stream-is ∙ time-same (Some a.stream) a.stream o (steps ++ x ∷ ahead) (length steps) steps (length steps) refl (anchors-more a.stream steps (x ∷ ahead) goes.ended) ∙ hang.1;
           of_length = ap (λ s. is_of_length s x) stream-is ∙ t.2;
           transfer = ap (λ r. fits_transfer r x) runs-before ∙ fits (running tau (steps ++ ahead) (length steps)) refl;
           to_send = refl;
@@ -222,15 +198,16 @@ module _ (tau : ℕ) (actors : List Actor) (until : ℕ) (there : (a : Actor) �
           let n = length (steps ++ x ∷ []) in
           let s : steps ++ x ∷ [] ++ ahead ≡ steps ++ x ∷ ahead = one-more steps x ahead in
           let m = next-is until steps (length steps) b p next_p in
-          let b-async = next-async until steps (length steps) b p next_p in
+          let agree : AnchorsAgree b.stream ((steps ++ x ∷ []) ++ ahead) n (steps ++ ahead) (length steps) =
+          λ v. anchors-more b.stream (steps ++ x ∷ []) ahead still-ended v ∙ anchors-kept b.stream steps x refl goes.ended v ∙ sym (anchors-more b.stream steps ahead goes.ended v) in
           keeps-none tau (streams_of actors) until ((steps ++ x ∷ []) ++ ahead) n y (record {
             order = order-more until (steps ++ x ∷ []) ahead y ∙ in-turn b p (not-after b d p next_p) m.1;
             known = k.known;
             period = ap (λ u. is_period_later (stream_of (streams_of actors) b.stream.id) u ((steps ++ x ∷ []) ++ ahead) n y)
                 (last_event-more b.stream.id (steps ++ x ∷ []) ahead n (omega arith) ∙ ap (last_event b.stream.id (steps ++ x ∷ [])) (length-one steps x) ∙ last_event-here b.stream.id steps x []
                 ∙ ap (λ w. cond w (Some o.event) (last_event b.stream.id steps (length steps))) not-it ∙ sym (last_event-more b.stream.id steps ahead (length steps) (omega arith)))
-                ∙ period-anywhere (stream_of (streams_of actors) b.stream.id) b.stream (last_event b.stream.id (steps ++ ahead) (length steps)) p ((steps ++ x ∷ []) ++ ahead) n (steps ++ ahead) (length steps) (there b d) b-async ∙ k.period;
-            in_time = time-anywhere (stream_of (streams_of actors) b.stream.id) b.stream p ((steps ++ x ∷ []) ++ ahead) n (steps ++ ahead) (length steps) (there b d) b-async ∙ k.in_time;
+                ∙ period-same (stream_of (streams_of actors) b.stream.id) b.stream (last_event b.stream.id (steps ++ ahead) (length steps)) p ((steps ++ x ∷ []) ++ ahead) n (steps ++ ahead) (length steps) (there b d) agree ∙ k.period;
+            in_time = time-same (stream_of (streams_of actors) b.stream.id) b.stream p ((steps ++ x ∷ []) ++ ahead) n (steps ++ ahead) (length steps) (there b d) agree ∙ k.in_time;
             of_length = k.of_length;
             transfer = ap (λ u. fits_transfer u y) r ∙ k.transfer;
             to_send = refl;
@@ -254,7 +231,7 @@ module _ (tau : ℕ) (actors : List Actor) (until : ℕ) (there : (a : Actor) �
           let q = count-kept (is_queue b.stream.id) steps x f in
           let s = count-kept (is_start b.stream.id) steps x refl in
           let l = w.2 in
-          inr (b, w.1, omega (arith, q, s, l), ((w.3).0, next-kept until steps x b f ∙ (w.3).1, (w.3).2)))
+          inr (b, w.1, omega (arith, q, s, l), ((w.3).0, next-stays until steps x b (w.3).0 f (w.3).1, (w.3).2)))
     ]
 
     pub queued_behind : Goes tau actors until (steps ++ x ∷ []) ahead

@@ -1,5 +1,5 @@
 -- An offer is queued, and what is at hand after it.
-use Rattle.std.proofs.Common.{◌≡◌, ◌≢◌, ℕ, zero, ◌+◌, ◌-◌, ◌≤◌, ◌<◌, ◌^◌, ◌⊎◌, inl, inr, List, [], ◌∷◌, ◌++◌, length, get_or, slice_get, slice_set, Option, Some, None, Contains, Bool, true, false, not, nat_le, refl, sym, ap, ◌∙◌, subst, arith, suc}
+use Rattle.std.proofs.Common.{◌≡◌, ◌≢◌, ℕ, zero, ◌+◌, ◌-◌, ◌≤◌, ◌<◌, ◌^◌, ◌⊎◌, inl, inr, List, [], ◌∷◌, ◌++◌, length, get_or, slice_get, slice_set, Option, Some, None, Contains, Bool, true, false, cond, not, nat_le, refl, sym, ap, ◌∙◌, subst, arith, suc}
 use Rattle.std.specs.Option.{ForSome, option_and_then}
 use Rattle.std.proofs.lemmas.Bool.{cases_eq}
 use Rattle.std.proofs.lemmas.List.{length-set, get_or-set_same, get_or-set_other}
@@ -16,11 +16,16 @@ use Rattle.cop_bus.proofs.Appended.{now-one}
 use Rattle.cop_plan.specs.Values.{PlanValue}
 use Rattle.cop_sim.specs.declared.behaviours.Offer.{Offer}
 use Rattle.cop_sim.specs.declared.due.Due.{Due}
-use Rattle.cop_sim.specs.Play.{Actor, actors_of, streams_of, queued_at, queue_step, by_end, next_offer, obeys, answer_before}
+use Rattle.cop_sim.specs.Play.{Actor, actors_of, streams_of, queued_at, queue_step, by_end, next_offer, queued_before, obeys, obeys_after}
+use Rattle.cop_sim.specs.declared.cues.Cue.{Cue}
+use Rattle.cop_sim.specs.Cues.{cue_by, cue_of, answer_in, from_of}
+use Rattle.cop_sim.specs.Syncs.{SyncsValue, some_synchronous, AreNoted, with_event, noted_cue}
 use Rattle.cop_sim.specs.Going.{Goes, queued_ahead}
-use Rattle.cop_sim.specs.Seats.{next_at, answer_of, IsAsked, IsDueTo}
+use Rattle.cop_sim.specs.Seats.{next_at, answer_of, asks, IsCued, IsDueTo}
 use Rattle.cop_sim.specs.Stages.{AtHand, queues, starts, IsHeld, IsSeat, flipped, IsAwaited, IsAt, IsQueued}
-use Rattle.cop_sim.proofs.Kept.{count-kept, count-raised, next-is, next-async, answer-async, before-one}
+use Rattle.cop_sim.proofs.Cued.{before-own, cue-at}
+use Rattle.cop_sim.proofs.Noted.{noted-queue, noted-cue-is}
+use Rattle.cop_sim.proofs.Kept.{count-kept, count-raised, next-is, offered-given}
 use Rattle.cop_sim.proofs.Going.{FindsTheSame, running-one}
 use Rattle.cop_sim.proofs.Queued as Queued
 use Rattle.cop_sim.proofs.Places as Places
@@ -64,16 +69,13 @@ module _ {B : Type 0} (offer : B → ℕ → Option Offer) (agrees : B → ℕ �
   pub is-next : next_offer until steps (length steps) a ≡ Some d.offer
   is-next = sym (Places.next-is-offer offer agrees plan until firsts bs h steps at d.place a ea) ∙ first.here
 
-  async : a.stream.every ≡ 0
-  async = next-async until steps (length steps) a d.offer is-next
-
   pub by-until : queued_at d.offer ≤ until
   by-until = (next-is until steps (length steps) a d.offer is-next).1
 
   abbrev pub seat : (b : B) × (r : RingValue) × (slice_get bs d.place ≡ Some b) × (slice_get h.rings d.place ≡ Some r) × IsSeat offer agrees until steps a b (next_at h.next d.place) r (get_or h.queued d.place 0)
   seat = Places.seat-of offer agrees plan until firsts bs h steps at d.place a ea
 
-  obeying : obeys a.stream (answer_before a (queues a.stream.id steps)) d.offer ≡ true
+  obeying : obeys_after steps (length steps) a.stream d.offer ≡ true
   obeying = seat.4.obeying d.offer first.here
 
   least : (b : Actor) → Contains actors b → (p : Offer) → next_offer until steps (length steps) b ≡ Some p → (queued_at d.offer < queued_at p) ⊎ ((queued_at d.offer ≡ queued_at p) × (a.stream.id ≤ b.stream.id))
@@ -126,10 +128,21 @@ module _ {B : Type 0} (offer : B → ℕ → Option Offer) (agrees : B → ℕ �
 
   -- ---- the stage after it
 
-  module _ (h' : AtHand) (cs : List B) (q : IsQueued offer agrees until d h h' bs cs) (again : (o : Offer) (k : Stream) → next_at h'.next d.place ≡ Some o → slice_get plan.streams d.place ≡ Some k → obeys k (Some d.offer) o ≡ true)
+  module _ (h' : AtHand) (cs : List B) (q : IsQueued offer agrees until plan.streams d h h' bs cs)
+      (again : (o : Offer) (k : Stream) → next_at h'.next d.place ≡ Some o → slice_get plan.streams d.place ≡ Some k → obeys k (Some d.offer) (from_of (noted_cue h'.syncs k (get_or h'.queued d.place 0)) o) o ≡ true)
       (room : get_or h.queued d.place 0 < 2 ^ 64 - 1) where
-    abbrev asked : (v : B) × (cs ≡ slice_set bs d.place v) × IsAsked offer agrees seat.0 v × (h'.next ≡ slice_set h.next d.place (answer_of offer until seat.0))
-    asked = q.asked seat.0 seat.2
+    there-is-k : slice_get plan.streams d.place ≡ Some a.stream
+    there-is-k = Places.stream-of offer agrees plan until firsts bs h steps at d.place a ea
+
+    -- what its next answer waits for
+    abbrev pub cue : Cue
+    cue = noted_cue h'.syncs a.stream (get_or h'.queued d.place 0)
+
+    abbrev pub answer : Option Offer
+    answer = answer_of offer until cue (Some d.offer) seat.0
+
+    abbrev asked : (v : B) × (cs ≡ slice_set bs d.place v) × IsCued offer agrees cue seat.0 v × (h'.next ≡ slice_set h.next d.place answer)
+    asked = q.asked a.stream seat.0 there-is-k seat.2
 
     counted : h'.queued ≡ slice_set h.queued d.place (suc (get_or h.queued d.place 0))
     counted = q.queued room
@@ -140,24 +153,47 @@ module _ {B : Type 0} (offer : B → ℕ → Option Offer) (agrees : B → ℕ �
     low : d.place < length plan.streams
     low = Places.within offer agrees plan until firsts bs h steps at d.place a ea
 
-    next-here : next_at h'.next d.place ≡ answer_of offer until seat.0
-    next-here = ap (λ (xs : List (Option Offer)). next_at xs d.place) asked.3 ∙ get_or-set_same h.next d.place (answer_of offer until seat.0) None (let n = at.sized.next in omega (arith, low, n))
+    next-here : next_at h'.next d.place ≡ answer
+    next-here = ap (λ (xs : List (Option Offer)). next_at xs d.place) asked.3 ∙ get_or-set_same h.next d.place answer None (let n = at.sized.next in omega (arith, low, n))
 
-    pub answer-next : answer_of offer until seat.0 ≡ next_offer until (steps ++ x ∷ []) (length (steps ++ x ∷ [])) a
-    answer-next = ap (option_and_then (by_end until)) (seat.4.rest async 0 ∙ ap a.offer (let e : suc (queues a.stream.id steps + 0) ≡ queues a.stream.id (steps ++ x ∷ []) = omega (arith, raised) in e) ∙ sym (answer-async a (queues a.stream.id (steps ++ x ∷ [])) async))
+    count-now : get_or h'.queued d.place 0 ≡ queues a.stream.id (steps ++ x ∷ [])
+    count-now = ap (λ (xs : List ℕ). get_or xs d.place 0) counted ∙ get_or-set_same h.queued d.place (suc (get_or h.queued d.place 0)) 0 (let n = at.sized.queued in omega (arith, low, n)) ∙ ap suc seat.4.count ∙ sym raised
+
+    noted-now : AreNoted (steps ++ x ∷ []) h'.syncs
+    noted-now =
+        let its = sym first.its ∙ Places.id-of offer agrees plan until firsts bs h steps at d.place a ea in
+        subst (AreNoted (steps ++ x ∷ [])) (sym (q.syncs ∙ ap (λ n. with_event h.syncs n d.offer.event) its)) (noted-queue steps h.syncs a.stream.id (queued_at d.offer) d.offer.event d.offer.frame at.noted)
+
+    synchronous-now : h'.syncs.synchronous ≡ some_synchronous plan.streams
+    synchronous-now = ap (λ (v : SyncsValue). v.synchronous) q.syncs ∙ at.synchronous
+
+    cue-now : cue ≡ cue_of (steps ++ x ∷ []) (length (steps ++ x ∷ [])) a.stream
+    cue-now = noted-cue-is (steps ++ x ∷ []) h'.syncs plan.streams d.place a.stream (get_or h'.queued d.place 0) noted-now synchronous-now there-is-k ∙ ap (cue_by (steps ++ x ∷ []) a.stream) count-now ∙ sym (cue-at a.stream (steps ++ x ∷ []))
+
+    -- it was asked for the offer that is queued
+    given : asks (cue_of steps (length steps) a.stream) ≡ 1
+    given = ap (λ b. cond b 1 0) (offered-given until steps (length steps) a d.offer is-next)
+
+    pub answer-next : answer ≡ next_offer until (steps ++ x ∷ []) (length (steps ++ x ∷ [])) a
+    answer-next = ap (option_and_then (by_end until))
+        (ap (answer_in cue (Some d.offer)) (seat.4.rest 0 ∙ ap a.offer (let g = given in let e : queues a.stream.id steps + (asks (cue_of steps (length steps) a.stream) + 0) ≡ queues a.stream.id (steps ++ x ∷ []) = omega (arith, raised, g) in e))
+        ∙ ap (λ b. answer_in cue b (a.offer (queues a.stream.id (steps ++ x ∷ [])))) (sym (before-own a.stream.id steps d.offer))
+        ∙ ap (λ c. answer_in c (queued_before a.stream.id (steps ++ x ∷ []) (length (steps ++ x ∷ []))) (a.offer (queues a.stream.id (steps ++ x ∷ [])))) cue-now)
 
     module _ (ahead' : List Step) (goes' : Goes tau actors until (steps ++ x ∷ []) ahead') (runs' : running tau ((steps ++ x ∷ []) ++ ahead') (length (steps ++ x ∷ [])) ≡ running tau (steps ++ at.ahead) (length steps))
         (rp : RingValue) (here : slice_get h'.rings d.place ≡ Some rp) (others : (i : ℕ) → i ≢ d.place → slice_get h'.rings i ≡ slice_get h.rings i) (many : length h'.rings ≡ length plan.streams)
-        (held : IsHeld until (steps ++ x ∷ []) a (answer_of offer until seat.0) rp) (most : rp.most ≡ seat.1.most) (awaited' : IsAwaited actors h'.next (steps ++ x ∷ []) ahead' h'.joined) where
+        (held : IsHeld until (steps ++ x ∷ []) a answer rp) (most : rp.most ≡ seat.1.most) (awaited' : IsAwaited actors h'.next (steps ++ x ∷ []) ahead' h'.joined) where
       own : IsSeat offer agrees until (steps ++ x ∷ []) a asked.0 (next_at h'.next d.place) rp (get_or h'.queued d.place 0)
       own = record {
         held = subst (λ (o : Option Offer). IsHeld until (steps ++ x ∷ []) a o rp) (sym next-here) held;
         most = most ∙ seat.4.most;
-        count = ap (λ (xs : List ℕ). get_or xs d.place 0) counted ∙ get_or-set_same h.queued d.place (suc (get_or h.queued d.place 0)) 0 (let n = at.sized.queued in omega (arith, low, n)) ∙ ap suc seat.4.count ∙ sym raised;
-        rest = λ quiet j. asked.2.rest j ∙ seat.4.rest quiet (suc j) ∙ ap a.offer (let e : suc (queues a.stream.id steps + suc j) ≡ suc (queues a.stream.id (steps ++ x ∷ []) + j) = omega (arith, raised) in e);
+        count = count-now;
+        rest = λ j. asked.2.rest j ∙ seat.4.rest (asks cue + j)
+            ∙ ap a.offer (let g = given in let c = ap asks cue-now in
+            let e : queues a.stream.id steps + (asks (cue_of steps (length steps) a.stream) + (asks cue + j)) ≡ queues a.stream.id (steps ++ x ∷ []) + (asks (cue_of (steps ++ x ∷ []) (length (steps ++ x ∷ [])) a.stream) + j) = omega (arith, raised, g, c) in e);
         same = λ z u. asked.2.same z u ∙ seat.4.same z u;
-        obeying = λ o e. (let b = before-one steps x a (eq-true a.stream.id a.stream.id refl) ∙ (next-is until steps (length steps) a d.offer is-next).0 in
-            ap (λ v. obeys a.stream v o) b ∙ again o a.stream e (Places.stream-of offer agrees plan until firsts bs h steps at d.place a ea));
+        obeying = λ o e. ap (λ b. obeys a.stream b (from_of (cue_of (steps ++ x ∷ []) (length (steps ++ x ∷ [])) a.stream) o) o) (before-own a.stream.id steps d.offer)
+            ∙ ap (λ c. obeys a.stream (Some d.offer) (from_of c o) o) (sym cue-now) ∙ again o a.stream e there-is-k;
       }
 
       seats' : (i : ℕ) (b : Actor) (v : B) (r : RingValue) → slice_get actors i ≡ Some b → slice_get cs i ≡ Some v → slice_get h'.rings i ≡ Some r →
@@ -177,11 +213,11 @@ module _ {B : Type 0} (offer : B → ℕ → Option Offer) (agrees : B → ℕ �
           go (inr n) =
               let fb : slice_get bs i ≡ Some v = sym (set-other bs d.place i asked.0 n) ∙ sym (ap (λ (ys : List B). slice_get ys i) asked.1) ∙ f in
               let s = at.seats i b v r e fb (sym (others i n) ∙ g) in
-              let m : next_at h'.next i ≡ next_at h.next i = ap (λ (xs : List (Option Offer)). next_at xs i) asked.3 ∙ get_or-set_other h.next d.place i (answer_of offer until seat.0) None n in
+              let m : next_at h'.next i ≡ next_at h.next i = ap (λ (xs : List (Option Offer)). next_at xs i) asked.3 ∙ get_or-set_other h.next d.place i answer None n in
               let k : get_or h'.queued i 0 ≡ get_or h.queued i 0 = ap (λ (xs : List ℕ). get_or xs i 0) counted ∙ get_or-set_other h.queued d.place i (suc (get_or h.queued d.place 0)) 0 n in
               subst (λ (o : Option Offer). IsSeat offer agrees until (steps ++ x ∷ []) b v o r (get_or h'.queued i 0)) (sym m)
               (subst (λ z. IsSeat offer agrees until (steps ++ x ∷ []) b v (next_at h.next i) r z) (sym k)
-              (seat-other offer agrees until steps x b v (next_at h.next i) r (get_or h.queued i 0) (Places.apart offer agrees plan until firsts bs h steps at d.place i a b ea e n) refl s))
+              (seat-other offer agrees until steps x b v (next_at h.next i) r (get_or h.queued i 0) (Places.apart offer agrees plan until firsts bs h steps at d.place i a b ea e n) refl refl at.goes.ended s))
 
       pub queued-at : IsAt offer agrees plan until firsts cs h' (steps ++ x ∷ [])
       queued-at = record {
@@ -192,7 +228,7 @@ module _ {B : Type 0} (offer : B → ℕ → Option Offer) (agrees : B → ℕ �
         goes = goes';
         sized = record {
           ids = ap (λ (xs : List ℕ). length xs) q.ids ∙ at.sized.ids;
-          next = ap (λ (xs : List (Option Offer)). length xs) asked.3 ∙ length-set h.next d.place (answer_of offer until seat.0) ∙ at.sized.next;
+          next = ap (λ (xs : List (Option Offer)). length xs) asked.3 ∙ length-set h.next d.place answer ∙ at.sized.next;
           rings = many;
           queued = ap (λ (xs : List ℕ). length xs) counted ∙ length-set h.queued d.place (suc (get_or h.queued d.place 0)) ∙ at.sized.queued;
         };
@@ -202,4 +238,6 @@ module _ {B : Type 0} (offer : B → ℕ → Option Offer) (agrees : B → ℕ �
         runs = q.running ∙ at.runs ∙ ap flipped (sym runs');
         now_is = q.now by-until ∙ sym (now-one steps x);
         awaited = awaited';
+        noted = noted-now;
+        synchronous = synchronous-now;
       }

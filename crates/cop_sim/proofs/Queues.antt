@@ -1,5 +1,5 @@
 -- A queue step of the simulator, and why there is none.
-use Rattle.std.proofs.Common.{◌≡◌, ◌≢◌, ℕ, ◌+◌, ◌-◌, ◌≤◌, ◌<◌, ◌^◌, ◌⊎◌, inl, inr, List, [], ◌∷◌, ◌++◌, length, get_or, slice_get, Option, Some, None, Bool, true, false, ◌||◌, nat_le, nat_lt, refl, sym, ap, ◌∙◌, subst, arith, suc}
+use Rattle.std.proofs.Common.{◌≡◌, ◌≢◌, ℕ, ◌+◌, ◌-◌, ◌≤◌, ◌<◌, ◌^◌, ◌⊎◌, inl, inr, List, [], ◌∷◌, ◌++◌, length, get_or, slice_get, Option, Some, None, Bool, true, false, cond, ◌||◌, nat_le, nat_lt, refl, sym, ap, ◌∙◌, subst, arith, suc}
 use Rattle.std.specs.Int.{div_ceil}
 use Rattle.std.specs.Option.{ForSome, option_and_then, option_map_or}
 use Rattle.std.proofs.lemmas.Bool.{cases_eq, cases_lt, lt-ltb, ltb-true, or_left, or_right}
@@ -19,21 +19,22 @@ use Rattle.cop_plan.specs.Values.{PlanValue}
 use Rattle.cop_sim.specs.declared.behaviours.Offer.{Offer}
 use Rattle.cop_sim.specs.declared.due.Due.{Due}
 use Rattle.cop_sim.specs.declared.faults.SimFault.TheVariants.{Disobeys as DisobeysAt, Backlog}
-use Rattle.cop_sim.specs.Play.{Actor, actors_of, queued_at, queue_step, by_end, next_offer, obeys, IsSentAhead, IsPartialPlay, answer, answer_before}
-use Rattle.cop_sim.specs.Seats.{next_at, answer_of, IsDueTo}
+use Rattle.cop_sim.specs.Play.{Actor, actors_of, queued_at, queue_step, by_end, next_offer, obeys, queued_before, IsSentAhead, IsPartialPlay}
+use Rattle.cop_sim.specs.declared.cues.Cue.{Cue}
+use Rattle.cop_sim.specs.Cues.{cue_by, cue_of, answer_in, from_of}
+use Rattle.cop_sim.specs.Syncs.{SyncsValue, AreNoted, with_event, noted_cue}
+use Rattle.cop_sim.specs.Seats.{next_at, answer_of, asks, IsDueTo}
 use Rattle.cop_sim.specs.Sinks.{IsCause}
 use Rattle.cop_sim.specs.Stages.{AtHand, IsSeat, queues, starts, IsAwaited, IsAt, instance_of, with_last, IsFull, IsQueued}
 use Rattle.cop_sim.proofs.Bounded.{few-wait}
 use Rattle.cop_sim.proofs.Held.{held-joined, held-queued}
-use Rattle.cop_sim.proofs.Kept.{count-kept, count-raised, next-is, by_end-is, next-async, answer-async}
+use Rattle.cop_sim.proofs.Cued.{before-own, cue-at}
+use Rattle.cop_sim.proofs.Noted.{noted-queue, noted-cue-is}
+use Rattle.cop_sim.proofs.Kept.{count-kept, count-raised, offered-given}
 use Rattle.cop_sim.proofs.Plays.{partial}
 use Rattle.cop_sim.proofs.Places as Places
-use Rattle.cop_bus.proofs.AtPlace.{set-here, set-other, some-one}
+use Rattle.cop_bus.proofs.AtPlace.{set-here, set-other, some-one, contained}
 use Rattle.cop_sim.proofs.Queueing as Queueing
-
-pub answered : (until : ℕ) (v : Option Offer) (o : Offer) → option_and_then (by_end until) v ≡ Some o → (v ≡ Some o) × (queued_at o ≤ until)
-answered until None o e = absurd (cc)
-answered until (Some p) o e = let b = by_end-is until p o e in (ap Some b.0, b.1)
 
 joined-cases : (j : Option ℕ) (p : ℕ) → (j ≡ Some p) ⊎ (j ≢ Some p)
 joined-cases None p = inr (λ e. cc)
@@ -107,15 +108,19 @@ module _ {B : Type 0} (offer : B → ℕ → Option Offer) (agrees : B → ℕ �
     sent-ahead : queues a.stream.id steps < starts a.stream.id steps
     sent-ahead = subst (IsSentAhead steps) its-own waited.2
 
-  partial-after : IsPartialPlay (ticks_of plan.rate) actors until (steps ++ x ∷ [])
+  pub partial-after : IsPartialPlay (ticks_of plan.rate) actors until (steps ++ x ∷ [])
   partial-after = elim (joined-cases h.joined d.place) [
     | inl j ↦ partial plan.rate actors (Places.distinct offer agrees plan until firsts bs h steps at) until (steps ++ x ∷ []) [] (Queueing.goes-joined offer agrees plan until firsts bs h steps at d first before idle a ea (is-ahead j))
     | inr n ↦ partial plan.rate actors (Places.distinct offer agrees plan until firsts bs h steps at) until (steps ++ x ∷ []) at.ahead (Queueing.goes-behind offer agrees plan until firsts bs h steps at d first before idle a ea n)
   ]
 
-  module _ (h' : AtHand) (cs : List B) (q : IsQueued offer agrees until d h h' bs cs) (again : (o : Offer) (k : Stream) → next_at h'.next d.place ≡ Some o → slice_get plan.streams d.place ≡ Some k → obeys k (Some d.offer) o ≡ true)
+  module _ (h' : AtHand) (cs : List B) (q : IsQueued offer agrees until plan.streams d h h' bs cs)
+      (again : (o : Offer) (k : Stream) → next_at h'.next d.place ≡ Some o → slice_get plan.streams d.place ≡ Some k → obeys k (Some d.offer) (from_of (noted_cue h'.syncs k (get_or h'.queued d.place 0)) o) o ≡ true)
       (room : get_or h.queued d.place 0 < 2 ^ 64 - 1) where
-    after : answer_of offer until seat.0 ≡ next_offer until (steps ++ x ∷ []) (length (steps ++ x ∷ [])) a
+    abbrev answer : Option Offer
+    answer = Queueing.answer offer agrees plan until firsts bs h steps at d first before idle a ea h' cs q again room
+
+    after : answer ≡ next_offer until (steps ++ x ∷ []) (length (steps ++ x ∷ [])) a
     after = Queueing.answer-next offer agrees plan until firsts bs h steps at d first before idle a ea h' cs q again room
 
     still-awaited : h.joined ≢ Some d.place → h'.joined ≡ h.joined → IsAwaited actors h'.next (steps ++ x ∷ []) at.ahead h'.joined
@@ -125,19 +130,19 @@ module _ {B : Type 0} (offer : B → ℕ → Option Offer) (agrees : B → ℕ �
         go None r w = w
         go (Some i) r w =
             let m : i ≢ d.place = λ f. n (r ∙ ap Some f) in
-            let asked = q.asked seat.0 seat.2 in
+            let asked = q.asked a.stream seat.0 (Places.stream-of offer agrees plan until firsts bs h steps at d.place a ea) seat.2 in
             let f = Places.apart offer agrees plan until firsts bs h steps at d.place i a w.0 ea w.1 m in
             let c = count-kept (is_queue (w.0).stream.id) steps x f in
             let s = count-kept (is_start (w.0).stream.id) steps x refl in
             let l = w.2 in
-            (w.0, w.1, omega (arith, c, s, l), ((w.3).0, ap (λ (xs : List (Option Offer)). next_at xs i) asked.3 ∙ get_or-set_other h.next d.place i (answer_of offer until seat.0) None m ∙ (w.3).1, (w.3).2))
+            (w.0, w.1, omega (arith, c, s, l), ((w.3).0, ap (λ (xs : List (Option Offer)). next_at xs i) asked.3 ∙ get_or-set_other h.next d.place i answer None m ∙ (w.3).1, (w.3).2))
 
     pub after-queue : IsAt offer agrees plan until firsts cs h' (steps ++ x ∷ [])
     after-queue = elim (q.put in-time) [
       | inl p ↦ Queueing.queued-at offer agrees plan until firsts bs h steps at d first before idle a ea h' cs q again room
           [] (Queueing.goes-joined offer agrees plan until firsts bs h steps at d first before idle a ea (is-ahead p.0)) (Queueing.runs-joined offer agrees plan until firsts bs h steps at d first before idle a ea (is-ahead p.0))
           seat.1 (ap (λ (rs : List RingValue). slice_get rs d.place) p.2 ∙ seat.3) (λ i n. ap (λ (rs : List RingValue). slice_get rs i) p.2) (ap (λ (rs : List RingValue). length rs) p.2 ∙ at.sized.rings)
-          (held-joined until steps d.offer a (next_at h.next d.place) (answer_of offer until seat.0) seat.1 (sent-ahead p.0) seat.4.held after) refl
+          (held-joined until steps d.offer a (next_at h.next d.place) answer seat.1 (sent-ahead p.0) seat.4.held after) refl
           (subst (IsAwaited actors h'.next (steps ++ x ∷ []) []) (sym p.1) refl)
       | inr p ↦ (let r = p.2 seat.1 seat.3 in
           let y = instance_of d in
@@ -146,38 +151,55 @@ module _ {B : Type 0} (offer : B → ℕ → Option Offer) (agrees : B → ℕ �
           (with_last seat.1 y) (ap (λ (rs : List RingValue). slice_get rs d.place) r.1 ∙ set-here h.rings d.place (with_last seat.1 y) (let n = at.sized.rings in let l = low in omega (arith, l, n)))
           (λ i n. ap (λ (rs : List RingValue). slice_get rs i) r.1 ∙ set-other h.rings d.place i (with_last seat.1 y) n)
           (ap (λ (rs : List RingValue). length rs) r.1 ∙ length-set h.rings d.place (with_last seat.1 y) ∙ at.sized.rings)
-          (held-queued until steps d.offer y a (next_at h.next d.place) (answer_of offer until seat.0) seat.1 refl refl refl (Queueing.sent-few offer agrees plan until firsts bs h steps at d first before idle a ea p.0) seat.4.held after) refl
+          (held-queued until steps d.offer y a (next_at h.next d.place) answer seat.1 refl refl refl (Queueing.sent-few offer agrees plan until firsts bs h steps at d first before idle a ea p.0) seat.4.held after) refl
           (still-awaited p.0 p.1))
     ]
 
   -- ---- faults
 
-  pub after-disobeys : (n : ℕ) (failed : Bool) (o : Offer) → n ≡ suc (get_or h.queued d.place 0) → answer_of offer until seat.0 ≡ Some o → obeys a.stream (Some d.offer) o ≡ false →
-      IsCause plan actors (length plan.streams) until failed (DisobeysAt d.place n) × IsPartialPlay (ticks_of plan.rate) actors until (steps ++ x ∷ [])
-  after-disobeys n failed o e f g =
-      let v = answered until (offer seat.0 0) o f in
-      let m : n ≡ suc (queues a.stream.id steps) = e ∙ ap suc seat.4.count in
-      let next = Queueing.is-next offer agrees plan until firsts bs h steps at d first before idle a ea in
-      let async = next-async until steps (length steps) a d.offer next in
-      let w : answer a n ≡ Some o = answer-async a n async ∙ ap a.offer (let z : n ≡ suc (queues a.stream.id steps + 0) = omega (arith, m) in z) ∙ sym (seat.4.rest async 0) ∙ v.0 in
-      let b : answer_before a n ≡ Some d.offer = ap (answer_before a) m ∙ (next-is until steps (length steps) a d.offer next).0 in
-      let raised = count-raised (is_queue a.stream.id) steps x (eq-true a.stream.id a.stream.id refl) in
-      let number : queues a.stream.id (steps ++ x ∷ []) ≡ n = omega (arith, raised, m) in
-      let kept : by_end until o ≡ Some o = sym (ap (option_and_then (by_end until)) v.0) ∙ f in (
-        (
-          a,
-          ea,
-          record {
-            steps = steps ++ x ∷ [];
-            partial = partial-after;
-            number = number;
-            offer = o;
-            is_next = ap (λ k. option_and_then (by_end until) (answer a k)) number ∙ ap (option_and_then (by_end until)) w ∙ kept;
-            breaks = ap (λ p. obeys a.stream p o) b ∙ g;
-          },
-        ),
-        partial-after,
-      )
+  -- an answer that does not obey, by the SYNCs that are noted then
+  module _ (n : ℕ) (raised-to : n ≡ suc (get_or h.queued d.place 0)) where
+    abbrev v : SyncsValue
+    v = with_event h.syncs d.id d.offer.event
+
+    abbrev cue : Cue
+    cue = noted_cue v a.stream n
+
+    count-now : queues a.stream.id (steps ++ x ∷ []) ≡ n
+    count-now = (let r = count-raised (is_queue a.stream.id) steps x (eq-true a.stream.id a.stream.id refl) in let c = seat.4.count in omega (arith, r, c, raised-to))
+
+    noted-now : AreNoted (steps ++ x ∷ []) v
+    noted-now = subst (λ k. AreNoted (steps ++ x ∷ []) (with_event h.syncs k d.offer.event)) (sym its) (noted-queue steps h.syncs a.stream.id (queued_at d.offer) d.offer.event d.offer.frame at.noted)
+
+    cue-now : cue ≡ cue_of (steps ++ x ∷ []) (length (steps ++ x ∷ [])) a.stream
+    cue-now = noted-cue-is (steps ++ x ∷ []) v plan.streams d.place a.stream n noted-now at.synchronous (Places.stream-of offer agrees plan until firsts bs h steps at d.place a ea) ∙ ap (cue_by (steps ++ x ∷ []) a.stream) (sym count-now) ∙ sym (cue-at a.stream (steps ++ x ∷ []))
+
+    given : asks (cue_of steps (length steps) a.stream) ≡ 1
+    given = ap (λ b. cond b 1 0) (offered-given until steps (length steps) a d.offer (Queueing.is-next offer agrees plan until firsts bs h steps at d first before idle a ea))
+
+    pub after-disobeys : (failed : Bool) (o : Offer) → answer_of offer until cue (Some d.offer) seat.0 ≡ Some o → obeys a.stream (Some d.offer) (from_of cue o) o ≡ false →
+        IsCause plan actors (length plan.streams) until failed (DisobeysAt d.place n) × IsPartialPlay (ticks_of plan.rate) actors until (steps ++ x ∷ [])
+    after-disobeys failed o f g =
+        let asked : offer seat.0 0 ≡ a.offer (queues a.stream.id (steps ++ x ∷ [])) =
+        seat.4.rest 0 ∙ ap a.offer (let c = given in let r = count-raised (is_queue a.stream.id) steps x (eq-true a.stream.id a.stream.id refl) in
+        let e : queues a.stream.id steps + (asks (cue_of steps (length steps) a.stream) + 0) ≡ queues a.stream.id (steps ++ x ∷ []) = omega (arith, r, c) in e) in
+        let own = before-own a.stream.id steps d.offer in (
+          (
+            a,
+            ea,
+            record {
+              its = contained actors d.place a ea;
+              steps = steps ++ x ∷ [];
+              partial = partial-after;
+              number = count-now;
+              offer = o;
+              is_next = ap (option_and_then (by_end until)) (ap (λ c. answer_in c (queued_before a.stream.id (steps ++ x ∷ []) (length (steps ++ x ∷ []))) (a.offer (queues a.stream.id (steps ++ x ∷ [])))) (sym cue-now)
+                  ∙ ap (λ b. answer_in cue b (a.offer (queues a.stream.id (steps ++ x ∷ [])))) own ∙ ap (answer_in cue (Some d.offer)) (sym asked)) ∙ f;
+              breaks = ap (λ b. obeys a.stream b (from_of (cue_of (steps ++ x ∷ []) (length (steps ++ x ∷ [])) a.stream) o) o) own ∙ ap (λ c. obeys a.stream (Some d.offer) (from_of c o) o) (sym cue-now) ∙ g;
+            },
+          ),
+          partial-after,
+        )
 
   module _ (full : IsFull h.rings h.joined d.place) where
     abbrev after-steps : List Step

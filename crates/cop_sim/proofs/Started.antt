@@ -8,6 +8,8 @@ use Rattle.cop_rta.specs.declared.streams.Stream.{Stream}
 use Rattle.cop_bus.specs.declared.steps.Step.{Step}
 use Rattle.cop_bus.specs.declared.steps.Content.{Content}
 use Rattle.cop_bus.specs.declared.steps.Step.TheVariants.{Queue, Start, End}
+use Rattle.cop_bus.specs.Ends.{is_end}
+use Rattle.cop_rta.specs.Test.{sync_id}
 use Rattle.cop_bus.specs.Run.{least_bits, worst_bits}
 use Rattle.cop_bus.specs.Trace.{is_queue, is_start, count_to, nth_that, step_at, running, at_of, rank_of, bits_of, now_of}
 use Rattle.cop_bus.specs.Judge.{id_of, stream_of, last_event, is_in_order, not_before, is_period_later, is_queued_in_time, is_of_length, fits_transfer, is_not_idle, broken_by, any_waits, lower_waits, waits_after, is_soon_queued}
@@ -17,13 +19,16 @@ use Rattle.cop_bus.proofs.StepLemmas.{bool_cases, nth_before, nth_that-at, queue
 use Rattle.cop_bus.proofs.Verdict.{Keeps, keeps}
 use Rattle.cop_bus.proofs.Found.{or-left, or-right}
 use Rattle.cop_sim.specs.declared.behaviours.Offer.{Offer}
-use Rattle.cop_sim.specs.Play.{Actor, streams_of, queued_at, queue_step, next_offer, IsSentAhead, Competes, obeys, answer_before, event_of, is_later, is_in_time, is_not_before}
+use Rattle.cop_sim.specs.Play.{Actor, streams_of, queued_at, queue_step, next_offer, IsSentAhead, Competes, obeys_after, queued_before}
+use Rattle.cop_sim.specs.Cues.{cue_of, from_of}
 use Rattle.cop_bus.proofs.Grows.{last_event-more, count_to-more, nth_that-more, any_waits-more, lower_waits-more}
 use Rattle.cop_bus.proofs.Appended.{step_at-here, length-one, one-more, now-one, count_to-one, last_event-here}
-use Rattle.cop_sim.proofs.Going.{FindsTheSame, finds-more, fine-one, running-kept, running-one, keeps-none, order-more, idle-more, start-period, start-time, start-length, runs-idle, period-of, time-of}
-use Rattle.cop_sim.proofs.Kept.{at-cases, next-is, next-async, count-kept, count-raised, next-kept, before-kept, offers-one, rising-one, starts-one, SendsLowestHere, lowest-one}
+use Rattle.cop_sim.proofs.Going.{FindsTheSame, finds-more, fine-one, running-kept, running-one, keeps-none, order-more, idle-more, start-period, start-time, start-length, runs-idle}
+use Rattle.cop_sim.proofs.Cued.{EndQueued}
+use Rattle.cop_sim.proofs.Marks.{AnchorsAgree, anchors-more, anchors-kept, period-same, time-same, obeys-is, hangs}
+use Rattle.cop_sim.proofs.Kept.{at-cases, next-is, count-kept, count-raised, next-kept, next-stays, obeys-kept, offers-one, rising-one, starts-one, SendsLowestHere, lowest-one}
 use Rattle.cop_sim.specs.Going.{IsNext, queued_ahead, Goes}
-use Rattle.cop_sim.proofs.Queued.{by-now, obeys-is}
+use Rattle.cop_sim.proofs.Goes.{by-now}
 
 -- none with a lower identifier waits, if the lowest of those that compete is sent
 pub lower-false : (tau until : ℕ) (steps : List Step) (i z id : ℕ) (actors : List Actor) → Each (λ a. Competes tau until steps i z a → id ≤ a.stream.id) actors → lower_waits steps i id (streams_of actors) ≡ false
@@ -80,9 +85,9 @@ module _ (tau : ℕ) (pos : 1 ≤ tau) (actors : List Actor) (until : ℕ) (ther
 
   -- what comes after the start
   next-after : (b : Actor) → Contains actors b → (p : Offer) → next_offer until (steps ++ x ∷ []) (length (steps ++ x ∷ [])) b ≡ Some p →
-      obeys b.stream (answer_before b (count_to (is_queue b.stream.id) (steps ++ x ∷ []) (length (steps ++ x ∷ [])))) p ≡ true → IsNext until (steps ++ x ∷ []) b p
+      obeys_after (steps ++ x ∷ []) (length (steps ++ x ∷ [])) b.stream p ≡ true → IsNext until (steps ++ x ∷ []) b p
   next-after b d p q w0 =
-      let h = sym (next-kept until steps x b refl) ∙ q in
+      let h = sym (next-kept until steps x b refl refl goes.ended) ∙ q in
       let l = later b d p h in
       let m = (next-is until steps (length steps) b p h).1 in
       record {
@@ -91,13 +96,13 @@ module _ (tau : ℕ) (pos : 1 ≤ tau) (actors : List Actor) (until : ℕ) (ther
             ∙ and-true (nat_le (queued_at p) until) (not_before x (queue_step b.stream.id p)) (le-true (queued_at p) until m) (or-left (nat_lt z (queued_at p)) _ (lt-true z (queued_at p) l));
         obeying = w0;
         rising = λ i k event frame j e. (elim (at-cases steps x i j) [
-          | inl w ↦ (goes.next b d p h (ap (λ v. obeys b.stream v p) (sym (before-kept steps x b refl)) ∙ w0)).rising i k event frame w.0 (sym w.1 ∙ e)
+          | inl w ↦ (goes.next b d p h (sym (obeys-kept steps x b.stream p refl refl goes.ended) ∙ w0)).rising i k event frame w.0 (sym w.1 ∙ e)
           | inr w ↦ (let y : Start id z ≡ Queue k (queued_at p) event frame = sym w.1 ∙ e in absurd (cc))
         ]);
       }
 
-  last-after : (b : Actor) → Contains actors b → last_event b.stream.id (steps ++ x ∷ []) (length (steps ++ x ∷ [])) ≡ event_of (answer_before b (count_to (is_queue b.stream.id) (steps ++ x ∷ []) (length (steps ++ x ∷ []))))
-  last-after b d = ap (last_event b.stream.id (steps ++ x ∷ [])) (length-one steps x) ∙ last_event-here b.stream.id steps x [] ∙ goes.lasts b d ∙ ap event_of (sym (before-kept steps x b refl))
+  still-ended : EndQueued (steps ++ x ∷ [])
+  still-ended = let n = count-kept (is_end sync_id) steps x refl in let q = count-kept (is_queue sync_id) steps x refl in let few = goes.ended in omega (arith, n, q, few)
 
   -- with what is ahead then, and the instance that is sent
   module _ (more : List Step) (w : Step) (found : nth_that (is_queue id) (count_to (is_start id) steps (length steps)) (steps ++ x ∷ more) ≡ Some w) (soon : at_of w < z + tau) (bits : 1 ≤ bits_of (Some w)) where
@@ -144,9 +149,9 @@ module _ (tau : ℕ) (pos : 1 ≤ tau) (actors : List Actor) (until : ℕ) (ther
       known = λ r q. (let e : Some (id, z + bits_of (Some w) * tau) ≡ Some r = sym runs-after ∙ q in let f : id ≡ r.0 = cc in
           subst (λ k. is_some (stream_of (streams_of actors) k) ≡ true) f (ap is_some (there a c)));
       offers = λ b d. offers-one until steps x b (goes.offers b d) (λ t. absurd (cc));
-      lasts = last-after;
+      ended = still-ended;
       next = next-after;
-      none_left_out = λ b d f p q. (let l = later b d p (sym (next-kept until steps x b refl) ∙ q) in let n = now-one steps x in omega (arith, l, n));
+      none_left_out = λ b d f p q. (let l = later b d p (sym (next-kept until steps x b refl refl goes.ended) ∙ q) in let n = now-one steps x in omega (arith, l, n));
       rising = rising-one steps x goes.rising (λ i at k k' event event' frame frame' l q p. absurd (cc));
       none_at_end = starts-one until steps x goes.none_at_end (λ y k p. (let e : z ≡ y = cc in omega (arith, e, early)));
       lowest = lowest-one tau actors until steps x goes.lowest (λ y k p. (let e : z ≡ y = cc in let f : id ≡ k = cc in subst (λ m. SendsLowestHere tau actors until steps m k) e (subst (λ m. SendsLowestHere tau actors until steps z m) f ((c.0, a, c.1, c.2, (refl, competes)), lowest))));
@@ -173,12 +178,15 @@ module _ (tau : ℕ) (pos : 1 ≤ tau) (actors : List Actor) (until : ℕ) (ther
       ])
 
   -- A joiner is sent: its queue step is still to come.
-  module _ (o : Offer) (is_next : next_offer until steps (length steps) a ≡ Some o) (obeying : obeys a.stream (answer_before a (count_to (is_queue id) steps (length steps))) o ≡ true) (none_waits : waits_after steps (length steps) id ≡ false) (soon : queued_at o < z + tau) where
+  module _ (o : Offer) (is_next : next_offer until steps (length steps) a ≡ Some o) (obeying : obeys_after steps (length steps) a.stream o ≡ true) (none_waits : waits_after steps (length steps) id ≡ false) (soon : queued_at o < z + tau) where
     abbrev y : Step
     y = queue_step id o
 
-    test : (is_later a.stream (answer_before a (count_to (is_queue id) steps (length steps))) o ≡ true) × (is_in_time a.stream o ≡ true) × (is_of_length (Some a.stream) y ≡ true) × (is_not_before (answer_before a (count_to (is_queue id) steps (length steps))) o ≡ true)
-    test = obeys-is a.stream (answer_before a (count_to (is_queue id) steps (length steps))) o obeying
+    of-length : is_of_length (Some a.stream) y ≡ true
+    of-length = (obeys-is a.stream (queued_before id steps (length steps)) (from_of (cue_of steps (length steps) a.stream) o) o obeying).2
+
+    hang : (is_period_later (Some a.stream) (last_event id steps (length steps)) steps (length steps) y ≡ true) × (is_queued_in_time (Some a.stream) steps (length steps) y ≡ true)
+    hang = hangs tau (streams_of actors) until steps [] goes.fine goes.ended a (goes.offers a c) o (next-is until steps (length steps) a o is_next).0 obeying
 
     all-sent : count_to (is_start id) steps (length steps) ≡ count_to (is_queue id) steps (length steps)
     all-sent = elim (cases_lt (count_to (is_start id) steps (length steps)) (count_to (is_queue id) steps (length steps))) [
@@ -201,26 +209,26 @@ module _ (tau : ℕ) (pos : 1 ≤ tau) (actors : List Actor) (until : ℕ) (ther
         (ap (λ j. nth_that (is_queue id) j ((steps ++ x ∷ []) ++ y ∷ [])) (all-sent ∙ sym counted) ∙ f ∙ ap Some s)
 
     pub long : 1 ≤ o.frame.bits
-    long = has-bits a.stream (queued_at o) id o.event o.frame test.2
+    long = has-bits a.stream (queued_at o) id o.event o.frame of-length
 
-    async : a.stream.every ≡ 0
-    async = next-async until steps (length steps) a o is_next
+    agree : AnchorsAgree a.stream ((steps ++ x ∷ []) ++ y ∷ []) (length (steps ++ x ∷ [])) steps (length steps)
+    agree v = anchors-more a.stream (steps ++ x ∷ []) (y ∷ []) still-ended v ∙ anchors-kept a.stream steps x refl goes.ended v
 
     behind : broken_by tau (streams_of actors) until ((steps ++ x ∷ []) ++ y ∷ []) (length (steps ++ x ∷ [])) y ≡ None
     behind =
         let n = length (steps ++ x ∷ []) in
         let r = runs-after (y ∷ []) y found soon long in
-        let h = next-kept until steps x a refl ∙ is_next in
-        let i = next-after a c o h (ap (λ v. obeys a.stream v o) (before-kept steps x a refl) ∙ obeying) in
+        let h = next-stays until steps x a o refl is_next in
+        let i = next-after a c o h (obeys-kept steps x a.stream o refl refl goes.ended ∙ obeying) in
         let b = takes-a-bit o.frame.bits tau long in
         keeps-none tau (streams_of actors) until ((steps ++ x ∷ []) ++ y ∷ []) n y (record {
           order = order-more until (steps ++ x ∷ []) (y ∷ []) y ∙ i.in_turn;
           known = ap is_some (there a c);
           period = ap (λ s. is_period_later s (last_event id ((steps ++ x ∷ []) ++ y ∷ []) n) ((steps ++ x ∷ []) ++ y ∷ []) n y) (there a c)
-              ∙ ap (λ v. is_period_later (Some a.stream) v ((steps ++ x ∷ []) ++ y ∷ []) n y) (last_event-more id (steps ++ x ∷ []) (y ∷ []) n (omega arith) ∙ last-after a c ∙ ap event_of (before-kept steps x a refl))
-              ∙ period-of a.stream (answer_before a (count_to (is_queue id) steps (length steps))) o ((steps ++ x ∷ []) ++ y ∷ []) n async ∙ test.0;
-          in_time = ap (λ s. is_queued_in_time s ((steps ++ x ∷ []) ++ y ∷ []) n y) (there a c) ∙ time-of a.stream o ((steps ++ x ∷ []) ++ y ∷ []) n async ∙ test.1;
-          of_length = ap (λ s. is_of_length s y) (there a c) ∙ test.2;
+              ∙ ap (λ v. is_period_later (Some a.stream) v ((steps ++ x ∷ []) ++ y ∷ []) n y) (last_event-more id (steps ++ x ∷ []) (y ∷ []) n (omega arith) ∙ ap (last_event id (steps ++ x ∷ [])) (length-one steps x) ∙ last_event-here id steps x [])
+              ∙ period-same (Some a.stream) a.stream (last_event id steps (length steps)) o ((steps ++ x ∷ []) ++ y ∷ []) n steps (length steps) refl agree ∙ hang.0;
+          in_time = ap (λ s. is_queued_in_time s ((steps ++ x ∷ []) ++ y ∷ []) n y) (there a c) ∙ time-same (Some a.stream) a.stream o ((steps ++ x ∷ []) ++ y ∷ []) n steps (length steps) refl agree ∙ hang.1;
+          of_length = ap (λ s. is_of_length s y) (there a c) ∙ of-length;
           transfer = ap (λ u. fits_transfer u y) r ∙ lt-true (queued_at o) (z + o.frame.bits * tau) (omega (arith, soon, b));
           to_send = refl;
           lowest = refl;
@@ -230,7 +238,7 @@ module _ (tau : ℕ) (pos : 1 ≤ tau) (actors : List Actor) (until : ℕ) (ther
     pub started_joiner : Goes tau actors until (steps ++ x ∷ []) (y ∷ [])
     started_joiner = started (y ∷ []) y found soon long
         (λ v e. (let q : y ≡ v = cc in subst (λ t. broken_by tau (streams_of actors) until ((steps ++ x ∷ []) ++ y ∷ []) (length (steps ++ x ∷ [])) t ≡ None) q behind))
-        (inr (a, c, (let q = count-kept (is_queue id) steps x refl in let s = count-raised (is_start id) steps x (eq-true id id refl) in let e = all-sent in omega (arith, q, s, e)), (o, next-kept until steps x a refl ∙ is_next, refl)))
+        (inr (a, c, (let q = count-kept (is_queue id) steps x refl in let s = count-raised (is_start id) steps x (eq-true id id refl) in let e = all-sent in omega (arith, q, s, e)), (o, next-stays until steps x a o refl is_next, refl)))
         (λ k. elim (bool_cases (id == k)) [
           | inr g ↦ (let s = count-kept (is_start k) steps x g in let h = goes.started k in omega (arith, s, h))
           | inl g ↦ (let s = count-raised (is_start k) steps x g in let e = true-eq id k g in

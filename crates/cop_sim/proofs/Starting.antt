@@ -24,6 +24,9 @@ use Rattle.cop_sim.specs.Play.{Actor, actors_of, streams_of, queued_at, queue_st
 use Rattle.cop_sim.specs.Going.{Goes}
 use Rattle.cop_sim.specs.Seats.{next_at, IsDueSoFar, IsChosen}
 use Rattle.cop_sim.specs.Stages.{AtHand, starts, IsHeld, IsSeat, flipped, IsAwaited, IsAt, IsStarted}
+use Rattle.cop_sim.specs.Syncs.{SyncsValue, AreNoted}
+use Rattle.cop_sim.proofs.Cued.{cue-kept}
+use Rattle.cop_sim.proofs.Noted.{noted-start}
 use Rattle.cop_sim.proofs.Kept.{count-kept, count-raised}
 use Rattle.cop_sim.proofs.Going.{finds-more, running-one}
 use Rattle.cop_sim.proofs.Held.{held-waits, held-none, held-started, held-joiner}
@@ -113,14 +116,14 @@ module _ {B : Type 0} (offer : B → ℕ → Option Offer) (agrees : B → ℕ �
             let ev : seat.0 ≡ v = some-one (slice_get bs s.place) seat.0 v seat.2 (subst (λ n. slice_get bs n ≡ Some v) p f) in
             let here : slice_get h'.rings s.place ≡ Some (without_first seat.1) = ap (λ (rs : List RingValue). slice_get rs s.place) rings-are ∙ set-here h.rings s.place (without_first seat.1) within in
             let er : without_first seat.1 ≡ r = some-one (slice_get h'.rings s.place) (without_first seat.1) r here (subst (λ n. slice_get h'.rings n ≡ Some r) p g) in
-            let own = seat-kept offer agrees until steps x a seat.0 (next_at h.next s.place) seat.1 (without_first seat.1) (get_or h.queued s.place 0) refl refl held seat.4 in
+            let own = seat-kept offer agrees until steps x a seat.0 (next_at h.next s.place) seat.1 (without_first seat.1) (get_or h.queued s.place 0) refl (cue-kept a.stream steps x refl refl at.goes.ended) refl held seat.4 in
             subst (λ n. IsSeat offer agrees until (steps ++ x ∷ []) b v (next_at h.next n) r (get_or h.queued n 0)) (sym p)
             (subst (λ (w : RingValue). IsSeat offer agrees until (steps ++ x ∷ []) b v (next_at h.next s.place) w (get_or h.queued s.place 0)) er
             (subst (λ (w : B). IsSeat offer agrees until (steps ++ x ∷ []) b w (next_at h.next s.place) (without_first seat.1) (get_or h.queued s.place 0)) ev
             (subst (λ (w : Actor). IsSeat offer agrees until (steps ++ x ∷ []) w seat.0 (next_at h.next s.place) (without_first seat.1) (get_or h.queued s.place 0)) eb own)))
         go (inr n) =
             let gr : slice_get h.rings i ≡ Some r = sym (set-other h.rings s.place i (without_first seat.1) n) ∙ sym (ap (λ (rs : List RingValue). slice_get rs i) rings-are) ∙ g in
-            seat-other offer agrees until steps x b v (next_at h.next i) r (get_or h.queued i 0) refl (Places.apart offer agrees plan until firsts bs h steps at s.place i a b ea e n) (at.seats i b v r e f gr)
+            seat-other offer agrees until steps x b v (next_at h.next i) r (get_or h.queued i 0) refl (Places.apart offer agrees plan until firsts bs h steps at s.place i a b ea e n) refl at.goes.ended (at.seats i b v r e f gr)
 
     started-at : IsAt offer agrees plan until firsts bs h' (steps ++ x ∷ [])
     started-at = record {
@@ -142,6 +145,8 @@ module _ {B : Type 0} (offer : B → ℕ → Option Offer) (agrees : B → ℕ �
       runs = runs';
       now_is = st.now ∙ sym (now-one steps x);
       awaited = subst (λ (xs : List (Option Offer)). IsAwaited actors xs (steps ++ x ∷ []) ahead' h'.joined) (sym st.next) awaited';
+      noted = subst (AreNoted (steps ++ x ∷ [])) (sym st.syncs) (noted-start steps h.syncs a.stream.id h.now at.noted);
+      synchronous = ap (λ (v : SyncsValue). v.synchronous) st.syncs ∙ at.synchronous;
     }
 
   module _ (h' : AtHand) (st : IsStarted tau s h h') where
@@ -159,7 +164,7 @@ module _ {B : Type 0} (offer : B → ℕ → Option Offer) (agrees : B → ℕ �
         let t = st.waiting seat.1 y seat.3 e in
         let none = none-awaited actors h.next steps at.ahead h.joined at.awaited none-ahead in
         started-at h' st [] g (t.1 ∙ ap (λ n. Some (h.now + y.frame.bits * tau, n)) its ∙ sym (ap flipped r))
-        (held-started until steps h.now a (next_at h.next s.place) seat.1 l seat.4.held) (subst (IsAwaited actors h.next (steps ++ x ∷ []) []) (sym (t.0 ∙ none)) refl)
+        (held-started until steps h.now a (next_at h.next s.place) seat.1 at.goes.ended l seat.4.held) (subst (IsAwaited actors h.next (steps ++ x ∷ []) []) (sym (t.0 ∙ none)) refl)
 
     -- or a joiner
     joiner-at : slice_get seat.1.waiting 0 ≡ None → Joins tau until steps (length steps) h.now a → IsAt offer agrees plan until firsts bs h' (steps ++ x ∷ [])
@@ -181,7 +186,7 @@ module _ {B : Type 0} (offer : B → ℕ → Option Offer) (agrees : B → ℕ �
         let sent : IsSentAhead (steps ++ x ∷ []) a = omega (arith, q, k, m, zero-long) in
         let same : drop 1 seat.1.waiting ≡ seat.1.waiting = ap (drop 1) empty ∙ sym empty in
         started-at h' st (y ∷ []) g (t.1 ∙ ap (λ n. Some (h.now + o.frame.bits * tau, n)) its ∙ sym (ap flipped r))
-        (subst (λ (ys : List Instance). IsHeld until (steps ++ x ∷ []) a (next_at h.next s.place) (record { id = seat.1.id; waiting = ys; most = seat.1.most })) (sym same) (held-joiner until steps h.now a (next_at h.next s.place) seat.1 zero-long seat.4.held))
+        (subst (λ (ys : List Instance). IsHeld until (steps ++ x ∷ []) a (next_at h.next s.place) (record { id = seat.1.id; waiting = ys; most = seat.1.most })) (sym same) (held-joiner until steps h.now a (next_at h.next s.place) seat.1 at.goes.ended zero-long seat.4.held))
         (subst (IsAwaited actors h.next (steps ++ x ∷ []) (y ∷ [])) (sym t.0) (a, ea, sent, (o, n, refl)))
 
     pub after-start : IsAt offer agrees plan until firsts bs h' (steps ++ x ∷ [])

@@ -1,5 +1,5 @@
 -- Each turn takes one step of the play.
-use Rattle.std.proofs.Common.{◌≡◌, ℕ, zero, ◌-◌, ◌≤◌, ◌<◌, ◌^◌, inl, inr, List, [], ◌∷◌, ◌++◌, length, get_or, slice_get, Option, Some, None, Result, Ok, Err, IsErrAnd, Bool, true, false, nat_lt, cond, refl, sym, ap, ◌∙◌, subst, arith, suc}
+use Rattle.std.proofs.Common.{◌≡◌, ℕ, zero, ◌-◌, ◌≤◌, ◌<◌, ◌^◌, inl, inr, List, [], ◌∷◌, ◌++◌, length, get_or, slice_get, Option, Some, None, Result, Ok, Err, IsErrAnd, Contains, Bool, true, false, nat_lt, cond, refl, sym, ap, ◌∙◌, subst, arith, suc}
 use Rattle.std.proofs.lemmas.Option.{slice_get_within}
 use Rattle.cop_frame.specs.Rate.{ticks_of}
 use Rattle.cop_rta.specs.declared.streams.Stream.{Stream}
@@ -19,14 +19,16 @@ use Rattle.cop_sim.specs.declared.playing.Event.TheVariants.{End, Queue, Start, 
 use Rattle.cop_sim.specs.declared.faults.SimFault.{SimFault}
 use Rattle.cop_sim.specs.declared.faults.SimFault.TheVariants.{Count, Disobeys as DisobeysAt, Backlog, Sink, Memory}
 use Rattle.cop_sim.specs.Events.{IsNextEvent}
-use Rattle.cop_sim.specs.Play.{Actor, actors_of, queued_at, queue_step, obeys, IsPartialPlay}
+use Rattle.cop_sim.specs.Play.{Actor, actors_of, queued_at, queue_step, next_offer, obeys, IsPartialPlay}
+use Rattle.cop_sim.specs.Cues.{from_of}
+use Rattle.cop_sim.specs.Syncs.{noted_cue}
 use Rattle.cop_sim.specs.Sinks.{IsCause}
 use Rattle.cop_sim.specs.Seats.{next_at, IsDueTo, IsDueSoFar, IsChosen, IsChosenSoFar, IsPlaceOf}
 use Rattle.cop_sim.specs.Hands.{AreTheirs}
-use Rattle.cop_sim.specs.Stages.{AtHand, IsAt, IsQueued, QueueFault, IsStarted, IsFault, IsTurned}
+use Rattle.cop_sim.specs.Stages.{AtHand, IsAt, IsQueued, QueueFault, IsEnded, EndFault, IsStarted, IsFault, IsTurned}
 use Rattle.cop_sim.proofs.Plays.{partial}
 use Rattle.cop_sim.proofs.Places as Places
-use Rattle.cop_sim.proofs.Ending.{ended-at}
+use Rattle.cop_sim.proofs.Ending as Ending
 use Rattle.cop_sim.proofs.Queues as Queues
 use Rattle.cop_sim.proofs.Starting as Starting
 use Rattle.cop_sim.proofs.Finishing as Finishing
@@ -72,15 +74,22 @@ module _ {B S : Type 0} (offer : B → ℕ → Option Offer) (agrees : B → ℕ
       some-stream x y e = cc
 
   module _ (due : Option Due) (first : IsDueSoFar plan.streams h.next (length h.next) due) where
-    pub turned-end : (cs : List B) (h' : AtHand) (failed : Bool) (s t : S) (e id : ℕ) → cs ≡ bs → IsNextEvent h.running due (any_in h.rings) h.now until (End id e) → h' ≡ record h { running = None; now = e } → takes s (step.End id e) t →
-        IsTurned offer agrees takes plan until firsts cs h' failed s t steps (Ok true)
-    turned-end cs h' failed s t e id same event stage taken = (
-      step.End id e,
-      subst (λ (v : List B). IsAt offer agrees plan until firsts v h' (steps ++ step.End id e ∷ [])) (sym same)
-          (subst (λ (v : AtHand). IsAt offer agrees plan until firsts bs v (steps ++ step.End id e ∷ [])) (sym stage)
-          (ended-at offer agrees plan until firsts bs h steps at e id event.0 event.1 (Places.after-due offer agrees plan until firsts bs h steps at due first e event.2))),
-      taken,
-    )
+    module _ (e id : ℕ) (event : IsNextEvent h.running due (any_in h.rings) h.now until (End id e)) where
+      later-ones : (a : Actor) → Contains actors a → (o : Offer) → next_offer until steps (length steps) a ≡ Some o → e ≤ queued_at o
+      later-ones = Places.after-due offer agrees plan until firsts bs h steps at due first e event.2
+
+      pub turned-end : (cs : List B) (h' : AtHand) (failed : Bool) (s t : S) → IsEnded offer agrees until plan.streams e id h h' bs cs → takes s (step.End id e) t → IsTurned offer agrees takes plan until firsts cs h' failed s t steps (Ok true)
+      turned-end cs h' failed s t q taken = (step.End id e, Ending.ended-at offer agrees plan until firsts bs h steps at e id event.0 event.1 later-ones h' cs q, taken)
+
+      pub end-fault : (failed : Bool) (s t : S) (fault : SimFault) → EndFault offer takes until plan.streams e id h bs s t fault → (fault ≡ Sink → failed ≡ true) → IsFault takes plan actors until failed s t steps fault
+      end-fault failed s t (DisobeysAt stream instance) q f = record {
+        cause = Ending.end-disobeys offer agrees plan until firsts bs h steps at e id event.0 event.1 later-ones q.0 stream instance (length plan.streams) failed q.2;
+        left = (step.End id e, Ending.partial-after offer agrees plan until firsts bs h steps at e id event.0 event.1 later-ones, q.1);
+      }
+      end-fault failed s t (Backlog n) q f = absurd q
+      end-fault failed s t Sink q f = record { cause = f refl; left = partial-now }
+      end-fault failed s t Count q f = absurd q
+      end-fault failed s t Memory q f = record { cause = tt; left = (step.End id e, Ending.partial-after offer agrees plan until firsts bs h steps at e id event.0 event.1 later-ones, q) }
 
     pub turned-nothing : (bs' : List B) (h' : AtHand) (failed : Bool) (s : S) → IsNextEvent h.running due (any_in h.rings) h.now until Nothing → IsTurned offer agrees takes plan until firsts bs' h' failed s s steps (Ok false)
     turned-nothing bs' h' failed s event = (Finishing.finished offer agrees plan until firsts bs h steps at due first event, refl)
@@ -106,7 +115,8 @@ module _ {B S : Type 0} (offer : B → ℕ → Option Offer) (agrees : B → ℕ
       in-time : queued_at d.offer ≤ until
       in-time = Queues.in-time offer agrees plan until firsts bs h steps at d here event.1 event.2 found.0 found.1
 
-      pub turned-queue : (h' : AtHand) (cs : List B) (failed : Bool) (s t : S) → IsQueued offer agrees until d h h' bs cs → ((o : Offer) (k : Stream) → next_at h'.next d.place ≡ Some o → slice_get plan.streams d.place ≡ Some k → obeys k (Some d.offer) o ≡ true) →
+      pub turned-queue : (h' : AtHand) (cs : List B) (failed : Bool) (s t : S) → IsQueued offer agrees until plan.streams d h h' bs cs →
+          ((o : Offer) (k : Stream) → next_at h'.next d.place ≡ Some o → slice_get plan.streams d.place ≡ Some k → obeys k (Some d.offer) (from_of (noted_cue h'.syncs k (get_or h'.queued d.place 0)) o) o ≡ true) →
           (queued_at d.offer ≤ until → takes s (queue_step d.id d.offer) t) → IsTurned offer agrees takes plan until firsts cs h' failed s t steps (Ok true)
       turned-queue h' cs failed s t q again taken = (
         queue_step found.0.stream.id d.offer,
@@ -123,14 +133,17 @@ module _ {B S : Type 0} (offer : B → ℕ → Option Offer) (agrees : B → ℕ
           let v = Places.seat-of offer agrees plan until firsts bs h steps at d.place found.0 found.1 in
           let k = Places.stream-of offer agrees plan until firsts bs h steps at d.place found.0 found.1 in
           let w = q.3 found.0.stream v.0 k v.2 in
-          let r = Queues.after-disobeys offer agrees plan until firsts bs h steps at d here event.1 event.2 found.0 found.1 instance failed w.0 (q.1 room) w.1 w.2 in
+          let r = Queues.after-disobeys offer agrees plan until firsts bs h steps at d here event.1 event.2 found.0 found.1 instance (q.1 room) failed w.0 w.1 w.2 in
           record {
             cause = subst (λ n. IsCause plan actors (length plan.streams) until failed (DisobeysAt n instance)) (sym q.0) r.0;
             left = (queue_step found.0.stream.id d.offer, r.1, subst (λ x. takes s x t) step-is (q.2 in-time));
           }
       queue-fault failed s t Sink q f = record { cause = f refl; left = partial-now }
       queue-fault failed s t Count q f = absurd q
-      queue-fault failed s t Memory q f = absurd q
+      queue-fault failed s t Memory q f = record {
+        cause = tt;
+        left = (queue_step found.0.stream.id d.offer, Queues.partial-after offer agrees plan until firsts bs h steps at d here event.1 event.2 found.0 found.1, subst (λ x. takes s x t) step-is (q in-time));
+      }
 
     module _ (event : IsNextEvent h.running due (any_in h.rings) h.now until Start) where
       -- one of those that wait or join is chosen

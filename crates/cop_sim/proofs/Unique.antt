@@ -1,5 +1,5 @@
 -- The play of behaviours is one: after each of its steps the next is the same.
-use Rattle.std.proofs.Common.{◌≡◌, ℕ, ◌+◌, ◌*◌, ◌≤◌, ◌<◌, ◌⊎◌, inl, inr, List, [], ◌∷◌, ◌++◌, length, refl, sym, ◌∙◌, ap, subst, arith, suc, zero, Bool, true, false, cond, not, ◌||◌, nat_lt, nat_le}
+use Rattle.std.proofs.Common.{◌≡◌, ℕ, ◌+◌, ◌-◌, ◌*◌, ◌≤◌, ◌<◌, ◌⊎◌, inl, inr, List, [], ◌∷◌, ◌++◌, length, refl, sym, ◌∙◌, ap, subst, arith, suc, zero, Bool, true, false, cond, not, ◌||◌, nat_lt, nat_le}
 use Rattle.std.specs.Prelude.{Option, None, Some, is_some, All, Contains, ◌==◌}
 use Rattle.std.specs.Option.{option_and_then}
 use Rattle.std.proofs.lemmas.Bool.{cases_lt}
@@ -14,7 +14,7 @@ use Rattle.cop_bus.specs.Trace.{is_queue, is_start, count_to, nth_that, step_at,
 use Rattle.cop_bus.specs.Judge.{id_of, stream_of, fits_transfer, is_not_idle, has_one_to_send, any_waits, first_broken, is_unfinished}
 use Rattle.cop_bus.proofs.Demand.{and-left, and-right}
 use Rattle.cop_bus.proofs.Work.{le-true, lt-false, true-le, true-lt, true-eq, eq-true}
-use Rattle.cop_bus.proofs.StepLemmas.{bool_cases, same_some, nth_before, nth_that-at, count_to-le, count_to-past, count_to-zero}
+use Rattle.cop_bus.proofs.StepLemmas.{bool_cases, same_some, queue_shape, nth_before, nth_that-at, count_to-le, count_to-past, count_to-zero}
 use Rattle.cop_bus.proofs.Verdict.{Keeps, soon-some}
 use Rattle.cop_bus.proofs.Accepts
 use Rattle.cop_bus.proofs.Accepts.{stream-rest}
@@ -23,9 +23,9 @@ use Rattle.cop_bus.proofs.WholeTrace.{clean-legal}
 use Rattle.cop_bus.proofs.Grows.{step_at-more, count_to-more, any_waits-more, no-more}
 use Rattle.cop_bus.proofs.Appended.{step_at-here, length-one, one-more}
 use Rattle.cop_sim.specs.declared.behaviours.Offer.{Offer}
-use Rattle.cop_sim.specs.Play.{Actor, streams_of, queued_at, queue_step, by_end, answer, next_offer, IsPlay, QueuesItsOffers, Competes}
+use Rattle.cop_sim.specs.Play.{Actor, streams_of, queued_at, queue_step, by_end, next_answer, next_offer, IsPlay, QueuesItsOffers, Competes}
 use Rattle.cop_sim.proofs.Actors.{same-all}
-use Rattle.cop_sim.proofs.Kept.{next-is, offer-by_number, competes-more, competes-less}
+use Rattle.cop_sim.proofs.Kept.{next-is, answer-more, answer-stays, frame-by_number, competes-more, competes-less}
 
 -- an actor of the identifier that the set finds
 actor-of : (actors : List Actor) (id : ℕ) → is_some (stream_of (streams_of actors) id) ≡ true → (a : Actor) × Contains actors a × (a.stream.id ≡ id)
@@ -203,8 +203,8 @@ module _ (rate : Rate) (actors : List Actor) (distinct : AreDistinct (streams_of
     kept : (i : ℕ) (x : Step) → i < length steps → step_at steps i ≡ x → Keeps tau (streams_of actors) until steps i x
     kept i x l e = Accepts.kept-as tau (streams_of actors) until steps distinct clean i x l e
 
-    its-offers : (a : Actor) → Contains actors a → (j : ℕ) (x : Step) → nth_that (is_queue a.stream.id) j steps ≡ Some x → (o : Offer) × (answer a j ≡ Some o) × (x ≡ queue_step a.stream.id o)
-    its-offers a c = offer-by_number steps a (All-contains (QueuesItsOffers steps) actors a play.offers c)
+    its-frames : (a : Actor) → Contains actors a → (j : ℕ) (x : Step) → nth_that (is_queue a.stream.id) j steps ≡ Some x → (o : Offer) × (a.offer j ≡ Some o) × ((at : ℕ) × (event : ℕ) × (x ≡ Queue a.stream.id at event o.frame))
+    its-frames a c = frame-by_number steps a (All-contains (QueuesItsOffers steps) actors a play.offers c)
 
     -- an offer that comes next is queued by one of the steps to come
     to-come : (i : ℕ) → i ≤ length steps → (a : Actor) → Contains actors a → (o : Offer) → next_offer until steps i a ≡ Some o →
@@ -212,16 +212,19 @@ module _ (rate : Rate) (actors : List Actor) (distinct : AreDistinct (streams_of
     to-come i l a c o e =
         let p = is_queue a.stream.id in
         let n = count_to p steps i in
+        let r = (next-is until steps i a o e).0 in
         elim (cases_lt n (count_to p steps (length steps))) [
           | inl m ↦ (let b = nth_before p steps (length steps) n m in
-              let q = its-offers a c n (step_at steps b.0) (ap (λ k. nth_that p k steps) (sym b.4) ∙ nth_that-at p steps b.0 b.2 b.3) in
-              let f : q.0 ≡ o = same_some q.0 o (sym q.1 ∙ (next-is until steps i a o e).0) in
               let g : i ≤ b.0 = elim (cases_lt b.0 i) [ inr k ↦ k | inl k ↦ (let v = count_to-past p steps b.0 i k b.2 b.3 in let w = b.4 in absurd (omega (arith, v, w))) ] in
+              let s = queue_shape a.stream.id (step_at steps b.0) b.3 in
+              let q = All-contains (QueuesItsOffers steps) actors a play.offers c b.0 s.0 s.1 s.2 b.2 s.3 in
+              let f : q.0 ≡ o = same_some q.0 o (sym q.1 ∙ answer-stays steps a o (b.0 - i) i b.0 (let h = b.2 in omega (arith, g)) (let h = b.2 in omega (arith, h)) b.4 r) in
               (b.0, g, b.2, q.2 ∙ ap (queue_step a.stream.id) f))
           | inr m ↦ (let k = count_to-le p steps i (length steps) l in
               let s : count_to p steps (length steps) ≡ n = omega (arith, m, k) in
               let none = All-contains (λ b. next_offer until steps (length steps) b ≡ None) actors a play.all_queued c in
-              let f : None ≡ Some o = sym none ∙ ap (λ k. option_and_then (by_end until) (answer a k)) s ∙ e in absurd (cc))
+              let t = answer-stays steps a o (length steps - i) i (length steps) (omega (arith, l)) (omega arith) s r in
+              let f : None ≡ Some o = sym none ∙ ap (option_and_then (by_end until)) (t ∙ sym r) ∙ e in absurd (cc))
         ]
 
     -- so no step comes after it
@@ -249,13 +252,13 @@ module _ (rate : Rate) (actors : List Actor) (distinct : AreDistinct (streams_of
 
     -- the bits of what a start sends are those of its actor's offer
     sends : (i z id : ℕ) → i < length steps → step_at steps i ≡ Start id z → (a : Actor) → Contains actors a → a.stream.id ≡ id →
-        bits_of (nth_that (is_queue id) (count_to (is_start id) steps i) steps) ≡ bits_offered (answer a (count_to (is_start id) steps i))
+        bits_of (nth_that (is_queue id) (count_to (is_start id) steps i) steps) ≡ bits_offered (a.offer (count_to (is_start id) steps i))
     sends i z id l e a c h =
         let n = count_to (is_start id) steps i in
         let k = kept i (Start id z) l e in
         let s = soon-some tau z (nth_that (is_queue id) n steps) (and-right (any_waits steps i (streams_of actors)) _ k.to_send) in
-        let q = its-offers a c n s.0 (ap (λ j. nth_that (is_queue j) n steps) h ∙ s.1) in
-        ap bits_of s.1 ∙ ap (λ y. bits_of (Some y)) q.2 ∙ ap bits_offered (sym q.1)
+        let q = its-frames a c n s.0 (ap (λ j. nth_that (is_queue j) n steps) h ∙ s.1) in
+        ap bits_of s.1 ∙ ap (λ y. bits_of (Some y)) (q.2).2 ∙ ap bits_offered (sym q.1)
 
   -- a step of a play that comes after the steps p
   module _ (p : List Step) (x : Step) (rest : List Step) (play : IsPlay tau actors until (p ++ x ∷ rest)) where
@@ -279,7 +282,7 @@ module _ (rate : Rate) (actors : List Actor) (distinct : AreDistinct (streams_of
     waits-same = any_waits-more p (x ∷ rest) n (streams_of actors) (omega arith)
 
     offer-same : (a : Actor) → next_offer until all n a ≡ next_offer until p n a
-    offer-same a = ap (λ k. option_and_then (by_end until) (answer a k)) (count_to-more (is_queue a.stream.id) p (x ∷ rest) n (omega arith))
+    offer-same a = ap (option_and_then (by_end until)) (answer-more p (x ∷ rest) n a (omega arith))
 
     idle-same : (m : ℕ) → m ≡ n → (r : Option (ℕ × ℕ)) (moment : ℕ) → is_not_idle (streams_of actors) all m r moment ≡ is_not_idle (streams_of actors) p m r moment
     idle-same zero e r moment = refl
@@ -295,8 +298,7 @@ module _ (rate : Rate) (actors : List Actor) (distinct : AreDistinct (streams_of
         (a : Actor) × Contains actors a × (a.stream.id ≡ id) × ((o : Offer) × (next_offer until p n a ≡ Some o) × (x ≡ queue_step a.stream.id o))
     queued-of at id event frame e =
         let a = actor-of actors id (sym (ap (λ y. is_some (stream_of (streams_of actors) (id_of y))) e) ∙ keep.known) in
-        let t : is_queue (a.0).stream.id (step_at all n) ≡ true = ap (is_queue (a.0).stream.id) (here ∙ e) ∙ eq-true id (a.0).stream.id (sym a.2) in
-        let q = its-offers all play a.0 a.1 (count_to (is_queue (a.0).stream.id) all n) (step_at all n) (nth_that-at (is_queue (a.0).stream.id) all n inside t) in
+        let q = All-contains (QueuesItsOffers all) actors a.0 play.offers a.1 n at event frame inside (here ∙ e ∙ ap (λ k. Queue k at event frame) (sym a.2)) in
         let f : x ≡ queue_step (a.0).stream.id q.0 = sym here ∙ q.2 in
         let m : queued_at q.0 ≤ until = subst (λ y. at_of y ≤ until) q.2 (play.legal.by_end n inside) in
         (a.0, a.1, a.2, (q.0, sym (offer-same a.0) ∙ ap (option_and_then (by_end until)) q.1 ∙ ap (λ b. cond b (Some q.0) None) (le-true (queued_at q.0) until m), f))
@@ -358,7 +360,7 @@ module _ (rate : Rate) (actors : List Actor) (distinct : AreDistinct (streams_of
           let c = sends (p ++ x ∷ xs) f (length p) z id (inside p x xs f) (here p x xs f ∙ e) a.0 a.1 a.2 in
           let d = sends (p ++ x ∷ ys) g (length p) z id (inside p x ys g) (here p x ys g ∙ e) a.0 a.1 a.2 in
           let m = count_to-more (is_start id) p (x ∷ xs) (length p) (omega arith) ∙ sym (count_to-more (is_start id) p (x ∷ ys) (length p) (omega arith)) in
-          ap (λ b. Some (id, z + b * tau)) (c ∙ ap (λ k. bits_offered (answer a.0 k)) m ∙ sym d)
+          ap (λ b. Some (id, z + b * tau)) (c ∙ ap (λ k. bits_offered ((a.0).offer k)) m ∙ sym d)
 
   same-rest : (p xs ys : List Step) → Play (p ++ xs) → Play (p ++ ys) → running tau (p ++ xs) (length p) ≡ running tau (p ++ ys) (length p) → xs ≡ ys
   same-rest p [] [] f g r = refl

@@ -4,6 +4,7 @@ use Rattle.std.specs.Prelude.{ℕ, ◌+◌, ◌-◌, ◌/◌, ◌%◌, ◌^◌, 
 use Rattle.rand_pcg.specs.Lcg.{Lcg, started, increment_of}
 use Rattle.rand_pcg.specs.Pcg.{multiplier_64, pcg32}
 use Rattle.cop_rta.specs.declared.streams.Stream.{Stream}
+use Rattle.cop_bus.specs.declared.steps.Content.{Content}
 use Rattle.cop_bus.specs.Run.{least_bits, worst_bits}
 use Rattle.cop_sim.specs.declared.behaviours.Offer.{Offer}
 use Rattle.cop_sim.specs.declared.drawing.Seeded.{Seeded}
@@ -43,18 +44,32 @@ body_of k = (if k.bytes == 0 then 0 else first_byte k.id) ∷ 0 ∷ 0 ∷ 0 ∷ 
 abbrev pub bits_by : Stream → ℕ → ℕ
 bits_by k w = least_bits k.bytes + w % (worst_bits k.bytes - least_bits k.bytes + 1)
 
+abbrev pub frame_by : Stream → ℕ → Content
+frame_by k w = record { bits = bits_by k w; body = body_of k; len = k.bytes }
+
 -- the instance after another, by the next three words
-abbrev pub drawn : Stream → Option Offer → Lcg → Offer
-drawn k before g = record {
+abbrev pub by_events : Stream → Option Offer → Lcg → Offer
+by_events k before g = record {
   event = event_after k before (word g);
   delay = raised before (event_after k before (word g)) (word (rest g) % (k.jitter + 1));
-  frame = record { bits = bits_by k (word (rest (rest g))); body = body_of k; len = k.bytes };
+  frame = frame_by k (word (rest (rest g)));
 }
+
+-- that of a synchronous stream, which has its events and its order from SYNC, by the next two
+abbrev pub by_sync : Stream → Lcg → Offer
+by_sync k g = record { event = 0; delay = word g % (k.jitter + 1); frame = frame_by k (word (rest g)) }
+
+abbrev pub drawn : Stream → Option Offer → Lcg → Offer
+drawn k before g = if k.every == 0 then by_events k before g else by_sync k g
+
+-- the generator after it
+abbrev pub after_drawn : Stream → Lcg → Lcg
+after_drawn k g = if k.every == 0 then rest (rest (rest g)) else rest (rest g)
 
 -- number n of those after another
 abbrev pub drawn_at : Stream → Option Offer → Lcg → ℕ → Offer
 drawn_at k before g zero = drawn k before g
-drawn_at k before g (suc n) = drawn_at k (Some (drawn k before g)) (rest (rest (rest g))) n
+drawn_at k before g (suc n) = drawn_at k (Some (drawn k before g)) (after_drawn k g) n
 
 -- an instance whose moments fit 64 bits
 abbrev pub fitting : Offer → Option Offer

@@ -1,9 +1,11 @@
+pub mod Cues
 pub mod Guarantee
 pub mod Play
 pub mod Sinks
 pub mod Seats
 pub mod Hands
 pub mod Events
+pub mod Syncs
 pub mod Going
 pub mod Stages
 pub mod Scripts

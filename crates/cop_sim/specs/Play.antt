@@ -1,13 +1,15 @@
 -- The play of behaviours: the one trace that their answers fix.
-use Rattle.std.specs.Prelude.{◌≡◌, ℕ, ◌+◌, ◌-◌, ◌≤◌, ◌<◌, ◌⊎◌, List, [], ◌∷◌, ◌++◌, Option, None, Some, Bool, true, false, zero, suc, length, map, All, Any, nat_le, ◌&&◌, ◌==◌, if◌then◌else◌}
+use Rattle.std.specs.Prelude.{◌≡◌, ℕ, ◌+◌, ◌-◌, ◌≤◌, ◌<◌, ◌⊎◌, List, [], ◌∷◌, ◌++◌, Option, None, Some, Bool, true, false, zero, suc, length, map, All, Any, nat_le, nat_lt, ◌&&◌, ◌||◌, ◌==◌, if◌then◌else◌, Contains}
 use Rattle.std.specs.Option.{ForSome, option_and_then}
 use Rattle.cop_rta.specs.declared.streams.Stream.{Stream}
 use Rattle.cop_bus.specs.declared.steps.Step.{Step}
-use Rattle.cop_bus.specs.declared.steps.Step.TheVariants.{Queue, Start}
+use Rattle.cop_bus.specs.declared.steps.Step.TheVariants.{Queue, Start, End}
 use Rattle.cop_bus.specs.declared.steps.Content.{Content}
 use Rattle.cop_bus.specs.Trace.{is_queue, is_start, count_to, nth_that, step_at, last_of, now_of, IsLegalTrace}
 use Rattle.cop_bus.specs.Judge.{waits_after, is_of_length}
 use Rattle.cop_sim.specs.declared.behaviours.Offer.{Offer}
+pub use Rattle.cop_sim.specs.Cues.{queued_at}
+use Rattle.cop_sim.specs.Cues.{cue_of, answer_in, from_of}
 
 -- A stream and what its behaviour means: its answers to `next`, by number, and to `joins`.
 pub record Actor : Type 0 where
@@ -24,20 +26,23 @@ actors_of offer agrees [] bs = []
 actors_of offer agrees (k ∷ ks) [] = []
 actors_of offer agrees (k ∷ ks) (b ∷ bs) = record { stream = k; offer = offer b; agrees = agrees b } ∷ actors_of offer agrees ks bs
 
--- the moment at which an offer is queued
-abbrev pub queued_at : Offer → ℕ
-queued_at o = o.event + o.delay
-
 abbrev pub queue_step : ℕ → Offer → Step
 queue_step id o = Queue id (queued_at o) o.event o.frame
 
--- the answer with a number, from 0. A synchronous stream is not asked: in a play it stays silent.
-abbrev pub answer : Actor → ℕ → Option Offer
-answer a n = if a.stream.every == 0 then a.offer n else None
+-- the offer of a queue step, if the step queues an instance of the stream, and otherwise what was before
+abbrev pub offer_or : ℕ → Step → Option Offer → Option Offer
+offer_or k (Queue id at event frame) before = if id == k then Some (record { event = event; delay = at - event; frame = frame }) else before
+offer_or k (Start id at) before = before
+offer_or k (End id at) before = before
 
--- the answer after those that the first i steps queue
+-- the last offer of a stream that the first i steps queue
+abbrev pub queued_before : ℕ → List Step → ℕ → Option Offer
+queued_before k steps zero = None
+queued_before k steps (suc i) = offer_or k (step_at steps i) (queued_before k steps i)
+
+-- the answer after those that the first i steps queue: of a synchronous stream not before the SYNC that it waits for has ended
 abbrev pub next_answer : List Step → ℕ → Actor → Option Offer
-next_answer steps i a = answer a (count_to (is_queue a.stream.id) steps i)
+next_answer steps i a = answer_in (cue_of steps i a.stream) (queued_before a.stream.id steps i) (a.offer (count_to (is_queue a.stream.id) steps i))
 
 -- an offer that is queued by the end
 abbrev pub by_end : ℕ → Offer → Option Offer
@@ -116,11 +121,6 @@ pub record IsPartialPlay (tau : ℕ) (actors : List Actor) (until : ℕ) (steps 
 abbrev pub waiting_after : ℕ → List Step → ℕ
 waiting_after id steps = count_to (is_queue id) steps (length steps) - count_to (is_start id) steps (length steps)
 
--- the offer before answer number n
-abbrev pub answer_before : Actor → ℕ → Option Offer
-answer_before a zero = None
-answer_before a (suc n) = answer a n
-
 abbrev pub event_of : Option Offer → Option ℕ
 event_of None = None
 event_of (Some o) = Some o.event
@@ -129,28 +129,33 @@ abbrev pub is_not_before : Option Offer → Offer → Bool
 is_not_before None o = true
 is_not_before (Some b) o = nat_le (queued_at b) (queued_at o)
 
--- an event is a period or more after the one before
+-- an event is a period or more after the one before; a synchronous stream's SYNCs are as many numbers apart, whatever it answers
 abbrev pub is_later : Stream → Option Offer → Offer → Bool
 is_later k None o = true
-is_later k (Some b) o = nat_le (b.event + k.period) o.event
+is_later k (Some b) o = nat_lt 0 k.every || nat_le (b.event + k.period) o.event
 
--- queued from the event to the jitter after it
-abbrev pub is_in_time : Stream → Offer → Bool
-is_in_time k o = nat_le o.event (queued_at o) && nat_le (queued_at o) (o.event + k.jitter)
+-- queued from a moment to the jitter after it
+abbrev pub is_in_time : Stream → ℕ → Offer → Bool
+is_in_time k from o = nat_le from (queued_at o) && nat_le (queued_at o) (from + k.jitter)
 
--- An offer of the stream after another keeps its bounds: a period later, queued in time and not before the other,
+-- An offer of the stream after another keeps its bounds: a period later, queued in time from a moment on and not before the other,
 -- of a length and of the number of bytes of its frames.
-abbrev pub obeys : Stream → Option Offer → Offer → Bool
-obeys k before o = is_later k before o && is_in_time k o && is_of_length (Some k) (queue_step k.id o) && is_not_before before o
+abbrev pub obeys : Stream → Option Offer → ℕ → Offer → Bool
+obeys k before from o = is_later k before o && is_in_time k from o && is_of_length (Some k) (queue_step k.id o) && is_not_before before o
+
+-- it does so after the first i steps: from its event on, or from the end of the SYNC that it waited for
+abbrev pub obeys_after : List Step → ℕ → Stream → Offer → Bool
+obeys_after steps i k o = obeys k (queued_before k.id steps i) (from_of (cue_of steps i k) o) o
 
 -- After a partial play that queues so many of the actor's offers its next answer is an offer, not past the end, that does not.
 pub record Disobeys (tau : ℕ) (actors : List Actor) (until : ℕ) (a : Actor) (n : ℕ) : Type 0 where
+  pub its : Contains actors a
   pub steps : List Step
   pub partial : IsPartialPlay tau actors until steps
   pub number : count_to (is_queue a.stream.id) steps (length steps) ≡ n
   pub offer : Offer
   pub is_next : next_offer until steps (length steps) a ≡ Some offer
-  pub breaks : obeys a.stream (answer_before a n) offer ≡ false
+  pub breaks : obeys_after steps (length steps) a.stream offer ≡ false
 
 -- how many instances of a stream that is no PDO with a deadline may wait
 abbrev pub most_waiting : ℕ

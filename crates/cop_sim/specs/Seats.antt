@@ -5,6 +5,8 @@ use Rattle.cop_rta.specs.declared.streams.Stream.{Stream}
 use Rattle.cop_sim.specs.declared.behaviours.Offer.{Offer}
 use Rattle.cop_sim.specs.declared.due.Due.{Due}
 use Rattle.cop_sim.specs.declared.choosing.Sent.{Sent}
+use Rattle.cop_sim.specs.declared.cues.Cue.{Cue}
+use Rattle.cop_sim.specs.Cues.{answer_in, is_given}
 use Rattle.cop_sim.specs.Play.{queued_at, by_end}
 use Rattle.cop_bus.specs.Rings.{RingValue}
 use Rattle.cop_bus.specs.declared.queues.First.{First}
@@ -41,13 +43,21 @@ abbrev pub is_due_before : Option Due → ℕ → Bool
 is_due_before None m = false
 is_due_before (Some d) m = nat_lt (queued_at d.offer) m
 
--- what a behaviour b answers, as far as it is queued by the end
-abbrev pub answer_of : {B : Type 0} → (B → ℕ → Option Offer) → ℕ → B → Option Offer
-answer_of offer until b = option_and_then (by_end until) (offer b 0)
+-- what a behaviour b answers to a cue after the offer before, as far as it is queued by the end
+abbrev pub answer_of : {B : Type 0} → (B → ℕ → Option Offer) → ℕ → Cue → Option Offer → B → Option Offer
+answer_of offer until cue before b = option_and_then (by_end until) (answer_in cue before (offer b 0))
 
 -- a behaviour after it was asked
 pub record IsAsked {B : Type 0} (offer : B → ℕ → Option Offer) (agrees : B → ℕ → ℕ → Bool) (b c : B) : Type 0 where
   pub rest : (k : ℕ) → offer c k ≡ offer b (suc k)
+  pub same : (z u : ℕ) → agrees c z u ≡ agrees b z u
+
+-- it is asked once, unless what it waits for has not come
+abbrev pub asks : Cue → ℕ
+asks cue = if is_given cue then 1 else 0
+
+pub record IsCued {B : Type 0} (offer : B → ℕ → Option Offer) (agrees : B → ℕ → ℕ → Bool) (cue : Cue) (b c : B) : Type 0 where
+  pub rest : (k : ℕ) → offer c k ≡ offer b (asks cue + k)
   pub same : (z u : ℕ) → agrees c z u ≡ agrees b z u
 
 -- an offer joins the start at z: no instance of its stream waits, it is queued less than a bit time later, and its

@@ -2,8 +2,11 @@
 
 ghost use Rattle.std.specs.Prelude.{◌≡◌, ℕ, List, ◌+◌, ◌*◌, ◌<◌, ◌≤◌, ◌^◌};
 ghost use Rattle.cop_rta.specs.declared.streams.Stream.{Stream};
-ghost use Rattle.cop_sim.specs.Play.{Actor, Disobeys};
-ghost use Rattle.cop_sim.specs.Drawing.{words_of, word, rest, event_after, raised, first_byte, body_of, bits_by, drawn, fitting, seeded_offer, seeded_joins, seeded_actor, offer_of, joins_of, fresh};
+ghost use Rattle.cop_frame.specs.declared.rates.Rate.{Rate};
+ghost use Rattle.cop_frame.specs.Rate.{ticks_of};
+ghost use Rattle.cop_rta.specs.Streams.{AreDistinct};
+ghost use Rattle.cop_sim.specs.Play.{Actor, streams_of, Disobeys};
+ghost use Rattle.cop_sim.specs.Drawing.{words_of, word, rest, event_after, raised, first_byte, body_of, bits_by, frame_by, drawn, after_drawn, fitting, seeded_offer, seeded_joins, seeded_actor, offer_of, joins_of, fresh};
 
 use crate::behaviours::{Behaviour, Offer};
 use crate::seats::queued_at;
@@ -87,6 +90,16 @@ fn bits_by(stream: &Stream, word: u32) -> u32
     least + word % (worst_bits(stream.bytes) - least + 1)
 }
 
+fn frame_by(stream: &Stream, word: u32) -> Content
+    ensures { result ≡ frame_by stream.now word }
+{
+    Content {
+        bits: bits_by(stream, word),
+        body: body_of(stream),
+        len: stream.bytes,
+    }
+}
+
 // The offer at these moments, if they fit.
 fn offered(event: u128, delay: u128, frame: Content) -> Option<Offer>
     requires event { event < 2 ^ 66 }
@@ -104,20 +117,21 @@ fn offered(event: u128, delay: u128, frame: Content) -> Option<Offer>
     }
 }
 
-// The instance after another, by the next three words.
+// The instance after another, by the next words.
 fn draw(stream: &Stream, before: Option<Offer>, words: &mut Lcg64Xsh32) -> Option<Offer>
     ensures drawn { result ≡ fitting (drawn stream.now before words.old) }
-    ensures rest { words.new ≡ rest (rest (rest words.old)) }
+    ensures rest { words.new ≡ after_drawn stream.now words.old }
 {
-    let event = event_after(stream, before, words.next_word());
-    let delay = u64::from(words.next_word()) % (stream.jitter + 1);
-    let bits = bits_by(stream, words.next_word());
-    let frame = Content {
-        bits,
-        body: body_of(stream),
-        len: stream.bytes,
-    };
-    offered(event, raised(before, event, u128::from(delay)), frame)
+    if stream.every == 0 {
+        let event = event_after(stream, before, words.next_word());
+        let delay = u64::from(words.next_word()) % (stream.jitter + 1);
+        let frame = frame_by(stream, words.next_word());
+        offered(event, raised(before, event, u128::from(delay)), frame)
+    } else {
+        let delay = u64::from(words.next_word()) % (stream.jitter + 1);
+        let frame = frame_by(stream, words.next_word());
+        offered(0, u128::from(delay), frame)
+    }
 }
 
 impl Seeded {
@@ -159,5 +173,5 @@ impl Behaviour for Seeded {
 
 /// A seeded behaviour obeys: a simulation of such ones is never given up for an answer of theirs.
 pub fn seeded_obeys()
-    ensures { (tau : ℕ) (actors : List Actor) (seed : ℕ) (k : Stream) (until n : ℕ) → Disobeys tau actors until (seeded_actor seed k) n → ⊥ }
+    ensures { (rate : Rate) (actors : List Actor) (seed : ℕ) (k : Stream) (until n : ℕ) → AreDistinct (streams_of actors) → Disobeys (ticks_of rate) actors until (seeded_actor seed k) n → ⊥ }
 {}

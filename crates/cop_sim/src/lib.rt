@@ -3,6 +3,7 @@
 
 mod behaviours;
 mod choosing;
+mod cues;
 mod drawing;
 mod due;
 mod faults;
@@ -15,6 +16,7 @@ mod seats;
 mod simulating;
 mod sinks;
 mod stages;
+mod syncs;
 mod traces;
 mod turns;
 

@@ -16,7 +16,8 @@ use cop_plan::Plan;
 use std::alloc::Global;
 
 /// Hands the steps of the play of the behaviours to a sink, one by one: one behaviour for each stream of the plan, in
-/// their order. That of a synchronous stream is not asked: the stream stays silent.
+/// their order. That of a stream that is sent by SYNC is asked for an instance when as many SYNCs have ended as it takes: the instance has
+/// the event of the last of them, and its delay counts from the end of SYNC's transfer.
 pub fn simulate_into<S: Sink>(
     alloc: Global,
     plan: &Plan,

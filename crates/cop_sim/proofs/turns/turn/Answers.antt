@@ -2,15 +2,17 @@ use Rattle.std.proofs.Common.{◌∙◌, ℕ, List, Some, None, slice_get, refl,
 use Rattle.cop_frame.specs.Rate.{ticks_of}
 use Rattle.cop_rta.specs.declared.streams.Stream.{Stream}
 use Rattle.cop_sim.specs.declared.playing.Event.TheVariants.{End, Queue, Start, Nothing}
-use Rattle.cop_sim.specs.Stages.{at_hand, QueueFault, IsStarted}
-use Rattle.cop_sim.proofs.Turning.{turned-sink, turned-end, turned-nothing, turned-queue, queue-fault, chosen-some, turned-start, theirs, event-here, chosen-here, err-turned}
+use Rattle.cop_sim.specs.Stages.{at_hand, IsQueued, QueueFault, IsEnded, EndFault, IsStarted}
+use Rattle.cop_sim.proofs.Turning.{turned-sink, end-fault, turned-end, turned-nothing, turned-queue, queue-fault, chosen-some, turned-start, theirs, event-here, chosen-here, err-turned}
 use Rattle.cop_sim.proofs.turns.turn.Goals as goal
 
 pub returns-in_err-end_transfer-in-End-clause-turned :
     goal.returns-in_err-end_transfer-in-End-clause-turned
 returns-in_err-end_transfer-in-End-clause-turned g c firsts steps at short =
-    err-turned g.B.Behaviour.offer g.B.Behaviour.agrees g.S.Sink.takes c.args.plan.now c.args.until firsts c.args.behaviours.now.items (at_hand c.end_transfer.new.stage) (g.S.Sink.has_failed c.end_transfer.new.sink) c.args.sink.now c.end_transfer.new.sink steps c.from_residual.result _ c.from_residual.ensures.1
-    (turned-sink g.B.Behaviour.offer g.B.Behaviour.agrees g.S.Sink.takes c.args.plan.now c.args.until firsts c.args.behaviours.now.items (at_hand c.args.stage.now) steps at (g.S.Sink.has_failed c.end_transfer.new.sink) c.args.sink.now c.end_transfer.new.sink _ c.in_err-end_transfer-in-End.ensures.fault c.in_err-end_transfer-in-End.ensures.failed)
+    err-turned g.B.Behaviour.offer g.B.Behaviour.agrees g.S.Sink.takes c.args.plan.now c.args.until firsts c.end_transfer.new.behaviours.items (at_hand c.end_transfer.new.stage) (g.S.Sink.has_failed c.end_transfer.new.sink) c.args.sink.now c.end_transfer.new.sink steps c.from_residual.result _ c.from_residual.ensures.1
+    (end-fault g.B.Behaviour.offer g.B.Behaviour.agrees g.S.Sink.takes c.args.plan.now c.args.until firsts c.args.behaviours.now.items (at_hand c.args.stage.now) steps at c.first-first.result (c.first-first.ensures.first c.args.plan.now.streams at.ids_are) c.in-End.at c.in-End.id (event-here c.args.stage.now.running c.first-first.result c.any_waits.result c.args.stage.now.waiting c.args.stage.now.now c.args.until (End c.in-End.id c.in-End.at) c.any_waits.ensures c.in-End.ensures) (g.S.Sink.has_failed c.end_transfer.new.sink) c.args.sink.now c.end_transfer.new.sink _
+    (subst (λ (ss : List Stream). EndFault g.B.Behaviour.offer g.S.Sink.takes c.args.until ss c.in-End.at c.in-End.id (at_hand c.args.stage.now) c.args.behaviours.now.items c.args.sink.now c.end_transfer.new.sink c.in_err-end_transfer-in-End.field-0.0) (c.streams-streams.ensures.items ∙ c.streams.ensures.items) c.in_err-end_transfer-in-End.ensures.fault)
+    c.in_err-end_transfer-in-End.ensures.failed)
 
 pub returns-in_err-queue_offer-in-Queue-clause-turned :
     goal.returns-in_err-queue_offer-in-Queue-clause-turned
@@ -38,14 +40,16 @@ returns-in-Nothing-clause-turned g c firsts steps at short =
 pub returns-in_ok-end_transfer-in-End-clause-turned :
     goal.returns-in_ok-end_transfer-in-End-clause-turned
 returns-in_ok-end_transfer-in-End-clause-turned g c firsts steps at short =
-    turned-end g.B.Behaviour.offer g.B.Behaviour.agrees g.S.Sink.takes c.args.plan.now c.args.until firsts c.args.behaviours.now.items (at_hand c.args.stage.now) steps at c.first-first.result (c.first-first.ensures.first c.args.plan.now.streams at.ids_are) c.args.behaviours.now.items (at_hand c.end_transfer.new.stage) (g.S.Sink.has_failed c.end_transfer.new.sink) c.args.sink.now c.end_transfer.new.sink c.in-End.at c.in-End.id refl (event-here c.args.stage.now.running c.first-first.result c.any_waits.result c.args.stage.now.waiting c.args.stage.now.now c.args.until (End c.in-End.id c.in-End.at) c.any_waits.ensures c.in-End.ensures)
-    c.in_ok-end_transfer-in-End.ensures.stage c.in_ok-end_transfer-in-End.ensures.taken
+    turned-end g.B.Behaviour.offer g.B.Behaviour.agrees g.S.Sink.takes c.args.plan.now c.args.until firsts c.args.behaviours.now.items (at_hand c.args.stage.now) steps at c.first-first.result (c.first-first.ensures.first c.args.plan.now.streams at.ids_are) c.in-End.at c.in-End.id (event-here c.args.stage.now.running c.first-first.result c.any_waits.result c.args.stage.now.waiting c.args.stage.now.now c.args.until (End c.in-End.id c.in-End.at) c.any_waits.ensures c.in-End.ensures)
+    c.end_transfer.new.behaviours.items (at_hand c.end_transfer.new.stage) (g.S.Sink.has_failed c.end_transfer.new.sink) c.args.sink.now c.end_transfer.new.sink
+    (subst (λ (ss : List Stream). IsEnded g.B.Behaviour.offer g.B.Behaviour.agrees c.args.until ss c.in-End.at c.in-End.id (at_hand c.args.stage.now) (at_hand c.end_transfer.new.stage) c.args.behaviours.now.items c.end_transfer.new.behaviours.items) (c.streams-streams.ensures.items ∙ c.streams.ensures.items) c.in_ok-end_transfer-in-End.ensures.stage)
+    c.in_ok-end_transfer-in-End.ensures.taken
 
 pub returns-in_ok-queue_offer-in-Queue-clause-turned :
     goal.returns-in_ok-queue_offer-in-Queue-clause-turned
 returns-in_ok-queue_offer-in-Queue-clause-turned g c firsts steps at short =
     turned-queue g.B.Behaviour.offer g.B.Behaviour.agrees g.S.Sink.takes c.args.plan.now c.args.until firsts c.args.behaviours.now.items (at_hand c.args.stage.now) steps at c.first-first.result (c.first-first.ensures.first c.args.plan.now.streams at.ids_are) c.in-Queue.due (event-here c.args.stage.now.running c.first-first.result c.any_waits.result c.args.stage.now.waiting c.args.stage.now.now c.args.until (Queue c.in-Queue.due) c.any_waits.ensures c.in-Queue.ensures) short (at_hand c.queue_offer.new.stage) c.queue_offer.new.behaviours.items (g.S.Sink.has_failed c.queue_offer.new.sink) c.args.sink.now c.queue_offer.new.sink
-    c.in_ok-queue_offer-in-Queue.ensures.queued
+    (subst (λ (ss : List Stream). IsQueued g.B.Behaviour.offer g.B.Behaviour.agrees c.args.until ss c.in-Queue.due (at_hand c.args.stage.now) (at_hand c.queue_offer.new.stage) c.args.behaviours.now.items c.queue_offer.new.behaviours.items) (c.streams-streams.ensures.items ∙ c.streams.ensures.items) c.in_ok-queue_offer-in-Queue.ensures.queued)
     (λ o k e f. c.in_ok-queue_offer-in-Queue.ensures.obeys o k e (ap (λ (ss : List Stream). slice_get ss c.in-Queue.due.place) (c.streams-streams.ensures.items ∙ c.streams.ensures.items) ∙ f))
     c.in_ok-queue_offer-in-Queue.ensures.taken
 
