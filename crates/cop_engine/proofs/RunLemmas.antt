@@ -12,13 +12,14 @@ use Rattle.cop_bus.proofs.StepLemmas.{bool_cases}
 use Rattle.cop_net.specs.Fixed.{ticks}
 use Rattle.cop_plan.specs.Values.{PlanValue}
 use Rattle.cop_sim.specs.declared.drawing.Seeded.{Seeded}
+use Rattle.cop_frame.specs.declared.rates.Rate.{Rate}
+use Rattle.cop_rta.specs.Streams.{AreDistinct}
 use Rattle.cop_sim.specs.declared.faults.SimFault.{SimFault}
 use Rattle.cop_sim.specs.declared.faults.SimFault.TheVariants as simulator
 use Rattle.cop_sim.specs.Drawing.{seeded_actor, offer_of, joins_of, fresh}
-use Rattle.cop_sim.specs.Play.{Actor, actors_of, IsPlay, Disobeys}
+use Rattle.cop_sim.specs.Play.{Actor, actors_of, streams_of, IsPlay, Disobeys}
 use Rattle.cop_sim.specs.Sinks.{Took, IsCause}
 use Rattle.cop_sim.proofs.DrawingLemmas.{actors-are}
-use Rattle.cop_sim.proofs.Obeying.{never-disobeys}
 use Rattle.cop_sim.proofs.Written.{whole}
 use Rattle.cop_engine.specs.declared.seeded_runs.Recorder.{Recorder}
 use Rattle.cop_engine.specs.declared.seeded_runs.RunFault.{RunFault}
@@ -61,16 +62,24 @@ module _ {S : Type 0} (count : S → ℕ) (takes : S → Step → S → Type 0) 
 actors : (seed : ℕ) (streams : List Stream) (items : List Seeded) → items ≡ map (fresh seed) streams → actors_of offer_of (λ s z u. joins_of s z) streams items ≡ seeded seed streams
 actors seed streams items is = ap (actors_of offer_of (λ s z u. joins_of s z) streams) is ∙ actors-are seed streams
 
+seeded_streams : (seed : ℕ) (streams : List Stream) → streams_of (seeded seed streams) ≡ streams
+seeded_streams seed [] = refl
+seeded_streams seed (k ∷ ks) = ap (λ (xs : List Stream). k ∷ xs) (seeded_streams seed ks)
+
+-- a seeded behaviour does not disobey
+abbrev NeverDisobeys : Type 0
+NeverDisobeys = (rate : Rate) (actors : List Actor) (seed : ℕ) (k : Stream) (until n : ℕ) → AreDistinct (streams_of actors) → Disobeys (ticks_of rate) actors until (seeded_actor seed k) n → ⊥
+
 module _ (plan : PlanValue) (seed until : ℕ) where
-  pub cause_explains : (items : List Seeded) (failed : Bool) (fault : SimFault) → items ≡ map (fresh seed) plan.streams → IsCause plan (actors_of offer_of (λ s z u. joins_of s z) plan.streams items) (length items) (ticks until) failed fault
+  pub cause_explains : NeverDisobeys → AreDistinct plan.streams → (items : List Seeded) (failed : Bool) (fault : SimFault) → items ≡ map (fresh seed) plan.streams → IsCause plan (actors_of offer_of (λ s z u. joins_of s z) plan.streams items) (length items) (ticks until) failed fault
       → ExplainsRun plan seed until (run_fault fault)
-  cause_explains items failed fault is h = go fault (subst (λ (them : List Actor). IsCause plan them (length items) (ticks until) failed fault) (actors seed plan.streams items is) h)
+  cause_explains never distinct items failed fault is h = go fault (subst (λ (them : List Actor). IsCause plan them (length items) (ticks until) failed fault) (actors seed plan.streams items is) h)
     where
       go : (fault : SimFault) → IsCause plan (seeded seed plan.streams) (length items) (ticks until) failed fault → ExplainsRun plan seed until (run_fault fault)
       go simulator.Count h = absurd (h (ap (λ (xs : List Seeded). length xs) is ∙ length_of_map (fresh seed) plan.streams))
       go (simulator.Disobeys stream instance) h =
           let w = was_there (seeded_actor seed) (slice_get plan.streams stream) h.0 (sym (slice_get-map (seeded_actor seed) plan.streams stream) ∙ h.1) in
-          absurd (never-disobeys (ticks_of plan.rate) (seeded seed plan.streams) seed w.0 (ticks until) instance (subst (λ (a : Actor). Disobeys (ticks_of plan.rate) (seeded seed plan.streams) (ticks until) a instance) (sym w.2) h.2))
+          absurd (never plan.rate (seeded seed plan.streams) seed w.0 (ticks until) instance (subst AreDistinct (sym (seeded_streams seed plan.streams)) distinct) (subst (λ (a : Actor). Disobeys (ticks_of plan.rate) (seeded seed plan.streams) (ticks until) a instance) (sym w.2) h.2))
       go (simulator.Backlog id) h = (id, h.0, h.1)
       go simulator.Sink h = tt
       go simulator.Memory h = tt

@@ -10,7 +10,7 @@ use crate::judgements::on_time_text;
 use cop_bus::Step;
 use cop_plan::Plan;
 use cop_rta::Stream;
-use cop_sim::{Seeded, SimFault, Sink, TraceSink, simulate_over};
+use cop_sim::{Seeded, SimFault, Sink, TraceSink, seeded_obeys, simulate_over};
 use std::alloc::{AllocError, Global};
 use std::io::Write;
 use thiserror::Error;
@@ -128,6 +128,7 @@ pub fn run_plan<W: Write + Drop>(
     if sink.trace.failed() {
         return Err(RunFault::Trace);
     }
+    seeded_obeys();
     match simulate_over(alloc, plan, behaviours, until * 4, &mut sink) {
         Ok(()) => finish(alloc, sink, until * 4),
         Err(fault) => Err(fault_of(fault)),

@@ -1,4 +1,5 @@
-use Rattle.std.proofs.Common.{◌∙◌, sym, ap, map, refl, List}
+use Rattle.std.proofs.Common.{◌∙◌, sym, ap, map, refl, subst, List}
+use Rattle.cop_rta.specs.Streams.{AreDistinct}
 use Rattle.cop_rta.specs.declared.streams.Stream.{Stream}
 use Rattle.cop_sim.specs.Drawing.{fresh}
 use Rattle.cop_engine.proofs.RunLemmas.{cause_explains, writing_explains, run_is, each_arm}
@@ -7,7 +8,7 @@ use Rattle.cop_engine.proofs.seeded_runs.run_plan.Goals as goal
 pub returns-in-Err : goal.returns-in-Err
 returns-in-Err g c =
     let made = c.in_ok-behaviours.ensures ∙ ap (λ (xs : List Stream). map (fresh c.args.seed) xs) (c.streams-2.ensures.items ∙ c.streams.ensures.items) in
-    rw c.fault_of.ensures (cause_explains c.args.plan.now c.args.seed c.args.until c.in_ok-behaviours.behaviours.items _ c.in-Err.fault made c.in-Err.ensures.cause)
+    rw c.fault_of.ensures (cause_explains c.args.plan.now c.args.seed c.args.until c.seeded_obeys.ensures (subst AreDistinct (c.streams-2.ensures.items ∙ c.streams.ensures.items) c.streams-2.ensures.distinct) c.in_ok-behaviours.behaviours.items _ c.in-Err.fault made c.in-Err.ensures.cause)
 
 pub returns-in-Ok : goal.returns-in-Ok
 returns-in-Ok g c =
