@@ -1,4 +1,5 @@
 mod sinks;
+mod synced;
 
 ghost use Rattle.std.specs.Prelude.{◌≤◌};
 
@@ -20,7 +21,7 @@ const TWO: &[u8] =
     b"id,bytes,period,jitter,deadline\n0x181,8,1350,1282,1600\n0x182,8,13500,0,330\n";
 
 /// The set of these rates.
-fn set_of(rates: &[Rate]) -> RateSet {
+pub fn set_of(rates: &[Rate]) -> RateSet {
     let mut set = RateSet::new();
     for rate in rates {
         set.insert(*rate);
@@ -29,7 +30,7 @@ fn set_of(rates: &[Rate]) -> RateSet {
 }
 
 /// The plan of streams of which so many are PDOs, if there is one.
-fn plan_for(
+pub fn plan_for(
     alloc: Global,
     streams: &StreamSet,
     pdos: usize,
@@ -68,7 +69,7 @@ fn two(alloc: Global) -> Result<Plan, Fail> {
 }
 
 /// A frame of 8 bytes with the most stuff bits.
-const LONG: Content = Content {
+pub const LONG: Content = Content {
     bits: 135,
     body: [0; 8],
     len: 8,
@@ -119,7 +120,7 @@ fn simulated(
 }
 
 /// Whether these are the steps of the play of scripts.
-fn are_steps(
+pub fn are_steps(
     alloc: Global,
     plan: &Plan,
     scripts: &[Script],
@@ -133,7 +134,7 @@ fn are_steps(
 }
 
 /// The fault of the simulation of scripts, if there is one.
-fn fault_of(
+pub fn fault_of(
     alloc: Global,
     plan: &Plan,
     scripts: &[Script],
