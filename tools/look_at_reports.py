@@ -3,7 +3,8 @@
 
 usage: tools/look_at_reports.py [--trace] FOLDER [PAGE..]    the pages and their pictures go into FOLDER, as valve-390-dark.png;
                                                              where pages are given, these are drawn in place of the examples'
-                                                             reports; with --trace these show the examples' runs, too
+                                                             reports; with --trace these show the examples' runs, too,
+                                                             or their traces where there is no run
 
 A page that is wider than its window is told.
 
@@ -79,7 +80,8 @@ def reports(folder, with_trace):
     """The reports of the examples, made anew."""
     for name in networks():
         example, page = f"{EXAMPLES}/{name}", f"{folder}/{name}.html"
-        trace = ["--trace", f"{example}/run.csv"] if with_trace else []
+        traces = [it for it in (f"{example}/run.csv", f"{example}/trace.csv") if os.path.exists(it)]
+        trace = ["--trace", traces[0]] if with_trace and traces else []
         subprocess.run([PROGRAM, "report", *trace, f"{example}/nodes.csv", f"{example}/pdos.csv", page], check=True)
         yield page
 

@@ -4,9 +4,9 @@
     python3 tools/run_examples.py
 
 Each plan also has to stand in examples/README.md, each stored refusal has to hold, and one that is altered to fail. Of a plan
-that is refused it has to be said where its folder has the files of another. Each network is booted by two seeds. A run by a
-seed has to give the stored trace, and the judgement of it what the run said; its report has to show each transfer, and one of
-a trace that is refused has to end as the judgement, with no page.
+that is refused it has to be said where its folder has the files of another. Each network is booted by two seeds. A stored trace
+has to be on time. A run by a seed has to give the stored one, where there is one, and the judgement of it what the run said; its
+report has to show each transfer, and one of a trace that is refused has to end as the judgement, with no page.
 """
 import os
 import subprocess
@@ -49,14 +49,19 @@ def altered(refusals):
     return begin + b",%d\n" % (int(last) + 1)
 
 
+def ends_in(trace):
+    """How many transfers come to an end in a trace."""
+    return sum(line.startswith(b"end,") for line in bytes_of(trace).splitlines())
+
+
 def faults_of_report(tables, trace, out):
     """What is wrong with the report of a run, and with that of the run without its header."""
     page, headless = f"{out}/report.html", f"{out}/headless.csv"
     if run("report", *tables, page) != (0, b"") or b"<script" in bytes_of(page):
         yield "the report"
     os.remove(page)
-    ends = sum(line.startswith(b"end,") for line in bytes_of(trace).splitlines())
-    if run("report", "--trace", trace, *tables, page) != (0, b"") or bytes_of(page).count(b'class="sends"') != ends:
+    drawn = run("report", "--trace", trace, *tables, page)
+    if drawn != (0, b"") or bytes_of(page).count(b'class="sends"') != ends_in(trace):
         yield "the report of the seeded run"
     os.remove(page)
     with open(headless, "wb") as it:
@@ -76,6 +81,21 @@ def faults_of_refused_plan(tables, out):
     with tempfile.TemporaryDirectory() as empty:
         if any("earlier run" in line for line in fault_of("plan", "--explain", *wrong[1:3], empty)):
             yield "what is said of an empty folder"
+
+
+def faults_of_traces(tables, folder, out):
+    """What is wrong with the stored trace, with a run by a seed, and with their judgement."""
+    stored, seeded = f"{folder}/run.csv", f"{out}/run.csv"
+    if os.path.isfile(f"{folder}/trace.csv"):
+        wanted = b"transfers %d\non time\n" % ends_in(f"{folder}/trace.csv")
+        if run("judge", *tables, f"{folder}/trace.csv") != (0, wanted):
+            yield "the judgement of the stored trace"
+    status, said = run("run", "--seed", "42", "--until", "20000", *tables, seeded)
+    if status != 0 or os.path.isfile(stored) and bytes_of(seeded) != bytes_of(stored):
+        yield "the seeded run"
+    if run("judge", *tables, seeded) != (0, said):
+        yield "the judgement of the seeded run"
+    yield from faults_of_report(tables, seeded, out)
 
 
 def faults_of(name):
@@ -102,16 +122,8 @@ def faults_of(name):
     for seed in "1", "2":
         if run("boot", "--seed", seed, *tables) != (0, bytes_of(f"{folder}/boot.txt")):
             yield f"the boot by seed {seed}"
-    if os.path.isfile(f"{folder}/trace.csv"):
-        if run("judge", *tables, f"{folder}/trace.csv") != (0, b"transfers 3\non time\n"):
-            yield "the judgement of the stored trace"
     with tempfile.TemporaryDirectory() as out:
-        status, said = run("run", "--seed", "42", "--until", "20000", *tables, f"{out}/run.csv")
-        if status != 0 or bytes_of(f"{out}/run.csv") != bytes_of(f"{folder}/run.csv"):
-            yield "the seeded run"
-        if run("judge", *tables, f"{out}/run.csv") != (0, said):
-            yield "the judgement of the seeded run"
-        yield from faults_of_report(tables, f"{out}/run.csv", out)
+        yield from faults_of_traces(tables, folder, out)
     if indented(plan) not in page:
         yield "the plan in examples/README.md"
 

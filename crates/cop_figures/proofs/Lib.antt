@@ -1,3 +1,4 @@
 pub mod ReasonLemmas
 pub mod LoadLemmas
+pub mod FrameLemmas
 pub mod TimelineLemmas

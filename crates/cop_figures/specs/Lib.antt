@@ -1,5 +1,6 @@
 pub mod Loads
 pub mod Reasons
+pub mod Frames
 pub mod Figures
 pub mod Measures
 pub mod Timelines

@@ -2,12 +2,14 @@
 #![tactic(auto)]
 
 mod figures;
+mod frames;
 mod loads;
 mod refused;
 mod timelines;
 mod times;
 
 pub use figures::{Figures, figures_of};
+pub use frames::{FrameTimes, SyncTimes};
 pub use loads::Load;
 pub use refused::{Failing, FailingFrame, Reason, RefusedRate};
 pub use timelines::{Lane, MOST_SHOWN, Timeline, timeline_of};

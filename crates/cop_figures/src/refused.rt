@@ -132,7 +132,7 @@ fn all_failing(
 }
 
 /// The stream of an identifier.
-fn frame_of(set: &StreamSet, id: u16) -> Option<Stream>
+pub(crate) fn frame_of(set: &StreamSet, id: u16) -> Option<Stream>
     ensures { result ≡ frame_of set.now id }
 {
     let place = set.place_of(id)?;

@@ -1,6 +1,6 @@
 //! The times of the PDOs under a plan.
 
-ghost use Rattle.std.specs.Prelude.{◌≡◌, ◌<◌, ◌≤◌, IfOk, Some, length, get_or, slice_get};
+ghost use Rattle.std.specs.Prelude.{◌≡◌, ◌<◌, ◌≤◌, ℕ, IfOk, Some, length, get_or, slice_get};
 ghost use Rattle.cop_rta.specs.declared.verdicts.Verdict.TheVariants.{Long};
 ghost use Rattle.cop_rta.specs.Test.{place_by_id};
 ghost use Rattle.cop_rta.specs.Verdict.{IsJudged, IsPass, PassesBy};
@@ -8,7 +8,7 @@ ghost use Rattle.cop_plan.specs.Planned.{IsPlanned};
 ghost use Rattle.cop_figures.specs.Figures.{IsTimed, AreTimes};
 
 use cop_plan::Plan;
-use cop_rta::{Stream, Verdict, verdicts_by_id};
+use cop_rta::{Stream, Verdict};
 use std::alloc::{AllocError, Global};
 
 /// A PDO under a plan. Times are in ticks of 250 ns.
@@ -23,7 +23,7 @@ pub struct PdoTimes {
 }
 
 /// The greatest response of a stream that passes.
-fn response_of(verdict: Verdict) -> u64
+pub(crate) fn response_of(verdict: Verdict) -> u64
     ensures { IsPass verdict → verdict ≡ Verdict.Pass result }
 {
     match verdict {
@@ -49,15 +49,20 @@ fn time_of(plan: &Plan, verdicts: &[Verdict], pdo: usize) -> PdoTimes
     }
 }
 
-/// The times of the PDOs of a plan, that with the lowest identifier first.
-pub(crate) fn times_of(alloc: Global, plan: &Plan) -> Result<Vec<PdoTimes>, AllocError>
+/// The times of the PDOs of a plan whose streams have these verdicts, that with the lowest identifier first.
+pub(crate) fn times_of(
+    alloc: Global,
+    plan: &Plan,
+    verdicts: &[Verdict],
+) -> Result<Vec<PdoTimes>, AllocError>
+    requires verdicts { length verdicts.now ≡ length plan.now.streams }
+    requires judged { (k : ℕ) → k < length plan.now.streams → IsJudged (place_by_id plan.now.streams k plan.now.rate) (get_or verdicts.now k Long) }
     ensures { IfOk result (λ times. AreTimes plan.now times.items) }
 {
-    let verdicts = verdicts_by_id(alloc, plan.streams(), plan.rate())?;
     let order = plan.order();
     let mut times = Vec::new(alloc);
     for pdo in order {
-        times.push(time_of(plan, &verdicts, *pdo))?;
+        times.push(time_of(plan, verdicts, *pdo))?;
     }
     Ok(times)
 }

@@ -4,6 +4,7 @@
 mod bars;
 mod bus;
 mod devices;
+mod frames;
 mod nodes;
 mod page;
 mod pdos;

@@ -5,6 +5,7 @@ ghost use Rattle.cop_plan.specs.Plans.{IsOutcome};
 
 use crate::bus::push_bus;
 use crate::devices::sent_by;
+use crate::frames::push_frames;
 use crate::nodes::push_nodes;
 use crate::pdos::{push_pdos, tightest};
 use crate::premises::{push_inputs, push_premises};
@@ -144,6 +145,7 @@ fn push_plan(page: &mut String, alloc: Global, report: Report<'_, '_>) -> Result
 {
     if let Outcome::Planned(plan) = report.outcome {
         push_pdos(page, report.network, report.figures)?;
+        push_frames(page, report.network, report.figures)?;
         if let Some(timeline) = report.timeline {
             push_bus(page, report.network, plan, timeline)?;
         }

@@ -2,8 +2,9 @@
 
 use crate::bars::ResponseBar;
 use crate::devices::{device_of, taken_by};
+use crate::frames::{is_lower, push_lower};
 use crate::units::{Identifier, Micros};
-use cop_figures::{Figures, PdoTimes};
+use cop_figures::{Figures, PdoTimes, SyncTimes};
 use cop_net::{Consumer, Network, PdoRow};
 use std::alloc::AllocError;
 
@@ -74,9 +75,25 @@ fn push_stream(page: &mut String, times: &PdoTimes) -> Result<(), AllocError> {
     )
 }
 
-/// Adds the response of a PDO against its deadline.
-fn push_response(page: &mut String, times: &PdoTimes, is_tightest: bool) -> Result<(), AllocError> {
+/// Adds the response of a PDO, and of a synchronous one how much of it is SYNC's.
+fn push_number(
+    page: &mut String,
+    times: &PdoTimes,
+    sync: Option<SyncTimes>,
+) -> Result<(), AllocError> {
     let response = Micros(times.response);
+    write!(page, "<td class=\"n\">{response}")?;
+    if let Some(sync) = sync {
+        if times.stream.every > 0 {
+            let part = Micros(sync.response);
+            write!(page, " <small>SYNC {part}</small>")?;
+        }
+    }
+    page.push_str("</td>")
+}
+
+/// Adds the response of a PDO against its deadline.
+fn push_margin(page: &mut String, times: &PdoTimes, is_tightest: bool) -> Result<(), AllocError> {
     let margin = Micros(deadline_of(times).saturating_sub(times.response));
     let bar = ResponseBar {
         response: times.response,
@@ -85,7 +102,7 @@ fn push_response(page: &mut String, times: &PdoTimes, is_tightest: bool) -> Resu
     };
     write!(
         page,
-        "<td class=\"n\">{response}</td><td class=\"wide\">{bar}</td><td class=\"n\">{margin}</td>"
+        "<td class=\"wide\">{bar}</td><td class=\"n\">{margin}</td>"
     )
 }
 
@@ -94,7 +111,7 @@ fn push_sender(
     page: &mut String,
     network: &Network<'_>,
     row: &PdoRow,
-    id: u16,
+    times: &PdoTimes,
     is_tightest: bool,
 ) -> Result<(), AllocError> {
     let (class, note) = if is_tightest {
@@ -102,12 +119,17 @@ fn push_sender(
     } else {
         ("", "")
     };
-    let id = Identifier(id);
+    let lower = if is_lower(times) {
+        " <small>below SDO</small>"
+    } else {
+        ""
+    };
+    let id = Identifier(times.stream.id);
     let device = device_of(network, row.node);
     let tpdo = row.tpdo;
     write!(
         page,
-        "<tr{class}><th scope=\"row\">{id}</th><td>{device}{note}</td><td class=\"n\">{tpdo}</td>"
+        "<tr{class}><th scope=\"row\">{id}{lower}</th><td>{device}{note}</td><td class=\"n\">{tpdo}</td>"
     )
 }
 
@@ -117,21 +139,29 @@ fn push_pdo(
     network: &Network<'_>,
     row: &PdoRow,
     times: &PdoTimes,
+    sync: Option<SyncTimes>,
     is_tightest: bool,
 ) -> Result<(), AllocError> {
-    push_sender(page, network, row, times.stream.id, is_tightest)?;
+    push_sender(page, network, row, times, is_tightest)?;
     push_stream(page, times)?;
-    push_response(page, times, is_tightest)?;
+    push_number(page, times, sync)?;
+    push_margin(page, times, is_tightest)?;
     page.push_str("<td class=\"taken\">")?;
     push_consumers(page, network, row.consumers.as_slice())?;
     page.push_str("</td></tr>\n")
 }
 
 /// Adds what the times of synchronous PDOs count from, where there is one.
-fn push_synchronous(page: &mut String, times: &[PdoTimes]) -> Result<(), AllocError> {
-    if times.iter().any(|times| times.stream.every > 0) {
-        page.push_str(
-            "<p>The event of a synchronous PDO is that of its SYNC, and its jitter counts from the end of SYNC's transfer.</p>\n",
+fn push_synchronous(page: &mut String, figures: &Figures) -> Result<(), AllocError> {
+    let Some(sync) = figures.sync else {
+        return Ok(());
+    };
+    if figures.pdos.iter().any(|times| times.stream.every > 0) {
+        let (period, response) = (Micros(sync.stream.period), Micros(sync.response));
+        write!(
+            page,
+            "<p>The event of a synchronous PDO is that of its SYNC, and its jitter counts from the end of SYNC's transfer. SYNC (080h) \
+is sent each {period} µs; its transfer ends {response} µs after its event at the latest, and so much of the response is SYNC's.</p>\n"
         )?;
     }
     Ok(())
@@ -148,7 +178,8 @@ pub(crate) fn push_pdos(
 <p>Times are microseconds. The response is the greatest time from an event to the end of its transfer; a bar is full where it \
 takes the whole deadline.</p>\n",
     )?;
-    push_synchronous(page, &figures.pdos)?;
+    push_synchronous(page, figures)?;
+    push_lower(page, network, figures)?;
     page.push_str(
         "<div class=\"scroll\"><table>\n<tr><th>Identifier</th><th>Device</th><th class=\"n\">TPDO</th>\
 <th class=\"n\">Bytes</th><th class=\"n\">Period</th><th class=\"n\">Jitter</th><th class=\"n\">Deadline</th>\
@@ -157,7 +188,8 @@ takes the whole deadline.</p>\n",
     let most = tightest(&figures.pdos).map(|times| times.pdo);
     for times in figures.pdos.iter() {
         if let Some(row) = network.rows().get(times.pdo) {
-            push_pdo(page, network, row, times, most == Some(times.pdo))?;
+            let is_tightest = most == Some(times.pdo);
+            push_pdo(page, network, row, times, figures.sync, is_tightest)?;
         }
     }
     page.push_str("</table></div>\n</section>\n")

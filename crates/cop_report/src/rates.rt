@@ -24,7 +24,7 @@ fn shown(members: &[Failing]) -> Option<&Failing> {
 }
 
 /// Adds what is said of a frame: how long it needs, and until when it has time.
-fn push_verdict(
+pub(crate) fn push_verdict(
     page: &mut String,
     verdict: Verdict,
     deadline: Option<u64>,
@@ -144,7 +144,8 @@ fn push_frame(
     let sender = fixed_sender(network, frame.id);
     write!(
         page,
-        "<p>At {kbits} kbit/s the frame {id}, {sender}, misses its deadline below every PDO that cannot go below it: it "
+        "<p>At {kbits} kbit/s the frame {id}, {sender}, misses its deadline even where only those PDOs are above it that cannot \
+stand below it: it "
     )?;
     push_verdict(page, frame.verdict, frame.deadline)?;
     page.push_str(".</p>\n")

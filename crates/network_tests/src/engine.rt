@@ -2,6 +2,7 @@ mod boots;
 mod cut;
 mod large;
 mod outlets;
+mod ranges;
 mod runs;
 
 use cop_engine::{

@@ -1,4 +1,5 @@
 mod networks;
+mod ranges;
 mod timelines;
 
 use crate::reports::networks::{PDOS, STRICT, report};

@@ -79,20 +79,30 @@ pub const PDOS: &str = "node,tpdo,period,jitter,deadline,consumers\n5,1,10000,0,
 /// No rate of the device is fast enough for a deadline of 400 us.
 pub const STRICT: &str = "node,tpdo,period,jitter,deadline,consumers\n5,1,10000,0,400,\n";
 
-/// The EDS files of the network.
-fn eds_files(alloc: Global) -> Result<Vec<(String, Vec<u8>)>, Fail> {
+/// The tables of a network, and the transmission type of what its devices send.
+#[derive(Clone, Copy)]
+pub struct Tables<'a> {
+    pub transmission: &'a str,
+    pub nodes: &'a str,
+    pub pdos: &'a str,
+}
+
+/// The EDS files of a network.
+fn eds_files(alloc: Global, transmission: &str) -> Result<Vec<(String, Vec<u8>)>, Fail> {
+    let (before, after) = UNIT.split_once("DefaultValue=255").ok_or("no such part")?;
+    let text = format!(in alloc; "{before}DefaultValue={transmission}{after}")?;
     let mut files = Vec::new(alloc);
     files.push((
         String::from_str(alloc, "unit.eds")?,
-        Vec::from_slice(alloc, UNIT.as_bytes())?,
+        Vec::from_slice(alloc, text.as_bytes())?,
     ))?;
     Ok(files)
 }
 
-/// The tables of the network.
-fn tables(alloc: Global, pdos: &str) -> Result<(NodeTable, PdoTable), Fail> {
-    let nodes = read_nodes(alloc, NODES.as_bytes())?;
-    Ok((nodes, read_pdos(alloc, pdos.as_bytes())?))
+/// The tables of a network as they are read.
+fn read_tables(alloc: Global, tables: Tables<'_>) -> Result<(NodeTable, PdoTable), Fail> {
+    let nodes = read_nodes(alloc, tables.nodes.as_bytes())?;
+    Ok((nodes, read_pdos(alloc, tables.pdos.as_bytes())?))
 }
 
 /// The bus over time, where there are a plan and a trace.
@@ -152,19 +162,37 @@ fn told(
     Ok((figures, page))
 }
 
-/// The numbers of the network and its page, with the bus over time where there is a trace.
-pub fn report(alloc: Global, pdos: &str, trace: Option<&str>) -> Result<(Figures, String), Fail> {
-    let (nodes, pdos) = tables(alloc, pdos)?;
-    let files = eds_files(alloc)?;
+/// The numbers of a network and its page, with the bus over time where there is a trace.
+pub fn report_of(
+    alloc: Global,
+    tables: Tables<'_>,
+    trace: Option<&str>,
+) -> Result<(Figures, String), Fail> {
+    let (nodes, pdos) = read_tables(alloc, tables)?;
+    let files = eds_files(alloc, tables.transmission)?;
     let network = network(alloc, &nodes, &pdos, &files)?;
     let outcome = plan(alloc, &network)?;
     told(alloc, &network, &outcome, trace)
 }
 
-/// The plan of the network.
+/// The network of one valve.
+fn valve(pdos: &str) -> Tables<'_> {
+    Tables {
+        transmission: "255",
+        nodes: NODES,
+        pdos,
+    }
+}
+
+/// The same of the network of one valve.
+pub fn report(alloc: Global, pdos: &str, trace: Option<&str>) -> Result<(Figures, String), Fail> {
+    report_of(alloc, valve(pdos), trace)
+}
+
+/// The plan of that network.
 pub fn planned(alloc: Global) -> Result<Plan, Fail> {
-    let (nodes, pdos) = tables(alloc, PDOS)?;
-    let files = eds_files(alloc)?;
+    let (nodes, pdos) = read_tables(alloc, valve(PDOS))?;
+    let files = eds_files(alloc, "255")?;
     let network = network(alloc, &nodes, &pdos, &files)?;
     match plan(alloc, &network)? {
         Outcome::Planned(plan) => Ok(plan),

@@ -20,10 +20,12 @@ returns-in_ok-all_refused-in-Planned c =
     let is : IsPlan c.args.network.now.equipment.rates c.args.network.now.set (length c.args.network.now.rows) c.in-Planned.plan = rw c.in-Planned.is at c.requires in
     rw c.in-Planned.is (
       ap (λ r. Some r) c.rate.ensures,
-      c.in_ok-times_of-in-Planned.ensures,
+      c.sync_of.ensures,
+      c.in_ok-pdos-in-Planned.ensures.pdos,
+      rw c.set-set.ensures.set at c.in_ok-pdos-in-Planned.ensures.frames,
       c.in_ok-loads.ensures,
       record {
-        shown_are = rw (c.refusals.ensures, c.set-set.ensures.set, c.pdos-pdos.ensures.count) at c.in_ok-all_refused-in-Planned.ensures;
+        shown_are = rw (c.refusals.ensures, c.set-set.ensures.set, c.pdos-count.ensures.count) at c.in_ok-all_refused-in-Planned.ensures;
         tested = all_tested c.args.network.now.set (length c.args.network.now.rows) c.set-set.ensures.network.streams.count c.in-Planned.plan.refusals (rw (c.streams.ensures.items, c.set-set.ensures.set) at c.streams.ensures.distinct) is.refused.each;
       },
     )
@@ -33,10 +35,12 @@ returns-in_ok-all_refused-in-Refused c =
     let is : AreAllRefused c.args.network.now.equipment.rates c.args.network.now.set (length c.args.network.now.rows) c.in-Refused.refusals = rw c.in-Refused.is at c.requires in
     rw c.in-Refused.is (
       refl,
+      refl,
       c.new.ensures.items,
+      c.new-in-Refused.ensures.items,
       c.in_ok-loads.ensures,
       record {
-        shown_are = rw (c.as_slice.ensures, c.set-set.ensures.set, c.pdos-pdos.ensures.count) at c.in_ok-all_refused-in-Refused.ensures;
+        shown_are = rw (c.as_slice.ensures, c.set-set.ensures.set, c.pdos-count.ensures.count) at c.in_ok-all_refused-in-Refused.ensures;
         tested = all_tested c.args.network.now.set (length c.args.network.now.rows) c.set-set.ensures.network.streams.count c.in-Refused.refusals (rw (c.streams.ensures.items, c.set-set.ensures.set) at c.streams.ensures.distinct) is.refused.each;
       },
     )

@@ -1,0 +1,123 @@
+//! Tests of what a report tells of synchronous PDOs and of SDO frames with deadlines.
+
+use crate::reports::networks::{Tables, report_of};
+use cop_rta::Verdict;
+use std::test::Fail;
+
+/// A PDO of 64 bits that is sent at each SYNC within 100 us. At 250 kbit/s SYNC waits for the PDO, 2,160 ticks, and takes 880.
+const SYNCHRONOUS: Tables<'static> = Tables {
+    transmission: "1",
+    nodes: "row,node,name,eds,period,jitter\ndevice,5,Valve,unit.eds,0,0\nsync,0,,,10000,0\n",
+    pdos: "node,tpdo,period,jitter,deadline,consumers\n5,1,0,100,1620,\n",
+};
+
+/// The same with SYNC each 100 us.
+const TOO_OFTEN: Tables<'static> = Tables {
+    nodes: "row,node,name,eds,period,jitter\ndevice,5,Valve,unit.eds,0,0\nsync,0,,,100,0\n",
+    ..SYNCHRONOUS
+};
+
+/// Two PDOs that can wait, and an SDO response that passes behind one of them.
+const BELOW: Tables<'static> = Tables {
+    transmission: "255",
+    nodes: "row,node,name,eds,period,jitter,deadline\ndevice,5,Valve,unit.eds,0,0,\ndevice,6,Pump,unit.eds,0,0,\nsdo_response,5,,,100000,0,1080\n",
+    pdos: "node,tpdo,period,jitter,deadline,consumers\n5,1,10000,0,10000,\n6,1,10000,0,10000,\n",
+};
+
+/// The same where it passes nowhere.
+const TOO_LATE: Tables<'static> = Tables {
+    nodes: "row,node,name,eds,period,jitter,deadline\ndevice,5,Valve,unit.eds,0,0,\ndevice,6,Pump,unit.eds,0,0,\nsdo_response,5,,,100000,0,1079\n",
+    ..BELOW
+};
+
+/// The same where the first PDO cannot wait, and with another SDO response. Each frame takes 2,160 ticks at 250 kbit/s: of the first
+/// SDO response the PDO, one frame from below and it itself go before its end, and with all PDOs above it four frames.
+const ONE_ABOVE: Tables<'static> = Tables {
+    nodes: "row,node,name,eds,period,jitter,deadline\ndevice,5,Valve,unit.eds,0,0,\ndevice,6,Pump,unit.eds,0,0,\nsdo_response,5,,,100000,0,1620\nsdo_response,6,,,100000,0,10000\n",
+    pdos: "node,tpdo,period,jitter,deadline,consumers\n5,1,10000,0,1080,\n6,1,10000,0,10000,\n",
+    ..BELOW
+};
+
+/// What the pages say.
+const SAID: &[(Tables<'static>, &[&str])] = &[
+    (
+        SYNCHRONOUS,
+        &[
+            "10000 <small>each SYNC</small>",
+            "1620 <small>SYNC 760</small>",
+            "is sent each 10000 µs; its transfer ends 760 µs after its event at the latest",
+        ],
+    ),
+    (
+        TOO_OFTEN,
+        &["At 250 kbit/s SYNC itself has no busy time that ends within 10 s"],
+    ),
+    (
+        BELOW,
+        &[
+            "<p>2 PDOs can wait and stand below all SDO frames, from 680h on. With all PDOs above it 585h, SDO response of Valve \
+(node 5), needs 1620 µs, its deadline is 1080 µs.</p>",
+            "680h <small>below SDO</small>",
+            "<th scope=\"row\">585h</th><td>SDO response of Valve (node 5)</td><td class=\"n\">100000</td><td class=\"n\">0</td>",
+        ],
+    ),
+    (
+        ONE_ABOVE,
+        &[
+            "<p>1 PDO can wait and stand below all SDO frames, from 680h on.",
+            "The PDOs above the SDO frames are those of which none could have the lowest priority among them below.</p>",
+        ],
+    ),
+    (
+        TOO_LATE,
+        &[
+            "At 250 kbit/s the frame 585h, SDO response of Valve (node 5), misses its deadline",
+            "it needs 1080 µs, its deadline is 1079 µs.</p>\n<p>That is so even with all PDOs below it.",
+        ],
+    ),
+];
+
+#[test]
+fn the_page_tells_of_sync_and_of_sdo_frames(rt: HostRuntime) -> Result<(), Fail> {
+    for case in SAID {
+        let (tables, said) = *case;
+        let (_figures, page) = report_of(rt.alloc(), tables, None)?;
+        for part in said {
+            assert!(rt; page.contains(*part), "{part}");
+        }
+    }
+    Ok(())
+}
+
+#[test]
+fn what_is_sync_of_a_response(rt: HostRuntime) -> Result<(), Fail> {
+    let (figures, _page) = report_of(rt.alloc(), SYNCHRONOUS, None)?;
+    let sync = figures.sync.ok_or("no SYNC")?;
+    assert!(rt; sync.stream.id == 0x80 && sync.response == 3040);
+    Ok(())
+}
+
+/// The SDO frames of a network with both kinds of PDOs: identifier, response, and what the test says below all PDOs.
+const FRAMES: &[(u16, u64, Verdict)] = &[
+    (
+        0x585,
+        6480,
+        Verdict::Late {
+            q: 0,
+            response: 8640,
+        },
+    ),
+    (0x586, 8640, Verdict::Pass { response: 8640 }),
+];
+
+#[test]
+fn what_the_sdo_frames_need(rt: HostRuntime) -> Result<(), Fail> {
+    let (figures, _page) = report_of(rt.alloc(), ONE_ABOVE, None)?;
+    assert!(rt; figures.sync.is_none());
+    assert!(rt; figures.frames.len() == FRAMES.len());
+    let mut wanted = FRAMES.iter();
+    for frame in figures.frames.iter() {
+        assert!(rt; wanted.next() == Some(&(frame.stream.id, frame.response, frame.below_all)));
+    }
+    Ok(())
+}
