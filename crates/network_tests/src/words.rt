@@ -377,7 +377,7 @@ const EDS_MISTAKES: &[(&str, &str, &str, &str)] = &[
     (
         "DefaultValue=255",
         "DefaultValue=0",
-        "TPDO 1 of node 5: 1800h sub 2, its transmission type, is 0\nits EDS file, line 45: DefaultValue=0\n",
+        "TPDO 1 of node 5: 1800h sub 2, its transmission type, is 0\nits EDS file, line 41: DefaultValue=0\n",
         "rule 47: ",
     ),
     (
@@ -389,7 +389,7 @@ const EDS_MISTAKES: &[(&str, &str, &str, &str)] = &[
     (
         "PDOMapping=1",
         "PDOMapping=0",
-        "TPDO 1 of node 5: 1A00h sub 1 maps 32 bits of 2000h sub 0, whose PDOMapping is 0\nits EDS file, line 56: DefaultValue=0x20000020\n",
+        "TPDO 1 of node 5: 1A00h sub 1 maps 32 bits of 2000h sub 0, whose PDOMapping is 0\nits EDS file, line 51: DefaultValue=0x20000020\n",
         "rule 23: ",
     ),
 ];
@@ -644,7 +644,7 @@ fn records_and_lines_are_found(rt: HostRuntime) -> Result<(), Fail> {
     }
     assert!(rt; record_at(text, 3).is_none());
     assert!(rt; line_at(text, 0).is_none());
-    assert!(rt; line_at(text, 1).is_some_and(|place| place.text == b"a,b"));
+    assert!(rt; line_at(text, 1).is_some_and(|place| place.text == b"a,b".as_slice()));
     Ok(())
 }
 
