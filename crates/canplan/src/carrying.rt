@@ -1,13 +1,15 @@
 //! What each subcommand does.
 
 use crate::commands::MOST_UNTIL;
-use crate::files::{Folder, file_fault, print, read_eds_files, read_file, read_input, read_tables};
+use crate::failures::{Failure, Use, file_failure};
+use crate::files::{Folder, print, remove_earlier};
+use crate::inputs::{Inputs, read_file, read_input};
 use crate::judging::judge;
 use crate::orders::{NetworkFiles, Order, Request};
 use crate::reporting::write_report;
 use cop_engine::{
-    Fault, RunFault, boot_bytes, check_bytes, check_status, deliver, none_passes, outcome_of,
-    plan_bytes, plan_status, run_plan, test_bytes, text_status,
+    Fault, Files, RunFault, boot_bytes, check_bytes, check_status, deliver, none_passes,
+    outcome_of, plan_bytes, plan_status, run_plan, test_bytes, text_status,
 };
 use cop_frame::Rate;
 use cop_plan::{Outcome, Plan};
@@ -16,9 +18,15 @@ use std::fs::File;
 use std::io::{BufWriter, Write};
 
 /// The test of the streams of a table. What does not pass is told in words where that is wanted.
-fn test(rt: &HostRuntime, rate: Rate, file: &str, explain: bool) -> Result<u8, Fault> {
-    let bytes = read_input(rt, file)?;
-    let text = test_bytes(rt.alloc(), &bytes, rate)?;
+fn test(
+    rt: &HostRuntime,
+    rate: Rate,
+    file: &str,
+    explain: bool,
+    inputs: &mut Inputs,
+) -> Result<u8, Failure> {
+    inputs.other = read_input(rt, file)?;
+    let text = test_bytes(rt.alloc(), &inputs.other, rate)?;
     print(rt, &text)?;
     if explain {
         let _ = rt.stderr().write_all(&late_words(rt.alloc(), &text)?);
@@ -26,45 +34,73 @@ fn test(rt: &HostRuntime, rate: Rate, file: &str, explain: bool) -> Result<u8, F
     Ok(0)
 }
 
-/// The plan of a network: it is printed, and then written into a folder.
-fn plan(rt: &HostRuntime, network: NetworkFiles<'_>, out: &str) -> Result<u8, Fault> {
-    let tables = read_tables(rt, network)?;
-    let eds_files = read_eds_files(rt, network, &tables)?;
-    let files = plan_bytes(rt.alloc(), &tables.nodes, &tables.pdos, &eds_files)?;
-    print(rt, &files.plan)?;
+/// Writes the files of a plan into a folder, and removes those of an earlier plan that it has not.
+fn write_files(rt: &HostRuntime, files: &Files, out: &str) -> Result<(), Failure> {
     let mut folder = Folder {
         rt,
         path: out,
-        fault: None,
+        failure: None,
     };
-    let _ = deliver(&files, &mut folder);
-    match folder.fault {
-        Some(fault) => Err(fault),
-        None => Ok(plan_status(files.planned)),
+    let _ = deliver(files, &mut folder);
+    match folder.failure {
+        Some(failure) => Err(failure),
+        None => remove_earlier(rt, out, files),
     }
 }
 
+/// The plan of a network: it is printed, and then written into a folder.
+fn plan(
+    rt: &HostRuntime,
+    network: NetworkFiles<'_>,
+    out: &str,
+    inputs: &mut Inputs,
+) -> Result<u8, Failure> {
+    inputs.network.read(rt, network)?;
+    let texts = &inputs.network;
+    let files = plan_bytes(rt.alloc(), &texts.nodes, &texts.pdos, &texts.eds_files)?;
+    print(rt, &files.plan)?;
+    write_files(rt, &files, out)?;
+    Ok(plan_status(files.planned))
+}
+
 /// The check of a refusal file against a network.
-fn check(rt: &HostRuntime, network: NetworkFiles<'_>, refusals: &str) -> Result<u8, Fault> {
-    let tables = read_tables(rt, network)?;
-    let refusals = read_file(rt, refusals)?;
-    let eds_files = read_eds_files(rt, network, &tables)?;
+fn check(
+    rt: &HostRuntime,
+    network: NetworkFiles<'_>,
+    refusals: &str,
+    inputs: &mut Inputs,
+) -> Result<u8, Failure> {
+    inputs.network.read_tables(rt, network)?;
+    inputs.other = read_file(rt, refusals)?;
+    inputs.network.read_eds_files(rt, network)?;
+    let texts = &inputs.network;
     let (text, all_hold) = check_bytes(
         rt.alloc(),
-        &tables.nodes,
-        &tables.pdos,
-        &eds_files,
-        &refusals,
+        &texts.nodes,
+        &texts.pdos,
+        &texts.eds_files,
+        &inputs.other,
     )?;
     print(rt, &text)?;
     Ok(check_status(all_hold))
 }
 
 /// The boot of a network by its plan, by the turns that a seed draws.
-fn boot(rt: &HostRuntime, seed: u64, network: NetworkFiles<'_>) -> Result<u8, Fault> {
-    let tables = read_tables(rt, network)?;
-    let eds_files = read_eds_files(rt, network, &tables)?;
-    let text = boot_bytes(rt.alloc(), seed, &tables.nodes, &tables.pdos, &eds_files)?;
+fn boot(
+    rt: &HostRuntime,
+    seed: u64,
+    network: NetworkFiles<'_>,
+    inputs: &mut Inputs,
+) -> Result<u8, Failure> {
+    inputs.network.read(rt, network)?;
+    let texts = &inputs.network;
+    let text = boot_bytes(
+        rt.alloc(),
+        seed,
+        &texts.nodes,
+        &texts.pdos,
+        &texts.eds_files,
+    )?;
     print(rt, &text)?;
     Ok(text_status(&text))
 }
@@ -73,14 +109,14 @@ fn boot(rt: &HostRuntime, seed: u64, network: NetworkFiles<'_>) -> Result<u8, Fa
 const TRACE_BUFFER: usize = 256 * 1024;
 
 /// A new file for a trace.
-fn trace_file(rt: &HostRuntime, trace: &str) -> Result<BufWriter<File>, Fault> {
+fn trace_file(rt: &HostRuntime, trace: &str) -> Result<BufWriter<File>, Failure> {
     let file = match File::create(rt, trace) {
         Ok(file) => file,
-        Err(error) => return Err(file_fault(rt, trace, &error)),
+        Err(error) => return Err(file_failure(rt, trace, Use::Write, &error)),
     };
     match BufWriter::with_capacity(rt.alloc(), TRACE_BUFFER, file) {
         Ok(file) => Ok(file),
-        Err(_) => Err(Fault::Memory),
+        Err(_) => Err(Failure::from(Fault::Memory)),
     }
 }
 
@@ -91,12 +127,15 @@ fn run_into(
     seed: u64,
     until: u64,
     trace: &str,
-) -> Result<Vec<u8>, Fault> {
+) -> Result<Vec<u8>, Failure> {
     let file = trace_file(rt, trace)?;
     match run_plan(rt.alloc(), plan, seed, until.min(MOST_UNTIL), file) {
         Ok((text, _file)) => Ok(text),
-        Err(RunFault::Trace) => Err(Fault::File(String::from_str(rt.alloc(), trace)?)),
-        Err(fault) => Err(Fault::from(fault)),
+        Err(RunFault::Trace) => Err(Failure {
+            fault: Fault::File(String::from_str(rt.alloc(), trace)?),
+            reason: Some(String::from_str(rt.alloc(), "it cannot be written to its end\n")?),
+        }),
+        Err(fault) => Err(Failure::from(Fault::from(fault))),
     }
 }
 
@@ -106,19 +145,12 @@ fn run_outcome(
     outcome: &Outcome,
     numbers: (u64, u64),
     trace: &str,
-) -> Result<Vec<u8>, Fault> {
+) -> Result<Vec<u8>, Failure> {
     let (seed, until) = numbers;
     match outcome {
         Outcome::Planned(plan) => run_into(rt, plan, seed, until, trace),
         Outcome::Refused(_) => Ok(none_passes(rt.alloc())?),
     }
-}
-
-/// What the planner answers for a network.
-fn read_outcome(rt: &HostRuntime, network: NetworkFiles<'_>) -> Result<Outcome, Fault> {
-    let tables = read_tables(rt, network)?;
-    let eds_files = read_eds_files(rt, network, &tables)?;
-    outcome_of(rt.alloc(), &tables.nodes, &tables.pdos, &eds_files)
 }
 
 /// The seeded run of a network, by the numbers of the seed and the end: the trace is written, and then the run is told.
@@ -127,42 +159,49 @@ fn run(
     numbers: (u64, u64),
     network: NetworkFiles<'_>,
     trace: &str,
-) -> Result<u8, Fault> {
-    let outcome = read_outcome(rt, network)?;
+    inputs: &mut Inputs,
+) -> Result<u8, Failure> {
+    inputs.network.read(rt, network)?;
+    let texts = &inputs.network;
+    let outcome = outcome_of(rt.alloc(), &texts.nodes, &texts.pdos, &texts.eds_files)?;
     let text = run_outcome(rt, &outcome, numbers, trace)?;
     print(rt, &text)?;
     Ok(text_status(&text))
 }
 
 /// What the rule of a number says.
-fn explain(rt: &HostRuntime, number: u8) -> Result<u8, Fault> {
+fn explain(rt: &HostRuntime, number: u8) -> Result<u8, Failure> {
     let words = rule_words(rt.alloc(), number)?;
     if words.is_empty() {
-        return Err(Fault::Usage);
+        return Err(Failure::from(Fault::Usage));
     }
     print(rt, &words)?;
     Ok(0)
 }
 
-/// Carries a request out, and gives its status.
-pub fn carry_out(rt: &HostRuntime, request: Request<'_>) -> Result<u8, Fault> {
+/// Carries a request out, and gives its status. What it reads is kept.
+pub fn carry_out(
+    rt: &HostRuntime,
+    request: Request<'_>,
+    inputs: &mut Inputs,
+) -> Result<u8, Failure> {
     match request.order {
-        Order::Test { rate, file } => test(rt, rate, file, request.explain),
-        Order::Plan { network, out } => plan(rt, network, out),
-        Order::Check { network, refusals } => check(rt, network, refusals),
-        Order::Boot { seed, network } => boot(rt, seed, network),
-        Order::Judge { network, trace } => judge(rt, network, trace),
+        Order::Test { rate, file } => test(rt, rate, file, request.explain, inputs),
+        Order::Plan { network, out } => plan(rt, network, out, inputs),
+        Order::Check { network, refusals } => check(rt, network, refusals, inputs),
+        Order::Boot { seed, network } => boot(rt, seed, network, inputs),
+        Order::Judge { network, trace } => judge(rt, network, trace, inputs),
         Order::Run {
             seed,
             until,
             network,
             trace,
-        } => run(rt, (seed, until), network, trace),
+        } => run(rt, (seed, until), network, trace, inputs),
         Order::Report {
             network,
             trace,
             out,
-        } => write_report(rt, network, trace, out),
+        } => write_report(rt, network, trace, out, inputs),
         Order::Explain { number } => explain(rt, number),
     }
 }

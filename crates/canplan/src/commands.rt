@@ -2,6 +2,7 @@
 
 use clap::builder::ValueParser;
 use clap::{Arg, ArgAction, Command};
+use cop_words::RULE_WORDS;
 use std::alloc::{AllocError, Global};
 
 /// The greatest end of a run, in microseconds.
@@ -157,7 +158,7 @@ fn report_command<'a>(alloc: Global) -> Result<Command<'a>, AllocError> {
 fn explain_command<'a>(alloc: Global) -> Result<Command<'a>, AllocError> {
     let number = Arg::new(alloc, "NUMBER")
         .required(true)
-        .value_parser(ValueParser::unsigned(1, 69))
+        .value_parser(RULE_WORDS.as_slice())
         .action(ArgAction::Set)
         .help("The number of a rule, as in canplan: refused NUMBER PLACE");
     Command::new(alloc, "explain")

@@ -1,10 +1,12 @@
-//! What is said of a fault in words, below its line. The files are read again for it.
+//! What is said of a failure in words, below its line, by what was read.
 
-use crate::files::{Tables, beside, read_eds_files, read_file, read_named, read_tables};
+use crate::failures::Failure;
+use crate::inputs::{Inputs, beside};
 use crate::orders::{NetworkFiles, Order};
 use cop_engine::Fault;
 use cop_net::read_nodes;
 use cop_words::{Network, Source, network_words, record_words, rule_words};
+use std::alloc::{AllocError, Global};
 use std::{fs, str};
 
 /// The files of the network of an order.
@@ -20,10 +22,11 @@ fn network_of<'a>(order: Order<'a>) -> Option<NetworkFiles<'a>> {
     }
 }
 
-/// The file that a rule is about, where that is none of a network's: of streams, of refusals, or a trace.
+/// The name of the file that a rule is about, where that is none of a network's: of streams, of refusals, or a trace.
 fn file_of<'a>(order: Order<'a>, number: u8) -> Option<&'a str> {
     match order {
-        Order::Test { file, .. } if file != "-" => Some(file),
+        Order::Test { file: "-", .. } => Some("standard input"),
+        Order::Test { file, .. } => Some(file),
         Order::Check { refusals, .. } if number < 40 => Some(refusals),
         Order::Judge { trace, .. } if number >= 60 => Some(trace),
         Order::Report { trace, .. } if number >= 60 => trace,
@@ -31,58 +34,60 @@ fn file_of<'a>(order: Order<'a>, number: u8) -> Option<&'a str> {
     }
 }
 
-/// The EDS files of a network: none where its table of nodes is refused.
-fn eds_files(rt: &HostRuntime, files: NetworkFiles<'_>, tables: &Tables) -> Vec<(String, Vec<u8>)> {
-    match read_eds_files(rt, files, tables) {
-        Ok(found) => found,
-        Err(_) => Vec::new(rt.alloc()),
-    }
-}
-
-fn refused_network(rt: &HostRuntime, files: NetworkFiles<'_>) -> Result<Vec<u8>, Fault> {
-    let tables = read_tables(rt, files)?;
-    let eds_files = eds_files(rt, files, &tables);
+/// What is said of the network that was read.
+fn refused_network(
+    alloc: Global,
+    files: NetworkFiles<'_>,
+    inputs: &Inputs,
+) -> Result<Vec<u8>, AllocError> {
+    let texts = &inputs.network;
     let network = Network {
         nodes: Source {
             name: files.nodes,
-            text: &tables.nodes,
+            text: &texts.nodes,
         },
         pdos: Source {
             name: files.pdos,
-            text: &tables.pdos,
+            text: &texts.pdos,
         },
-        eds_files: &eds_files,
+        eds_files: &texts.eds_files,
     };
-    Ok(network_words(rt.alloc(), network)?)
+    network_words(alloc, network)
 }
 
-fn refused(rt: &HostRuntime, order: Order<'_>, number: u8, place: u64) -> Result<Vec<u8>, Fault> {
+fn refused(
+    alloc: Global,
+    order: Order<'_>,
+    inputs: &Inputs,
+    number: u8,
+    place: u64,
+) -> Result<Vec<u8>, AllocError> {
     if let Some(name) = file_of(order, number) {
-        let text = read_file(rt, name)?;
-        let source = Source { name, text: &text };
-        return Ok(record_words(rt.alloc(), source, number, place)?);
+        let source = Source {
+            name,
+            text: &inputs.other,
+        };
+        return record_words(alloc, source, number, place);
     }
     match network_of(order) {
-        Some(network) => refused_network(rt, network),
-        None => Ok(rule_words(rt.alloc(), number)?),
-    }
-}
-
-/// Why a file cannot be read, in the system's words.
-fn reason(rt: &HostRuntime, name: &str) -> Result<String, Fault> {
-    match read_named(rt, name) {
-        Ok(_) => Ok(String::from_str(rt.alloc(), "it can be read, and could not be written\n")?),
-        Err(error) => Ok(format!(in rt.alloc(); "{error}\n")?),
+        Some(files) => refused_network(alloc, files, inputs),
+        None => rule_words(alloc, number),
     }
 }
 
 /// The record of the device that wants a file as its EDS file.
-fn wanted_by(rt: &HostRuntime, files: NetworkFiles<'_>, name: &str) -> Result<Option<u64>, Fault> {
-    let tables = read_tables(rt, files)?;
-    let nodes = read_nodes(rt.alloc(), &tables.nodes)?;
+fn wanted_by(
+    alloc: Global,
+    files: NetworkFiles<'_>,
+    inputs: &Inputs,
+    name: &str,
+) -> Result<Option<u64>, AllocError> {
+    let Ok(nodes) = read_nodes(alloc, &inputs.network.nodes) else {
+        return Ok(None);
+    };
     for device in nodes.devices() {
         if let Ok(eds) = str::from_utf8(device.eds.as_bytes()) {
-            if beside(rt.alloc(), files.nodes, eds)?.as_str() == name {
+            if beside(alloc, files.nodes, eds)?.as_str() == name {
                 return Ok(Some(device.place));
             }
         }
@@ -90,22 +95,27 @@ fn wanted_by(rt: &HostRuntime, files: NetworkFiles<'_>, name: &str) -> Result<Op
     Ok(None)
 }
 
-fn failed_file(rt: &HostRuntime, order: Order<'_>, name: &str) -> Result<Vec<u8>, Fault> {
-    let mut words = reason(rt, name)?.into_bytes();
-    if let Some(files) = network_of(order) {
-        if let Ok(Some(record)) = wanted_by(rt, files, name) {
-            let nodes = files.nodes;
-            let line = format!(in rt.alloc();
-                "it is the EDS file of record {record} of {nodes}\n"
-            )?;
-            words.extend_from_slice(line.as_bytes())?;
-        }
+/// Adds which device wants a file, where one does.
+fn push_wanted(
+    words: &mut Vec<u8>,
+    alloc: Global,
+    order: Order<'_>,
+    inputs: &Inputs,
+    name: &str,
+) -> Result<(), AllocError> {
+    let Some(files) = network_of(order) else {
+        return Ok(());
+    };
+    if let Some(record) = wanted_by(alloc, files, inputs, name)? {
+        let nodes = files.nodes;
+        let line = format!(in alloc; "it is the EDS file of record {record} of {nodes}\n")?;
+        words.extend_from_slice(line.as_bytes())?;
     }
-    Ok(words)
+    Ok(())
 }
 
 /// Adds that the files in the folder of a plan that is refused are of an earlier run, where there are any.
-fn push_earlier(rt: &HostRuntime, order: Order<'_>, words: &mut Vec<u8>) -> Result<(), Fault> {
+fn push_earlier(words: &mut Vec<u8>, rt: &HostRuntime, order: Order<'_>) -> Result<(), AllocError> {
     let Order::Plan { out, .. } = order else {
         return Ok(());
     };
@@ -118,19 +128,31 @@ fn push_earlier(rt: &HostRuntime, order: Order<'_>, words: &mut Vec<u8>) -> Resu
     Ok(())
 }
 
-/// What is said of a fault in words.
-pub fn explain(rt: &HostRuntime, order: Order<'_>, fault: &Fault) -> Result<Vec<u8>, Fault> {
-    match fault {
-        Fault::Refused { number, place } => {
-            let mut words = refused(rt, order, *number, *place)?;
-            push_earlier(rt, order, &mut words)?;
-            Ok(words)
-        }
-        Fault::File(name) => failed_file(rt, order, name),
-        Fault::Simulation => Ok(Vec::from_slice(
-            rt.alloc(),
-            b"more than 64 instances of one fixed frame wait: its row asks for more than the bus can carry\n",
-        )?),
-        Fault::Usage | Fault::Memory => Ok(Vec::new(rt.alloc())),
+/// What is said of a failure in words.
+pub fn explain(
+    rt: &HostRuntime,
+    order: Order<'_>,
+    inputs: &Inputs,
+    failure: &Failure,
+) -> Result<Vec<u8>, AllocError> {
+    let alloc = rt.alloc();
+    let mut words = Vec::new(alloc);
+    if let Some(reason) = &failure.reason {
+        words.extend_from_slice(reason.as_bytes())?;
     }
+    match &failure.fault {
+        Fault::Refused { number, place } => {
+            let said = refused(alloc, order, inputs, *number, *place)?;
+            words.extend_from_slice(&said)?;
+            push_earlier(&mut words, rt, order)?;
+        }
+        Fault::File(name) => push_wanted(&mut words, alloc, order, inputs, name)?,
+        Fault::Simulation => {
+            words.extend_from_slice(
+                b"more than 64 instances of one fixed frame wait: its row asks for more than the bus can carry\n",
+            )?;
+        }
+        Fault::Usage | Fault::Memory => {}
+    }
+    Ok(words)
 }

@@ -1,105 +1,15 @@
-//! The files that the program reads and writes.
+//! The files that the program writes and removes.
 
-use crate::orders::NetworkFiles;
-use cop_engine::{Fault, Outlet, read_all};
-use cop_net::{NodeTable, read_nodes};
-use std::alloc::{AllocError, Global};
-use std::collections::BTreeSet;
-use std::fs::{self, File};
-use std::io::{self, Write};
-use std::str;
-
-/// The tables of a network, as they stand in their files.
-#[derive(Drop)]
-pub struct Tables {
-    pub nodes: Vec<u8>,
-    pub pdos: Vec<u8>,
-}
-
-/// The bytes of a file of at most 64 MiB.
-pub fn read_named(rt: &HostRuntime, name: &str) -> io::Result<Vec<u8>> {
-    read_all(rt.alloc(), File::open(rt, name)?)
-}
-
-/// The fault of a file that isn't read or written.
-pub fn file_fault(rt: &HostRuntime, name: &str, error: &io::Error) -> Fault {
-    if error.kind() == io::ErrorKind::OutOfMemory {
-        return Fault::Memory;
-    }
-    match String::from_str(rt.alloc(), name) {
-        Ok(name) => Fault::File(name),
-        Err(_) => Fault::Memory,
-    }
-}
-
-pub fn read_file(rt: &HostRuntime, name: &str) -> Result<Vec<u8>, Fault> {
-    match read_named(rt, name) {
-        Ok(bytes) => Ok(bytes),
-        Err(error) => Err(file_fault(rt, name, &error)),
-    }
-}
-
-/// The bytes of a file, or of standard input for `-`.
-pub fn read_input(rt: &HostRuntime, name: &str) -> Result<Vec<u8>, Fault> {
-    if name != "-" {
-        return read_file(rt, name);
-    }
-    match read_all(rt.alloc(), rt.stdin()) {
-        Ok(bytes) => Ok(bytes),
-        Err(error) => Err(file_fault(rt, name, &error)),
-    }
-}
-
-/// The two tables of a network.
-pub fn read_tables(rt: &HostRuntime, files: NetworkFiles<'_>) -> Result<Tables, Fault> {
-    let nodes = read_file(rt, files.nodes)?;
-    let pdos = read_file(rt, files.pdos)?;
-    Ok(Tables { nodes, pdos })
-}
-
-/// The name of a file in the folder of another.
-pub fn beside(alloc: Global, named: &str, name: &str) -> Result<String, AllocError> {
-    match named.rsplit_once('/') {
-        Some((folder, _)) => format!(in alloc; "{folder}/{name}"),
-        None => String::from_str(alloc, name),
-    }
-}
-
-/// The EDS files that devices name, which lie in the folder of their table. Each is read once.
-fn read_each(
-    rt: &HostRuntime,
-    named: &str,
-    nodes: &NodeTable,
-) -> Result<Vec<(String, Vec<u8>)>, Fault> {
-    let mut known = BTreeSet::new(rt.alloc());
-    let mut files = Vec::new(rt.alloc());
-    for device in nodes.devices() {
-        let Ok(name) = str::from_utf8(device.eds.as_bytes()) else {
-            continue;
-        };
-        if known.insert(name)? {
-            let bytes = read_file(rt, &beside(rt.alloc(), named, name)?)?;
-            files.push((String::from_str(rt.alloc(), name)?, bytes))?;
-        }
-    }
-    Ok(files)
-}
-
-/// The EDS files of the devices of a network.
-pub fn read_eds_files(
-    rt: &HostRuntime,
-    files: NetworkFiles<'_>,
-    tables: &Tables,
-) -> Result<Vec<(String, Vec<u8>)>, Fault> {
-    let nodes = read_nodes(rt.alloc(), &tables.nodes)?;
-    read_each(rt, files.nodes, &nodes)
-}
+use crate::failures::{Failure, Use, file_failure};
+use cop_engine::{Files, Outlet};
+use std::fs;
+use std::io::{self, ErrorKind, Write};
 
 /// Writes bytes to standard output.
-pub fn print(rt: &HostRuntime, bytes: &[u8]) -> Result<(), Fault> {
+pub fn print(rt: &HostRuntime, bytes: &[u8]) -> Result<(), Failure> {
     match rt.stdout().write_all(bytes) {
         Ok(()) => Ok(()),
-        Err(error) => Err(file_fault(rt, "-", &error)),
+        Err(error) => Err(file_failure(rt, "-", Use::Write, &error)),
     }
 }
 
@@ -118,24 +28,55 @@ fn write_and_rename(rt: &HostRuntime, part: &str, path: &str, bytes: &[u8]) -> i
     fs::rename(rt, part, path)
 }
 
-/// Writes a file, whole or not at all.
-pub fn write_file(rt: &HostRuntime, path: &str, bytes: &[u8]) -> Result<(), Fault> {
-    match write_whole(rt, path, bytes) {
-        Ok(()) => Ok(()),
-        Err(error) => Err(file_fault(rt, path, &error)),
+/// The regular file to which a link leads, or that there is none.
+fn linked(rt: &HostRuntime, path: &str) -> io::Result<Option<String>> {
+    match fs::metadata(rt, path) {
+        Ok(found) if found.is_file() => Ok(Some(fs::canonicalize(rt, path)?.into_string())),
+        Ok(_) => Ok(None),
+        Err(error) if error.kind() == ErrorKind::NotFound => Ok(None),
+        Err(error) => Err(error),
     }
 }
 
-/// A folder that files are put into, each whole or not at all, and the fault at which that failed.
+/// The regular file that a path names or will name, through a link too; none where a device, a pipe, a folder or a link that
+/// leads to no file has the name.
+fn regular(rt: &HostRuntime, path: &str) -> io::Result<Option<String>> {
+    match fs::symlink_metadata(rt, path) {
+        Ok(found) if found.is_symlink() => linked(rt, path),
+        Ok(found) if !found.is_file() => Ok(None),
+        Ok(_) => Ok(Some(String::from_str(rt.alloc(), path)?)),
+        Err(error) if error.kind() == ErrorKind::NotFound => {
+            Ok(Some(String::from_str(rt.alloc(), path)?))
+        }
+        Err(error) => Err(error),
+    }
+}
+
+fn write_to(rt: &HostRuntime, path: &str, bytes: &[u8]) -> io::Result<()> {
+    match regular(rt, path)? {
+        Some(file) => write_whole(rt, &file, bytes),
+        None => fs::write(rt, path, bytes),
+    }
+}
+
+/// Writes a regular file, whole or not at all. What a device or a pipe takes is written into it.
+pub fn write_file(rt: &HostRuntime, path: &str, bytes: &[u8]) -> Result<(), Failure> {
+    match write_to(rt, path, bytes) {
+        Ok(()) => Ok(()),
+        Err(error) => Err(file_failure(rt, path, Use::Write, &error)),
+    }
+}
+
+/// A folder that files are put into, each whole or not at all, and the failure of the first that was not.
 #[derive(Drop)]
 pub struct Folder<'a> {
     pub rt: &'a HostRuntime,
     pub path: &'a str,
-    pub fault: Option<Fault>,
+    pub failure: Option<Failure>,
 }
 
 impl Folder<'_> {
-    fn write(&self, name: &str, bytes: &[u8]) -> Result<(), Fault> {
+    fn write(&self, name: &str, bytes: &[u8]) -> Result<(), Failure> {
         let folder = self.path;
         let path = format!(in self.rt.alloc(); "{folder}/{name}")?;
         write_file(self.rt, &path, bytes)
@@ -147,19 +88,49 @@ impl Outlet for Folder<'_> {
 
     ghost puts = { λ _ _ _. Unit {0} };
 
-    ghost has_failed = { λ f. is_some f.fault };
+    ghost has_failed = { λ f. is_some f.failure };
 
     fn put(&mut self, name: &str, bytes: &[u8]) -> bool {
         match self.write(name, bytes) {
             Ok(()) => true,
-            Err(fault) => {
-                self.fault = Some(fault);
+            Err(failure) => {
+                self.failure = Some(failure);
                 false
             }
         }
     }
 
     fn failed(&self) -> bool {
-        self.fault.is_some()
+        self.failure.is_some()
     }
+}
+
+/// Removes a regular file or a link, where one has the name.
+fn remove(rt: &HostRuntime, path: &str) -> io::Result<()> {
+    match fs::symlink_metadata(rt, path) {
+        Ok(found) if found.is_file() || found.is_symlink() => fs::remove_file(rt, path),
+        Ok(_) => Ok(()),
+        Err(error) if error.kind() == ErrorKind::NotFound => Ok(()),
+        Err(error) => Err(error),
+    }
+}
+
+/// Whether a plan has a DCF file of this name.
+fn has_dcf(files: &Files, name: &str) -> bool {
+    files.dcf.as_slice().iter().any(|file| file.name() == name)
+}
+
+/// Removes from the folder of a plan the DCF files of the nodes that it has none for, which are of an earlier plan.
+pub fn remove_earlier(rt: &HostRuntime, folder: &str, files: &Files) -> Result<(), Failure> {
+    for node in 1..128u8 {
+        let name = format!(in rt.alloc(); "node-{node:03}.dcf")?;
+        if has_dcf(files, &name) {
+            continue;
+        }
+        let path = format!(in rt.alloc(); "{folder}/{name}")?;
+        if let Err(error) = remove(rt, &path) {
+            return Err(file_failure(rt, &path, Use::Remove, &error));
+        }
+    }
+    Ok(())
 }

@@ -1,15 +1,34 @@
 //! The judgement of a trace.
 
-use crate::files::{print, read_eds_files, read_file, read_tables};
+use crate::failures::Failure;
+use crate::files::print;
+use crate::inputs::{Inputs, read_file};
 use crate::orders::NetworkFiles;
-use cop_engine::{Fault, judge_bytes, text_status};
+use cop_engine::{judge_bytes, text_status};
 
-/// The judgement of a trace by the plan of a network.
-pub fn judge(rt: &HostRuntime, network: NetworkFiles<'_>, trace: &str) -> Result<u8, Fault> {
-    let tables = read_tables(rt, network)?;
-    let trace = read_file(rt, trace)?;
-    let eds_files = read_eds_files(rt, network, &tables)?;
-    let text = judge_bytes(rt.alloc(), &tables.nodes, &tables.pdos, &eds_files, &trace)?;
+/// The judgement of the trace that was read, by the plan of the network that was read.
+pub fn judge_inputs(rt: &HostRuntime, inputs: &Inputs) -> Result<u8, Failure> {
+    let texts = &inputs.network;
+    let text = judge_bytes(
+        rt.alloc(),
+        &texts.nodes,
+        &texts.pdos,
+        &texts.eds_files,
+        &inputs.other,
+    )?;
     print(rt, &text)?;
     Ok(text_status(&text))
+}
+
+/// The judgement of a trace by the plan of a network.
+pub fn judge(
+    rt: &HostRuntime,
+    network: NetworkFiles<'_>,
+    trace: &str,
+    inputs: &mut Inputs,
+) -> Result<u8, Failure> {
+    inputs.network.read_tables(rt, network)?;
+    inputs.other = read_file(rt, trace)?;
+    inputs.network.read_eds_files(rt, network)?;
+    judge_inputs(rt, inputs)
 }

@@ -3,8 +3,10 @@
 ghost use Rattle.std.specs.Prelude.{length};
 ghost use Rattle.cop_plan.specs.Plans.{IsOutcome};
 
-use crate::files::{Tables, beside, read_eds_files, read_file, read_tables, write_file};
-use crate::judging::judge;
+use crate::failures::Failure;
+use crate::files::write_file;
+use crate::inputs::{Inputs, beside, read_file};
+use crate::judging::judge_inputs;
 use crate::orders::NetworkFiles;
 use cop_engine::{Fault, plan_status};
 use cop_figures::{Timeline, figures_of, timeline_of};
@@ -14,13 +16,12 @@ use cop_report::{Input, Report, page_of};
 use std::alloc::AllocError;
 
 /// The files that a page is made of.
-#[derive(Drop)]
+#[derive(Clone, Copy)]
 struct Sources<'a> {
     network: NetworkFiles<'a>,
-    tables: Tables,
-    /// The name of the trace that is shown, and its bytes.
-    trace: Option<(&'a str, Vec<u8>)>,
-    eds_files: Vec<(String, Vec<u8>)>,
+    /// The name of the trace that is shown.
+    trace: Option<&'a str>,
+    inputs: &'a Inputs,
 }
 
 /// A page. It is not to be written where the trace has a late PDO.
@@ -31,21 +32,10 @@ struct Page {
     is_late: bool,
 }
 
-/// The trace that is shown.
-fn trace_file<'a>(
-    rt: &HostRuntime,
-    name: Option<&'a str>,
-) -> Result<Option<(&'a str, Vec<u8>)>, Fault> {
-    match name {
-        Some(name) => Ok(Some((name, read_file(rt, name)?))),
-        None => Ok(None),
-    }
-}
-
 /// The EDS files as they are shown, with the names by which they were opened.
-fn opened(rt: &HostRuntime, sources: &Sources<'_>) -> Result<Vec<(String, usize)>, AllocError> {
+fn opened(rt: &HostRuntime, sources: Sources<'_>) -> Result<Vec<(String, usize)>, AllocError> {
     let mut names = Vec::new(rt.alloc());
-    for (name, text) in &sources.eds_files {
+    for (name, text) in &sources.inputs.network.eds_files {
         names.push((beside(rt.alloc(), sources.network.nodes, name)?, text.len()))?;
     }
     Ok(names)
@@ -54,22 +44,22 @@ fn opened(rt: &HostRuntime, sources: &Sources<'_>) -> Result<Vec<(String, usize)
 /// The files that were read.
 fn inputs<'a>(
     rt: &HostRuntime,
-    sources: &'a Sources<'_>,
+    sources: Sources<'a>,
     eds_files: &'a [(String, usize)],
 ) -> Result<Vec<Input<'a>>, AllocError> {
     let mut inputs = Vec::new(rt.alloc());
     inputs.push(Input {
         name: sources.network.nodes,
-        size: sources.tables.nodes.len(),
+        size: sources.inputs.network.nodes.len(),
     })?;
     inputs.push(Input {
         name: sources.network.pdos,
-        size: sources.tables.pdos.len(),
+        size: sources.inputs.network.pdos.len(),
     })?;
-    if let Some((name, bytes)) = &sources.trace {
+    if let Some(name) = sources.trace {
         inputs.push(Input {
             name,
-            size: bytes.len(),
+            size: sources.inputs.other.len(),
         })?;
     }
     for (name, size) in eds_files {
@@ -81,23 +71,23 @@ fn inputs<'a>(
 /// What the trace tells of the bus. Where no rate passes it is not looked at.
 fn timeline(
     rt: &HostRuntime,
+    sources: Sources<'_>,
     outcome: &Outcome,
-    trace: &Option<(&str, Vec<u8>)>,
 ) -> Result<Option<Timeline>, Fault> {
     let Outcome::Planned(plan) = outcome else {
         return Ok(None);
     };
-    let Some((_, bytes)) = trace else {
+    if sources.trace.is_none() {
         return Ok(None);
-    };
-    let timeline = timeline_of(rt.alloc(), plan, bytes)?;
+    }
+    let timeline = timeline_of(rt.alloc(), plan, &sources.inputs.other)?;
     Ok(Some(timeline))
 }
 
 /// The text of a page.
 fn page_text(
     rt: &HostRuntime,
-    sources: &Sources<'_>,
+    sources: Sources<'_>,
     network: &Network<'_>,
     outcome: &Outcome,
     timeline: Option<&Timeline>,
@@ -120,13 +110,13 @@ fn page_text(
 /// The page of what the planner answers for a network.
 fn outcome_page(
     rt: &HostRuntime,
-    sources: &Sources<'_>,
+    sources: Sources<'_>,
     network: &Network<'_>,
     outcome: &Outcome,
 ) -> Result<Page, Fault>
     requires { IsOutcome network.now.equipment.rates network.now.set (length network.now.rows) outcome.now }
 {
-    let timeline = timeline(rt, outcome, &sources.trace)?;
+    let timeline = timeline(rt, sources, outcome)?;
     let text = page_text(rt, sources, network, outcome, timeline.as_ref())?;
     Ok(Page {
         text,
@@ -138,7 +128,7 @@ fn outcome_page(
 /// The page of a network.
 fn network_page(
     rt: &HostRuntime,
-    sources: &Sources<'_>,
+    sources: Sources<'_>,
     network: &Network<'_>,
 ) -> Result<Page, Fault> {
     let outcome = plan(rt.alloc(), network)?;
@@ -146,36 +136,41 @@ fn network_page(
 }
 
 /// The page of the network that the files make.
-fn sources_page(rt: &HostRuntime, sources: &Sources<'_>) -> Result<Page, Fault> {
-    let nodes = read_nodes(rt.alloc(), &sources.tables.nodes)?;
-    let pdos = read_pdos(rt.alloc(), &sources.tables.pdos)?;
-    let network = network(rt.alloc(), &nodes, &pdos, &sources.eds_files)?;
+fn sources_page(rt: &HostRuntime, sources: Sources<'_>) -> Result<Page, Fault> {
+    let texts = &sources.inputs.network;
+    let nodes = read_nodes(rt.alloc(), &texts.nodes)?;
+    let pdos = read_pdos(rt.alloc(), &texts.pdos)?;
+    let network = network(rt.alloc(), &nodes, &pdos, &texts.eds_files)?;
     network_page(rt, sources, &network)
 }
 
-/// The page that shows the plan of a network, and the bus over time where there is a trace: it is written into a file. A
-/// trace that does not keep to the plan ends as its judgement does, and nothing is written.
+/// Writes the page of what was read. A trace that does not keep to the plan ends as its judgement does, and nothing is written.
+fn write_page(rt: &HostRuntime, sources: Sources<'_>, out: &str) -> Result<u8, Failure> {
+    let page = sources_page(rt, sources)?;
+    if page.is_late {
+        return judge_inputs(rt, sources.inputs);
+    }
+    write_file(rt, out, page.text.as_bytes())?;
+    Ok(plan_status(page.planned))
+}
+
+/// The page that shows the plan of a network, and the bus over time where there is a trace: it is written into a file.
 pub fn write_report(
     rt: &HostRuntime,
     network: NetworkFiles<'_>,
     trace: Option<&str>,
     out: &str,
-) -> Result<u8, Fault> {
-    let tables = read_tables(rt, network)?;
-    let trace_file = trace_file(rt, trace)?;
-    let eds_files = read_eds_files(rt, network, &tables)?;
+    inputs: &mut Inputs,
+) -> Result<u8, Failure> {
+    inputs.network.read_tables(rt, network)?;
+    if let Some(name) = trace {
+        inputs.other = read_file(rt, name)?;
+    }
+    inputs.network.read_eds_files(rt, network)?;
     let sources = Sources {
         network,
-        tables,
-        trace: trace_file,
-        eds_files,
+        trace,
+        inputs,
     };
-    let page = sources_page(rt, &sources)?;
-    if let Some(name) = trace {
-        if page.is_late {
-            return judge(rt, network, name);
-        }
-    }
-    write_file(rt, out, page.text.as_bytes())?;
-    Ok(plan_status(page.planned))
+    write_page(rt, sources, out)
 }

@@ -23,13 +23,14 @@ use Rattle.cop_rows.specs.declared.pdo_table.PdoRow.{PdoRow}
 use Rattle.cop_net.specs.declared.devices.Device.{Device}
 use Rattle.cop_net.specs.declared.faults.Refusal.{Refusal}
 use Rattle.cop_net.specs.declared.faults.Rule.{Rule}
+use Rattle.cop_net.specs.declared.faults.ReceiveFault.TheVariants as receiving
 use Rattle.cop_net.specs.declared.faults.Rule.TheVariants as rules
 use Rattle.cop_net.specs.declared.uses.Used.{Used}
 use Rattle.cop_net.specs.Devices.{File, Equipment, no_device, devices_of}
 use Rattle.cop_net.specs.Faults.{at_node}
 use Rattle.cop_net.specs.Heartbeats.{heartbeat_of}
-use Rattle.cop_net.specs.Network.{Net, IsNetwork, accepted, has_stray, settable, all_settable, streams_of, network_of}
-use Rattle.cop_net.specs.Pdos.{Traffic, laid_out, unless, transmitted_by, received_by, sent_by, taken_by, consumer_added, pdo_added, no_traffic, pdos_of}
+use Rattle.cop_net.specs.Network.{Net, IsNetwork, accepted, has_stray, first_stray, settable, all_settable, streams_of, network_of}
+use Rattle.cop_net.specs.Pdos.{Traffic, tpdo_of, rpdo_of, unsent, unread, laid_out, unless, transmitted_by, received_by, sent_by, taken_by, consumer_added, pdo_added, no_traffic, pdos_of}
 use Rattle.cop_net.specs.declared.pdos.Sent.{Sent}
 use Rattle.cop_net.specs.declared.signals.Signals.{Signals}
 use Rattle.cop_net.specs.Signals.{signals_of, ranges_where, ranges_of, IsPdoId}
@@ -68,18 +69,18 @@ transmitted_usable : (devices : List (Option Device)) (signals : Signals) (node 
     → transmitted_by signals place row o ≡ Ok sent → IsUsableAt devices node (communication_of directions.Transmit row.tpdo)
 transmitted_usable devices signals node place row None sent there h = cc
 transmitted_usable devices signals node place row (Some d) sent there h =
-    let p = bind_ok (laid_out rules.Transmit place directions.Transmit (payload_of d.dictionary directions.Transmit row.tpdo)) _ sent h in
-    let q = bind_ok (unless rules.CobId place (is_usable d.dictionary (communication_of directions.Transmit row.tpdo) (ranges_of signals)) p.0) _ sent p.2 in
-    record { own = d; there = there; second = signals.is_second_open; usable = unless_ok rules.CobId place (is_usable d.dictionary (communication_of directions.Transmit row.tpdo) (ranges_of signals)) p.0 q.0 q.1 }
+    let p = bind_ok (laid_out unsent place directions.Transmit (payload_of d.dictionary directions.Transmit row.tpdo)) _ sent h in
+    let q = bind_ok (unless (rules.CobId (tpdo_of row)) place (is_usable d.dictionary (communication_of directions.Transmit row.tpdo) (ranges_of signals)) p.0) _ sent p.2 in
+    record { own = d; there = there; second = signals.is_second_open; usable = unless_ok (rules.CobId (tpdo_of row)) place (is_usable d.dictionary (communication_of directions.Transmit row.tpdo) (ranges_of signals)) p.0 q.0 q.1 }
 
-received_usable : (devices : List (Option Device)) (signals : Signals) (node place rpdo : ℕ) (is_taken : Bool) (sent layout : Layout) (o : Option Device) → get_or devices node None ≡ o → received_by signals place rpdo is_taken sent o ≡ Ok layout
-    → IsUsableAt devices node (communication_of directions.Receive rpdo)
-received_usable devices signals node place rpdo is_taken sent layout None there h = cc
-received_usable devices signals node place rpdo is_taken sent layout (Some d) there h =
-    let p = bind_ok (laid_out rules.Receive place directions.Receive (payload_of d.dictionary directions.Receive rpdo)) _ layout h in
-    let q = bind_ok (unless (rules.Receive None) place (not is_taken) p.0) _ layout p.2 in
-    let r = bind_ok (unless (rules.Receive None) place (is_same_layout sent q.0) q.0) _ layout q.2 in
-    record { own = d; there = there; second = signals.is_second_open; usable = unless_ok rules.CobId place (is_usable d.dictionary (communication_of directions.Receive rpdo) (ranges_of signals)) r.0 layout r.2 }
+received_usable : (devices : List (Option Device)) (signals : Signals) (place : ℕ) (consumer : Consumer) (is_taken : Bool) (sent layout : Layout) (o : Option Device) → get_or devices consumer.node None ≡ o → received_by signals place consumer is_taken sent o ≡ Ok layout
+    → IsUsableAt devices consumer.node (communication_of directions.Receive consumer.rpdo)
+received_usable devices signals place consumer is_taken sent layout None there h = cc
+received_usable devices signals place consumer is_taken sent layout (Some d) there h =
+    let p = bind_ok (laid_out (unread consumer) place directions.Receive (payload_of d.dictionary directions.Receive consumer.rpdo)) _ layout h in
+    let q = bind_ok (unless (rules.Receive consumer receiving.Taken) place (not is_taken) p.0) _ layout p.2 in
+    let r = bind_ok (unless (rules.Receive consumer receiving.OtherLayout) place (is_same_layout sent q.0) q.0) _ layout q.2 in
+    record { own = d; there = there; second = signals.is_second_open; usable = unless_ok (rules.CobId (rpdo_of consumer)) place (is_usable d.dictionary (communication_of directions.Receive consumer.rpdo) (ranges_of signals)) r.0 layout r.2 }
 
 -- ---- each record that the tables use
 
@@ -93,9 +94,9 @@ consumer_usable : (devices : List (Option Device)) (signals : Signals) (place : 
     → IsUsed devices (taken_by consumer) × (used ++ taken_by consumer ∷ [] ≡ more)
 consumer_usable devices signals place sent used more consumer h =
     let taken : Bool = is_used used consumer.node (communication_of directions.Receive consumer.rpdo) in
-    let p = bind_ok (received_by signals place consumer.rpdo taken sent (get_or devices consumer.node None)) _ more h in
+    let p = bind_ok (received_by signals place consumer taken sent (get_or devices consumer.node None)) _ more h in
     let made : ◌≡◌ {A = Result (List Used) Refusal} (Ok (used ++ taken_by consumer ∷ [])) (Ok more) = p.2 in
-    (received_usable devices signals consumer.node place consumer.rpdo taken sent p.0 (get_or devices consumer.node None) refl p.1, cc)
+    (received_usable devices signals place consumer taken sent p.0 (get_or devices consumer.node None) refl p.1, cc)
 
 consumers_usable : (devices : List (Option Device)) (signals : Signals) (place : ℕ) (sent : Layout) (used more : List Used) (consumers : List Consumer)
     → folded (consumer_added devices signals place sent) used consumers ≡ Ok more → AreUsable devices used → AreUsable devices more × AreUsable devices (map taken_by consumers)
@@ -197,7 +198,7 @@ stray_at frames used first zero (x ∷ xs) own h e =
     unit : (u : Unit {0}) → u ≡ tt
     unit u = refl
 
-    by_test : (b c : Bool) → ◌≡◌ {A = Result (Unit {0}) Refusal} (cond (not b) (at_node rules.Heartbeat own.place) (cond c (at_node rules.StaysOn own.place) (Ok tt))) (Ok tt) → c ≡ false
+    by_test : (b c : Bool) → ◌≡◌ {A = Result (Unit {0}) Refusal} (cond (not b) (at_node rules.Heartbeat own.place) (cond c (at_node (rules.StaysOn (first_stray used first own.dictionary)) own.place) (Ok tt))) (Ok tt) → c ≡ false
     by_test true true k = cc
     by_test true false k = refl
     by_test false c k = cc

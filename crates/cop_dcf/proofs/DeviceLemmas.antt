@@ -29,7 +29,7 @@ use Rattle.cop_net.specs.Pdos.{pdos_of}
 use Rattle.cop_net.specs.Signals.{signals_of}
 use Rattle.cop_net.specs.Settings.{beats}
 use Rattle.cop_net.specs.Steps.{folded}
-use Rattle.cop_net.specs.Network.{Net, Accepted, accepted, has_stray, settable, all_settable, streams_of, network_of}
+use Rattle.cop_net.specs.Network.{Net, Accepted, accepted, has_stray, first_stray, settable, all_settable, streams_of, network_of}
 use Rattle.cop_net.proofs.FixedLemmas.{found_all}
 use Rattle.cop_net.proofs.NetworkLemmas.{timed}
 use Rattle.cop_rows.proofs.RangeLemmas.{bind_ok}
@@ -158,7 +158,7 @@ settable_at frames used first zero (x ∷ xs) device h e =
     unit : (u : Unit {0}) → u ≡ tt
     unit u = refl
 
-    by_test : (b : Bool) → ◌≡◌ {A = Result (Unit {0}) Refusal} (cond (not b) (at_node rules.Heartbeat device.place) (cond (has_stray used first device.dictionary) (at_node rules.StaysOn device.place) (Ok tt))) (Ok tt) → b ≡ true
+    by_test : (b : Bool) → ◌≡◌ {A = Result (Unit {0}) Refusal} (cond (not b) (at_node rules.Heartbeat device.place) (cond (has_stray used first device.dictionary) (at_node (rules.StaysOn (first_stray used first device.dictionary)) device.place) (Ok tt))) (Ok tt) → b ≡ true
     by_test true k = refl
     by_test false k = cc
 settable_at frames used first (suc k) (x ∷ xs) device h e =

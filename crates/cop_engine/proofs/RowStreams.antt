@@ -20,7 +20,7 @@ use Rattle.cop_net.specs.Devices.{File, Equipment, devices_of}
 use Rattle.cop_net.specs.Rates.{is_some_rate}
 use Rattle.cop_net.specs.Settings.{is_usable}
 use Rattle.cop_net.specs.Fixed.{ticks, fixed_streams}
-use Rattle.cop_net.specs.Pdos.{Traffic, laid_out, unless, or_rule, every_at, sync_fault, pace_fault, unless_fault, period_of, transmitted_by, consumer_added, sent_by, pdo_stream, pdo_added, no_traffic, pdos_of}
+use Rattle.cop_net.specs.Pdos.{Traffic, tpdo_of, unsent, laid_out, unless, or_rule, every_at, sync_fault, pace_fault, unless_fault, period_of, transmitted_by, consumer_added, sent_by, pdo_stream, pdo_added, no_traffic, pdos_of}
 use Rattle.cop_net.specs.Signals.{ranges_of, signals_of}
 use Rattle.cop_net.specs.Steps.{folded}
 use Rattle.cop_net.specs.Network.{Accepted, Net, IsNetwork, accepted, all_settable, with_rate, streams_of, network_of}
@@ -53,8 +53,8 @@ as_sent : (signals : Signals) (place : ℕ) (row : PdoRow) (device : Option Devi
 as_sent signals place row None sent h = cc
 as_sent signals place row (Some device) sent h =
     let index = (sent_by row).index in
-    let p = bind_ok (laid_out rules.Transmit place directions.Transmit (payload_of device.dictionary directions.Transmit row.tpdo)) _ sent h in
-    let q = bind_ok (unless rules.CobId place (is_usable device.dictionary index (ranges_of signals)) p.0) _ sent p.2 in
+    let p = bind_ok (laid_out unsent place directions.Transmit (payload_of device.dictionary directions.Transmit row.tpdo)) _ sent h in
+    let q = bind_ok (unless (rules.CobId (tpdo_of row)) place (is_usable device.dictionary index (ranges_of signals)) p.0) _ sent p.2 in
     let r = bind_ok (or_rule rules.Transmission place (every_at device.dictionary index)) _ sent q.2 in
     let n = no_fault place (pace_fault signals.sync row r.0) (record { mapping = q.0; every = r.0 }) sent r.2 in
     let every : r.0 ≡ sent.every = ap (λ (s : Sent). s.every) n.1 in

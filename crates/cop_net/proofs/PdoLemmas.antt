@@ -22,7 +22,7 @@ use Rattle.cop_net.specs.Steps.{folded}
 use Rattle.cop_net.specs.Fixed.{ticks}
 use Rattle.cop_net.specs.Settings.{is_usable}
 use Rattle.cop_net.specs.Signals.{ranges_of}
-use Rattle.cop_net.specs.Pdos.{Traffic, laid_out, unless, or_rule, every_at, sync_fault, pace_fault, unless_fault, period_of, IsPaced, transmitted_by, consumer_added, sent_by, pdo_stream, ArePdos, IsPdoAt, pdo_added, no_traffic, pdos_of}
+use Rattle.cop_net.specs.Pdos.{Traffic, tpdo_of, unsent, laid_out, unless, or_rule, every_at, sync_fault, pace_fault, unless_fault, period_of, IsPaced, transmitted_by, consumer_added, sent_by, pdo_stream, ArePdos, IsPdoAt, pdo_added, no_traffic, pdos_of}
 
 pub starts : (devices : List (Option Device)) (signals : Signals) (rows : List PdoRow) (found : Traffic) → found.streams ≡ [] → found.used ≡ [] → folded (pdo_added devices signals) found rows ≡ pdos_of devices signals rows
 unfolding pdos_of
@@ -40,8 +40,8 @@ in_pace : (signals : Signals) (place : ℕ) (row : PdoRow) (device : Option Devi
 in_pace signals place row None sent h = cc
 in_pace signals place row (Some device) sent h =
     let index = communication_of directions.Transmit row.tpdo in
-    let p = bind_ok (laid_out rules.Transmit place directions.Transmit (payload_of device.dictionary directions.Transmit row.tpdo)) _ sent h in
-    let q = bind_ok (unless rules.CobId place (is_usable device.dictionary index (ranges_of signals)) p.0) _ sent p.2 in
+    let p = bind_ok (laid_out unsent place directions.Transmit (payload_of device.dictionary directions.Transmit row.tpdo)) _ sent h in
+    let q = bind_ok (unless (rules.CobId (tpdo_of row)) place (is_usable device.dictionary index (ranges_of signals)) p.0) _ sent p.2 in
     let r = bind_ok (or_rule rules.Transmission place (every_at device.dictionary index)) _ sent q.2 in
     let made : Sent = record { mapping = q.0; every = r.0 } in
     let n = no_fault place (pace_fault signals.sync row r.0) made sent r.2 in

@@ -12,10 +12,10 @@ abbrev pub number_of_rule : Rule → ℕ
 number_of_rule (rules.Record rule) = rows.number_of_rule rule
 number_of_rule (rules.Eds _) = 43
 number_of_rule (rules.Transmit _) = 45
-number_of_rule rules.CobId = 46
+number_of_rule (rules.CobId _) = 46
 number_of_rule rules.Transmission = 47
-number_of_rule (rules.Receive _) = 48
-number_of_rule rules.StaysOn = 50
+number_of_rule (rules.Receive _ _) = 48
+number_of_rule (rules.StaysOn _) = 50
 number_of_rule rules.Heartbeat = 51
 number_of_rule rules.NoRate = 52
 number_of_rule (rules.Synchrony _) = 53

@@ -1,6 +1,7 @@
 -- The network of the tables and the EDS files.
-use Rattle.std.specs.Prelude.{◌≡◌, ◌<◌, ◌≤◌, ◌⊎◌, ℕ, ◌+◌, map, length, slice_get, IsSome, option_and_then, Bool, true, false, not, ◌&&◌, List, [], ◌∷◌, ◌++◌, Option, Some, None, if◌then◌else◌, Result, Ok}
+use Rattle.std.specs.Prelude.{◌≡◌, ◌<◌, ◌≤◌, ◌⊎◌, ℕ, ◌+◌, map, length, find, slice_get, IsSome, option_and_then, Bool, true, false, not, ◌&&◌, List, [], ◌∷◌, ◌++◌, Option, Some, None, if◌then◌else◌, Result, Ok}
 use Rattle.std.specs.List.{list_any}
+use Rattle.std.specs.Option.{option_map_or}
 use Rattle.cop_dict.specs.Find as dictionary
 use Rattle.cop_rows.specs.declared.node_table.FrameRow.{FrameRow}
 use Rattle.cop_rows.specs.declared.pdo_table.PdoRow.{PdoRow}
@@ -30,12 +31,16 @@ use Rattle.cop_net.specs.Uses.{is_used}
 abbrev pub has_stray : List Used → ℕ → List dictionary.Entry → Bool
 has_stray used node dict = list_any (λ entry. stays_on dict entry && not (is_used used node entry.index)) dict
 
+-- the communication record of the first one, by its index
+abbrev pub first_stray : List Used → ℕ → List dictionary.Entry → ℕ
+first_stray used node dict = option_map_or (λ entry. entry.index) (find (λ entry. stays_on dict entry && not (is_used used node entry.index)) dict) 0
+
 -- a device takes what each plan sets: its heartbeat's time, and that unused PDOs are off
 abbrev pub settable : List FrameRow → List Used → ℕ → Option Device → Result (Unit {0}) Refusal
 settable frames used node None = Ok tt
 settable frames used node (Some device) =
     if not (beats device.dictionary (heartbeat_of frames node)) then at_node rules.Heartbeat device.place
-    else if has_stray used node device.dictionary then at_node rules.StaysOn device.place
+    else if has_stray used node device.dictionary then at_node (rules.StaysOn (first_stray used node device.dictionary)) device.place
     else Ok tt
 
 -- the same of all devices, by rising node

@@ -18,6 +18,8 @@ use Rattle.cop_net.specs.declared.faults.Refusal.{Refusal}
 use Rattle.cop_net.specs.declared.faults.Rule.{Rule}
 use Rattle.cop_net.specs.declared.faults.Rule.TheVariants as rules
 use Rattle.cop_net.specs.declared.devices.Device.{Device}
+use Rattle.cop_net.specs.declared.faults.DevicePdo.{DevicePdo}
+use Rattle.cop_net.specs.declared.faults.ReceiveFault.TheVariants as receiving
 use Rattle.cop_net.specs.declared.faults.SyncFault.{SyncFault}
 use Rattle.cop_net.specs.declared.faults.SyncFault.TheVariants as faults
 use Rattle.cop_net.specs.declared.pdos.Sent.{Sent}
@@ -30,10 +32,24 @@ use Rattle.cop_net.specs.declared.signals.Signals.{Signals}
 use Rattle.cop_net.specs.Signals.{ranges_of}
 use Rattle.cop_net.specs.Settings.{is_usable, whole_of}
 
+-- the PDO of a row, and that of a consumer
+abbrev pub tpdo_of : PdoRow → DevicePdo
+tpdo_of row = record { direction = directions.Transmit; node = row.node; number = row.tpdo }
+
+abbrev pub rpdo_of : Consumer → DevicePdo
+rpdo_of consumer = record { direction = directions.Receive; node = consumer.node; number = consumer.rpdo }
+
+-- the mapping of a TPDO, and that of a consumer's RPDO, breaks a rule
+abbrev pub unsent : MappingFault → Rule
+unsent fault = rules.Transmit (Some fault)
+
+abbrev pub unread : Consumer → MappingFault → Rule
+unread consumer fault = rules.Receive consumer (receiving.Mapping fault)
+
 -- the payload of a PDO; a payload that is refused is refused by the rule of its direction
-abbrev pub laid_out : (Option MappingFault → Rule) → ℕ → Direction → Result (List Mapped) MappingFault → Result Layout Refusal
+abbrev pub laid_out : (MappingFault → Rule) → ℕ → Direction → Result (List Mapped) MappingFault → Result Layout Refusal
 laid_out rule place direction (Ok entries) = Ok (record { direction = direction; entries = entries })
-laid_out rule place direction (Err fault) = at_pdo (rule (Some fault)) place
+laid_out rule place direction (Err fault) = at_pdo (rule fault) place
 
 -- a PDO that the tables use keeps this rule
 abbrev pub unless : {A : Type 0} → Rule → ℕ → Bool → A → Result A Refusal
@@ -90,8 +106,8 @@ pub record IsSync (row : FrameRow) : Type 0 where
 -- the TPDO of a device
 abbrev pub transmitted : Signals → ℕ → PdoRow → List dictionary.Entry → Result Sent Refusal
 transmitted signals place row dict = do
-  layout ← laid_out rules.Transmit place directions.Transmit (payload_of dict directions.Transmit row.tpdo)
-  layout ← unless rules.CobId place (is_usable dict (communication_of directions.Transmit row.tpdo) (ranges_of signals)) layout
+  layout ← laid_out unsent place directions.Transmit (payload_of dict directions.Transmit row.tpdo)
+  layout ← unless (rules.CobId (tpdo_of row)) place (is_usable dict (communication_of directions.Transmit row.tpdo) (ranges_of signals)) layout
   every ← or_rule rules.Transmission place (every_at dict (communication_of directions.Transmit row.tpdo))
   unless_fault place (pace_fault signals.sync row every) (record { mapping = layout; every = every })
 
@@ -99,17 +115,17 @@ abbrev pub transmitted_by : Signals → ℕ → PdoRow → Option Device → Res
 transmitted_by signals place row None = at_pdo (rules.Transmit None) place
 transmitted_by signals place row (Some device) = transmitted signals place row device.dictionary
 
--- the RPDO of a device takes what is sent: nobody else has it, and its layout is the same
-abbrev pub received : Signals → ℕ → ℕ → Bool → Layout → List dictionary.Entry → Result Layout Refusal
-received signals place rpdo is_taken sent dict = do
-  layout ← laid_out rules.Receive place directions.Receive (payload_of dict directions.Receive rpdo)
-  layout ← unless (rules.Receive None) place (not is_taken) layout
-  layout ← unless (rules.Receive None) place (is_same_layout sent layout) layout
-  unless rules.CobId place (is_usable dict (communication_of directions.Receive rpdo) (ranges_of signals)) layout
+-- the RPDO of a consumer takes what is sent: nobody else has it, and its layout is the same
+abbrev pub received : Signals → ℕ → Consumer → Bool → Layout → List dictionary.Entry → Result Layout Refusal
+received signals place consumer is_taken sent dict = do
+  layout ← laid_out (unread consumer) place directions.Receive (payload_of dict directions.Receive consumer.rpdo)
+  layout ← unless (rules.Receive consumer receiving.Taken) place (not is_taken) layout
+  layout ← unless (rules.Receive consumer receiving.OtherLayout) place (is_same_layout sent layout) layout
+  unless (rules.CobId (rpdo_of consumer)) place (is_usable dict (communication_of directions.Receive consumer.rpdo) (ranges_of signals)) layout
 
-abbrev pub received_by : Signals → ℕ → ℕ → Bool → Layout → Option Device → Result Layout Refusal
-received_by signals place rpdo is_taken sent None = at_pdo (rules.Receive None) place
-received_by signals place rpdo is_taken sent (Some device) = received signals place rpdo is_taken sent device.dictionary
+abbrev pub received_by : Signals → ℕ → Consumer → Bool → Layout → Option Device → Result Layout Refusal
+received_by signals place consumer is_taken sent None = at_pdo (rules.Receive consumer receiving.NoDevice) place
+received_by signals place consumer is_taken sent (Some device) = received signals place consumer is_taken sent device.dictionary
 
 -- the records of a PDO
 abbrev pub sent_by : PdoRow → Used
@@ -121,7 +137,7 @@ taken_by consumer = record { node = consumer.node; index = communication_of dire
 -- one consumer more
 abbrev pub consumer_added : List (Option Device) → Signals → ℕ → Layout → List Used → Consumer → Result (List Used) Refusal
 consumer_added devices signals place sent used consumer = do
-  _ ← received_by signals place consumer.rpdo (is_used used consumer.node (communication_of directions.Receive consumer.rpdo)) sent (get_or devices consumer.node None)
+  _ ← received_by signals place consumer (is_used used consumer.node (communication_of directions.Receive consumer.rpdo)) sent (get_or devices consumer.node None)
   Ok (used ++ taken_by consumer ∷ [])
 
 -- the streams of the PDOs, and the records that they use

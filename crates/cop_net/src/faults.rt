@@ -4,7 +4,8 @@ ghost use Rattle.std.specs.Prelude.{◌≡◌};
 ghost use Rattle.cop_net.specs.declared.faults.PlanFault.TheVariants.{Memory};
 ghost use Rattle.cop_net.specs.Faults.{number_of_rule};
 
-use cop_dict::MappingFault;
+use cop_dict::{Direction, MappingFault};
+use cop_rows::Consumer;
 use std::alloc::{AllocError, AllocFailed};
 use thiserror::Error;
 
@@ -30,6 +31,27 @@ pub enum SyncFault {
     TooLate,
 }
 
+/// A PDO of a device: its direction, its node, and its number from 1 to 512.
+#[derive(Clone, Copy, PartialEq, Eq, Debug)]
+pub struct DevicePdo {
+    pub direction: Direction,
+    pub node: u8,
+    pub number: u16,
+}
+
+/// Why an RPDO does not take what a TPDO sends.
+#[derive(Clone, Copy, PartialEq, Eq, Debug)]
+pub enum ReceiveFault {
+    /// Its node has no device row.
+    NoDevice,
+    /// Its mapping breaks this rule.
+    Mapping(MappingFault),
+    /// It takes a PDO already: of an earlier row, or it stands earlier in this one.
+    Taken,
+    /// Its layout is another than the TPDO's.
+    OtherLayout,
+}
+
 /// The rule that a network breaks.
 #[derive(Clone, Copy, PartialEq, Eq, Debug)]
 pub enum Rule {
@@ -39,17 +61,16 @@ pub enum Rule {
     Eds(Option<cop_eds::Refusal>),
     /// The TPDO has no payload: its mapping breaks this rule, or the node has no device row.
     Transmit(Option<MappingFault>),
-    /// The COB-ID of a PDO can't be given each identifier.
-    CobId,
+    /// The COB-ID of this PDO can't be given each identifier.
+    CobId(DevicePdo),
     /// The transmission type of the TPDO is absent, or none of 1 to 240, 254 and 255.
     Transmission,
     /// The row of the TPDO and SYNC do not go with its transmission type.
     Synchrony(SyncFault),
-    /// The RPDO has no payload: its mapping breaks this rule, or the node has no device row; or it is used twice, or has
-    /// another layout than the TPDO.
-    Receive(Option<MappingFault>),
-    /// A PDO that nobody uses exists and can't be switched off.
-    StaysOn,
+    /// The RPDO of this consumer does not take what the TPDO sends.
+    Receive(Consumer, ReceiveFault),
+    /// A PDO that nobody uses exists and can't be switched off: the index of the first such communication record.
+    StaysOn(u16),
     /// The time of the heartbeat can't be set.
     Heartbeat,
     /// No rate is supported by all devices.
@@ -65,11 +86,11 @@ impl Rule {
             Rule::Record(rule) => rule.number(),
             Rule::Eds(_) => 43,
             Rule::Transmit(_) => 45,
-            Rule::CobId => 46,
+            Rule::CobId(_) => 46,
             Rule::Transmission => 47,
             Rule::Synchrony(_) => 53,
-            Rule::Receive(_) => 48,
-            Rule::StaysOn => 50,
+            Rule::Receive(_, _) => 48,
+            Rule::StaysOn(_) => 50,
             Rule::Heartbeat => 51,
             Rule::NoRate => 52,
         }

@@ -22,7 +22,7 @@ pub use cop_rows::{
     Consumer, Consumers, DeviceRow, FrameKind, FrameRow, Name, NodeTable, PdoRow, PdoTable,
 };
 pub use eds_files::EdsFiles;
-pub use faults::{PlanFault, Refusal, Rule, SyncFault, Table};
+pub use faults::{DevicePdo, PlanFault, ReceiveFault, Refusal, Rule, SyncFault, Table};
 pub use making::{network, network_of_files};
 pub use networks::Network;
 pub use tables::{read_nodes, read_pdos};

@@ -11,12 +11,12 @@ ghost use Rattle.cop_net.specs.declared.faults.Table.TheVariants.{Pdos};
 ghost use Rattle.cop_net.specs.declared.faults.Rule.TheVariants as rules;
 ghost use Rattle.cop_net.specs.declared.faults.PlanFault.TheVariants.{Refused};
 ghost use Rattle.cop_net.specs.Faults.{refusal};
-ghost use Rattle.cop_net.specs.Pdos.{laid_out, transmitted, transmitted_by, received, received_by, consumer_added, sync_fault, pace_fault, period_of, pdo_stream, ArePdos, IsSync, pdo_added, pdos_of};
+ghost use Rattle.cop_net.specs.Pdos.{unsent, unread, laid_out, transmitted, transmitted_by, received, received_by, consumer_added, sync_fault, pace_fault, period_of, tpdo_of, rpdo_of, pdo_stream, ArePdos, IsSync, pdo_added, pdos_of};
 ghost use Rattle.cop_net.specs.Steps.{folded};
 ghost use Rattle.cop_net.specs.Uses.{is_used};
 
 use crate::devices::{Device, Devices};
-use crate::faults::{PlanFault, Refusal, Rule, SyncFault, Table};
+use crate::faults::{DevicePdo, PlanFault, ReceiveFault, Refusal, Rule, SyncFault, Table};
 use crate::fixed::put;
 use crate::settings::{every_at, is_usable};
 use crate::signals::Signals;
@@ -42,7 +42,7 @@ fn refused(rule: Rule, place: u64) -> PlanFault
 /// What a TPDO of a device sends.
 fn sent_layout(place: u64, tpdo: u16, dict: &Dictionary) -> Result<Mapping, PlanFault>
     requires { (1 ≤ tpdo) × (tpdo ≤ 512) }
-    ensures { Gives (λ m. m) refusal result (laid_out rules.Transmit place directions.Transmit (payload_of dict.now directions.Transmit tpdo)) }
+    ensures { Gives (λ m. m) refusal result (laid_out unsent place directions.Transmit (payload_of dict.now directions.Transmit tpdo)) }
 {
     match payload(dict, Direction::Transmit, tpdo) {
         Ok(sent) => Ok(sent),
@@ -50,14 +50,21 @@ fn sent_layout(place: u64, tpdo: u16, dict: &Dictionary) -> Result<Mapping, Plan
     }
 }
 
-/// What an RPDO of a device takes.
-fn taken_layout(place: u64, rpdo: u16, dict: &Dictionary) -> Result<Mapping, PlanFault>
-    requires { (1 ≤ rpdo) × (rpdo ≤ 512) }
-    ensures { Gives (λ m. m) refusal result (laid_out rules.Receive place directions.Receive (payload_of dict.now directions.Receive rpdo)) }
+/// The refusal of a consumer.
+fn unread(place: u64, consumer: Consumer, fault: ReceiveFault) -> PlanFault
+    ensures { result ≡ Refused (record { table = Pdos; rule = rules.Receive consumer fault; place = place }) }
 {
-    match payload(dict, Direction::Receive, rpdo) {
+    refused(Rule::Receive(consumer, fault), place)
+}
+
+/// What the RPDO of a consumer takes.
+fn taken_layout(place: u64, consumer: Consumer, dict: &Dictionary) -> Result<Mapping, PlanFault>
+    requires { (1 ≤ consumer.rpdo) × (consumer.rpdo ≤ 512) }
+    ensures { Gives (λ m. m) refusal result (laid_out (unread consumer) place directions.Receive (payload_of dict.now directions.Receive consumer.rpdo)) }
+{
+    match payload(dict, Direction::Receive, consumer.rpdo) {
         Ok(taken) => Ok(taken),
-        Err(fault) => Err(refused(Rule::Receive(Some(fault)), place)),
+        Err(fault) => Err(unread(place, consumer, ReceiveFault::Mapping(fault))),
     }
 }
 
@@ -103,6 +110,28 @@ fn pace_fault(sync: Option<FrameRow>, every: u8, row: &PdoRow) -> Option<SyncFau
     }
 }
 
+/// The PDO of a row.
+fn tpdo_of(row: &PdoRow) -> DevicePdo
+    ensures { result ≡ tpdo_of row.now }
+{
+    DevicePdo {
+        direction: Direction::Transmit,
+        node: row.node,
+        number: row.tpdo,
+    }
+}
+
+/// The PDO of a consumer.
+fn rpdo_of(consumer: Consumer) -> DevicePdo
+    ensures { result ≡ rpdo_of consumer }
+{
+    DevicePdo {
+        direction: Direction::Receive,
+        node: consumer.node,
+        number: consumer.rpdo,
+    }
+}
+
 /// The TPDO of a device.
 fn transmitted(
     signals: Signals,
@@ -117,7 +146,7 @@ fn transmitted(
     let index = 0x17FF + row.tpdo;
     let mapping = sent_layout(place, row.tpdo, dict)?;
     if !is_usable(dict, index, signals) {
-        return Err(refused(Rule::CobId, place));
+        return Err(refused(Rule::CobId(tpdo_of(row)), place));
     }
     let Some(every) = every_at(dict, index) else {
         return Err(refused(Rule::Transmission, place));
@@ -149,20 +178,23 @@ fn transmitted_by(
 fn received(
     signals: Signals,
     place: u64,
-    rpdo: u16,
+    consumer: Consumer,
     is_taken: bool,
     sent: &Mapping,
     dict: &Dictionary,
 ) -> Result<Mapping, PlanFault>
-    requires { (1 ≤ rpdo) × (rpdo ≤ 512) }
-    ensures { Gives (λ m. m) refusal result (received signals place rpdo is_taken sent.now dict.now) }
+    requires { (1 ≤ consumer.rpdo) × (consumer.rpdo ≤ 512) }
+    ensures { Gives (λ m. m) refusal result (received signals place consumer is_taken sent.now dict.now) }
 {
-    let layout = taken_layout(place, rpdo, dict)?;
-    if is_taken || !same_layout(sent, &layout) {
-        return Err(refused(Rule::Receive(None), place));
+    let layout = taken_layout(place, consumer, dict)?;
+    if is_taken {
+        return Err(unread(place, consumer, ReceiveFault::Taken));
     }
-    if !is_usable(dict, 0x13FF + rpdo, signals) {
-        return Err(refused(Rule::CobId, place));
+    if !same_layout(sent, &layout) {
+        return Err(unread(place, consumer, ReceiveFault::OtherLayout));
+    }
+    if !is_usable(dict, 0x13FF + consumer.rpdo, signals) {
+        return Err(refused(Rule::CobId(rpdo_of(consumer)), place));
     }
     Ok(layout)
 }
@@ -171,17 +203,17 @@ fn received(
 fn received_by(
     signals: Signals,
     place: u64,
-    rpdo: u16,
+    consumer: Consumer,
     is_taken: bool,
     sent: &Mapping,
     device: Option<&Device>,
 ) -> Result<Mapping, PlanFault>
-    requires { (1 ≤ rpdo) × (rpdo ≤ 512) }
-    ensures { Gives (λ m. m) refusal result (received_by signals place rpdo is_taken sent.now (option_copied device.entry)) }
+    requires { (1 ≤ consumer.rpdo) × (consumer.rpdo ≤ 512) }
+    ensures { Gives (λ m. m) refusal result (received_by signals place consumer is_taken sent.now (option_copied device.entry)) }
 {
     match device {
-        Some(device) => received(signals, place, rpdo, is_taken, sent, &device.dictionary),
-        None => Err(refused(Rule::Receive(None), place)),
+        Some(device) => received(signals, place, consumer, is_taken, sent, &device.dictionary),
+        None => Err(unread(place, consumer, ReceiveFault::NoDevice)),
     }
 }
 
@@ -200,7 +232,7 @@ fn add_consumer(
     let index = 0x13FF + consumer.rpdo;
     let is_taken = used.contains(consumer.node, index);
     let device = devices.device(consumer.node);
-    received_by(signals, place, consumer.rpdo, is_taken, sent, device)?;
+    received_by(signals, place, consumer, is_taken, sent, device)?;
     used.push(Used {
         node: consumer.node,
         index,

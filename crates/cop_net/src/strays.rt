@@ -1,6 +1,6 @@
 //! What a device must let each plan set.
 
-ghost use Rattle.std.specs.Prelude.{◌≡◌, ◌<◌, not, ◌&&◌};
+ghost use Rattle.std.specs.Prelude.{◌≡◌, ◌<◌, not, ◌&&◌, is_some, IfSome};
 ghost use Rattle.std.specs.Option.{option_copied};
 ghost use Rattle.cop_table.specs.Reading.{Gives};
 ghost use Rattle.cop_net.specs.declared.faults.Table.TheVariants.{Nodes};
@@ -8,7 +8,7 @@ ghost use Rattle.cop_net.specs.declared.faults.PlanFault.TheVariants.{Refused};
 ghost use Rattle.cop_net.specs.Faults.{refusal};
 ghost use Rattle.cop_net.specs.Uses.{is_used};
 ghost use Rattle.cop_net.specs.Settings.{is_stuck};
-ghost use Rattle.cop_net.specs.Network.{has_stray, settable, all_settable};
+ghost use Rattle.cop_net.specs.Network.{has_stray, first_stray, settable, all_settable};
 
 use crate::devices::{Device, Devices};
 use crate::faults::{PlanFault, Refusal, Rule, Table};
@@ -36,17 +36,18 @@ fn is_stray(used: &Uses, node: u8, entry: &Object) -> bool
     is_stuck(entry) && !used.contains(node, entry.index())
 }
 
-/// Whether some PDO of a node that nobody uses can't be switched off.
-fn has_stray(used: &Uses, node: u8, dict: &Dictionary) -> bool
+/// The communication record of the first PDO of a node that nobody uses and that can't be switched off, by its index.
+fn stray_of(used: &Uses, node: u8, dict: &Dictionary) -> Option<u16>
     requires { node < 128 }
-    ensures { result ≡ has_stray used.now node dict.now }
+    ensures any { is_some result ≡ has_stray used.now node dict.now }
+    ensures first { IfSome result (λ index. index ≡ first_stray used.now node dict.now) }
 {
     for entry in dict.entries() {
         if is_stray(used, node, entry) {
-            return true;
+            return Some(entry.index());
         }
     }
-    false
+    None
 }
 
 /// A device takes what each plan sets.
@@ -65,10 +66,10 @@ fn check_device(
     if !beats(&device.dictionary, frames.time(node)) {
         return Err(refused(Rule::Heartbeat, device.place));
     }
-    if has_stray(used, node, &device.dictionary) {
-        return Err(refused(Rule::StaysOn, device.place));
+    match stray_of(used, node, &device.dictionary) {
+        Some(index) => Err(refused(Rule::StaysOn(index), device.place)),
+        None => Ok(()),
     }
-    Ok(())
 }
 
 /// All devices take what each plan sets; of several that don't, the one of the lowest node counts.

@@ -19,6 +19,14 @@ const STREAMS_HEADER: &str = "id,bytes,period,jitter,deadline";
 
 const TRACE_HEADER: &str = "kind,moment,id,event,bits,data";
 
+/// The numbers of the rules that are explained, as words of a command line.
+pub static RULE_WORDS: [&str; 50] = [
+    "1", "2", "3", "4", "5", "6", "10", "11", "12", "13", "14", "15", "16", "17", "18", "20", "21",
+    "22", "23", "30", "31", "32", "33", "34", "35", "36", "40", "41", "42", "43", "44", "45", "46",
+    "47", "48", "49", "50", "51", "52", "53", "60", "61", "62", "63", "64", "65", "66", "67", "68",
+    "69",
+];
+
 static EXPLANATIONS: [Explanation; 50] = [
     Explanation {
         number: 1,
@@ -186,7 +194,7 @@ static EXPLANATIONS: [Explanation; 50] = [
         number: 41,
         rule: "a field is not what its column wants",
         cause: "a unit or a point in a number, a time in milliseconds, a name with other characters, or a deadline of a frame that is no SDO frame or is never sent",
-        right: "device,5,Valve,unit.eds,0,0 of nodes; 5,1,10000,0,670,11.1 12.3 of PDOs",
+        right: "device,5,Valve,unit.eds,0,0 of nodes, and sdo_request,5,,,100000,0,5000 where they have the column deadline; 5,1,10000,0,670,11.1 12.3 of PDOs",
     },
     Explanation {
         number: 42,
@@ -220,9 +228,9 @@ static EXPLANATIONS: [Explanation; 50] = [
     },
     Explanation {
         number: 47,
-        rule: "the TPDO has no transmission type, or another than 1 to 240, 254 and 255",
-        cause: "type 0, which waits for an event and then for SYNC, 252 or 253 for remote frames, or a reserved one from 241 on; or a type that is no integer",
-        right: "DefaultValue=255 in [1800sub2] for events, or 1 for each SYNC",
+        rule: "the TPDO has no transmission type, or one that is refused: 0 and 241 to 253 are, 1 to 240, 254 and 255 are not",
+        cause: "type 0, which waits for an event and then for SYNC, 252 or 253 for remote frames, or 241 to 251, which are reserved; or a type that is no integer",
+        right: "DefaultValue=255 in [1800sub2] for events, or 1 for each SYNC, where the device's manual says that it sends the PDO so; else leave the PDO out",
     },
     Explanation {
         number: 48,
@@ -256,8 +264,8 @@ static EXPLANATIONS: [Explanation; 50] = [
     },
     Explanation {
         number: 53,
-        rule: "the rows of the TPDO and of SYNC do not go with the TPDO's transmission type",
-        cause: "a PDO that is sent by SYNC (type 1 to 240) with a period of its own, without a row of SYNC, or more seldom than each 60 s; or one that is sent by events (254 or 255) with period 0",
+        rule: "the rows of the TPDO and of SYNC do not go with the TPDO's transmission type: by events (254 or 255) it has a period of its own; by SYNC (1 to 240) it has period 0, a row of SYNC has a period, so many of its periods are at most 60000000 microseconds, and SYNC's jitter and the PDO's together at most 40000000",
+        cause: "a PDO that is sent by SYNC with a period of its own or without a row of SYNC, or one that is sent by events with period 0",
         right: "sync,0,,,10000,0 of nodes and 5,1,0,100,1620, of PDOs for type 1; 5,1,10000,0,670, for type 255",
     },
     Explanation {

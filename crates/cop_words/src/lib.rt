@@ -2,15 +2,20 @@
 #![tactic(auto)]
 
 mod columns;
+mod devices;
 mod explanations;
+mod mappings;
 mod networks;
 mod paces;
+mod pdos;
 mod places;
+mod rates;
 mod reports;
+mod separators;
 mod words;
 
 pub use columns::{header, header_with_deadline, wanted};
-pub use explanations::{Explanation, explained};
+pub use explanations::{Explanation, RULE_WORDS, explained};
 pub use networks::{Network, network_words};
 pub use places::{Place, line_at, record_at};
 pub use reports::late_words;

@@ -1,11 +1,16 @@
 //! What is said of a network that is refused.
 
 use crate::columns::{header, header_with_deadline, name_of, wanted};
+use crate::devices::text_named;
 use crate::paces::{pace_words, sender};
+use crate::pdos::{RefusedRow, push_cob_id, push_receive, push_stray, push_transmit, push_type};
 use crate::places::{line_at, record_at};
+use crate::rates::push_all_rates;
+use crate::separators::seen;
 use crate::words::{Source, push_place, push_rule, push_shown};
-use cop_dict::MappingFault;
-use cop_net::{DeviceRow, PlanFault, Refusal, Rule, Table, network, read_nodes, read_pdos};
+use cop_net::{
+    DeviceRow, NodeTable, PlanFault, Refusal, Rule, Table, network, read_nodes, read_pdos,
+};
 use std::alloc::{AllocError, Global};
 
 /// A network's tables, and its EDS files by their names.
@@ -79,13 +84,82 @@ fn row_words(
     }
 }
 
-/// The number of the rule that a mapping breaks.
-fn mapping_number(fault: MappingFault) -> u8 {
-    match fault {
-        MappingFault::Absent => 20,
-        MappingFault::TooLong => 21,
-        MappingFault::NoObject => 22,
-        MappingFault::NotMappable => 23,
+/// Adds what a rule of a table wants, and what is seen in place of it.
+fn push_record(
+    words: &mut Vec<u8>,
+    alloc: Global,
+    files: Network<'_>,
+    refusal: &Refusal,
+    rule: cop_rows::Rule,
+) -> Result<(), AllocError> {
+    let said = row_words(alloc, refusal.table, files.nodes.text, rule)?;
+    words.extend_from_slice(said.as_bytes())?;
+    let text = match refusal.table {
+        Table::Nodes => files.nodes.text,
+        Table::Pdos => files.pdos.text,
+    };
+    let record = record_at(text, refusal.place).map(|place| place.text);
+    if let Some(said) = seen(text, record) {
+        words.extend_from_slice(said.as_bytes())?;
+    }
+    Ok(())
+}
+
+/// Adds what a rule of PDOs says beyond its number.
+fn push_pdo(
+    words: &mut Vec<u8>,
+    alloc: Global,
+    row: RefusedRow<'_>,
+    rule: Rule,
+) -> Result<(), AllocError> {
+    match rule {
+        Rule::Transmit(fault) => push_transmit(words, alloc, row, fault),
+        Rule::CobId(pdo) => push_cob_id(words, alloc, row, pdo),
+        Rule::Transmission => push_type(words, alloc, row),
+        Rule::Receive(consumer, fault) => push_receive(words, alloc, row, consumer, fault),
+        Rule::Synchrony(fault) => {
+            let said = pace_words(alloc, row.files.nodes, row.files.pdos, row.place, fault)?;
+            words.extend_from_slice(said.as_bytes())?;
+            Ok(())
+        }
+        _ => Ok(()),
+    }
+}
+
+/// The node of the device of a record.
+fn node_at(nodes: &NodeTable, place: u64) -> Option<u8> {
+    let row = nodes.devices().iter().find(|row| row.place == place)?;
+    Some(row.node)
+}
+
+/// Adds what a rule of networks whose tables are read says beyond its number.
+fn push_network(
+    words: &mut Vec<u8>,
+    alloc: Global,
+    files: Network<'_>,
+    nodes: &NodeTable,
+    refusal: &Refusal,
+) -> Result<(), AllocError> {
+    match refusal.rule {
+        Rule::Eds(Some(broken)) => push_rule(words, alloc, broken.rule.number()),
+        Rule::StaysOn(index) => match node_at(nodes, refusal.place) {
+            Some(node) => push_stray(words, alloc, files, nodes, node, index),
+            None => Ok(()),
+        },
+        Rule::NoRate => push_all_rates(words, alloc, files, nodes),
+        rule => {
+            let place = refusal.place;
+            push_pdo(
+                words,
+                alloc,
+                RefusedRow {
+                    files,
+                    nodes,
+                    place,
+                },
+                rule,
+            )
+        }
     }
 }
 
@@ -96,35 +170,12 @@ fn push_more(
     files: Network<'_>,
     refusal: &Refusal,
 ) -> Result<(), AllocError> {
-    match refusal.rule {
-        Rule::Record(rule) => {
-            let said = row_words(alloc, refusal.table, files.nodes.text, rule)?;
-            words.extend_from_slice(said.as_bytes())?;
-            Ok(())
-        }
-        Rule::Eds(Some(broken)) => push_rule(words, alloc, broken.rule.number()),
-        Rule::Transmit(Some(fault)) => push_rule(words, alloc, mapping_number(fault)),
-        Rule::Receive(Some(fault)) => push_rule(words, alloc, mapping_number(fault)),
-        Rule::Synchrony(fault) => {
-            let said = pace_words(alloc, files.nodes, files.pdos, refusal.place, fault)?;
-            words.extend_from_slice(said.as_bytes())?;
-            Ok(())
-        }
-        _ => Ok(()),
+    if let Rule::Record(rule) = refusal.rule {
+        return push_record(words, alloc, files, refusal, rule);
     }
-}
-
-/// The text of the first file of a name.
-fn text_named<'a>(files: &'a [(String, Vec<u8>)], name: &[u8]) -> Option<&'a [u8]> {
-    match files {
-        [] => None,
-        [file, rest @ ..] => {
-            if file.0.as_bytes() == name {
-                Some(file.1.as_slice())
-            } else {
-                text_named(rest, name)
-            }
-        }
+    match read_nodes(alloc, files.nodes.text) {
+        Ok(nodes) => push_network(words, alloc, files, &nodes, refusal),
+        Err(_) => Ok(()),
     }
 }
 
@@ -157,7 +208,17 @@ fn push_device(words: &mut Vec<u8>, alloc: Global, device: &DeviceRow) -> Result
     Ok(())
 }
 
-/// Adds what is known of the device that a refusal is about: its own record's, or that of the PDO's sender.
+/// The node of a PDO that a rule names beside that of the sender.
+fn named_node(rule: Rule) -> Option<u8> {
+    match rule {
+        Rule::CobId(pdo) => Some(pdo.node),
+        Rule::Receive(consumer, _) => Some(consumer.node),
+        _ => None,
+    }
+}
+
+/// Adds what is known of the devices that a refusal is about: its own record's, or those of the PDO's sender and of the
+/// consumer that the rule names.
 fn push_devices(
     words: &mut Vec<u8>,
     alloc: Global,
@@ -173,7 +234,8 @@ fn push_devices(
     };
     for device in nodes.devices() {
         let own = refusal.table == Table::Nodes && device.place == refusal.place;
-        if own || sender == Some(device.node) {
+        let named = named_node(refusal.rule) == Some(device.node);
+        if own || named || sender == Some(device.node) {
             push_device(words, alloc, device)?;
             if let Rule::Eds(Some(broken)) = refusal.rule {
                 push_eds_line(words, alloc, files, device, broken.line)?;
@@ -202,8 +264,10 @@ fn refusal_words(
     };
     let mut words = Vec::new(alloc);
     match record_at(table.text, refusal.place) {
-        Some(place) => push_place(&mut words, alloc, table.name, &place)?,
-        None => push_file(&mut words, alloc, table.name)?,
+        Some(place) if refusal.rule != Rule::NoRate => {
+            push_place(&mut words, alloc, table.name, &place)?;
+        }
+        _ => push_file(&mut words, alloc, table.name)?,
     }
     push_devices(&mut words, alloc, files, refusal)?;
     push_more(&mut words, alloc, files, refusal)?;

@@ -15,10 +15,11 @@ fn sync_row(alloc: Global, nodes: &[u8]) -> Option<FrameRow> {
     None
 }
 
-/// The node and the jitter of a record of the table of PDOs.
+/// The TPDO and the jitter of a record of the table of PDOs.
 #[derive(Clone, Copy)]
 pub(crate) struct SenderRow {
     pub node: u8,
+    pub tpdo: u16,
     pub jitter: u32,
 }
 
@@ -29,6 +30,7 @@ pub(crate) fn sender(alloc: Global, pdos: &[u8], record: u64) -> Option<SenderRo
     let row = table.rows().get(place)?;
     Some(SenderRow {
         node: row.node,
+        tpdo: row.tpdo,
         jitter: row.jitter,
     })
 }

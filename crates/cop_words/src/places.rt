@@ -75,6 +75,14 @@ pub fn record_at(text: &[u8], number: u64) -> Option<Place<'_>> {
     None
 }
 
+/// A line without the CR that may end it.
+fn without_cr(line: &[u8]) -> &[u8] {
+    match line {
+        [rest @ .., b'\r'] => rest,
+        _ => line,
+    }
+}
+
 /// The line of a number in a text, from 1.
 pub fn line_at(text: &[u8], number: usize) -> Option<Place<'_>> {
     let mut line: usize = 0;
@@ -83,7 +91,7 @@ pub fn line_at(text: &[u8], number: usize) -> Option<Place<'_>> {
         if line == number {
             return Some(Place {
                 line: line as u64,
-                text: part,
+                text: without_cr(part),
             });
         }
     }

@@ -2,9 +2,11 @@
 
 use crate::explanations::explained;
 use crate::places::{Place, record_at};
+use crate::separators::seen;
 use std::alloc::{AllocError, Global};
+use std::str;
 
-/// The most bytes of a record or a line that are shown.
+/// The most characters of a record or a line that are shown.
 const SHOWN: usize = 120;
 
 /// A text that is read, and the name of its file.
@@ -14,8 +16,8 @@ pub struct Source<'a> {
     pub text: &'a [u8],
 }
 
-/// A byte as it may be shown: one that is no printable character of ASCII as a question mark.
-fn shown(byte: u8) -> u8 {
+/// A byte of a text that is no UTF-8, as it may be shown.
+fn shown_byte(byte: u8) -> u8 {
     if byte >= 0x20 && byte < 0x7F {
         byte
     } else {
@@ -23,15 +25,50 @@ fn shown(byte: u8) -> u8 {
     }
 }
 
-/// Adds the first bytes of a text as they may be shown.
-pub(crate) fn push_shown(words: &mut Vec<u8>, text: &[u8]) -> Result<(), AllocError> {
+/// Whether a character may be shown: none that moves the cursor, turns the direction of the text, or is not seen.
+fn is_shown(c: char) -> bool {
+    !c.is_control()
+        && !matches!(
+            c,
+            '\u{AD}'
+                | '\u{61C}'
+                | '\u{200B}'..='\u{200F}'
+                | '\u{2028}'..='\u{202E}'
+                | '\u{2060}'..='\u{206F}'
+                | '\u{FEFF}'
+        )
+}
+
+/// Adds the first characters of a text as they may be shown, others as question marks.
+fn push_text(words: &mut Vec<u8>, text: &str) -> Result<(), AllocError> {
+    let mut bytes = [0; 4];
+    for c in text.chars().take(SHOWN) {
+        let c = if is_shown(c) { c } else { '?' };
+        words.extend_from_slice(c.encode_utf8(&mut bytes).as_bytes())?;
+    }
+    if text.chars().count() > SHOWN {
+        words.extend_from_slice(b" ..")?;
+    }
+    Ok(())
+}
+
+/// The same of bytes that are no text: each that is no printable character of ASCII as a question mark.
+fn push_bytes(words: &mut Vec<u8>, text: &[u8]) -> Result<(), AllocError> {
     for byte in text.iter().take(SHOWN) {
-        words.push(shown(*byte))?;
+        words.push(shown_byte(*byte))?;
     }
     if text.len() > SHOWN {
         words.extend_from_slice(b" ..")?;
     }
     Ok(())
+}
+
+/// Adds the beginning of a record or a line as it may be shown.
+pub(crate) fn push_shown(words: &mut Vec<u8>, text: &[u8]) -> Result<(), AllocError> {
+    match str::from_utf8(text) {
+        Ok(text) => push_text(words, text),
+        Err(_) => push_bytes(words, text),
+    }
 }
 
 /// Adds the name of a file and a line of it with its text.
@@ -82,9 +119,13 @@ pub fn record_words(
     record: u64,
 ) -> Result<Vec<u8>, AllocError> {
     let mut words = Vec::new(alloc);
-    match record_at(source.text, record) {
-        Some(place) => push_place(&mut words, alloc, source.name, &place)?,
+    let place = record_at(source.text, record);
+    match &place {
+        Some(place) => push_place(&mut words, alloc, source.name, place)?,
         None => push_end(&mut words, alloc, source.name)?,
+    }
+    if let Some(said) = seen(source.text, place.map(|place| place.text)) {
+        words.extend_from_slice(said.as_bytes())?;
     }
     push_rule(&mut words, alloc, number)?;
     Ok(words)

@@ -1,5 +1,6 @@
 use cop_words::{
-    Network, Source, explained, late_words, line_at, network_words, record_at, record_words,
+    Network, RULE_WORDS, Source, explained, late_words, line_at, network_words, record_at,
+    record_words,
 };
 use std::alloc::{AllocError, Global};
 use std::str;
@@ -67,18 +68,31 @@ AccessType=rw
 PDOMapping=1
 ";
 
-fn files(alloc: Global, text: &str) -> Result<Vec<(String, Vec<u8>)>, AllocError> {
+fn files(alloc: Global, texts: &[(&str, &str)]) -> Result<Vec<(String, Vec<u8>)>, AllocError> {
     let mut files = Vec::new(alloc);
-    files.push((
-        String::from_str(alloc, "unit.eds")?,
-        Vec::from_slice(alloc, text.as_bytes())?,
-    ))?;
+    for named in texts {
+        let (name, text) = *named;
+        files.push((
+            String::from_str(alloc, name)?,
+            Vec::from_slice(alloc, text.as_bytes())?,
+        ))?;
+    }
     Ok(files)
 }
 
-/// The words on a network.
+/// The words on a network of one device.
 fn words(alloc: Global, nodes: &str, pdos: &str, eds: &str) -> Result<String, Fail> {
-    let files = files(alloc, eds)?;
+    words_of(alloc, nodes, pdos, &[("unit.eds", eds)])
+}
+
+/// The words on a network.
+fn words_of(
+    alloc: Global,
+    nodes: &str,
+    pdos: &str,
+    texts: &[(&str, &str)],
+) -> Result<String, Fail> {
+    let files = files(alloc, texts)?;
     let network = Network {
         nodes: Source {
             name: "nodes.csv",
@@ -363,7 +377,7 @@ const EDS_MISTAKES: &[(&str, &str, &str, &str)] = &[
     (
         "DefaultValue=255",
         "DefaultValue=0",
-        "pdos.csv, line 2: ",
+        "TPDO 1 of node 5: 1800h sub 2, its transmission type, is 0\nits EDS file, line 41: DefaultValue=0\n",
         "rule 47: ",
     ),
     (
@@ -375,8 +389,89 @@ const EDS_MISTAKES: &[(&str, &str, &str, &str)] = &[
     (
         "PDOMapping=1",
         "PDOMapping=0",
-        "pdos.csv, line 2: ",
+        "TPDO 1 of node 5: 1A00h sub 1 maps 32 bits of 2000h sub 0, whose PDOMapping is 0\nits EDS file, line 51: DefaultValue=0x20000020\n",
         "rule 23: ",
+    ),
+];
+
+/// Mistakes of a second device, node 6: a part of its EDS text and what stands in its place, the row of PDOs, what the words have
+/// in them, and the rule.
+const CONSUMER_MISTAKES: &[(&str, &str, &str, &str, &str)] = &[
+    (
+        "AccessType=rw\nDefaultValue=$NODEID+0x200",
+        "AccessType=ro\nDefaultValue=$NODEID+0x200",
+        "5,1,10000,0,670,6.1",
+        "node 6 is Drive, by the EDS file other.eds\nRPDO 1 of node 6: its COB-ID is 1400h sub 1: its AccessType does not let it be written\nits EDS file, line 21: DefaultValue=$NODEID+0x200\n",
+        "rule 46: ",
+    ),
+    (
+        "BaudRate",
+        "BaudRate",
+        "5,1,10000,0,670,7.1",
+        "RPDO 1 of node 7: node 7 has no device row in nodes.csv\n",
+        "rule 48: ",
+    ),
+    (
+        "BaudRate",
+        "BaudRate",
+        "5,1,10000,0,670,6.2",
+        "RPDO 2 of node 6: 1401h sub 1 is absent\nrule 20: ",
+        "rule 48: ",
+    ),
+    (
+        "BaudRate",
+        "BaudRate",
+        "5,1,10000,0,670,6.1 6.1",
+        "RPDO 1 of node 6: it stands twice in this record\n",
+        "rule 48: ",
+    ),
+    (
+        "BaudRate",
+        "BaudRate",
+        "5,1,10000,0,670,6.1\n6,1,10000,0,670,6.1",
+        "RPDO 1 of node 6: record 1 has it as a consumer already\n",
+        "rule 48: ",
+    ),
+    (
+        "DefaultValue=0x20000020\n[1800]",
+        "DefaultValue=0x00050008\n[1800]",
+        "5,1,10000,0,670,6.1",
+        "TPDO 1 of node 5 has the bits 32 (2000h sub 0)\nRPDO 1 of node 6 has the bits 8 (0005h sub 0)\n",
+        "rule 48: ",
+    ),
+    (
+        "AccessType=rw\nDefaultValue=$NODEID+0x40000180",
+        "AccessType=ro\nDefaultValue=$NODEID+0x40000180",
+        "5,1,10000,0,670,",
+        "nodes.csv, line 3: device,6,Drive,other.eds,0,0\nnode 6 is Drive, by the EDS file other.eds\nTPDO 1 of node 6: its COB-ID is 1800h sub 1: ",
+        "rule 50: ",
+    ),
+    (
+        "BaudRate_250",
+        "BaudRate_125",
+        "5,1,10000,0,670,",
+        "nodes.csv\nunit.eds supports 250 kbit/s\nother.eds supports 125 kbit/s\n",
+        "rule 52: ",
+    ),
+];
+
+/// Tables of nodes that are no CSV with commas, and what is seen of them.
+const SEPARATORS: &[(&str, &str)] = &[
+    (
+        "row;node;name;eds;period;jitter\ndevice;5;Valve;unit.eds;0;0\n",
+        "a semicolon stands there",
+    ),
+    (
+        "row\tnode\tname\teds\tperiod\tjitter\n",
+        "a tab stands there",
+    ),
+    (
+        "\u{FEFF}row,node,name,eds,period,jitter\n",
+        "begins with a byte order mark",
+    ),
+    (
+        "row,node,name,eds,period,jitter\ndevice,5,\"Valve,unit.eds,0,0\n",
+        "a quote opens a field and does not close it",
     ),
 ];
 
@@ -491,6 +586,33 @@ fn mistakes_in_the_eds_text(rt: HostRuntime) -> Result<(), Fail> {
 }
 
 #[test]
+fn mistakes_of_a_consumer(rt: HostRuntime) -> Result<(), Fail> {
+    let nodes = format!(in rt.alloc(); "{NODES}device,6,Drive,other.eds,0,0\n")?;
+    for case in CONSUMER_MISTAKES {
+        let (old, new, rows, part, rule) = *case;
+        let Some((before, after)) = UNIT.split_once(old) else {
+            return Err(Fail::from("no such part"));
+        };
+        let eds = format!(in rt.alloc(); "{before}{new}{after}")?;
+        let pdos = format!(in rt.alloc(); "node,tpdo,period,jitter,deadline,consumers\n{rows}\n")?;
+        let texts = [("unit.eds", UNIT), ("other.eds", eds.as_str())];
+        let said = words_of(rt.alloc(), &nodes, &pdos, &texts)?;
+        assert!(rt; said.contains(part) && said.contains(rule), "{said}");
+    }
+    Ok(())
+}
+
+#[test]
+fn other_separators_are_seen(rt: HostRuntime) -> Result<(), Fail> {
+    for case in SEPARATORS {
+        let (nodes, part) = *case;
+        let said = words(rt.alloc(), nodes, PDOS, UNIT)?;
+        assert!(rt; said.contains(part), "{said}");
+    }
+    Ok(())
+}
+
+#[test]
 fn each_rule_is_explained(rt: HostRuntime) {
     let ranges: &[(u8, u8)] = &[(1, 6), (10, 18), (20, 23), (30, 36), (40, 53), (60, 69)];
     for range in ranges {
@@ -500,6 +622,12 @@ fn each_rule_is_explained(rt: HostRuntime) {
         }
     }
     assert!(rt; explained(54).is_none());
+    for word in RULE_WORDS.iter() {
+        assert!(rt;
+            word.parse::<u8>()
+                .is_ok_and(|number| explained(number).is_some())
+        );
+    }
 }
 
 #[test]
@@ -516,17 +644,33 @@ fn records_and_lines_are_found(rt: HostRuntime) -> Result<(), Fail> {
     }
     assert!(rt; record_at(text, 3).is_none());
     assert!(rt; line_at(text, 0).is_none());
+    assert!(rt; line_at(text, 1).is_some_and(|place| place.text == b"a,b".as_slice()));
     Ok(())
 }
 
+/// Records, and how they are shown.
+const SHOWN: &[(&[u8], &[u8])] = &[
+    (b"0x181,\x1B[2J", b"0x181,?[2J"),
+    (b"0x181,\xC3\xA9", b"0x181,\xC3\xA9"),
+    (b"0x181,\xE2\x80\xAE1", b"0x181,?1"),
+    (b"0x181,\xE9", b"0x181,?"),
+];
+
 #[test]
 fn a_record_is_shown_without_control_characters(rt: HostRuntime) -> Result<(), Fail> {
-    let source = Source {
-        name: "streams.csv",
-        text: b"id\n0x181,\x1B[2J",
-    };
-    let said = record_words(rt.alloc(), source, 2, 1)?;
-    assert!(rt; said.starts_with(b"streams.csv, line 2: 0x181,?[2J\nrule 2: a record"));
+    for case in SHOWN {
+        let (record, shown) = *case;
+        let mut text = Vec::from_slice(rt.alloc(), b"id\n")?;
+        text.extend_from_slice(record)?;
+        let source = Source {
+            name: "streams.csv",
+            text: &text,
+        };
+        let said = record_words(rt.alloc(), source, 2, 1)?;
+        let begin = b"streams.csv, line 2: ".as_slice();
+        let rest = said.strip_prefix(begin).and_then(|rest| rest.strip_prefix(shown));
+        assert!(rt; rest.is_some_and(|rest| rest.starts_with(b"\nrule 2: a record")));
+    }
     Ok(())
 }
 

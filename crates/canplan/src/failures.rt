@@ -1,0 +1,84 @@
+//! Why an order is not carried out, with what the system says of a file.
+
+use cop_engine::Fault;
+use cop_net::PlanFault;
+use std::alloc::{AllocError, AllocFailed};
+use std::io;
+
+/// Why an order is not carried out.
+#[derive(Drop)]
+pub struct Failure {
+    pub fault: Fault,
+    /// Of a file that is not read or written: why, as a line.
+    pub reason: Option<String>,
+}
+
+impl From<Fault> for Failure {
+    fn from(fault: Fault) -> Failure {
+        Failure {
+            fault,
+            reason: None,
+        }
+    }
+}
+
+impl From<AllocError> for Failure {
+    fn from(_error: AllocError) -> Failure {
+        Failure::from(Fault::Memory)
+    }
+}
+
+impl<T: Drop> From<AllocFailed<T>> for Failure {
+    fn from(_error: AllocFailed<T>) -> Failure {
+        Failure::from(Fault::Memory)
+    }
+}
+
+impl From<PlanFault> for Failure {
+    fn from(fault: PlanFault) -> Failure {
+        Failure::from(Fault::from(fault))
+    }
+}
+
+/// What could not be done with a file.
+#[derive(Clone, Copy)]
+pub enum Use {
+    Read,
+    Write,
+    Remove,
+}
+
+/// What is said of a file before the system's word on it; `-` is a standard stream.
+fn said_of(name: &str, wanted: Use) -> &'static str {
+    match wanted {
+        Use::Read if name == "-" => "standard input cannot be read",
+        Use::Read => "it cannot be read",
+        Use::Write if name == "-" => "standard output cannot be written",
+        Use::Write => "it cannot be written",
+        Use::Remove => "it is of an earlier plan, and cannot be removed",
+    }
+}
+
+fn named_failure(
+    rt: &HostRuntime,
+    name: &str,
+    wanted: Use,
+    error: &io::Error,
+) -> Result<Failure, AllocError> {
+    let said = said_of(name, wanted);
+    Ok(Failure {
+        fault: Fault::File(String::from_str(rt.alloc(), name)?),
+        reason: Some(format!(in rt.alloc(); "{said}: {error}\n")?),
+    })
+}
+
+/// The failure of a file that is not read or written.
+pub fn file_failure(rt: &HostRuntime, name: &str, wanted: Use, error: &io::Error) -> Failure {
+    if error.kind() == io::ErrorKind::OutOfMemory {
+        return Failure::from(Fault::Memory);
+    }
+    match named_failure(rt, name, wanted, error) {
+        Ok(failure) => failure,
+        Err(error) => Failure::from(error),
+    }
+}

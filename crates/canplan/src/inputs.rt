@@ -1,0 +1,122 @@
+//! What is read for an order. It is kept, so that the words of a fault are of what was read.
+
+use crate::failures::{Failure, Use, file_failure};
+use crate::orders::NetworkFiles;
+use cop_engine::read_all;
+use cop_net::{NodeTable, read_nodes};
+use std::alloc::{AllocError, Global};
+use std::collections::BTreeSet;
+use std::fs::File;
+use std::str;
+
+/// The files of a network, as far as they were read.
+#[derive(Drop)]
+pub struct Texts {
+    pub nodes: Vec<u8>,
+    pub pdos: Vec<u8>,
+    /// The EDS files by their names, each once.
+    pub eds_files: Vec<(String, Vec<u8>)>,
+}
+
+/// All that was read for an order.
+#[derive(Drop)]
+pub struct Inputs {
+    pub network: Texts,
+    /// The table of streams, the refusals or the trace.
+    pub other: Vec<u8>,
+}
+
+impl Inputs {
+    /// Nothing was read yet.
+    pub fn new(alloc: Global) -> Inputs {
+        Inputs {
+            network: Texts {
+                nodes: Vec::new(alloc),
+                pdos: Vec::new(alloc),
+                eds_files: Vec::new(alloc),
+            },
+            other: Vec::new(alloc),
+        }
+    }
+}
+
+/// The bytes of a file of at most 64 MiB.
+pub fn read_file(rt: &HostRuntime, name: &str) -> Result<Vec<u8>, Failure> {
+    let file = match File::open(rt, name) {
+        Ok(file) => file,
+        Err(error) => return Err(file_failure(rt, name, Use::Read, &error)),
+    };
+    match read_all(rt.alloc(), file) {
+        Ok(bytes) => Ok(bytes),
+        Err(error) => Err(file_failure(rt, name, Use::Read, &error)),
+    }
+}
+
+/// The bytes of a file, or of standard input for `-`.
+pub fn read_input(rt: &HostRuntime, name: &str) -> Result<Vec<u8>, Failure> {
+    if name != "-" {
+        return read_file(rt, name);
+    }
+    match read_all(rt.alloc(), rt.stdin()) {
+        Ok(bytes) => Ok(bytes),
+        Err(error) => Err(file_failure(rt, name, Use::Read, &error)),
+    }
+}
+
+/// The name of a file in the folder of another.
+pub fn beside(alloc: Global, named: &str, name: &str) -> Result<String, AllocError> {
+    match named.rsplit_once('/') {
+        Some((folder, _)) => format!(in alloc; "{folder}/{name}"),
+        None => String::from_str(alloc, name),
+    }
+}
+
+/// The EDS files that devices name, which lie in the folder of their table. Each is read once.
+fn read_each(
+    rt: &HostRuntime,
+    named: &str,
+    nodes: &NodeTable,
+) -> Result<Vec<(String, Vec<u8>)>, Failure> {
+    let mut known = BTreeSet::new(rt.alloc());
+    let mut files = Vec::new(rt.alloc());
+    for device in nodes.devices() {
+        let Ok(name) = str::from_utf8(device.eds.as_bytes()) else {
+            continue;
+        };
+        if known.insert(name)? {
+            let bytes = read_file(rt, &beside(rt.alloc(), named, name)?)?;
+            files.push((String::from_str(rt.alloc(), name)?, bytes))?;
+        }
+    }
+    Ok(files)
+}
+
+impl Texts {
+    /// Reads the two tables.
+    pub fn read_tables(
+        &mut self,
+        rt: &HostRuntime,
+        files: NetworkFiles<'_>,
+    ) -> Result<(), Failure> {
+        self.nodes = read_file(rt, files.nodes)?;
+        self.pdos = read_file(rt, files.pdos)?;
+        Ok(())
+    }
+
+    /// Reads the EDS files of the devices, once the tables are read.
+    pub fn read_eds_files(
+        &mut self,
+        rt: &HostRuntime,
+        files: NetworkFiles<'_>,
+    ) -> Result<(), Failure> {
+        let nodes = read_nodes(rt.alloc(), &self.nodes)?;
+        self.eds_files = read_each(rt, files.nodes, &nodes)?;
+        Ok(())
+    }
+
+    /// Reads the tables and the EDS files.
+    pub fn read(&mut self, rt: &HostRuntime, files: NetworkFiles<'_>) -> Result<(), Failure> {
+        self.read_tables(rt, files)?;
+        self.read_eds_files(rt, files)
+    }
+}

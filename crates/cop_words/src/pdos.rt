@@ -1,0 +1,282 @@
+//! What is said of a PDO of a device that is refused.
+
+use crate::devices::{Device, device_of, push_value_line, row_of};
+use crate::mappings::{communication, pdo_name, push_layout, push_mapping};
+use crate::networks::Network;
+use crate::paces::sender;
+use crate::words::push_rule;
+use cop_dict::{Access, Description, Dictionary, Direction, MappingFault};
+use cop_net::{Consumer, DevicePdo, NodeTable, ReceiveFault, read_pdos};
+use std::alloc::{AllocError, Global};
+
+/// The number of the rule that a mapping breaks.
+fn mapping_number(fault: MappingFault) -> u8 {
+    match fault {
+        MappingFault::Absent => 20,
+        MappingFault::TooLong => 21,
+        MappingFault::NoObject => 22,
+        MappingFault::NotMappable => 23,
+    }
+}
+
+/// The tables of a network that is refused for a PDO, and the record of the row.
+#[derive(Clone, Copy)]
+pub(crate) struct RefusedRow<'a> {
+    pub files: Network<'a>,
+    pub nodes: &'a NodeTable,
+    pub place: u64,
+}
+
+impl<'a> RefusedRow<'a> {
+    /// The device of a node.
+    fn device(self, alloc: Global, node: u8) -> Result<Option<Device<'a>>, AllocError> {
+        device_of(alloc, self.files, self.nodes, node)
+    }
+
+    /// The TPDO of the row.
+    fn tpdo(self, alloc: Global) -> Option<DevicePdo> {
+        let row = sender(alloc, self.files.pdos.text, self.place)?;
+        Some(DevicePdo {
+            direction: Direction::Transmit,
+            node: row.node,
+            number: row.tpdo,
+        })
+    }
+}
+
+/// Adds that a node has no device row.
+fn push_no_device(
+    words: &mut Vec<u8>,
+    alloc: Global,
+    row: RefusedRow<'_>,
+    pdo: DevicePdo,
+) -> Result<(), AllocError> {
+    let (name, node, nodes) = (pdo_name(alloc, pdo)?, pdo.node, row.files.nodes.name);
+    let line = format!(in alloc; "{name}: node {node} has no device row in {nodes}\n")?;
+    words.extend_from_slice(line.as_bytes())?;
+    Ok(())
+}
+
+/// Adds what a mapping breaks, where, and its rule.
+fn push_broken_mapping(
+    words: &mut Vec<u8>,
+    alloc: Global,
+    row: RefusedRow<'_>,
+    pdo: DevicePdo,
+    fault: MappingFault,
+) -> Result<(), AllocError> {
+    if let Some(device) = row.device(alloc, pdo.node)? {
+        push_mapping(words, alloc, &device, pdo, fault)?;
+    }
+    push_rule(words, alloc, mapping_number(fault))
+}
+
+/// Adds why a TPDO has no payload.
+pub(crate) fn push_transmit(
+    words: &mut Vec<u8>,
+    alloc: Global,
+    row: RefusedRow<'_>,
+    fault: Option<MappingFault>,
+) -> Result<(), AllocError> {
+    let Some(pdo) = row.tpdo(alloc) else {
+        return Ok(());
+    };
+    match fault {
+        Some(fault) => push_broken_mapping(words, alloc, row, pdo, fault),
+        None => push_no_device(words, alloc, row, pdo),
+    }
+}
+
+/// Why a COB-ID cannot be set as plans do.
+fn cob_id_reason(description: Description) -> &'static str {
+    if matches!(description.access, Access::ReadOnly | Access::Constant) {
+        return "its AccessType does not let it be written";
+    }
+    "its LowLimit or HighLimit excludes a value that it needs"
+}
+
+/// What is wrong with the COB-ID of a communication record.
+fn cob_id_words(alloc: Global, dict: &Dictionary, index: u16) -> Result<String, AllocError> {
+    let why = match dict.entry(index, 1) {
+        None => "it is absent",
+        Some(entry) if entry.unsigned32().is_none() => "it is no UNSIGNED32",
+        Some(entry) => cob_id_reason(entry.description()),
+    };
+    format!(in alloc; "its COB-ID is {index:04X}h sub 1: {why}")
+}
+
+/// Adds what is wrong with the COB-ID of a PDO, and its line of the EDS text.
+fn push_cob_id_of(
+    words: &mut Vec<u8>,
+    alloc: Global,
+    device: &Device<'_>,
+    pdo: DevicePdo,
+) -> Result<(), AllocError> {
+    let index = communication(pdo);
+    let name = pdo_name(alloc, pdo)?;
+    let said = cob_id_words(alloc, &device.dictionary, index)?;
+    let line = format!(in alloc; "{name}: {said}\n")?;
+    words.extend_from_slice(line.as_bytes())?;
+    push_value_line(words, alloc, &device.eds, index, 1)
+}
+
+/// Adds what is wrong with the COB-ID of a PDO of the tables.
+pub(crate) fn push_cob_id(
+    words: &mut Vec<u8>,
+    alloc: Global,
+    row: RefusedRow<'_>,
+    pdo: DevicePdo,
+) -> Result<(), AllocError> {
+    match row.device(alloc, pdo.node)? {
+        Some(device) => push_cob_id_of(words, alloc, &device, pdo),
+        None => Ok(()),
+    }
+}
+
+/// The PDO of a communication record of a node.
+fn pdo_at(node: u8, index: u16) -> DevicePdo {
+    if index < 0x1800 {
+        DevicePdo {
+            direction: Direction::Receive,
+            node,
+            number: index.saturating_sub(0x13FF),
+        }
+    } else {
+        DevicePdo {
+            direction: Direction::Transmit,
+            node,
+            number: index.saturating_sub(0x17FF),
+        }
+    }
+}
+
+/// Adds which PDO of a node that no row uses stays on.
+pub(crate) fn push_stray(
+    words: &mut Vec<u8>,
+    alloc: Global,
+    files: Network<'_>,
+    nodes: &NodeTable,
+    node: u8,
+    index: u16,
+) -> Result<(), AllocError> {
+    match device_of(alloc, files, nodes, node)? {
+        Some(device) => push_cob_id_of(words, alloc, &device, pdo_at(node, index)),
+        None => Ok(()),
+    }
+}
+
+/// What the transmission type of a communication record is.
+fn type_words(alloc: Global, dict: &Dictionary, index: u16) -> Result<String, AllocError> {
+    let Some(entry) = dict.entry(index, 2) else {
+        return format!(in alloc; "{index:04X}h sub 2, its transmission type, is absent");
+    };
+    match entry
+        .integer()
+        .and_then(|number| i64::try_from(number).ok())
+    {
+        Some(number) => format!(in alloc; "{index:04X}h sub 2, its transmission type, is {number}"),
+        None => format!(in alloc; "{index:04X}h sub 2, its transmission type, is no integer"),
+    }
+}
+
+fn push_type_of(
+    words: &mut Vec<u8>,
+    alloc: Global,
+    device: &Device<'_>,
+    pdo: DevicePdo,
+) -> Result<(), AllocError> {
+    let index = communication(pdo);
+    let name = pdo_name(alloc, pdo)?;
+    let said = type_words(alloc, &device.dictionary, index)?;
+    let line = format!(in alloc; "{name}: {said}\n")?;
+    words.extend_from_slice(line.as_bytes())?;
+    push_value_line(words, alloc, &device.eds, index, 2)
+}
+
+/// Adds the transmission type of the TPDO of a row.
+pub(crate) fn push_type(
+    words: &mut Vec<u8>,
+    alloc: Global,
+    row: RefusedRow<'_>,
+) -> Result<(), AllocError> {
+    let Some(pdo) = row.tpdo(alloc) else {
+        return Ok(());
+    };
+    match row.device(alloc, pdo.node)? {
+        Some(device) => push_type_of(words, alloc, &device, pdo),
+        None => Ok(()),
+    }
+}
+
+/// The record before a place that has a consumer, if one does.
+fn record_with(alloc: Global, pdos: &[u8], place: u64, consumer: Consumer) -> Option<u64> {
+    let table = read_pdos(alloc, pdos).ok()?;
+    let mut record: u64 = 0;
+    for row in table.rows() {
+        record = record.saturating_add(1);
+        if record < place && row.consumers.as_slice().contains(&consumer) {
+            return Some(record);
+        }
+    }
+    None
+}
+
+/// What takes the RPDO of a consumer already.
+fn taken_words(
+    alloc: Global,
+    row: RefusedRow<'_>,
+    consumer: Consumer,
+) -> Result<String, AllocError> {
+    match record_with(alloc, row.files.pdos.text, row.place, consumer) {
+        Some(record) => format!(in alloc; "record {record} has it as a consumer already"),
+        None => String::from_str(alloc, "it stands twice in this record"),
+    }
+}
+
+/// Adds the layouts of the TPDO of a row and of an RPDO.
+fn push_layouts(
+    words: &mut Vec<u8>,
+    alloc: Global,
+    row: RefusedRow<'_>,
+    rpdo: DevicePdo,
+) -> Result<(), AllocError> {
+    let Some(tpdo) = row.tpdo(alloc) else {
+        return Ok(());
+    };
+    if let Some(device) = row.device(alloc, tpdo.node)? {
+        push_layout(words, alloc, &device, tpdo)?;
+    }
+    if let Some(device) = row.device(alloc, rpdo.node)? {
+        push_layout(words, alloc, &device, rpdo)?;
+    }
+    words.extend_from_slice(
+        b"wanted are as many bits, and that each entry of the RPDO that is no dummy begins and ends with one of the TPDO\n",
+    )?;
+    Ok(())
+}
+
+/// Adds why the RPDO of a consumer does not take what the TPDO of a row sends.
+pub(crate) fn push_receive(
+    words: &mut Vec<u8>,
+    alloc: Global,
+    row: RefusedRow<'_>,
+    consumer: Consumer,
+    fault: ReceiveFault,
+) -> Result<(), AllocError> {
+    let pdo = DevicePdo {
+        direction: Direction::Receive,
+        node: consumer.node,
+        number: consumer.rpdo,
+    };
+    match fault {
+        ReceiveFault::NoDevice => push_no_device(words, alloc, row, pdo),
+        ReceiveFault::Mapping(fault) => push_broken_mapping(words, alloc, row, pdo, fault),
+        ReceiveFault::Taken => {
+            let (name, said) = (pdo_name(alloc, pdo)?, taken_words(alloc, row, consumer)?);
+            let line = format!(in alloc; "{name}: {said}\n")?;
+            words.extend_from_slice(line.as_bytes())?;
+            Ok(())
+        }
+        ReceiveFault::OtherLayout => push_layouts(words, alloc, row, pdo),
+    }
+}
