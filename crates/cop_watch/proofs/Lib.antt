@@ -1,0 +1,4 @@
+pub mod Further
+pub mod HeldLemmas
+pub mod Taken
+pub mod Finished

@@ -1,0 +1,45 @@
+use Rattle.std.proofs.Common.{◌≡◌, ◌+◌, ◌*◌, ◌++◌, ◌∷◌, [], ℕ, Some, subst, sym, ap, ◌∙◌, rules, slice_set}
+use Rattle.std.specs.Prelude.{List}
+use Rattle.cop_rta.specs.declared.streams.Stream.{Stream}
+use Rattle.cop_bus.specs.declared.steps.Step.TheVariants.{Queue}
+use Rattle.cop_bus.specs.Judge.{stream_of}
+use Rattle.cop_watch.specs.declared.bus.Bus.{Bus}
+use Rattle.cop_watch.specs.declared.bus.Bus.TheVariants.{Sending}
+use Rattle.cop_watch.specs.Watching.{IsOpen, Knows}
+use Rattle.cop_watch.proofs.Taken.{queued-behind, queued-joined}
+use Rattle.cop_watch.proofs.watching.Watch.take_queue.Goals as goal
+
+pub returns-in-Some : goal.returns-in-Some
+returns-in-Some c = λ is tau streams steps h.
+    let w = c.args.self.now in
+    let id = c.args.id in
+    let at = c.args.at in
+    let m = c.may_queue.ensures (search rules) in
+    let its = subst (λ (ks : List Stream). stream_of ks id ≡ Some m.stream) h.set m.its in
+    let open_to = subst (λ (n : ℕ). IsOpen n w.at w.waiting w.bus at) h.ticks m.open_to in
+    let known = queued-joined tau streams steps w.bus w.at w.rank w.last.items w.rings.items w.waiting w.sent h.knows id at c.args.event c.args.frame.now m.stream its m.obeying m.order open_to m.last_there m.ring_there c.in-Some.start c.in-Some.ensures.some in
+    let sends : Sending id (c.in-Some.start + c.args.frame.now.bits * tau) ≡ c.sending-self.result = ap (λ n. Sending id (c.in-Some.start + c.args.frame.now.bits * n)) (sym h.ticks) ∙ sym c.sending-self.ensures in
+    record {
+      ticks = h.ticks;
+      set = h.set;
+      knows = subst (λ (b : Bus). Knows tau streams (steps ++ Queue id at c.args.event c.args.frame.now ∷ []) b at 1 (slice_set w.last.items c.from.result (Some c.args.event)) w.rings.items w.waiting w.sent) sends
+          (subst (λ (n : ℕ). Knows tau streams (steps ++ Queue id at c.args.event c.args.frame.now ∷ []) (Sending id (c.in-Some.start + c.args.frame.now.bits * tau)) at 1 (slice_set w.last.items n (Some c.args.event)) w.rings.items w.waiting w.sent)
+          (sym c.from.ensures) known);
+    }
+
+pub returns-in-None : goal.returns-in-None
+returns-in-None c = λ is tau streams steps h.
+    let w = c.args.self.now in
+    let id = c.args.id in
+    let at = c.args.at in
+    let m = c.may_queue.ensures (search rules) in
+    let its = subst (λ (ks : List Stream). stream_of ks id ≡ Some m.stream) h.set m.its in
+    let open_to = subst (λ (n : ℕ). IsOpen n w.at w.waiting w.bus at) h.ticks m.open_to in
+    let known = queued-behind tau streams steps w.bus w.at w.rank w.last.items w.rings.items w.waiting w.sent h.knows id at c.args.event c.args.frame.now m.stream its m.obeying m.order open_to m.last_there m.ring_there
+    c.wait.new.rings.items c.wait.new.waiting c.in-None.ensures.none (c.wait.ensures is) in
+    record {
+      ticks = h.ticks;
+      set = h.set;
+      knows = subst (λ (n : ℕ). Knows tau streams (steps ++ Queue id at c.args.event c.args.frame.now ∷ []) w.bus at 1 (slice_set w.last.items n (Some c.args.event)) c.wait.new.rings.items c.wait.new.waiting w.sent)
+          (sym c.from.ensures) known;
+    }

@@ -1,0 +1,4 @@
+pub mod Rings
+pub mod Rules
+pub mod Knowing
+pub mod Watching
