@@ -1,5 +1,5 @@
 -- The stream of each row of the table of nodes that is sent.
-use Rattle.std.proofs.Common.{◌≡◌, ◌≢◌, ℕ, zero, suc, ◌+◌, ◌<◌, ◌≤◌, ◌==◌, Bool, true, false, cond, if◌then◌else◌, find, List, [], ◌∷◌, ◌++◌, length, map, slice_get, Option, Some, None, Contains, refl, sym, ap, ◌∙◌, subst, arith, ⊎_elim}
+use Rattle.std.proofs.Common.{◌≡◌, ◌≢◌, ℕ, zero, suc, ◌+◌, ◌<◌, ◌≤◌, ◌==◌, Bool, true, false, cond, if◌then◌else◌, find, List, [], ◌∷◌, ◌++◌, length, map, slice_get, Option, Some, None, Contains, refl, sym, ap, ◌∙◌, subst, arith, ⊎_elim, ◌⊎◌, inl, inr}
 use Rattle.std.proofs.lemmas.Bool.{cases_eq, cases_lt, eq-eqb, ne_eqb, eqb-false}
 use Rattle.std.proofs.lemmas.Option.{slice_get_within, slice_get_read, get_or_from_slice_get}
 use Rattle.std.proofs.lemmas.List.Elements.{All-contains}
@@ -138,10 +138,68 @@ was_sent (Some r) row h = by_period (r.period == 0) refl h
     by_period true e h = absurd (cc)
     by_period false e h = (h, (let same : r ≡ row = cc in subst (λ (f : FrameRow). f.period ≢ 0) same (eqb-false r.period 0 e)))
 
+-- what is found in a table stands there
+found_there : (frames : List FrameRow) (key : ℕ) (row : FrameRow) → find (λ r. key_of r == key) frames ≡ Some row → Contains frames row
+found_there frames key row h =
+    let place = position_or_len (λ r. key_of r == key) frames in
+    let there : slice_get frames place ≡ Some row = sym (find_at (λ r. key_of r == key) frames) ∙ h in
+    (place, slice_get_within frames place row there, get_or_from_slice_get frames place row row there)
+
 -- SYNC's row is one of the table that is sent
 pub sync_row : (frames : List FrameRow) (row : FrameRow) → sync_of frames ≡ Some row → Contains frames row × (row.period ≢ 0)
 sync_row frames row h =
     let s = was_sent (find (λ r. key_of r == rank_of kinds.Sync) frames) row h in
-    let place = position_or_len (λ r. key_of r == rank_of kinds.Sync) frames in
-    let there : slice_get frames place ≡ Some row = sym (find_at (λ r. key_of r == rank_of kinds.Sync) frames) ∙ s.0 in
-    ((place, slice_get_within frames place row there, get_or_from_slice_get frames place row row there), s.1)
+    (found_there frames (rank_of kinds.Sync) row s.0, s.1)
+
+-- ---- and no other stream is there
+
+-- a stream is that of a row that is sent
+abbrev IsSentRow : List FrameRow → Entry → Type 0
+IsSentRow frames e = (row : FrameRow) × Contains frames row × (row.period ≢ 0) × (e ≡ frame_stream row)
+
+only_one : (x e : Entry) (j : ℕ) → slice_get (x ∷ []) j ≡ Some e → e ≡ x
+only_one x e zero h = let same : x ≡ e = cc in sym same
+only_one x e (suc j) h = absurd (cc)
+
+of_sent : (o : Option FrameRow) (j : ℕ) (e : Entry) → slice_get (sent o) j ≡ Some e → (row : FrameRow) × (o ≡ Some row) × (row.period ≢ 0) × (e ≡ frame_stream row)
+of_sent None j e h = absurd (cc)
+of_sent (Some row) j e h = by_period (row.period == 0) refl h
+  where
+    by_period : (b : Bool) → (row.period == 0) ≡ b → slice_get (cond b [] (frame_stream row ∷ [])) j ≡ Some e → (r : FrameRow) × (Some row ≡ Some r) × (r.period ≢ 0) × (e ≡ frame_stream r)
+    by_period true its h = absurd (cc)
+    by_period false its h = (row, refl, eqb-false row.period 0 its, only_one (frame_stream row) e j h)
+
+-- what stands in two lists, one behind the other, stands in one of them
+in_either : {A : Type 0} (xs ys : List A) (k : ℕ) (x : A) → slice_get (xs ++ ys) k ≡ Some x → ((j : ℕ) × (slice_get xs j ≡ Some x)) ⊎ ((j : ℕ) × (slice_get ys j ≡ Some x))
+in_either [] ys k x h = inr (k, h)
+in_either (z ∷ xs) ys zero x h = inl (0, h)
+in_either (z ∷ xs) ys (suc k) x h = elim (in_either xs ys k x h) [
+  | inl l ↦ inl (suc l.0, l.1)
+  | inr r ↦ inr r
+]
+
+-- and in the second where it stands past the first
+beyond : {A : Type 0} (xs ys : List A) (k : ℕ) (x : A) → length xs ≤ k → slice_get (xs ++ ys) k ≡ Some x → (j : ℕ) × (slice_get ys j ≡ Some x)
+beyond [] ys k x past h = (k, h)
+beyond (z ∷ xs) ys zero x past h = absurd (omega (arith, past))
+beyond (z ∷ xs) ys (suc k) x past h = beyond xs ys k x (omega (arith, past)) h
+
+from_streams : (frames : List FrameRow) (key count j : ℕ) (e : Entry) → slice_get (streams_from frames key count) j ≡ Some e → IsSentRow frames e
+unfolding streams_from
+from_streams frames key zero j e h = absurd (cc)
+from_streams frames key (suc count) j e h = elim (in_either (sent (find (λ r. key_of r == key) frames)) (streams_from frames (key + 1) count) j e h) [
+  | inl l ↦ (let s = of_sent (find (λ r. key_of r == key) frames) l.0 e l.1 in (s.0, found_there frames key s.0 s.1, s.2, s.3))
+  | inr r ↦ from_streams frames (key + 1) count r.0 e r.1
+]
+
+from_fixed : (frames : List FrameRow) (j : ℕ) (e : Entry) → slice_get (fixed_streams frames) j ≡ Some e → IsSentRow frames e
+unfolding fixed_streams
+from_fixed frames j e h = from_streams frames 0 768 j e h
+
+-- past the PDOs of a network there is none but those of its table of nodes
+pub frame_past : (net : Net) → IsNetwork net → (f : ℕ) (e : Entry) → length net.rows ≤ f → slice_get (map entry_of net.set) f ≡ Some e → IsSentRow net.nodes.frames e
+frame_past net is f e past here =
+    let s = network_streams net is in
+    let there : slice_get (s.pdos ++ fixed_streams net.nodes.frames) f ≡ Some e = subst (λ (es : List Entry). slice_get es f ≡ Some e) s.parts here in
+    let b = beyond s.pdos (fixed_streams net.nodes.frames) f e (omega (arith, past, s.count)) there in
+    from_fixed net.nodes.frames b.0 e b.1

@@ -18,7 +18,7 @@ use Rattle.cop_sim.specs.Guarantee.{IsRunOf, IsKept}
 use Rattle.cop_sim.proofs.GuaranteeLemmas.{kept}
 use Rattle.cop_engine.specs.Networks.{Found, net_of}
 use Rattle.cop_engine.specs.Guarantee.{IsFrameOf, AreOnTimeIn, IsGuaranteed}
-use Rattle.cop_engine.proofs.PlanStreams.{fine, synced, pdo_of, frame_at, tested_at}
+use Rattle.cop_engine.proofs.PlanStreams.{fine, synced, pdo_of, frame_at, tested_at, no_other}
 
 sent_row : (row : FrameRow) (d : ℕ) → row.deadline ≡ Some d → IfSome row.deadline (IsFrameDeadline row.kind row.period) → row.period ≢ 0
 sent_row row d dated h =
@@ -67,6 +67,7 @@ module _ (found : Found) (streams : List Stream) (is : IsNetwork (net_of found s
       pdos = pdo_of found streams is plan h;
       on_time = pdos_on_time plan h;
       frames = frame_of plan h;
+      no_other = no_other found streams is plan h;
       frames_on_time = frames_on_time plan h;
     },
   )

@@ -43,7 +43,7 @@ network_distinct n is =
     let one : AreOneSet (map entry_of n.set) = subst (λ (r : Result Accepted net.Refusal). IfOk r (λ made. AreOneSet made.streams)) is.made (accepted_one_set n.nodes n.rows is.files is.nodes is.rows) in
     distinct_entries n.set one.apart
 
-has_pdos : (n : Net) → IsNetwork n → HasPdos n.set (length n.rows)
+pub has_pdos : (n : Net) → IsNetwork n → HasPdos n.set (length n.rows)
 has_pdos n is = record { count = is.streams.count; distinct = network_distinct n is; outside_first = is.streams.outside; outside_second = is.streams.outside_second }
 
 text_same : (rows : List PdoRow) (outcome : Outcome) (vs ws : List Verdict) → ArePlanVerdicts outcome vs (length rows) → ArePlanVerdicts outcome ws (length rows) → plan_text rows vs outcome ≡ plan_text rows ws outcome

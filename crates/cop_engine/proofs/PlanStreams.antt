@@ -2,6 +2,8 @@
 use Rattle.std.proofs.Common.{◌≡◌, ◌≢◌, ℕ, ◌*◌, ◌<◌, ◌≤◌, List, length, map, slice_get, option_map, Option, Some, None, IsSome, Contains, refl, sym, ap, ◌∙◌, subst, arith}
 use Rattle.std.specs.Option.{option_and_then, option_map_or}
 use Rattle.std.proofs.lemmas.Option.{slice_get-map, slice_get_within, get_or_from_slice_get}
+use Rattle.cop_dict.specs.Mapping.{total_bits}
+use Rattle.cop_pdo.specs.Bits.{bytes_for}
 use Rattle.cop_rta.specs.declared.streams.Stream.{Stream}
 use Rattle.cop_rta.specs.Entries.{Entry, entry_of}
 use Rattle.cop_rta.specs.Test.{of_stream}
@@ -19,7 +21,7 @@ use Rattle.cop_plan.proofs.RenameLemmas.{id_of_pdo, id_of_fixed, none_lower, sti
 use Rattle.cop_engine.specs.Guarantee.{IsFrameOf, IsPdoOf}
 use Rattle.cop_engine.specs.Networks.{Found, net_of}
 use Rattle.cop_engine.proofs.RowStreams.{row_stream, by_events, by_sync}
-use Rattle.cop_engine.proofs.FrameStreams.{frame_there, sync_row}
+use Rattle.cop_engine.proofs.FrameStreams.{frame_there, frame_past, sync_row}
 
 -- what a function made something of was there
 pub was_there : {A B : Type 0} (f : A → B) (o : Option A) (b : B) → option_map f o ≡ Some b → (a : A) × (o ≡ Some a) × (f a ≡ b)
@@ -82,24 +84,38 @@ module _ (found : Found) (streams : List Stream) (is : IsNetwork (net_of found s
       let id : of_stream (λ s. s.id) streams f ≡ s.0.id = ap (λ (o : Option Stream). option_map_or (λ (s : Stream). s.id) o 0) s.1 in
       id_renamed f k here (inside f e there) ∙ id_of_fixed streams pdos (id_of plan.ids) f past ∙ id ∙ ap (λ (e : Entry). e.id) s.2
 
+  frame_with : (row : FrameRow) (f : ℕ) (k : Stream) → pdos ≤ f → slice_get (map entry_of streams) f ≡ Some (frame_stream row) → slice_get plan.streams f ≡ Some k → timing_of k ≡ timing_in (frame_stream row)
+      → IsFrameOf plan row k
+  frame_with row f k past there here timing = record {
+    here = (f, slice_get_within plan.streams f k here, get_or_from_slice_get plan.streams f k k here);
+    id = id_kept f (frame_stream row) k past there here;
+    bytes = ap (λ (t : Timing). t.bytes) timing;
+    period = ap (λ (t : Timing). t.period) timing;
+    jitter = ap (λ (t : Timing). t.jitter) timing;
+    deadline = ap (λ (t : Timing). t.deadline) timing;
+    every = ap (λ (t : Timing). t.every) timing;
+  }
+
   -- the stream of a row of the table of nodes, past the PDOs
   pub frame_at : (row : FrameRow) → Contains found.nodes.frames row → row.period ≢ 0 → (f : ℕ) × (pdos ≤ f) × (k : Stream) × (slice_get plan.streams f ≡ Some k) × IsFrameOf plan row k
   frame_at row at some =
       let t = frame_there (net_of found streams) is row at some in
-      let k = renamed_at t.0 (frame_stream row) t.2 in (
-        t.0,
-        t.1,
-        k.0,
-        k.1,
-        record {
-          here = (t.0, slice_get_within plan.streams t.0 k.0 k.1, get_or_from_slice_get plan.streams t.0 k.0 k.0 k.1);
-          id = id_kept t.0 (frame_stream row) k.0 t.1 t.2 k.1;
-          period = ap (λ (t : Timing). t.period) k.2;
-          jitter = ap (λ (t : Timing). t.jitter) k.2;
-          deadline = ap (λ (t : Timing). t.deadline) k.2;
-          every = ap (λ (t : Timing). t.every) k.2;
-        },
-      )
+      let k = renamed_at t.0 (frame_stream row) t.2 in
+      (t.0, t.1, k.0, k.1, frame_with row t.0 k.0 t.1 t.2 k.1 k.2)
+
+  -- a stream of the plan was one of the network
+  was_before : (f : ℕ) (k : Stream) → slice_get plan.streams f ≡ Some k → (s : Stream) × (slice_get streams f ≡ Some s) × (timing_of s ≡ timing_of k)
+  was_before f k here = was_there timing_of (slice_get streams f) (timing_of k)
+      (sym (slice_get-map timing_of streams f) ∙ ap (λ (ts : List Timing). slice_get ts f) (sym planned.renamed.timings) ∙ slice_get-map timing_of plan.streams f ∙ ap (λ (o : Option Stream). option_map timing_of o) here)
+
+  -- and past the PDOs there is no other
+  pub no_other : (f : ℕ) (k : Stream) → pdos ≤ f → slice_get plan.streams f ≡ Some k → (row : FrameRow) × Contains found.nodes.frames row × (row.period ≢ 0) × IsFrameOf plan row k
+  no_other f k past here =
+      let s = was_before f k here in
+      let there : slice_get (map entry_of streams) f ≡ Some (entry_of s.0) = slice_get-map entry_of streams f ∙ ap (λ (o : Option Stream). option_map entry_of o) s.1 in
+      let r = frame_past (net_of found streams) is f (entry_of s.0) past there in
+      let its : slice_get (map entry_of streams) f ≡ Some (frame_stream r.0) = subst (λ (e : Entry). slice_get (map entry_of streams) f ≡ Some e) r.3 there in
+      (r.0, r.1, r.2, frame_with r.0 f k past its here (sym s.2 ∙ ap timing_in r.3))
 
   -- the stream of a row of the table of PDOs
   pub pdo_of : (p : ℕ) (row : PdoRow) → slice_get found.rows p ≡ Some row → (k : Stream) × IsPdoOf found plan p row k
@@ -108,16 +124,18 @@ module _ (found : Found) (streams : List Stream) (is : IsNetwork (net_of found s
       let signals = signals_of found.nodes.frames pdos in
       let r = row_stream (net_of found streams) is p row there in
       let k = renamed_at p (pdo_stream signals p r.sent row) r.there in
+      let bytes : k.0.bytes ≡ bytes_for (total_bits r.sent.mapping.entries) = ap (λ (t : Timing). t.bytes) k.2 in
       let every : k.0.every ≡ r.sent.every = ap (λ (t : Timing). t.every) k.2 in
       let period : k.0.period ≡ ticks (period_of signals.sync row r.sent.every) = ap (λ (t : Timing). t.period) k.2 in (
         k.0,
         record {
           here = k.1;
           id = id_renamed p k.0 k.1 (inside p (pdo_stream signals p r.sent row) r.there) ∙ id_of_pdo streams pdos (id_of plan.ids) p low;
-          type = rw every r.type;
+          bytes = rw bytes r.as_sent.bytes;
+          type = rw every r.as_sent.type;
           by_events = λ none. period ∙ ap ticks (by_events signals.sync row r.sent.every (sym every ∙ none));
           by_sync = λ some.
-              let s = by_sync signals.sync row r.sent.every (omega (arith, some, every)) r.paced in
+              let s = by_sync signals.sync row r.sent.every (omega (arith, some, every)) r.as_sent.paced in
               let its = sync_row found.nodes.frames s.1 s.2 in
               let stream = frame_at s.1 its.0 its.1 in
               record {
@@ -135,8 +153,7 @@ module _ (found : Found) (streams : List Stream) (is : IsNetwork (net_of found s
   -- a stream past the PDOs that has a deadline is an SDO frame that is tested
   pub tested_at : (f : ℕ) (k : Stream) (d : ℕ) → length plan.ids ≤ f → slice_get plan.streams f ≡ Some k → k.deadline ≡ Some d → IsTested plan.streams (length plan.ids) f
   tested_at f k d past here dated =
-      let s = was_there timing_of (slice_get streams f) (timing_of k)
-      (sym (slice_get-map timing_of streams f) ∙ ap (λ (ts : List Timing). slice_get ts f) (sym planned.renamed.timings) ∙ slice_get-map timing_of plan.streams f ∙ ap (λ (o : Option Stream). option_map timing_of o) here) in
+      let s = was_before f k here in
       let fixed : pdos ≤ f = omega (arith, past, planned.count) in
       let low = slice_get_within streams f s.0 s.1 in
       let deadline : deadline_at streams f ≡ Some d = ap (λ (o : Option Stream). option_and_then (λ (s : Stream). s.deadline) o) s.1 ∙ ap (λ (t : Timing). t.deadline) s.2 ∙ dated in

@@ -1,8 +1,13 @@
 -- The stream of each row of the table of PDOs.
-use Rattle.std.proofs.Common.{◌≡◌, ℕ, zero, suc, ◌+◌, ◌*◌, ◌≤◌, ◌==◌, Bool, true, false, cond, List, [], ◌∷◌, ◌++◌, length, map, get_or, slice_get, Option, Some, None, Result, Ok, refl, sym, ap, ◌∙◌, subst, arith, mul_assoc}
+use Rattle.std.proofs.Common.{◌≡◌, ℕ, zero, suc, ◌+◌, ◌*◌, ◌≤◌, ◌==◌, Bool, true, false, cond, List, [], ◌∷◌, ◌++◌, length, map, get_or, slice_get, Option, Some, None, Result, Ok, Err, refl, sym, ap, ◌∙◌, subst, arith, mul_assoc}
 use Rattle.std.proofs.lemmas.Bool.{ne_eqb, eqb-true}
+use Rattle.cop_dict.specs.declared.mapping.Direction.{Direction}
 use Rattle.cop_dict.specs.declared.mapping.Direction.TheVariants as directions
-use Rattle.cop_pdo.specs.Payload.{payload_of}
+use Rattle.cop_dict.specs.declared.mapping.Mapped.{Mapped}
+use Rattle.cop_dict.specs.declared.mapping.MappingFault.{MappingFault}
+use Rattle.cop_dict.specs.Mapping.{total_bits}
+use Rattle.cop_pdo.specs.Bits.{bytes_for}
+use Rattle.cop_pdo.specs.Payload.{Layout, payload_of}
 use Rattle.cop_rta.specs.Entries.{Entry, entry_of}
 use Rattle.cop_rows.specs.declared.pdo_table.PdoRow.{PdoRow}
 use Rattle.cop_rows.specs.declared.node_table.FrameRow.{FrameRow}
@@ -25,7 +30,7 @@ use Rattle.cop_net.specs.Signals.{ranges_of, signals_of}
 use Rattle.cop_net.specs.Steps.{folded}
 use Rattle.cop_net.specs.Network.{Accepted, Net, IsNetwork, accepted, all_settable, with_rate, streams_of, network_of}
 use Rattle.cop_net.proofs.PdoLemmas.{one_more, pdos_found}
-use Rattle.cop_engine.specs.Guarantee.{HasType}
+use Rattle.cop_engine.specs.Guarantee.{HasType, HasBytes}
 
 -- what stands in a list stands there with more behind it
 pub still_there : {A : Type 0} (xs ys : List A) (k : ℕ) (x : A) → slice_get xs k ≡ Some x → slice_get (xs ++ ys) k ≡ Some x
@@ -47,21 +52,46 @@ no_fault : (place : ℕ) (fault : Option SyncFault) (x y : Sent) → unless_faul
 no_fault place None x y h = (refl, cc)
 no_fault place (Some fault) x y h = cc
 
--- a TPDO is sent as its transmission type says, and its row and SYNC's go with that
-as_sent : (signals : Signals) (place : ℕ) (row : PdoRow) (device : Option Device) (sent : Sent) → transmitted_by signals place row device ≡ Ok sent
-    → HasType device row sent.every × (pace_fault signals.sync row sent.every ≡ None)
+the_layout : (rule : MappingFault → Rule) (place : ℕ) (direction : Direction) (r : Result (List Mapped) MappingFault) (layout : Layout) → laid_out rule place direction r ≡ Ok layout → r ≡ Ok layout.entries
+the_layout rule place direction (Ok entries) layout h =
+    let whole : ◌≡◌ {A = Result Layout Refusal} (Ok (record { direction = direction; entries = entries })) (Ok layout) = h in
+    let same : record { direction = direction; entries = entries } ≡ layout = cc in
+    ap (λ (l : Layout). Ok l.entries) same
+the_layout rule place direction (Err fault) layout h = cc
+
+unbroken : (rule : Rule) (place : ℕ) (b : Bool) (x y : Layout) → unless rule place b x ≡ Ok y → x ≡ y
+unbroken rule place true x y h = cc
+unbroken rule place false x y h = cc
+
+-- a TPDO has the bytes of its mapping and is sent as its transmission type says, and its row and SYNC's go with that
+record IsAsSent (signals : Signals) (device : Option Device) (row : PdoRow) (sent : Sent) : Type 0 where
+  pub bytes : HasBytes device row (bytes_for (total_bits sent.mapping.entries))
+  pub type : HasType device row sent.every
+  pub paced : pace_fault signals.sync row sent.every ≡ None
+
+as_sent : (signals : Signals) (place : ℕ) (row : PdoRow) (device : Option Device) (sent : Sent) → transmitted_by signals place row device ≡ Ok sent → IsAsSent signals device row sent
 as_sent signals place row None sent h = cc
 as_sent signals place row (Some device) sent h =
     let index = (sent_by row).index in
-    let p = bind_ok (laid_out unsent place directions.Transmit (payload_of device.dictionary directions.Transmit row.tpdo)) _ sent h in
+    let payload = payload_of device.dictionary directions.Transmit row.tpdo in
+    let p = bind_ok (laid_out unsent place directions.Transmit payload) _ sent h in
     let q = bind_ok (unless (rules.CobId (tpdo_of row)) place (is_usable device.dictionary index (ranges_of signals)) p.0) _ sent p.2 in
     let r = bind_ok (or_rule rules.Transmission place (every_at device.dictionary index)) _ sent q.2 in
     let n = no_fault place (pace_fault signals.sync row r.0) (record { mapping = q.0; every = r.0 }) sent r.2 in
     let every : r.0 ≡ sent.every = ap (λ (s : Sent). s.every) n.1 in
-    let type : every_at device.dictionary index ≡ Some r.0 = the_number rules.Transmission place (every_at device.dictionary index) r.0 r.1 in (
-      record { sender = device; is_sender = refl; type = type ∙ ap (λ (m : ℕ). Some m) every },
-      subst (λ (m : ℕ). pace_fault signals.sync row m ≡ None) every n.0,
-    )
+    let type : every_at device.dictionary index ≡ Some r.0 = the_number rules.Transmission place (every_at device.dictionary index) r.0 r.1 in
+    let layout : p.0 ≡ sent.mapping = unbroken (rules.CobId (tpdo_of row)) place (is_usable device.dictionary index (ranges_of signals)) p.0 q.0 q.1 ∙ ap (λ (s : Sent). s.mapping) n.1 in
+    record {
+      bytes = record {
+        sender = device;
+        is_sender = refl;
+        mapping = sent.mapping.entries;
+        is_mapping = the_layout unsent place directions.Transmit payload p.0 p.1 ∙ ap (λ (l : Layout). Ok l.entries) layout;
+        bytes = refl;
+      };
+      type = record { sender = device; is_sender = refl; type = type ∙ ap (λ (m : ℕ). Some m) every };
+      paced = subst (λ (m : ℕ). pace_fault signals.sync row m ≡ None) every n.0;
+    }
 
 -- where events send it its period is its row's
 pub by_events : (sync : Option FrameRow) (row : PdoRow) (every : ℕ) → every ≡ 0 → period_of sync row every ≡ row.period
@@ -89,21 +119,19 @@ by_sync sync row every some h =
 pub record IsRowStream (signals : Signals) (devices : List (Option Device)) (k : ℕ) (row : PdoRow) (streams : List Entry) : Type 0 where
   pub sent : Sent
   pub there : slice_get streams k ≡ Some (pdo_stream signals k sent row)
-  pub type : HasType (get_or devices row.node None) row sent.every
-  pub paced : pace_fault signals.sync row sent.every ≡ None
+  pub as_sent : IsAsSent signals (get_or devices row.node None) row sent
 
 module _ (devices : List (Option Device)) (signals : Signals) where
   -- one row more is one stream more
   one_row : (found more : Traffic) (row : PdoRow) → pdo_added devices signals found row ≡ Ok more
-      → (sent : Sent) × (more.streams ≡ found.streams ++ pdo_stream signals (length found.streams) sent row ∷ []) × HasType (get_or devices row.node None) row sent.every × (pace_fault signals.sync row sent.every ≡ None)
+      → (sent : Sent) × (more.streams ≡ found.streams ++ pdo_stream signals (length found.streams) sent row ∷ []) × IsAsSent signals (get_or devices row.node None) row sent
   one_row found more row h =
       let p = bind_ok (transmitted_by signals (length found.streams + 1) row (get_or devices row.node None)) _ more h in
       let q = bind_ok (folded (consumer_added devices signals (length found.streams + 1) p.0.mapping) (found.used ++ sent_by row ∷ []) row.consumers) _ more p.2 in
       let stream = pdo_stream signals (length found.streams) p.0 row in
       let whole : ◌≡◌ {A = Result Traffic Refusal} (Ok (record { streams = found.streams ++ stream ∷ []; used = q.0 })) (Ok more) = q.2 in
       let same : record { streams = found.streams ++ stream ∷ []; used = q.0 } ≡ more = cc in
-      let s = as_sent signals (length found.streams + 1) row (get_or devices row.node None) p.0 p.1 in
-      (p.0, ap (λ (t : Traffic). t.streams) (sym same), s.0, s.1)
+      (p.0, ap (λ (t : Traffic). t.streams) (sym same), as_sent signals (length found.streams + 1) row (get_or devices row.node None) p.0 p.1)
 
   -- the streams of the rows before stay
   earlier : (rows : List PdoRow) (found more : Traffic) → folded (pdo_added devices signals) found rows ≡ Ok more → (k : ℕ) (e : Entry) → slice_get found.streams k ≡ Some e → slice_get more.streams k ≡ Some e
@@ -126,7 +154,7 @@ module _ (devices : List (Option Device)) (signals : Signals) where
       let stream = pdo_stream signals (length found.streams) s.0 first in
       let here : slice_get p.0.streams (length found.streams) ≡ Some stream = subst (λ (es : List Entry). slice_get es (length found.streams) ≡ Some stream) (sym s.1) (last_there found.streams stream) in
       let kept : slice_get more.streams (length found.streams) ≡ Some stream = earlier rows p.0 more p.2 (length found.streams) stream here in
-      let own : IsRowStream signals devices (length found.streams) first more.streams = record { sent = s.0; there = kept; type = s.2; paced = s.3 } in
+      let own : IsRowStream signals devices (length found.streams) first more.streams = record { sent = s.0; there = kept; as_sent = s.2 } in
       subst (λ (n : ℕ). IsRowStream signals devices n row more.streams) place (subst (λ (r : PdoRow). IsRowStream signals devices (length found.streams) r more.streams) same own)
   from_row (first ∷ rows) found more h (suc j) row there k e =
       let p = bind_ok (pdo_added devices signals found first) (λ t. folded (pdo_added devices signals) t rows) more h in
@@ -180,6 +208,5 @@ module _ (net : Net) (is : IsNetwork net) where
       record {
         sent = s.sent;
         there = subst (λ (es : List Entry). slice_get es k ≡ Some stream) (sym network_streams.parts) (still_there network_streams.pdos (fixed_streams net.nodes.frames) k stream s.there);
-        type = s.type;
-        paced = s.paced;
+        as_sent = s.as_sent;
       }

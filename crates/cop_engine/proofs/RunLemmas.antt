@@ -62,7 +62,7 @@ module _ {S : Type 0} (count : S → ℕ) (takes : S → Step → S → Type 0) 
 actors : (seed : ℕ) (streams : List Stream) (items : List Seeded) → items ≡ map (fresh seed) streams → actors_of offer_of (λ s z u. joins_of s z) streams items ≡ seeded seed streams
 actors seed streams items is = ap (actors_of offer_of (λ s z u. joins_of s z) streams) is ∙ actors-are seed streams
 
-seeded_streams : (seed : ℕ) (streams : List Stream) → streams_of (seeded seed streams) ≡ streams
+pub seeded_streams : (seed : ℕ) (streams : List Stream) → streams_of (seeded seed streams) ≡ streams
 seeded_streams seed [] = refl
 seeded_streams seed (k ∷ ks) = ap (λ (xs : List Stream). k ∷ xs) (seeded_streams seed ks)
 

@@ -1,12 +1,17 @@
 -- What the plan of a network guarantees.
-use Rattle.std.specs.Prelude.{◌≡◌, ◌≢◌, ◌≤◌, ℕ, ◌+◌, ◌*◌, List, Option, None, Some, option_map, length, get_or, slice_get, All, Contains}
+use Rattle.std.specs.Prelude.{◌≡◌, ◌≢◌, ◌≤◌, ℕ, ◌+◌, ◌*◌, List, Option, None, Some, Ok, option_map, length, get_or, slice_get, All, Contains}
 use Rattle.cop_frame.specs.Rate.{ticks_of}
+use Rattle.cop_dict.specs.declared.mapping.Direction.TheVariants.{Transmit}
+use Rattle.cop_dict.specs.declared.mapping.Mapped.{Mapped}
+use Rattle.cop_dict.specs.Mapping.{total_bits}
+use Rattle.cop_pdo.specs.Bits.{bytes_for}
+use Rattle.cop_pdo.specs.Payload.{payload_of}
 use Rattle.cop_rta.specs.declared.streams.Stream.{Stream}
 use Rattle.cop_bus.specs.Run.{Instance, IsOnTime}
 use Rattle.cop_rows.specs.declared.pdo_table.PdoRow.{PdoRow}
 use Rattle.cop_rows.specs.declared.node_table.FrameRow.{FrameRow}
 use Rattle.cop_net.specs.declared.devices.Device.{Device}
-use Rattle.cop_net.specs.Fixed.{base_of, ticks}
+use Rattle.cop_net.specs.Fixed.{base_of, size_of, ticks}
 use Rattle.cop_net.specs.Pdos.{every_at, sent_by}
 use Rattle.cop_net.specs.Signals.{sync_of}
 use Rattle.cop_plan.specs.Values.{PlanValue, id_of}
@@ -19,10 +24,11 @@ use Rattle.cop_engine.specs.Networks.{Found}
 use Rattle.cop_engine.specs.declared.plans.Files.{Files}
 use Rattle.cop_engine.specs.Plans.{AreFilesOf}
 
--- the stream of a frame of the table of nodes that is sent: its identifier is that of its kind and node, its times are the row's
+-- the stream of a frame of the table of nodes that is sent: its identifier and bytes are those of its kind and node, its times are the row's
 pub record IsFrameOf (plan : PlanValue) (row : FrameRow) (k : Stream) : Type 0 where
   pub here : Contains plan.streams k
   pub id : k.id ≡ base_of row.kind + row.node
+  pub bytes : k.bytes ≡ size_of row.kind
   pub period : k.period ≡ ticks row.period
   pub jitter : k.jitter ≡ ticks row.jitter
   pub deadline : k.deadline ≡ option_map ticks row.deadline
@@ -43,11 +49,21 @@ pub record HasType (device : Option Device) (row : PdoRow) (every : ℕ) : Type 
   pub is_sender : device ≡ Some sender
   pub type : every_at sender.dictionary (sent_by row).index ≡ Some every
 
--- The stream of a row's PDO under a plan: its identifier is the plan's, its jitter and deadline are the row's. Where it is sent by events its
--- period is the row's, and otherwise so many times SYNC's as the transmission type of its device says.
+-- a frame of a TPDO has the bytes of its device's mapping
+pub record HasBytes (device : Option Device) (row : PdoRow) (bytes : ℕ) : Type 0 where
+  pub sender : Device
+  pub is_sender : device ≡ Some sender
+  pub mapping : List Mapped
+  pub is_mapping : payload_of sender.dictionary Transmit row.tpdo ≡ Ok mapping
+  pub bytes : bytes ≡ bytes_for (total_bits mapping)
+
+-- The stream of a row's PDO under a plan: its identifier is the plan's, its jitter and deadline are the row's, and its bytes are those of its
+-- device's mapping. Where it is sent by events its period is the row's, and otherwise so many times SYNC's as the transmission type of its
+-- device says.
 pub record IsPdoOf (found : Found) (plan : PlanValue) (p : ℕ) (row : PdoRow) (k : Stream) : Type 0 where
   pub here : slice_get plan.streams p ≡ Some k
   pub id : k.id ≡ id_of plan.ids p
+  pub bytes : HasBytes (get_or found.network.equipment.devices row.node None) row k.bytes
   pub type : HasType (get_or found.network.equipment.devices row.node None) row k.every
   pub by_events : k.every ≡ 0 → k.period ≡ ticks row.period
   pub by_sync : 1 ≤ k.every → IsBySync found.nodes.frames plan row k
@@ -60,11 +76,13 @@ AreOnTimeIn plan id deadline =
     (until : ℕ) (run : List Instance) → IsRunOf plan until run → All (λ y. y.id ≡ id → IsOnTime (ticks_of plan.rate) until (Some deadline) y) run
 
 -- Each row's PDO ends each of its transfers within the row's deadline, in every legal run of the plan's streams at its
--- rate in which all of them obey. So does each SDO frame for which the table of nodes has a deadline.
+-- rate in which all of them obey. So does each SDO frame for which the table of nodes has a deadline. The plan has no streams but those of
+-- the rows of both tables.
 pub record MeetsDeadlines (found : Found) (plan : PlanValue) : Type 0 where
   pub pdos : (p : ℕ) (row : PdoRow) → slice_get found.rows p ≡ Some row → (k : Stream) × IsPdoOf found plan p row k
   pub on_time : (p : ℕ) (row : PdoRow) → slice_get found.rows p ≡ Some row → AreOnTimeIn plan (id_of plan.ids p) (ticks row.deadline)
   pub frames : (row : FrameRow) → Contains found.nodes.frames row → row.period ≢ 0 → (k : Stream) × IsFrameOf plan row k
+  pub no_other : (f : ℕ) (k : Stream) → length found.rows ≤ f → slice_get plan.streams f ≡ Some k → (row : FrameRow) × Contains found.nodes.frames row × (row.period ≢ 0) × IsFrameOf plan row k
   pub frames_on_time : (row : FrameRow) (d : ℕ) → Contains found.nodes.frames row → row.deadline ≡ Some d → AreOnTimeIn plan (base_of row.kind + row.node) (ticks d)
 
 -- The plan has the slowest rate that all devices support and at which some assignment of identifiers passes the

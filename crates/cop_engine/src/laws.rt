@@ -7,8 +7,15 @@ ghost use Rattle.cop_engine.specs.declared.plans.Files.{Files};
 ghost use Rattle.cop_engine.specs.Tests.{IsReport};
 ghost use Rattle.cop_engine.specs.Plans.{AreFilesOf};
 ghost use Rattle.cop_engine.specs.Checks.{IsCheckOf, ExplainsCheck};
+ghost use Rattle.cop_plan.specs.declared.assigning.Outcome.{Outcome};
+ghost use Rattle.cop_engine.specs.Judgements.{IsPlannedNetwork, IsJudgement};
+ghost use Rattle.cop_engine.specs.Runs.{IsNetworkRun};
+ghost use Rattle.cop_engine.specs.Boots.{IsBootOf};
 ghost use Rattle.cop_engine.specs.declared.faults.Fault.{Fault};
 ghost use Rattle.cop_engine.specs.declared.faults.Fault.TheVariants as faults;
+
+use cop_plan::{one_outcome, planned_streams_are_distinct};
+use cop_sim::play_is_one;
 
 /// The bytes of a table and a rate have one report.
 pub fn one_report()
@@ -19,6 +26,32 @@ pub fn one_report()
 pub fn one_plan()
     ensures { (nodes pdos : List ℕ) (eds : List File) (a b : Files) → AreFilesOf nodes pdos eds a → AreFilesOf nodes pdos eds b → (a.planned ≡ b.planned) × (a.plan.items ≡ b.plan.items) × (a.refusals.items ≡ b.refusals.items) × (a.dcf ≡ b.dcf) }
 {}
+
+/// It is one plan that [`plan_bytes`](crate::plan_bytes) gives and by which [`judge_bytes`](crate::judge_bytes) judges a
+/// trace, [`run_bytes`](crate::run_bytes) runs the network, and [`boot_bytes`](crate::boot_bytes) boots it.
+pub fn plan_is_used()
+    ensures network { (nodes pdos : List ℕ) (eds : List File) (files : Files) (outcome : Outcome) → (f : AreFilesOf nodes pdos eds files) → IsPlannedNetwork nodes pdos eds outcome → outcome ≡ f.planned.outcome }
+    ensures boot { (seed : ℕ) (nodes pdos : List ℕ) (eds : List File) (files : Files) (text : List ℕ) → (f : AreFilesOf nodes pdos eds files) → (b : IsBootOf seed nodes pdos eds text) → b.outcome ≡ f.planned.outcome }
+{
+    one_outcome();
+}
+
+/// The bytes of tables, EDS files and a trace have one judgement.
+pub fn one_judgement()
+    ensures { (nodes pdos : List ℕ) (eds : List File) (trace text other : List ℕ) → IsJudgement nodes pdos eds trace text → IsJudgement nodes pdos eds trace other → text ≡ other }
+{
+    one_outcome();
+}
+
+/// The bytes of tables and EDS files, a seed and a moment have one run.
+pub fn one_run()
+    ensures { (nodes pdos : List ℕ) (eds : List File) (seed until : ℕ) (text trace other another : List ℕ)
+        → IsNetworkRun nodes pdos eds seed until text trace → IsNetworkRun nodes pdos eds seed until other another → (text ≡ other) × (trace ≡ another) }
+{
+    one_outcome();
+    planned_streams_are_distinct();
+    play_is_one();
+}
 
 /// The bytes of tables, EDS files and a refusal file have one check.
 pub fn one_check()

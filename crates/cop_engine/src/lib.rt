@@ -26,7 +26,9 @@ pub use faults::{Fault, status};
 pub use guarantee::{dcf_round_trip, judged_on_time, planner_guarantee};
 pub use inputs::read_all;
 pub use judgements::{judge_bytes, none_passes};
-pub use laws::{one_check, one_plan, one_report, planned_refusals_hold};
+pub use laws::{
+    one_check, one_judgement, one_plan, one_report, one_run, plan_is_used, planned_refusals_hold,
+};
 pub use messages::{check_status, message, plan_status, rate_of, text_status};
 pub use outlets::{Outlet, deliver};
 pub use plans::{Files, plan_bytes};

@@ -15,6 +15,7 @@ use Rattle.cop_rta.proofs.MoreAbove.{passes_under_fewer}
 use Rattle.cop_cert.specs.Assignments.{least_id, IsAssignment, AreOutside, IsSdo, IsTested, id_under, is_lower, place_under, AllTestedPass}
 use Rattle.cop_cert.proofs.AboveLemmas.{more_above}
 use Rattle.cop_plan.specs.Values.{Timing, timing_of, HaveIds, HaveDeadlines, ArePdosHigh, AreOnTime}
+use Rattle.cop_plan.specs.Orders.{HasPdos}
 use Rattle.cop_plan.proofs.FillingLemmas.{no_bit}
 use Rattle.cop_plan.proofs.SamePlace.{place_at, same_length, same_number, same_deadline, passes_same}
 use Rattle.cop_plan.proofs.SameSync.{AreAlike, ahead_same, one_sync}
@@ -109,6 +110,15 @@ apart_from_fixed streams pdos ids assigned outside_first outside_second = λ p k
     go : (p k : ℕ) → p < pdos → k < length streams → p ≢ k → ids p ≡ id_under streams pdos ids k → (k < pdos) ⊎ (pdos ≤ k) → ⊥
     go p k h low other same (inl pdo) = other (assigned.distinct p k h pdo (same ∙ id_of_pdo streams pdos ids k pdo))
     go p k h low other same (inr fixed) = clash k (ids p) fixed low (same ∙ id_of_fixed streams pdos ids k fixed) (assigned.permitted p h)
+
+-- and so two streams have two identifiers
+pub distinct_renamed : (streams renamed : List Stream) (pdos : ℕ) (ids : ℕ → ℕ) → IsAssignment pdos ids → HasPdos streams pdos → HaveIds streams pdos ids renamed → AreDistinct renamed
+distinct_renamed streams renamed pdos ids assigned has have j k d lt h same =
+    let size : length renamed ≡ length streams = same_length renamed streams have.timings in
+    let inside : k < length streams = omega (arith, h, size) in
+    let first : j < length streams = omega (arith, lt, inside) in
+    apart streams pdos ids (apart_from_fixed streams pdos ids assigned has.outside_first has.outside_second) has.distinct j k lt inside
+    (sym (have.each j first) ∙ of_stream_at renamed j d (omega (arith, lt, h)) ∙ same ∙ sym (of_stream_at renamed k d h) ∙ have.each k inside)
 
 -- and none of them is below the first range
 pub none_lower : (pdos : ℕ) (ids : ℕ → ℕ) → IsAssignment pdos ids → (p : ℕ) → p < pdos → least_id ≤ ids p

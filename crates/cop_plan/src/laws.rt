@@ -5,6 +5,7 @@ ghost use Rattle.cop_frame.specs.declared.rates.Rate.{Rate};
 ghost use Rattle.cop_rta.specs.declared.streams.Stream.{Stream};
 ghost use Rattle.cop_cert.specs.declared.refusals.Refusal.{Refusal};
 ghost use Rattle.cop_rta.specs.Ranges.{first_range, second_range};
+ghost use Rattle.cop_rta.specs.Streams.{AreDistinct};
 ghost use Rattle.cop_cert.specs.Assignments.{AreOutside, IsTested, IsPassing};
 ghost use Rattle.cop_cert.specs.Causes.{kept, PassesBelow};
 ghost use Rattle.cop_cert.specs.Sets.{IsStuckSet, IsGreatestStuckSet};
@@ -23,6 +24,11 @@ pub fn order_is_unique()
 /// Some streams and candidate rates have one outcome.
 pub fn one_outcome()
     ensures { (rates : List Rate) (streams : List Stream) (pdos : ℕ) (a b : Outcome) → HasPdos streams pdos → IsOutcome rates streams pdos a → IsOutcome rates streams pdos b → a ≡ b }
+{}
+
+/// No two streams of a plan have one identifier.
+pub fn planned_streams_are_distinct()
+    ensures { (rates : List Rate) (streams : List Stream) (pdos : ℕ) (plan : PlanValue) → HasPdos streams pdos → IsPlan rates streams pdos plan → AreDistinct plan.streams }
 {}
 
 /// Where places of a range are filled, each by a PDO that passes there with those that have none yet above it, those left at the end,

@@ -11,7 +11,7 @@ pub use assigning::{Outcome, assign, can_assign};
 pub use filling::Count;
 pub use laws::{
     fillings_give_the_order, fillings_leave_the_greatest, one_outcome, order_is_unique,
-    refusals_are_writable, some_assignment_passes_exactly,
+    planned_streams_are_distinct, refusals_are_writable, some_assignment_passes_exactly,
 };
 pub use planning::plan;
 pub use plans::Plan;
