@@ -9,7 +9,7 @@ use cop_table::{Record, id, number};
 
 /// What a record says.
 #[derive(Clone, Copy)]
-pub(crate) enum Entry {
+pub enum Entry {
     /// A step is taken.
     Taken(Step),
     /// The trace ends at the moment.
@@ -18,7 +18,7 @@ pub(crate) enum Entry {
 
 /// Why a record says nothing.
 #[derive(Clone, Copy)]
-pub(crate) enum EntryFault {
+pub enum EntryFault {
     /// It has another number of fields, or a field is another one than may stand there.
     Malformed,
 }
@@ -122,7 +122,7 @@ fn unqueued(kind: &[u8], at: u64, id: u16) -> Result<Entry, EntryFault>
 
 #[tactic(auto, unfolding(crate::specs::Entries::entry_in))]
 /// What a record says.
-pub(crate) fn entry_in(row: &Record) -> Result<Entry, EntryFault>
+pub fn entry_in(row: &Record) -> Result<Entry, EntryFault>
     ensures { result ≡ entry_in row.now }
 {
     if row.len() != 6 {

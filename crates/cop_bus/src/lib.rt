@@ -24,6 +24,7 @@ mod writing;
 
 pub use anchors::Anchor;
 pub use bus::{Bus, Instance, Started};
+pub use entries::{Entry, EntryFault, entry_in};
 pub use faults::BusFault;
 pub use judging::judge;
 pub use lateness::first_late;
@@ -34,7 +35,7 @@ pub use laws::{
 pub use piecewise::TraceWriter;
 pub use queues::{First, Queues};
 pub use ranking::{Rank, Ranking};
-pub use reading::read_trace;
+pub use reading::{is_header, read_trace};
 pub use rings::{Full, Ring, most_of, rings_of};
 pub use runs::{Run, Trace};
 pub use steps::{Content, Step};

@@ -2,6 +2,8 @@
 
 ghost use Rattle.std.specs.Prelude.{◌≡◌, ◌≤◌, ℕ, ◌+◌, ◌<◌, ◌^◌, ◌++◌, ◌∷◌, [], length, IfOk, OnOk, List};
 ghost use Rattle.cop_table.specs.Reading.{Gives};
+ghost use Rattle.cop_table.specs.Records.{are_same};
+ghost use Rattle.cop_bus.specs.Format.{header};
 ghost use Rattle.cop_bus.specs.declared.steps.Step.{Step};
 ghost use Rattle.cop_bus.specs.Format.{text_of};
 ghost use Rattle.cop_bus.specs.Reading.{Told, AreWritable, refused_at, rows_in, ended, trace_from, trace_of, told};
@@ -29,6 +31,13 @@ fn refused(place: usize) -> BusFault
         place,
         number: UNREADABLE,
     }
+}
+
+/// Whether a record is the header of a trace.
+pub fn is_header(row: &Record) -> bool
+    ensures { result ≡ are_same row.now header }
+{
+    row.is(&HEADER)
 }
 
 /// The records under the header.

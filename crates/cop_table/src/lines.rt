@@ -10,7 +10,7 @@ use memchr::memchr;
 use std::alloc::AllocError;
 
 /// Whether a quote stands in a text.
-pub(crate) fn has_quote(text: &[u8]) -> bool
+pub fn has_quote(text: &[u8]) -> bool
     ensures { result ≡ false → All (λ c. is_quote c ≡ false) text.now }
 {
     memchr(b'"', text).is_some()

@@ -2,3 +2,4 @@ pub mod Rings
 pub mod Rules
 pub mod Knowing
 pub mod Watching
+pub mod Reading

@@ -2,8 +2,10 @@
 #![tactic(auto)]
 
 mod bus;
+mod reading;
 mod rings;
 mod rules;
 mod watching;
 
+pub use reading::TraceWatch;
 pub use watching::Watch;
