@@ -1,11 +1,16 @@
 -- A judged trace has no late instance.
-use Rattle.std.proofs.Common.{◌≡◌, ℕ, inl, inr, List, length, get_or, None, Ok, Err, Result, MatchResult, All, refl, sym, ap, ◌∙◌, arith}
+use Rattle.std.proofs.Common.{◌≡◌, ℕ, ◌+◌, Bool, cond, inl, inr, List, [], ◌∷◌, length, get_or, None, Ok, Err, Result, MatchResult, All, refl, sym, ap, ◌∙◌, arith}
+use Rattle.std.specs.Prelude.{fold}
 use Rattle.std.proofs.lemmas.Option.{slice_get-get_or}
 use Rattle.std.specs.Global.{Vec}
 use Rattle.cop_frame.specs.Rate.{ticks_of}
+use Rattle.cop_frame.specs.declared.rates.Rate.{Rate}
+use Rattle.cop_rta.specs.declared.streams.Stream.{Stream}
 use Rattle.cop_bus.specs.declared.steps.Step.{Step}
+use Rattle.cop_bus.specs.declared.steps.Step.TheVariants as steps
 use Rattle.cop_bus.specs.Run.{IsOnTime}
 use Rattle.cop_bus.specs.Trace.{instances, IsLegalTrace}
+use Rattle.cop_bus.specs.Judge.{first_broken}
 use Rattle.cop_bus.specs.Late.{first_late}
 use Rattle.cop_bus.proofs.LateLemmas.{none-found}
 use Rattle.cop_rows.specs.declared.pdo_table.PdoRow.{PdoRow}
@@ -23,7 +28,9 @@ use Rattle.cop_plan.specs.declared.assigning.Outcome.TheVariants.{Planned, Refus
 use Rattle.cop_engine.specs.declared.faults.Fault.{Fault}
 use Rattle.cop_engine.specs.declared.faults.Fault.TheVariants as faults
 use Rattle.cop_engine.specs.Networks.{ExplainsNetwork}
-use Rattle.cop_engine.specs.Judgements.{IsJudged, IsCleared, IsJudgedBy, ExplainsTrace, IsPlannedNetwork, IsJudgement, ExplainsJudgement, SaysOnTime, judged_text, transfers_in}
+use Rattle.cop_watch.specs.Knowing.{is_a_start, sent}
+use Rattle.cop_watch.specs.Reading.{IsLawful}
+use Rattle.cop_engine.specs.Judgements.{IsJudged, IsCleared, IsJudgedBy, ExplainsTrace, IsPlannedNetwork, IsJudgement, ExplainsJudgement, SaysOnTime, is_start, judged_text, transfers_in}
 use Rattle.cop_engine.proofs.GuaranteeLemmas.{all_kept}
 use Rattle.cop_engine.proofs.NetworkLemmas.{network_found}
 
@@ -51,6 +58,34 @@ module _ (nodes pdos : List ℕ) (eds : List File) (plan : PlanValue) (n : IsPla
 pub says_on_time : (nodes pdos : List ℕ) (eds : List File) (trace text : List ℕ) (outcome : Outcome) → IsPlannedNetwork nodes pdos eds outcome → IsJudgedBy outcome trace text → SaysOnTime outcome trace text
 says_on_time nodes pdos eds trace text (Planned plan) n j = on_time_says nodes pdos eds plan n trace text j
 says_on_time nodes pdos eds trace text (Refused refusals) n j = j
+
+-- ---- what is seen while a trace is read
+
+-- the starts are the transfers
+starts_are : (x : Step) → is_a_start x ≡ is_start x
+starts_are (steps.Queue id at event frame) = refl
+starts_are (steps.Start id at) = refl
+starts_are (steps.End id at) = refl
+
+sent_before : (n : ℕ) (xs : List Step) → fold (λ a x. a + cond {A = ℕ} (is_start x) 1 0) n xs ≡ n + sent xs
+sent_before n [] = omega arith
+sent_before n (x ∷ xs) =
+    let one : cond {A = ℕ} (is_a_start x) 1 0 ≡ cond {A = ℕ} (is_start x) 1 0 = ap (λ (b : Bool). cond {A = ℕ} b 1 0) (starts_are x) in
+    let rest = sent_before (n + cond {A = ℕ} (is_start x) 1 0) xs in
+    omega (arith, one, rest)
+
+sent_are : (xs : List Step) → sent xs ≡ transfers_in xs
+sent_are xs = sym (sent_before 0 xs)
+
+-- a trace that breaks no rule is that of a legal run
+pub lawful_cleared : (rate : Rate) (streams : List Stream) (trace text : List ℕ) (count : ℕ) → ((until : ℕ) (xs : List Step) → first_broken (ticks_of rate) streams until xs ≡ None → IsLegalTrace (ticks_of rate) streams until xs)
+    → IsLawful (ticks_of rate) streams trace count → text ≡ judged_text count None → IsCleared rate streams trace text
+lawful_cleared rate streams trace text count legal w is = record {
+  told = w.told;
+  read = w.is;
+  legal = legal w.told.until w.told.steps w.clean;
+  text_is = is ∙ ap (λ (n : ℕ). judged_text n None) (w.sent_is ∙ sent_are w.told.steps);
+}
 
 -- ---- what each reading gives
 

@@ -101,7 +101,7 @@ fn finish<W: Write + Drop>(
     ensures { MatchResult result (λ r. IsFinished W.contents sink until r.0.items r.1) IsOfWriting }
 {
     let Recorder { trace, transfers } = sink;
-    let text = on_time_text(alloc, transfers)?;
+    let text = on_time_text(alloc, transfers as u64)?;
     match trace.finish(until) {
         Some(writer) => Ok((text, writer)),
         None => Err(RunFault::Trace),
