@@ -5,6 +5,7 @@ use crate::failures::{Failure, Use, file_failure};
 use crate::files::{Folder, print, remove_earlier};
 use crate::inputs::{Inputs, read_file, read_input};
 use crate::judging::judge;
+use crate::notes::{check_notes, plan_notes};
 use crate::orders::{NetworkFiles, Order, Request};
 use crate::reporting::write_report;
 use cop_engine::{
@@ -34,6 +35,13 @@ fn test(
     Ok(0)
 }
 
+/// Says what is to be said of an answer, where there was memory for it.
+fn tell(rt: &HostRuntime, notes: Result<Vec<u8>, Fault>) {
+    if let Ok(words) = notes {
+        let _ = rt.stderr().write_all(&words);
+    }
+}
+
 /// Writes the files of a plan into a folder, and removes those of an earlier plan that it has not.
 fn write_files(rt: &HostRuntime, files: &Files, out: &str) -> Result<(), Failure> {
     let mut folder = Folder {
@@ -53,6 +61,7 @@ fn plan(
     rt: &HostRuntime,
     network: NetworkFiles<'_>,
     out: &str,
+    told: bool,
     inputs: &mut Inputs,
 ) -> Result<u8, Failure> {
     inputs.network.read(rt, network)?;
@@ -60,6 +69,9 @@ fn plan(
     let files = plan_bytes(rt.alloc(), &texts.nodes, &texts.pdos, &texts.eds_files)?;
     print(rt, &files.plan)?;
     write_files(rt, &files, out)?;
+    if told {
+        tell(rt, plan_notes(rt.alloc(), texts));
+    }
     Ok(plan_status(files.planned))
 }
 
@@ -68,6 +80,7 @@ fn check(
     rt: &HostRuntime,
     network: NetworkFiles<'_>,
     refusals: &str,
+    told: bool,
     inputs: &mut Inputs,
 ) -> Result<u8, Failure> {
     inputs.network.read_tables(rt, network)?;
@@ -82,6 +95,9 @@ fn check(
         &inputs.other,
     )?;
     print(rt, &text)?;
+    if told {
+        tell(rt, check_notes(rt.alloc(), inputs, refusals));
+    }
     Ok(check_status(all_hold))
 }
 
@@ -179,16 +195,17 @@ fn explain(rt: &HostRuntime, number: u8) -> Result<u8, Failure> {
     Ok(0)
 }
 
-/// Carries a request out, and gives its status. What it reads is kept.
+/// Carries a request out, and gives its status. What it reads is kept. Notes on the answer are said where words are wanted.
 pub fn carry_out(
     rt: &HostRuntime,
     request: Request<'_>,
+    told: bool,
     inputs: &mut Inputs,
 ) -> Result<u8, Failure> {
     match request.order {
         Order::Test { rate, file } => test(rt, rate, file, request.explain, inputs),
-        Order::Plan { network, out } => plan(rt, network, out, inputs),
-        Order::Check { network, refusals } => check(rt, network, refusals, inputs),
+        Order::Plan { network, out } => plan(rt, network, out, told, inputs),
+        Order::Check { network, refusals } => check(rt, network, refusals, told, inputs),
         Order::Boot { seed, network } => boot(rt, seed, network, inputs),
         Order::Judge { network, trace } => judge(rt, network, trace, inputs),
         Order::Run {

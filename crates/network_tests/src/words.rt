@@ -1,6 +1,8 @@
+use cop_net::{network, read_nodes, read_pdos};
+use cop_warn::warnings_of;
 use cop_words::{
     Network, RULE_WORDS, Source, explained, late_words, line_at, network_words, record_at,
-    record_words,
+    record_words, warning_words,
 };
 use std::alloc::{AllocError, Global};
 use std::str;
@@ -602,6 +604,89 @@ fn mistakes_of_a_consumer(rt: HostRuntime) -> Result<(), Fail> {
     Ok(())
 }
 
+/// What is warned of: a part of the EDS text of the device and what stands in its place, what is appended to it, the row of the
+/// PDO, and the words.
+const WARNED: &[(&str, &str, &str, &str, &str)] = &[
+    ("BaudRate", "BaudRate", "", "5,1,10000,669,670,", ""),
+    (
+        "BaudRate",
+        "BaudRate",
+        "",
+        "5,1,10000,670,670,",
+        "warning: TPDO 1 of node 5: its deadline of 670 us is not above its jitter of 670 us, so it is late at every rate\n",
+    ),
+    (
+        "BaudRate",
+        "BaudRate",
+        "[1800sub5]\nDataType=6\nAccessType=rw\nDefaultValue=9\n[1800sub3]\nDataType=6\nAccessType=rw\nDefaultValue=100\n",
+        "5,1,10000,0,670,",
+        "warning: TPDO 1 of node 5: its event timer (1800h sub 5) is 9 ms and its row's period 10000 us, so it is sent more often than planned: set the timer to 0 or to the period, or the row to the timer\n",
+    ),
+    (
+        "BaudRate",
+        "BaudRate",
+        "[1800sub5]\nDataType=6\nAccessType=rw\nDefaultValue=10\n[1800sub3]\nDataType=6\nAccessType=rw\nDefaultValue=101\n",
+        "5,1,10000,0,670,",
+        "warning: TPDO 1 of node 5: its inhibit time (1800h sub 3) is 10100 us and its row's period 10000 us, so it may wait longer than planned: set the inhibit time to the period at most\n",
+    ),
+    (
+        "AccessType=rw\n[1400]",
+        "AccessType=rw\nDefaultValue=1000\n[1400]",
+        "",
+        "5,1,10000,0,670,",
+        "warning: node 5 begins with a heartbeat by its EDS file (1017h), and no row heartbeat has it: the plan switches it off\n",
+    ),
+    (
+        "SupportedObjects=5",
+        "SupportedObjects=6\n6=0x1014",
+        "[1014]\nDataType=7\nAccessType=rw\nDefaultValue=0x85\n",
+        "5,1,10000,0,670,",
+        "warning: node 5 sends EMCY frames by its EDS file (1014h), and no row emcy has them: they are not counted\n",
+    ),
+    (
+        "SupportedObjects=5",
+        "SupportedObjects=6\n6=0x1005",
+        "[1005]\nDataType=7\nAccessType=rw\nDefaultValue=0x181\n",
+        "5,1,10000,0,670,",
+        "warning: node 5: 1005h sub 0 is 00000181h by its EDS file, another identifier than the one that the plan counts on, and perhaps that of a PDO: set it back in the device\n",
+    ),
+    (
+        "SupportedObjects=5",
+        "SupportedObjects=6\n6=0x1005",
+        "[1005]\nDataType=7\nAccessType=rw\nDefaultValue=0x40000080\n",
+        "5,1,10000,0,670,",
+        "warning: node 5 makes SYNC itself by its EDS file (bit 30 of 1005h): it alone may, with the period of the row sync\n",
+    ),
+];
+
+/// The words on the warnings of a network of one device.
+fn warned(alloc: Global, eds: &str, pdo: &str) -> Result<String, Fail> {
+    let pdos = format!(in alloc; "node,tpdo,period,jitter,deadline,consumers\n{pdo}\n")?;
+    let files = files(alloc, &[("unit.eds", eds)])?;
+    let nodes = read_nodes(alloc, NODES.as_bytes())?;
+    let pdos = read_pdos(alloc, pdos.as_bytes())?;
+    let network = network(alloc, &nodes, &pdos, &files)?;
+    let said = warning_words(alloc, &network, &warnings_of(alloc, &nodes, &network)?)?;
+    match str::from_utf8(&said) {
+        Ok(text) => Ok(String::from_str(alloc, text)?),
+        Err(_) => Err(Fail::from("no text")),
+    }
+}
+
+#[test]
+fn what_devices_say_otherwise_is_warned_of(rt: HostRuntime) -> Result<(), Fail> {
+    for case in WARNED {
+        let (old, new, more, pdo, wanted) = *case;
+        let Some((before, after)) = UNIT.split_once(old) else {
+            return Err(Fail::from("no such part"));
+        };
+        let eds = format!(in rt.alloc(); "{before}{new}{after}{more}")?;
+        let said = warned(rt.alloc(), &eds, pdo)?;
+        assert!(rt; said.as_str() == wanted, "{said}");
+    }
+    Ok(())
+}
+
 #[test]
 fn other_separators_are_seen(rt: HostRuntime) -> Result<(), Fail> {
     for case in SEPARATORS {
@@ -668,7 +753,9 @@ fn a_record_is_shown_without_control_characters(rt: HostRuntime) -> Result<(), F
         };
         let said = record_words(rt.alloc(), source, 2, 1)?;
         let begin = b"streams.csv, line 2: ".as_slice();
-        let rest = said.strip_prefix(begin).and_then(|rest| rest.strip_prefix(shown));
+        let rest = said
+            .strip_prefix(begin)
+            .and_then(|rest| rest.strip_prefix(shown));
         assert!(rt; rest.is_some_and(|rest| rest.starts_with(b"\nrule 2: a record")));
     }
     Ok(())

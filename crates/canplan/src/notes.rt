@@ -1,0 +1,48 @@
+//! What is said of an answer in words, where words are wanted.
+
+ghost use Rattle.std.specs.Prelude.{length};
+ghost use Rattle.cop_plan.specs.Plans.{IsOutcome};
+
+use crate::inputs::{Inputs, Texts};
+use cop_engine::Fault;
+use cop_figures::figures_of;
+use cop_net::{Network, NodeTable, network, read_nodes, read_pdos};
+use cop_plan::{Outcome, plan};
+use cop_warn::warnings_of;
+use cop_words::{refused_words, uncovered_words, warning_words};
+use std::alloc::{AllocError, Global};
+
+/// Why each rate is refused, and the warnings.
+fn outcome_notes(
+    alloc: Global,
+    nodes: &NodeTable,
+    network: &Network<'_>,
+    outcome: &Outcome,
+) -> Result<Vec<u8>, AllocError>
+    requires { IsOutcome network.now.equipment.rates network.now.set (length network.now.rows) outcome.now }
+{
+    let figures = figures_of(alloc, network, outcome)?;
+    let mut words = refused_words(alloc, network, &figures.refused)?;
+    let warnings = warnings_of(alloc, nodes, network)?;
+    words.extend_from_slice(&warning_words(alloc, network, &warnings)?)?;
+    Ok(words)
+}
+
+/// What is said of a plan: why each rate is refused, and what is worth a look before one relies on it.
+pub fn plan_notes(alloc: Global, texts: &Texts) -> Result<Vec<u8>, Fault> {
+    let nodes = read_nodes(alloc, &texts.nodes)?;
+    let pdos = read_pdos(alloc, &texts.pdos)?;
+    let network = network(alloc, &nodes, &pdos, &texts.eds_files)?;
+    let outcome = plan(alloc, &network)?;
+    Ok(outcome_notes(alloc, &nodes, &network, &outcome)?)
+}
+
+/// What is said of a check: the rates that the file of this name does not refuse.
+pub fn check_notes(alloc: Global, inputs: &Inputs, name: &str) -> Result<Vec<u8>, Fault> {
+    let texts = &inputs.network;
+    let nodes = read_nodes(alloc, &texts.nodes)?;
+    let pdos = read_pdos(alloc, &texts.pdos)?;
+    let network = network(alloc, &nodes, &pdos, &texts.eds_files)?;
+    let refusals = cop_cert::read(alloc, &inputs.other)?;
+    Ok(uncovered_words(alloc, name, &network, refusals.as_slice())?)
+}

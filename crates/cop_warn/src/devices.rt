@@ -1,0 +1,176 @@
+//! Warnings on devices.
+
+ghost use Rattle.std.specs.Prelude.{◌≡◌, ◌≤◌, ◌+◌, ◌++◌, OnOk};
+ghost use Rattle.cop_net.specs.Fixed.{rank_of};
+ghost use Rattle.cop_warn.specs.Warnings.{is_row, has_row, no_row, emcy_warning, request_warning, response_warning, heartbeat_warning, other_identifier, sync_warning, of_frames, of_identifiers, of_device};
+
+use crate::numbers::{natural_at, word_at};
+use crate::rows::push_some;
+use crate::warning::Warning;
+use cop_dict::Dictionary;
+use cop_net::{FrameKind, FrameRow};
+use std::alloc::AllocError;
+
+/// A kind of frames by its number.
+fn rank(kind: FrameKind) -> u8
+    ensures { result ≡ rank_of kind }
+{
+    match kind {
+        FrameKind::Nmt => 0,
+        FrameKind::Sync => 1,
+        FrameKind::Emcy => 2,
+        FrameKind::SdoResponse => 3,
+        FrameKind::SdoRequest => 4,
+        FrameKind::Heartbeat => 5,
+    }
+}
+
+/// Whether a row is of a kind of frames of a node.
+fn is_row(row: &FrameRow, node: u8, kind: FrameKind) -> bool
+    ensures { result ≡ is_row node kind row.now }
+{
+    row.node == node && rank(row.kind) == rank(kind)
+}
+
+/// Whether some row is of a kind of frames of a node.
+fn has_row(frames: &[FrameRow], node: u8, kind: FrameKind) -> bool
+    ensures { result ≡ has_row frames.now node kind }
+{
+    frames.iter().any(|row| is_row(row, node, kind))
+}
+
+/// That a kind of frames of a node has no row.
+fn no_row(frames: &[FrameRow], node: u8, kind: FrameKind) -> Option<Warning>
+    ensures { result ≡ no_row frames.now node kind }
+{
+    if has_row(frames, node, kind) {
+        None
+    } else {
+        Some(Warning::NoRow { node, kind })
+    }
+}
+
+/// That a device sends EMCY frames, and has no row for them.
+fn emcy_warning(frames: &[FrameRow], node: u8, dict: &Dictionary) -> Option<Warning>
+    ensures { result ≡ emcy_warning frames.now node dict.now }
+{
+    match word_at(dict, 0x1014, 0) {
+        Some(cob_id) if cob_id < 0x8000_0000 => no_row(frames, node, FrameKind::Emcy),
+        _ => None,
+    }
+}
+
+/// That a device describes its SDO server, and no row has what is sent to it.
+fn request_warning(frames: &[FrameRow], node: u8, dict: &Dictionary) -> Option<Warning>
+    ensures { result ≡ request_warning frames.now node dict.now }
+{
+    match word_at(dict, 0x1200, 1) {
+        Some(_) => no_row(frames, node, FrameKind::SdoRequest),
+        None => None,
+    }
+}
+
+/// That a device describes its SDO server, and no row has what it sends.
+fn response_warning(frames: &[FrameRow], node: u8, dict: &Dictionary) -> Option<Warning>
+    ensures { result ≡ response_warning frames.now node dict.now }
+{
+    match word_at(dict, 0x1200, 2) {
+        Some(_) => no_row(frames, node, FrameKind::SdoResponse),
+        None => None,
+    }
+}
+
+/// That a device begins with a heartbeat, and has no row for it.
+fn heartbeat_warning(frames: &[FrameRow], node: u8, dict: &Dictionary) -> Option<Warning>
+    ensures { result ≡ heartbeat_warning frames.now node dict.now }
+{
+    match natural_at(dict, 0x1017, 0) {
+        Some(millis) if millis != 0 => no_row(frames, node, FrameKind::Heartbeat),
+        _ => None,
+    }
+}
+
+/// That the COB-ID at an index and a sub exists and has another identifier than this one.
+fn other_identifier(
+    node: u8,
+    index: u16,
+    sub: u8,
+    identifier: u64,
+    dict: &Dictionary,
+) -> Option<Warning>
+    ensures { result ≡ other_identifier node index sub identifier dict.now }
+{
+    let Some(cob_id) = word_at(dict, index, sub) else {
+        return None;
+    };
+    if cob_id < 0x8000_0000 && cob_id % 0x4000_0000 != identifier {
+        Some(Warning::OtherIdentifier {
+            node,
+            index,
+            sub,
+            cob_id,
+        })
+    } else {
+        None
+    }
+}
+
+/// That a device makes SYNC, or expects it under another identifier.
+fn sync_warning(node: u8, dict: &Dictionary) -> Option<Warning>
+    ensures { result ≡ sync_warning node dict.now }
+{
+    let Some(cob_id) = word_at(dict, 0x1005, 0) else {
+        return None;
+    };
+    if cob_id / 0x4000_0000 % 2 == 1 {
+        return Some(Warning::MakesSync { node });
+    }
+    if cob_id % 0x4000_0000 != 0x80 {
+        return Some(Warning::OtherIdentifier {
+            node,
+            index: 0x1005,
+            sub: 0,
+            cob_id,
+        });
+    }
+    None
+}
+
+/// Adds which frames of a device have no row.
+fn push_frames(
+    found: &mut Vec<Warning>,
+    frames: &[FrameRow],
+    node: u8,
+    dict: &Dictionary,
+) -> Result<(), AllocError>
+    ensures { OnOk result (found.new.items ≡ found.old.items ++ of_frames frames.now node dict.now) }
+{
+    push_some(found, emcy_warning(frames, node, dict))?;
+    push_some(found, request_warning(frames, node, dict))?;
+    push_some(found, response_warning(frames, node, dict))?;
+    push_some(found, heartbeat_warning(frames, node, dict))
+}
+
+/// Adds which frames of a device have another identifier.
+fn push_identifiers(found: &mut Vec<Warning>, node: u8, dict: &Dictionary) -> Result<(), AllocError>
+    ensures { OnOk result (found.new.items ≡ found.old.items ++ of_identifiers node dict.now) }
+{
+    let own = u64::from(node);
+    push_some(found, sync_warning(node, dict))?;
+    push_some(found, other_identifier(node, 0x1014, 0, 0x80 + own, dict))?;
+    push_some(found, other_identifier(node, 0x1200, 1, 0x600 + own, dict))?;
+    push_some(found, other_identifier(node, 0x1200, 2, 0x580 + own, dict))
+}
+
+/// Adds what is found of a device.
+pub(crate) fn push_device(
+    found: &mut Vec<Warning>,
+    frames: &[FrameRow],
+    node: u8,
+    dict: &Dictionary,
+) -> Result<(), AllocError>
+    ensures { OnOk result (found.new.items ≡ found.old.items ++ of_device frames.now node dict.now) }
+{
+    push_frames(found, frames, node, dict)?;
+    push_identifiers(found, node, dict)
+}

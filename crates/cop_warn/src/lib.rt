@@ -1,0 +1,11 @@
+//! What is worth a look before one relies on the plan of a network: where its tables and its devices say different things.
+#![tactic(auto)]
+
+mod devices;
+mod finding;
+mod numbers;
+mod rows;
+mod warning;
+
+pub use finding::warnings_of;
+pub use warning::Warning;

@@ -1,0 +1,40 @@
+//! A warning.
+
+use cop_net::FrameKind;
+
+/// Something under which a plan may be no plan of the machine. The values are those that devices begin with, by their EDS files.
+#[derive(Clone, Copy, PartialEq, Eq, Debug)]
+pub enum Warning {
+    /// Of the PDO of this record the deadline is not above the jitter, so that it is late at every rate.
+    DeadlineWithinJitter {
+        place: u64,
+    },
+    /// The event timer of the TPDO of this record (1800h sub 5 and on) has so many milliseconds, which are less than the row's
+    /// period: it is sent more often than planned.
+    EventTimer {
+        place: u64,
+        millis: u64,
+    },
+    /// The inhibit time of the TPDO of this record (1800h sub 3 and on) has so many units of 100 us, which are more than the row's
+    /// period: it waits longer than planned.
+    InhibitTime {
+        place: u64,
+        units: u64,
+    },
+    /// The node's device sends frames of this kind, and the table of nodes has no row for them.
+    NoRow {
+        node: u8,
+        kind: FrameKind,
+    },
+    /// The object at this index and sub of the node's device gives a frame another identifier than the one that plans count on.
+    OtherIdentifier {
+        node: u8,
+        index: u16,
+        sub: u8,
+        cob_id: u64,
+    },
+    /// The node's device makes SYNC itself (bit 30 of 1005h).
+    MakesSync {
+        node: u8,
+    },
+}

@@ -1,0 +1,143 @@
+//! What is said of warnings.
+
+use crate::mappings::{communication, pdo_name};
+use cop_dict::Direction;
+use cop_net::{DevicePdo, FrameKind, Network, PdoRow};
+use cop_warn::Warning;
+use std::alloc::{AllocError, Global};
+
+/// The row of a record.
+fn row_at<'b>(network: &'b Network<'_>, place: u64) -> Option<&'b PdoRow> {
+    let before = usize::try_from(place.checked_sub(1)?).ok()?;
+    network.rows().get(before)
+}
+
+/// The TPDO of a row.
+fn tpdo_of(row: &PdoRow) -> DevicePdo {
+    DevicePdo {
+        direction: Direction::Transmit,
+        node: row.node,
+        number: row.tpdo,
+    }
+}
+
+fn deadline_words(alloc: Global, row: &PdoRow) -> Result<String, AllocError> {
+    let (name, jitter, deadline) = (pdo_name(alloc, tpdo_of(row))?, row.jitter, row.deadline);
+    format!(in alloc;
+        "{name}: its deadline of {deadline} us is not above its jitter of {jitter} us, so it is late at every rate\n"
+    )
+}
+
+fn timer_words(alloc: Global, row: &PdoRow, millis: u64) -> Result<String, AllocError> {
+    let (pdo, period) = (tpdo_of(row), row.period);
+    let (name, index) = (pdo_name(alloc, pdo)?, communication(pdo));
+    format!(in alloc;
+        "{name}: its event timer ({index:04X}h sub 5) is {millis} ms and its row's period {period} us, so it is sent more often than planned: set the timer to 0 or to the period, or the row to the timer\n"
+    )
+}
+
+fn inhibit_words(alloc: Global, row: &PdoRow, units: u64) -> Result<String, AllocError> {
+    let (pdo, period) = (tpdo_of(row), row.period);
+    let (name, index) = (pdo_name(alloc, pdo)?, communication(pdo));
+    let micros = units.saturating_mul(100);
+    format!(in alloc;
+        "{name}: its inhibit time ({index:04X}h sub 3) is {micros} us and its row's period {period} us, so it may wait longer than planned: set the inhibit time to the period at most\n"
+    )
+}
+
+/// What is said of the rows of a kind of frames that are missing.
+fn missing_row(kind: FrameKind) -> &'static str {
+    match kind {
+        FrameKind::Emcy => {
+            "sends EMCY frames by its EDS file (1014h), and no row emcy has them: they are not counted"
+        }
+        FrameKind::SdoRequest => {
+            "has an SDO server by its EDS file (1200h sub 1), and no row sdo_request has what is sent to it: add one if SDO is used while the machine runs"
+        }
+        FrameKind::SdoResponse => {
+            "has an SDO server by its EDS file (1200h sub 2), and no row sdo_response has what it sends: add one if SDO is used while the machine runs"
+        }
+        FrameKind::Heartbeat => {
+            "begins with a heartbeat by its EDS file (1017h), and no row heartbeat has it: the plan switches it off"
+        }
+        FrameKind::Nmt | FrameKind::Sync => "has no row",
+    }
+}
+
+fn identifier_words(
+    alloc: Global,
+    node: u8,
+    address: (u16, u8),
+    cob_id: u64,
+) -> Result<String, AllocError> {
+    let (index, sub) = address;
+    format!(in alloc;
+        "node {node}: {index:04X}h sub {sub} is {cob_id:08X}h by its EDS file, another identifier than the one that the plan counts on, and perhaps that of a PDO: set it back in the device\n"
+    )
+}
+
+/// What is said of a warning on a row.
+fn row_words(alloc: Global, row: &PdoRow, warning: Warning) -> Result<String, AllocError> {
+    match warning {
+        Warning::DeadlineWithinJitter { .. } => deadline_words(alloc, row),
+        Warning::EventTimer { millis, .. } => timer_words(alloc, row, millis),
+        Warning::InhibitTime { units, .. } => inhibit_words(alloc, row, units),
+        _ => Ok(String::new(alloc)),
+    }
+}
+
+/// What is said of a warning on a device.
+fn device_words(alloc: Global, warning: Warning) -> Result<String, AllocError> {
+    match warning {
+        Warning::NoRow { node, kind } => {
+            let said = missing_row(kind);
+            format!(in alloc; "node {node} {said}\n")
+        }
+        Warning::OtherIdentifier {
+            node,
+            index,
+            sub,
+            cob_id,
+        } => identifier_words(alloc, node, (index, sub), cob_id),
+        Warning::MakesSync { node } => format!(in alloc;
+            "node {node} makes SYNC itself by its EDS file (bit 30 of 1005h): it alone may, with the period of the row sync\n"
+        ),
+        _ => Ok(String::new(alloc)),
+    }
+}
+
+/// The record of a row that a warning is about.
+fn place_of(warning: Warning) -> Option<u64> {
+    match warning {
+        Warning::DeadlineWithinJitter { place } => Some(place),
+        Warning::EventTimer { place, .. } => Some(place),
+        Warning::InhibitTime { place, .. } => Some(place),
+        _ => None,
+    }
+}
+
+/// What is said of a warning.
+fn words_of(alloc: Global, network: &Network<'_>, warning: Warning) -> Result<String, AllocError> {
+    let Some(place) = place_of(warning) else {
+        return device_words(alloc, warning);
+    };
+    match row_at(network, place) {
+        Some(row) => row_words(alloc, row, warning),
+        None => Ok(String::new(alloc)),
+    }
+}
+
+/// What is said of the warnings of a network, a line each.
+pub fn warning_words(
+    alloc: Global,
+    network: &Network<'_>,
+    warnings: &[Warning],
+) -> Result<Vec<u8>, AllocError> {
+    let mut words = Vec::new(alloc);
+    for warning in warnings {
+        let said = words_of(alloc, network, *warning)?;
+        words.extend_from_slice(b"warning: ")?;
+        words.extend_from_slice(said.as_bytes())?;
+    }
+    Ok(words)
+}
