@@ -10,7 +10,7 @@ use Rattle.cop_rta.specs.Verdict.{PassesBy, IsJudged}
 use Rattle.cop_cert.specs.Assignments.{IsTested}
 use Rattle.cop_plan.specs.Values.{PlanValue}
 use Rattle.cop_figures.specs.declared.frames.FrameTimes.{FrameTimes}
-use Rattle.cop_figures.specs.Frames.{IsFrameTimed, AreFrames}
+use Rattle.cop_figures.specs.Frames.{place_below_all, IsFrameTimed, AreFrames}
 
 -- what some element has, one of a longer list has
 any_still : (P : FrameTimes → Type 0) (xs : List FrameTimes) (y : FrameTimes) → Any P xs → Any P (xs ++ y ∷ [])
@@ -20,12 +20,12 @@ any_still P xs y (k, x, low, here, p) =
 
 -- what is said of a frame at the place of one is said of that
 pub timed_at : (streams : List Stream) (plan : PlanValue) (f : ℕ) (t : FrameTimes) → t.place ≡ f → IsTested plan.streams (length plan.ids) f → slice_get plan.streams f ≡ Some t.stream
-    → PassesBy (place_by_id plan.streams f plan.rate) t.response → IsJudged (place_by_id streams f plan.rate) t.below_all → IsFrameTimed streams plan t
+    → PassesBy (place_by_id plan.streams f plan.rate) t.response → IsJudged (place_below_all streams (length plan.ids) plan.rate f) t.below_all → IsFrameTimed streams plan t
 timed_at streams plan f t here tested stream response below_all = record {
   tested = subst (IsTested plan.streams (length plan.ids)) (sym here) tested;
   stream = subst (λ (k : ℕ). slice_get plan.streams k ≡ Some t.stream) (sym here) stream;
   response = subst (λ (k : ℕ). PassesBy (place_by_id plan.streams k plan.rate) t.response) (sym here) response;
-  below_all = subst (λ (k : ℕ). IsJudged (place_by_id streams k plan.rate) t.below_all) (sym here) below_all;
+  below_all = subst (λ (k : ℕ). IsJudged (place_below_all streams (length plan.ids) plan.rate k) t.below_all) (sym here) below_all;
 }
 
 -- a plan's streams and PDOs as code has them

@@ -1,4 +1,5 @@
 pub mod ReasonLemmas
 pub mod LoadLemmas
 pub mod FrameLemmas
+pub mod BelowLemmas
 pub mod TimelineLemmas

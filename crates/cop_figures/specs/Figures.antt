@@ -9,7 +9,7 @@ use Rattle.cop_plan.specs.declared.assigning.Outcome.TheVariants.{Planned, Refus
 use Rattle.cop_figures.specs.declared.times.PdoTimes.{PdoTimes}
 use Rattle.cop_figures.specs.declared.figures.Figures.{Figures}
 use Rattle.cop_figures.specs.Loads.{AreLoads}
-use Rattle.cop_figures.specs.Frames.{sync_times, AreFrames}
+use Rattle.cop_figures.specs.Frames.{sync_times, AreFrames, TellsWhy}
 use Rattle.cop_figures.specs.Reasons.{AreReasons}
 
 -- a PDO of a plan: its stream under the plan's identifier, and its greatest response by the response-time test
@@ -30,6 +30,7 @@ AreFigures net (Planned plan) figures =
     × (figures.sync ≡ sync_times plan)
     × AreTimes plan figures.pdos.items
     × AreFrames net.set plan figures.frames.items
+    × TellsWhy plan figures.frames.items
     × AreLoads net figures.loads.items
     × AreReasons net plan.refusals figures.refused.items
 AreFigures net (Refused refusals) figures =

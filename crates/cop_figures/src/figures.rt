@@ -1,7 +1,9 @@
 //! The numbers of a report.
 
-ghost use Rattle.std.specs.Prelude.{◌≡◌, IfOk, length};
+ghost use Rattle.std.specs.Prelude.{ℕ, ◌<◌, IfOk, length};
+ghost use Rattle.cop_cert.specs.Assignments.{id_at};
 ghost use Rattle.cop_plan.specs.Plans.{IsOutcome};
+ghost use Rattle.cop_plan.specs.Values.{HaveIds, id_of};
 ghost use Rattle.cop_figures.specs.Figures.{AreTimes, AreFigures};
 ghost use Rattle.cop_figures.specs.Frames.{AreFrames};
 
@@ -38,7 +40,8 @@ fn times_under(
     set: &StreamSet,
     plan: &Plan,
 ) -> Result<(Vec<PdoTimes>, Vec<FrameTimes>), AllocError>
-    requires { length set.now ≡ length plan.now.streams }
+    requires renamed { HaveIds set.now (length plan.now.ids) (id_of plan.now.ids) plan.now.streams }
+    requires provisional { (k : ℕ) → k < length plan.now.ids → id_at set.now k < 0x581 }
     ensures pdos { IfOk result (λ times. AreTimes plan.now times.0.items) }
     ensures frames { IfOk result (λ times. AreFrames set.now plan.now times.1.items) }
 {

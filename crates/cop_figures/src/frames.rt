@@ -4,7 +4,8 @@ ghost use Rattle.std.specs.Prelude.{◌≡◌, ◌<◌, ◌≤◌, ℕ, IfOk, So
 ghost use Rattle.cop_rta.specs.declared.verdicts.Verdict.TheVariants.{Long};
 ghost use Rattle.cop_rta.specs.Test.{place_by_id};
 ghost use Rattle.cop_rta.specs.Verdict.{IsJudged, PassesBy};
-ghost use Rattle.cop_cert.specs.Assignments.{IsTested};
+ghost use Rattle.cop_cert.specs.Assignments.{id_at, IsTested};
+ghost use Rattle.cop_plan.specs.Values.{HaveIds, id_of};
 ghost use Rattle.cop_figures.specs.Frames.{sync_times, AreFrames};
 
 use crate::refused::frame_of;
@@ -67,14 +68,15 @@ fn frame_time(plan: &Plan, frame: usize, verdict: Verdict, below_all: Verdict) -
 }
 
 /// The times of the SDO frames with deadlines under a plan whose streams have these verdicts, in the order of the streams. In the
-/// set each PDO is above them.
+/// set the PDOs have provisional identifiers, which are above them.
 pub(crate) fn frames_of(
     alloc: Global,
     set: &StreamSet,
     plan: &Plan,
     verdicts: &[Verdict],
 ) -> Result<Vec<FrameTimes>, AllocError>
-    requires count { length set.now ≡ length plan.now.streams }
+    requires renamed { HaveIds set.now (length plan.now.ids) (id_of plan.now.ids) plan.now.streams }
+    requires provisional { (k : ℕ) → k < length plan.now.ids → id_at set.now k < 0x581 }
     requires verdicts { length verdicts.now ≡ length plan.now.streams }
     requires judged { (k : ℕ) → k < length plan.now.streams → IsJudged (place_by_id plan.now.streams k plan.now.rate) (get_or verdicts.now k Long) }
     ensures { IfOk result (λ frames. AreFrames set.now plan.now frames.items) }
