@@ -1,10 +1,9 @@
 -- The DCF files of a plan, one more; and the texts of the devices of a network.
-use Rattle.std.proofs.Common.{◌≡◌, ℕ, ◌+◌, Bool, true, false, cond, ◌==◌, List, [], ◌∷◌, ◌++◌, find, option_map, Option, Some, None, Result, Ok, Err, All, add-one, refl, sym, ap, ◌∙◌, subst}
+use Rattle.std.proofs.Common.{◌≡◌, ℕ, ◌+◌, Bool, true, false, cond, ◌==◌, List, [], ◌∷◌, ◌++◌, find, option_map, Some, None, Ok, All, add-one, refl, sym, ap, ◌∙◌, subst}
 use Rattle.std.proofs.lemmas.List.{append-nil}
 use Rattle.std.proofs.lemmas.List.Elements.{All-nil, All-cons, All-head, All-tail}
 use Rattle.std.specs.Option.{option_to_list}
 use Rattle.cop_table.specs.Reading.{◌>>=◌}
-use Rattle.cop_eds.specs.declared.fault.Refusal as eds
 use Rattle.cop_eds.specs.Reading.{reading}
 use Rattle.cop_rows.specs.declared.node_table.DeviceRow.{DeviceRow}
 use Rattle.cop_rows.specs.declared.pdo_table.PdoRow.{PdoRow}

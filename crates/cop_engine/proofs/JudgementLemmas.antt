@@ -75,7 +75,7 @@ sent_before n (x ∷ xs) =
     omega (arith, one, rest)
 
 sent_are : (xs : List Step) → sent xs ≡ transfers_in xs
-sent_are xs = sym (sent_before 0 xs)
+sent_are xs = let whole : transfers_in xs ≡ 0 + sent xs = sent_before 0 xs in omega (arith, whole)
 
 -- a trace that breaks no rule is that of a legal run
 pub lawful_cleared : (rate : Rate) (streams : List Stream) (trace text : List ℕ) (count : ℕ) → ((until : ℕ) (xs : List Step) → first_broken (ticks_of rate) streams until xs ≡ None → IsLegalTrace (ticks_of rate) streams until xs)

@@ -1,5 +1,5 @@
 -- What the files say, from what each reading gives.
-use Rattle.std.proofs.Common.{◌≡◌, ℕ, zero, suc, ◌<◌, ◌≤◌, List, [], ◌∷◌, length, slice_get, Some, Ok, Err, Result, IfSome, IsTrue, MatchResult, All, Bool, true, ◌↔◌, inl, inr, refl, sym, subst, arith}
+use Rattle.std.proofs.Common.{◌≡◌, ℕ, zero, suc, ◌<◌, ◌≤◌, List, [], ◌∷◌, length, slice_get, Some, Ok, Err, Result, IfSome, MatchResult, Bool, inl, inr, refl, sym, subst, arith}
 use Rattle.cop_rta.specs.declared.streams.Stream.{Stream}
 use Rattle.cop_cert.proofs.CauseLemmas.{refusal_rules_out}
 use Rattle.std.specs.Result.{IsErrAnd}
@@ -21,7 +21,6 @@ use Rattle.cop_cert.specs.declared.faults.CertFault.TheVariants as cert
 use Rattle.cop_cert.specs.declared.refusals.Refusal as refused
 use Rattle.cop_cert.specs.Faults.{breach_of}
 use Rattle.cop_cert.specs.Reading.{refusals_of}
-use Rattle.cop_engine.specs.Reports.{lines_below}
 use Rattle.cop_engine.specs.Checks.{AreChecked, AreLinesOf, RuleOut, IsCheckOf, ExplainsCheck}
 use Rattle.cop_engine.specs.Faults.{fault_of, fault_of_refusals}
 use Rattle.cop_engine.specs.Networks.{Found, network_in, ExplainsNetwork}

@@ -1,10 +1,9 @@
 -- The plan that a network has is the one by which it is judged, run and booted.
-use Rattle.std.proofs.Common.{◌≡◌, ◌<◌, ℕ, List, [], length, map, Some, Ok, refl, sym, ap, ◌∙◌, subst, arith}
-use Rattle.std.specs.Io.KnownBytes.{Appends}
+use Rattle.std.proofs.Common.{◌≡◌, ℕ, List, [], length, map, None, Some, refl, sym, ap, ◌∙◌, subst}
 use Rattle.cop_frame.specs.declared.rates.Rate.{Rate}
 use Rattle.cop_frame.specs.Rate.{ticks_of}
 use Rattle.cop_rta.specs.declared.streams.Stream.{Stream}
-use Rattle.cop_rta.specs.Entries.{Entry, entry_of}
+use Rattle.cop_rta.specs.Entries.{entry_of}
 use Rattle.cop_rta.specs.Streams.{AreDistinct}
 use Rattle.cop_rta.proofs.StreamLemmas.{streams_same}
 use Rattle.cop_bus.specs.declared.steps.Step.{Step}
@@ -13,7 +12,7 @@ use Rattle.cop_bus.specs.Late.{first_late}
 use Rattle.cop_bus.specs.Reading.{Told, trace_of}
 use Rattle.cop_net.specs.Devices.{File}
 use Rattle.cop_net.specs.Fixed.{ticks}
-use Rattle.cop_net.specs.Network.{Net, IsNetwork, accepted}
+use Rattle.cop_net.specs.Network.{accepted}
 use Rattle.cop_plan.specs.Orders.{HasPdos}
 use Rattle.cop_plan.specs.Plans.{IsOutcome, IsPlan}
 use Rattle.cop_plan.specs.Values.{PlanValue}
@@ -89,7 +88,7 @@ module _ (play : OnePlay) where
       → IsRun plan seed until text (Some []) (Some trace) → IsRun plan seed until other (Some []) (Some another) → (text ≡ other) × (trace ≡ another)
   run_once plan seed until text trace other another distinct x y =
       let steps : x.steps ≡ y.steps = play plan.rate (seeded seed plan.streams) (ticks until) x.steps y.steps (subst AreDistinct (sym (seeded_streams seed plan.streams)) distinct) x.play y.play in (
-        x.text_is ∙ ap (λ (s : List Step). judged_text (transfers_in s) _) steps ∙ sym y.text_is,
+        x.text_is ∙ ap (λ (s : List Step). judged_text (transfers_in s) None) steps ∙ sym y.text_is,
         x.trace ∙ ap (text_of (ticks until)) steps ∙ sym y.trace,
       )
 

@@ -64,7 +64,7 @@ unbroken rule place true x y h = cc
 unbroken rule place false x y h = cc
 
 -- a TPDO has the bytes of its mapping and is sent as its transmission type says, and its row and SYNC's go with that
-record IsAsSent (signals : Signals) (device : Option Device) (row : PdoRow) (sent : Sent) : Type 0 where
+pub record IsAsSent (signals : Signals) (device : Option Device) (row : PdoRow) (sent : Sent) : Type 0 where
   pub bytes : HasBytes device row (bytes_for (total_bits sent.mapping.entries))
   pub type : HasType device row sent.every
   pub paced : pace_fault signals.sync row sent.every ≡ None
@@ -87,7 +87,7 @@ as_sent signals place row (Some device) sent h =
         is_sender = refl;
         mapping = sent.mapping.entries;
         is_mapping = the_layout unsent place directions.Transmit payload p.0 p.1 ∙ ap (λ (l : Layout). Ok l.entries) layout;
-        bytes = refl;
+        is_size = refl;
       };
       type = record { sender = device; is_sender = refl; type = type ∙ ap (λ (m : ℕ). Some m) every };
       paced = subst (λ (m : ℕ). pace_fault signals.sync row m ≡ None) every n.0;

@@ -5,7 +5,6 @@ use Rattle.cop_frame.specs.declared.rates.Rate.{Rate}
 use Rattle.cop_rta.specs.declared.streams.Stream.{Stream}
 use Rattle.cop_rta.specs.Entries.{entry_of}
 use Rattle.cop_rta.proofs.StreamLemmas.{streams_same}
-use Rattle.cop_table.specs.Reading.{◌>>=◌}
 use Rattle.cop_table.specs.Rows.{rows_from}
 use Rattle.cop_cert.specs.declared.refusals.Refusal.{Refusal}
 use Rattle.cop_cert.specs.Writable.{AreWritable}

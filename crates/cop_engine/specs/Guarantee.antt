@@ -55,7 +55,7 @@ pub record HasBytes (device : Option Device) (row : PdoRow) (bytes : ℕ) : Type
   pub is_sender : device ≡ Some sender
   pub mapping : List Mapped
   pub is_mapping : payload_of sender.dictionary Transmit row.tpdo ≡ Ok mapping
-  pub bytes : bytes ≡ bytes_for (total_bits mapping)
+  pub is_size : bytes ≡ bytes_for (total_bits mapping)
 
 -- The stream of a row's PDO under a plan: its identifier is the plan's, its jitter and deadline are the row's, and its bytes are those of its
 -- device's mapping. Where it is sent by events its period is the row's, and otherwise so many times SYNC's as the transmission type of its

@@ -50,11 +50,14 @@ pub fn none_passes(alloc: Global) -> Result<Vec<u8>, AllocError>
 fn transfers_of_lawful(alloc: Global, plan: &Plan, trace: &[u8]) -> Option<u64>
     ensures { IfSome result (IsLawful (ticks_of plan.now.rate) plan.now.streams trace.now) }
 {
-    let mut watch = TraceWatch::new(alloc, plan.streams(), plan.rate()).ok()?;
-    if !watch.feed(trace) {
+    let Ok(mut watch) = TraceWatch::new(alloc, plan.streams(), plan.rate()) else {
         return None;
+    };
+    if watch.feed(trace) {
+        watch.finish()
+    } else {
+        None
     }
-    watch.finish()
 }
 
 /// The judgement of a trace by a plan. No instance of a trace that breaks no rule is late, which the plan guarantees, so
