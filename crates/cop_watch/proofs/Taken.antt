@@ -1,6 +1,6 @@
 -- A step that is taken: what is known after it.
 use Rattle.std.proofs.Common.{◌≡◌, ◌≢◌, ℕ, ◌+◌, ◌-◌, ◌*◌, ◌≤◌, ◌<◌, inl, inr, List, [], ◌∷◌, ◌++◌, length, refl, sym, ◌∙◌, ap, subst, arith, suc, zero, true, false, cond, not, ◌&&◌, ◌==◌, nat_lt, nat_le, get_or, get_or-set_same, get_or-set_other, length-append}
-use Rattle.std.specs.Prelude.{Option, None, Some, is_some, slice_set}
+use Rattle.std.specs.Prelude.{Option, None, Some, is_some, slice_index, slice_set}
 use Rattle.std.specs.BTreeSet.{BTreeSet, contains}
 use Rattle.std.specs.Ordering.{nat_cmp}
 use Rattle.cop_rta.specs.declared.streams.Stream.{Stream}
@@ -9,7 +9,8 @@ use Rattle.cop_bus.specs.declared.steps.Content.{Content}
 use Rattle.cop_bus.specs.declared.steps.Step.TheVariants.{Queue, Start, End}
 use Rattle.cop_bus.specs.Run.{least_bits, worst_bits}
 use Rattle.cop_bus.specs.Trace.{is_queue, is_start, count_to, nth_that, running, bits_of, at_of}
-use Rattle.cop_bus.specs.Ends.{anchor_of}
+use Rattle.cop_bus.specs.Ends.{anchor_of, event_in, sync_anchor}
+use Rattle.cop_rta.specs.Test.{sync_id}
 use Rattle.cop_bus.specs.Judge as Judge
 use Rattle.cop_bus.specs.Judge.{stream_of, last_event, event_or, is_in_order, is_period_later, is_queued_in_time, is_of_length, fits_transfer, has_one_to_send, is_lowest, is_not_idle, broken_by, any_waits, lower_waits, waits_after, are_apart, is_soon_queued}
 use Rattle.cop_bus.specs.Growing.{KeepTheRules}
@@ -22,11 +23,15 @@ use Rattle.cop_bus.proofs.Grows.{last_event-more, any_waits-more, lower_waits-mo
 use Rattle.cop_bus.proofs.Appended.{length-one, one-more, step_at-here, last_event-here}
 use Rattle.cop_watch.specs.declared.bus.Bus.{Bus}
 use Rattle.cop_watch.specs.declared.bus.Bus.TheVariants.{Idle, Sending, Joining}
-use Rattle.cop_watch.specs.Rules.{Obeys, is_after}
+use Rattle.cop_watch.specs.Rules.{Obeys, IsOfLength, is_after}
+use Rattle.cop_watch.specs.declared.syncs.Newest.{Newest}
+use Rattle.cop_watch.specs.declared.syncs.Newest.TheVariants.{Nothing, Sync, Lost}
+use Rattle.cop_watch.specs.Syncs.{mark_of, MayCome, HangsOn, IsNewest, EndsSync}
 use Rattle.cop_watch.specs.Rings.{ring_of, Waits, Leaves, Stays, ArePassed}
 use Rattle.cop_watch.specs.Knowing.{queues, starts, sent, is_a_start, IsQueued, IsHeld, IsJoiner, Awaits, runs_of, joins}
 use Rattle.cop_watch.specs.Watching.{Knows, IsOpen}
 use Rattle.cop_watch.proofs.Further.{FindsTheSame, finds-more, finds-between, fine-one, running-kept, running-one, keeps-none, order-more, idle-more, runs-idle, start-period, end-period, start-time, end-time, start-length, end-length, count-kept, count-raised, order-is, after-le, now-one, idle-is}
+use Rattle.cop_watch.proofs.HangLemmas.{newest-after, hang-after, period-sync, time-sync, queued-kept, queued-sync, hang-next, newest-next}
 use Rattle.cop_watch.proofs.HeldLemmas.{waits-is, held-other, held-started, held-joiner, held-joined, held-queued}
 
 -- a length of a bit at least is one of a bit time at least
@@ -47,9 +52,8 @@ time-is k before steps i id at event frame o =
     ap (λ a. Judge.is_in_time k.jitter a at) (anchor_async k steps i event o.async)
     ∙ and-true (nat_le event at) (nat_le at (event + k.jitter)) (le-true event at o.from) (le-true at (event + k.jitter) o.by)
 
-length-is : (k : Stream) (before : Option ℕ) (id at event : ℕ) (frame : Content) → Obeys k before at event frame → is_of_length (Some k) (Queue id at event frame) ≡ true
-length-is k before id at event frame o =
-    let l = o.length in
+length-is : (k : Stream) (id at event : ℕ) (frame : Content) → IsOfLength k frame → is_of_length (Some k) (Queue id at event frame) ≡ true
+length-is k id at event frame l =
     and-true (nat_le (least_bits k.bytes) frame.bits && nat_le frame.bits (worst_bits k.bytes)) (frame.len == k.bytes)
     (and-true (nat_le (least_bits k.bytes) frame.bits) (nat_le frame.bits (worst_bits k.bytes)) (le-true (least_bits k.bytes) frame.bits l.least) (le-true frame.bits (worst_bits k.bytes) l.most))
     (eq-true frame.len k.bytes l.bytes)
@@ -89,28 +93,41 @@ ring-other rings id k ring d = get_or-set_other rings id k ring [] d
 
 -- a queue step keeps the rules that ask what it queues
 pub keeps-queue : (tau : ℕ) (streams : List Stream) (later : ℕ) (steps more : List Step) (id at event : ℕ) (frame : Content) (k : Stream) (last : Option ℕ) (r : Option (ℕ × ℕ)) →
-    is_in_order later steps (length steps) (Queue id at event frame) ≡ true → stream_of streams id ≡ Some k → last_event id steps (length steps) ≡ last → Obeys k last at event frame →
+    is_in_order later steps (length steps) (Queue id at event frame) ≡ true → stream_of streams id ≡ Some k → last_event id steps (length steps) ≡ last → is_period_later (Some k) last (steps ++ Queue id at event frame ∷ more) (length steps) (Queue id at event frame) ≡ true →
+    is_queued_in_time (Some k) (steps ++ Queue id at event frame ∷ more) (length steps) (Queue id at event frame) ≡ true → is_of_length (Some k) (Queue id at event frame) ≡ true →
     running tau (steps ++ Queue id at event frame ∷ more) (length steps) ≡ r → fits_transfer r (Queue id at event frame) ≡ true → is_not_idle streams steps (length steps) r at ≡ true →
     broken_by tau streams later (steps ++ Queue id at event frame ∷ more) (length steps) (Queue id at event frame) ≡ None
-keeps-queue tau streams later steps more id at event frame k last r order its before o runs fits idle =
+keeps-queue tau streams later steps more id at event frame k last r order its before later_is time length_is runs fits idle =
     let x = Queue id at event frame in
     let xs = steps ++ x ∷ more in
     let n = length steps in
     keeps-none tau streams later xs n x (record {
       order = order-more later steps (x ∷ more) x ∙ order;
       known = some-is (stream_of streams id) k its;
-      period = ap (λ s. is_period_later s (last_event id xs n) xs n x) its ∙ ap (λ v. is_period_later (Some k) v xs n x) (last_event-more id steps (x ∷ more) n (omega arith) ∙ before) ∙ period-is k last xs n id at event frame o;
-      in_time = ap (λ s. is_queued_in_time s xs n x) its ∙ time-is k last xs n id at event frame o;
-      of_length = ap (λ s. is_of_length s x) its ∙ length-is k last id at event frame o;
+      period = ap (λ s. is_period_later s (last_event id xs n) xs n x) its ∙ ap (λ v. is_period_later (Some k) v xs n x) (last_event-more id steps (x ∷ more) n (omega arith) ∙ before) ∙ later_is;
+      in_time = ap (λ s. is_queued_in_time s xs n x) its ∙ time;
+      of_length = ap (λ s. is_of_length s x) its ∙ length_is;
       transfer = ap (λ v. fits_transfer v x) runs ∙ fits;
       to_send = refl;
       lowest = refl;
       not_idle = ap (λ v. is_not_idle streams xs n v at) runs ∙ idle-more streams steps (x ∷ more) r at ∙ idle;
     })
 
+some-event : (a b : ℕ) → Some a ≡ Some b → a ≡ b
+some-event a b e = cc
+
+some-stream : (a b : Stream) → Some a ≡ Some b → a ≡ b
+some-stream a b e = cc
+
+-- the newest SYNC's event hangs on it
+hangs-on-newest : (xs : List Step) (i event number from : ℕ) (newest : Newest) → newest ≡ Sync event number from → IsNewest newest xs i → HangsOn (sync_anchor xs i event) (mark_of newest)
+hangs-on-newest xs i event number from newest e h =
+    let s = subst (λ n. IsNewest n xs i) e h in
+    subst (HangsOn (sync_anchor xs i event)) (sym (ap mark_of e)) (subst (λ o. HangsOn o number) (sym s.first) refl)
+
 -- What is known before a step.
-module _ (tau : ℕ) (streams : List Stream) (steps : List Step) (bus : Bus) (now rank : ℕ) (last : List (Option ℕ)) (rings : List (List ℕ)) (waiting : BTreeSet ℕ) (count : ℕ)
-    (h : Knows tau streams steps bus now rank last rings waiting count) where
+module _ (tau : ℕ) (streams : List Stream) (steps : List Step) (bus : Bus) (now rank : ℕ) (last : List (Option ℕ)) (marks : List ℕ) (newest : Newest) (rings : List (List ℕ)) (waiting : BTreeSet ℕ) (count : ℕ)
+    (h : Knows tau streams steps bus now rank last marks newest rings waiting count) where
   -- an instance waits where its identifier is listed
   pub waits-listed : (id : ℕ) → contains nat_cmp waiting id ≡ waits_after steps (length steps) id
   waits-listed id = h.listed id ∙ sym (waits-is steps now id (ring_of rings id) (h.held id))
@@ -152,8 +169,8 @@ module _ (tau : ℕ) (streams : List Stream) (steps : List Step) (bus : Bus) (no
           subst (λ (xs : List Step). is_not_idle streams steps (length steps) (runs_of tau (Joining k start) xs) at ≡ true) (sym a.is) (runs-idle streams steps (length steps) at (k, start + a.frame.bits * tau))
 
   -- A queue step.
-  module _ (id at event : ℕ) (frame : Content) (k : Stream) (its : stream_of streams id ≡ Some k) (obeying : Obeys k (get_or last id None) at event frame)
-      (order : is_after now rank at 1 ≡ true) (open_to : IsOpen tau now waiting bus at) (long : id < length last) (ring_there : id < length rings) where
+  module _ (id at event : ℕ) (frame : Content) (k : Stream) (its : stream_of streams id ≡ Some k) (obeying : MayCome k (get_or last id None) (slice_index marks id) newest at event frame)
+      (order : is_after now rank at 1 ≡ true) (open_to : IsOpen tau now waiting bus at) (long : id < length last) (mark_there : id < length marks) (ring_there : id < length rings) where
     abbrev x : Step
     x = Queue id at event frame
 
@@ -163,9 +180,53 @@ module _ (tau : ℕ) (streams : List Stream) (steps : List Step) (bus : Bus) (no
     in-order : is_in_order at steps (length steps) x ≡ true
     in-order = order-is at steps x now rank h.last_is order (omega arith)
 
+    hangs-before : (ahead : List Step) → Awaits tau bus ahead → 1 ≤ k.every → (v : ℕ) → get_or last id None ≡ Some v → HangsOn (sync_anchor (steps ++ ahead) (length steps) v) (slice_index marks id)
+    hangs-before ahead a synced v e = h.marked ahead a id k its synced v (sym (h.lasts id) ∙ e)
+
     -- it keeps the rules, with what runs
-    here-queue : (ahead more : List Step) → Awaits tau bus ahead → running tau (steps ++ x ∷ more) (length steps) ≡ runs_of tau bus ahead → broken_by tau streams at (steps ++ x ∷ more) (length steps) x ≡ None
-    here-queue ahead more a runs = keeps-queue tau streams at steps more id at event frame k (get_or last id None) (runs_of tau bus ahead) in-order its (sym (h.lasts id)) obeying runs (fits-open id at event frame ahead a open_to) (idle-open at ahead a open_to)
+    here-queue : (ahead more : List Step) → Awaits tau bus ahead → FindsTheSame steps ahead (x ∷ more) → running tau (steps ++ x ∷ more) (length steps) ≡ runs_of tau bus ahead → broken_by tau streams at (steps ++ x ∷ more) (length steps) x ≡ None
+    here-queue ahead more a look runs =
+        let keeps = keeps-queue tau streams at steps more id at event frame k (get_or last id None) (runs_of tau bus ahead) in-order its (sym (h.lasts id)) in
+        elim obeying [
+          | inl o ↦ keeps (period-is k (get_or last id None) (steps ++ x ∷ more) (length steps) id at event frame o) (time-is k (get_or last id None) (steps ++ x ∷ more) (length steps) id at event frame o) (length-is k id at event frame o.length)
+              runs (fits-open id at event frame ahead a open_to) (idle-open at ahead a open_to)
+          | inr o ↦ keeps (period-sync tau streams now at steps ahead more x le look (h.fine ahead a) k (get_or last id None) (slice_index marks id) newest id at event frame o (h.hangs ahead a) (hangs-before ahead a o.synced))
+              (time-sync tau streams now at steps ahead more x le look (h.fine ahead a) k (get_or last id None) (slice_index marks id) newest id at event frame o (h.hangs ahead a) (hangs-before ahead a o.synced)) (length-is k id at event frame o.length)
+              runs (fits-open id at event frame ahead a open_to) (idle-open at ahead a open_to)
+        ]
+
+    some-bits : 1 ≤ frame.bits
+    some-bits = elim obeying [ inl o ↦ (let l = o.length.least in omega (arith, l)) | inr o ↦ (let l = o.length.least in omega (arith, l)) ]
+
+    last-now : (m : ℕ) → last_event m (steps ++ x ∷ []) (length (steps ++ x ∷ [])) ≡ event_or m x (last_event m steps (length steps))
+    last-now m = ap (last_event m (steps ++ x ∷ [])) (length-one steps x) ∙ last_event-here m steps x []
+
+    last-queued : 0 < queues sync_id (steps ++ x ∷ []) → event_in (nth_that (is_queue sync_id) (queues sync_id (steps ++ x ∷ []) - 1) (steps ++ x ∷ [])) ≡ last_event sync_id (steps ++ x ∷ []) (length (steps ++ x ∷ []))
+    last-queued = elim (bool_cases (id == sync_id)) [
+      | inl t ↦ (λ some. subst (λ n. let y = Queue n at event frame in event_in (nth_that (is_queue sync_id) (queues sync_id (steps ++ y ∷ []) - 1) (steps ++ y ∷ [])) ≡ last_event sync_id (steps ++ y ∷ []) (length (steps ++ y ∷ [])))
+          (sym (true-eq id sync_id t)) (queued-sync steps at event frame))
+      | inr f ↦ queued-kept steps x f (λ v. ap (λ b. cond b (Some event) v) f) h.last_queued
+    ]
+
+    -- the marks of the last events
+    marked-queue : (ahead more : List Step) → Awaits tau bus ahead → FindsTheSame steps ahead (x ∷ more) → (m : ℕ) (j : Stream) → stream_of streams m ≡ Some j → 1 ≤ j.every → (v : ℕ) → last_event m (steps ++ x ∷ []) (length (steps ++ x ∷ [])) ≡ Some v →
+        HangsOn (sync_anchor ((steps ++ x ∷ []) ++ more) (length (steps ++ x ∷ [])) v) (slice_index (slice_set marks id (mark_of newest)) m)
+    marked-queue ahead more a look m j there synced v e =
+        let after = hang-after tau streams now at steps ahead more x le look (h.fine ahead a) refl in
+        let was = sym (last-now m) ∙ e in
+        elim (bool_cases (id == m)) [
+          | inr f ↦ subst (HangsOn (sync_anchor ((steps ++ x ∷ []) ++ more) (length (steps ++ x ∷ [])) v)) (sym (get_or-set_other marks id m (mark_of newest) 0 (λ s. apart id m f (sym s))))
+              (after v (slice_index marks m) (h.marked ahead a m j there synced v (sym (ap (λ b. cond b (Some event) (last_event m steps (length steps))) f) ∙ was)))
+          | inl t ↦ (let same : id ≡ m = true-eq id m t in
+              let v_is : event ≡ v = some-event event v (sym (ap (λ b. cond b (Some event) (last_event m steps (length steps))) t) ∙ was) in
+              let j_is : k.every ≡ j.every = ap (λ (q : Stream). q.every) (some-stream k j (sym its ∙ ap (stream_of streams) same ∙ there)) in
+              elim obeying [
+                | inl o ↦ absurd (let z = o.async in omega (arith, z, j_is, synced))
+                | inr o ↦ subst (λ n. HangsOn (sync_anchor ((steps ++ x ∷ []) ++ more) (length (steps ++ x ∷ [])) n) (slice_index (slice_set marks id (mark_of newest)) m)) v_is
+                    (subst (HangsOn (sync_anchor ((steps ++ x ∷ []) ++ more) (length (steps ++ x ∷ [])) event)) (sym (subst (λ n. get_or (slice_set marks id (mark_of newest)) n 0 ≡ mark_of newest) same (get_or-set_same marks id (mark_of newest) 0 mark_there)))
+                    (after event (mark_of newest) (hangs-on-newest (steps ++ ahead) (length steps) event o.number o.from newest o.on (h.hangs ahead a))))
+              ])
+        ]
 
     known-queue : (m : ℕ) → 0 < queues m (steps ++ x ∷ []) → is_some (stream_of streams m) ≡ true
     known-queue m l = elim (bool_cases (id == m)) [
@@ -219,11 +280,11 @@ module _ (tau : ℕ) (streams : List Stream) (steps : List Step) (bus : Bus) (no
         | inr f ↦ (let c = count-kept (is_queue m) steps x f in omega (arith, c))
       ]
 
-      pub queued-behind : Knows tau streams (steps ++ x ∷ []) bus at 1 (slice_set last id (Some event)) rings' waiting' count
+      pub queued-behind : Knows tau streams (steps ++ x ∷ []) bus at 1 (slice_set last id (Some event)) (slice_set marks id (mark_of newest)) newest rings' waiting' count
       queued-behind = record {
         tick = h.tick;
         last_is = now-one steps x;
-        fine = λ ahead a. fine-one tau streams now at steps ahead ahead x le (look-behind ahead a) (h.fine ahead a) (here-queue ahead ahead a (runs-behind ahead a));
+        fine = λ ahead a. fine-one tau streams now at steps ahead ahead x le (look-behind ahead a) (h.fine ahead a) (here-queue ahead ahead a (look-behind ahead a) (runs-behind ahead a));
         runs = λ ahead a. running-one tau streams now steps ahead ahead x (look-behind ahead a) (h.fine ahead a) ∙ h.runs ahead a;
         none_ahead = λ m f. (let s = count-kept (is_start m) steps x refl in let q = more-queued m in let l = h.none_ahead m f in omega (arith, s, q, l));
         one_ahead = λ m t. elim (bool_cases (id == m)) [
@@ -231,6 +292,9 @@ module _ (tau : ℕ) (streams : List Stream) (steps : List Step) (bus : Bus) (no
           | inr f ↦ (let s = count-kept (is_start m) steps x refl in let q = count-kept (is_queue m) steps x f in let l = h.one_ahead m t in omega (arith, s, q, l))
         ];
         lasts = last-queue id at event frame last steps long h.lasts;
+        last_queued = last-queued;
+        hangs = λ ahead a. newest-after tau streams now at steps ahead ahead x le (look-behind ahead a) (h.fine ahead a) refl newest (h.hangs ahead a);
+        marked = λ ahead a. marked-queue ahead ahead a (look-behind ahead a);
         held = held-behind;
         listed = listed-behind;
         known = known-queue;
@@ -239,9 +303,6 @@ module _ (tau : ℕ) (streams : List Stream) (steps : List Step) (bus : Bus) (no
 
     -- of the stream whose joiner is awaited
     module _ (start : ℕ) (joined : bus ≡ Joining id start) where
-      some-bits : 1 ≤ frame.bits
-      some-bits = let l = obeying.length.least in omega (arith, l)
-
       soon : at < start + tau
       soon = subst (λ b. IsOpen tau now waiting b at) joined open_to
 
@@ -258,7 +319,7 @@ module _ (tau : ℕ) (streams : List Stream) (steps : List Step) (bus : Bus) (no
       joins-other m f = ap (λ b. joins b m) joined ∙ f
 
       fine-joined : KeepTheRules tau streams at (steps ++ x ∷ []) []
-      fine-joined = fine-one tau streams now at steps (x ∷ []) [] x le same-found (h.fine (x ∷ []) awaited) (here-queue (x ∷ []) [] awaited (h.runs (x ∷ []) awaited))
+      fine-joined = fine-one tau streams now at steps (x ∷ []) [] x le same-found (h.fine (x ∷ []) awaited) (here-queue (x ∷ []) [] awaited same-found (h.runs (x ∷ []) awaited))
 
       runs-joined : running tau ((steps ++ x ∷ []) ++ []) (length (steps ++ x ∷ [])) ≡ Some (id, start + frame.bits * tau)
       runs-joined =
@@ -271,7 +332,7 @@ module _ (tau : ℕ) (streams : List Stream) (steps : List Step) (bus : Bus) (no
         | inr f ↦ other-held m f
       ]
 
-      pub queued-joined : Knows tau streams (steps ++ x ∷ []) (Sending id (start + frame.bits * tau)) at 1 (slice_set last id (Some event)) rings waiting count
+      pub queued-joined : Knows tau streams (steps ++ x ∷ []) (Sending id (start + frame.bits * tau)) at 1 (slice_set last id (Some event)) (slice_set marks id (mark_of newest)) newest rings waiting count
       queued-joined = record {
         tick = h.tick;
         last_is = now-one steps x;
@@ -284,6 +345,11 @@ module _ (tau : ℕ) (streams : List Stream) (steps : List Step) (bus : Bus) (no
         ];
         one_ahead = λ m t. absurd (cc);
         lasts = last-queue id at event frame last steps long h.lasts;
+        last_queued = last-queued;
+        hangs = λ ahead e. subst (λ (xs : List Step). IsNewest newest ((steps ++ x ∷ []) ++ xs) (length (steps ++ x ∷ []))) (sym e)
+            (newest-after tau streams now at steps (x ∷ []) [] x le same-found (h.fine (x ∷ []) awaited) refl newest (h.hangs (x ∷ []) awaited));
+        marked = λ ahead e m j there synced v l. subst (λ (xs : List Step). HangsOn (sync_anchor ((steps ++ x ∷ []) ++ xs) (length (steps ++ x ∷ [])) v) (slice_index (slice_set marks id (mark_of newest)) m)) (sym e)
+            (marked-queue (x ∷ []) [] awaited same-found m j there synced v l);
         held = held-joined-here;
         listed = h.listed;
         known = known-queue;
@@ -347,6 +413,16 @@ module _ (tau : ℕ) (streams : List Stream) (steps : List Step) (bus : Bus) (no
     known-start : (m : ℕ) → 0 < queues m (steps ++ s ∷ []) → is_some (stream_of streams m) ≡ true
     known-start m l = h.known m (let c = count-kept (is_queue m) steps s refl in omega (arith, c, l))
 
+    last-start : (m : ℕ) → last_event m (steps ++ s ∷ []) (length (steps ++ s ∷ [])) ≡ last_event m steps (length steps)
+    last-start m = ap (last_event m (steps ++ s ∷ [])) (length-one steps s) ∙ last_event-here m steps s []
+
+    hangs-start : (more : List Step) → IsNewest newest ((steps ++ s ∷ []) ++ more) (length (steps ++ s ∷ []))
+    hangs-start more = newest-after tau streams now at steps [] more s le-start (finds-more steps (s ∷ more)) (h.fine [] none-awaited) refl newest (h.hangs [] none-awaited)
+
+    marked-start : (more : List Step) (m : ℕ) (j : Stream) → stream_of streams m ≡ Some j → 1 ≤ j.every → (v : ℕ) → last_event m (steps ++ s ∷ []) (length (steps ++ s ∷ [])) ≡ Some v → HangsOn (sync_anchor ((steps ++ s ∷ []) ++ more) (length (steps ++ s ∷ [])) v) (slice_index marks m)
+    marked-start more m j there synced v e =
+        hang-after tau streams now at steps [] more s le-start (finds-more steps (s ∷ more)) (h.fine [] none-awaited) refl v (slice_index marks m) (h.marked [] none-awaited m j there synced v (sym (last-start m) ∙ e))
+
     count-start : count + 1 ≡ sent (steps ++ s ∷ [])
     count-start = let c = count-raised is_a_start steps s refl in let e = h.count in omega (arith, c, e)
 
@@ -401,7 +477,7 @@ module _ (tau : ℕ) (streams : List Stream) (steps : List Step) (bus : Bus) (no
       ends : at + bits_of (Some y) * tau ≡ at + bits * tau
       ends = ap (λ n. at + n * tau) queued-first.long
 
-      pub started-first : Knows tau streams (steps ++ s ∷ []) (Sending id (at + bits * tau)) at 2 last rings' waiting' (count + 1)
+      pub started-first : Knows tau streams (steps ++ s ∷ []) (Sending id (at + bits * tau)) at 2 last marks newest rings' waiting' (count + 1)
       started-first = record {
         tick = h.tick;
         last_is = now-one steps s;
@@ -410,6 +486,9 @@ module _ (tau : ℕ) (streams : List Stream) (steps : List Step) (bus : Bus) (no
         none_ahead = λ m f. even-after m;
         one_ahead = λ m t. absurd (cc);
         lasts = last-kept s last steps (λ k v. refl) h.lasts;
+        last_queued = queued-kept steps s refl (λ v. refl) h.last_queued;
+        hangs = λ ahead a. hangs-start ahead;
+        marked = λ ahead a. marked-start ahead;
         held = held-after;
         listed = listed-after;
         known = known-start;
@@ -448,7 +527,7 @@ module _ (tau : ℕ) (streams : List Stream) (steps : List Step) (bus : Bus) (no
         | inr f ↦ other-held-start m f
       ]
 
-      pub started-joiner : Knows tau streams (steps ++ s ∷ []) (Joining id at) at 2 last rings' waiting' (count + 1)
+      pub started-joiner : Knows tau streams (steps ++ s ∷ []) (Joining id at) at 2 last marks newest rings' waiting' (count + 1)
       started-joiner = record {
         tick = h.tick;
         last_is = now-one steps s;
@@ -458,6 +537,9 @@ module _ (tau : ℕ) (streams : List Stream) (steps : List Step) (bus : Bus) (no
         one_ahead = λ m t. (let c = count-raised (is_start m) steps s t in let q = count-kept (is_queue m) steps s refl in
             let v : starts m steps ≡ queues m steps = subst (λ n. starts n steps ≡ queues n steps) (true-eq id m t) as-many in omega (arith, c, q, v));
         lasts = last-kept s last steps (λ k v. refl) h.lasts;
+        last_queued = queued-kept steps s refl (λ v. refl) h.last_queued;
+        hangs = λ ahead a. hangs-start ahead;
+        marked = λ ahead a. marked-start ahead;
         held = λ m. subst (λ (rs : List (List ℕ)). IsHeld (steps ++ s ∷ []) at m (ring_of rs m)) (sym l.rings) (held-joiner-here m);
         listed = λ m. l.listed m ∙ h.listed m ∙ ap (λ (rs : List (List ℕ)). nat_lt 0 (length (ring_of rs m))) (sym l.rings);
         known = known-start;
@@ -494,8 +576,13 @@ module _ (tau : ℕ) (streams : List Stream) (steps : List Step) (bus : Bus) (no
     runs-end : running tau ((steps ++ e ∷ []) ++ []) (length (steps ++ e ∷ [])) ≡ None
     runs-end = running-one tau streams now steps [] [] e (finds-more steps (e ∷ [])) (h.fine [] none-awaited-end)
 
-    pub ended : Knows tau streams (steps ++ e ∷ []) Idle at 0 last rings waiting count
-    ended = record {
+    last-end : (m : ℕ) → last_event m (steps ++ e ∷ []) (length (steps ++ e ∷ [])) ≡ last_event m steps (length steps)
+    last-end m = ap (last_event m (steps ++ e ∷ [])) (length-one steps e) ∙ last_event-here m steps e []
+
+    ended : (newest' : Newest) → IsNewest newest' ((steps ++ e ∷ []) ++ []) (length (steps ++ e ∷ [])) →
+        ((v mark : ℕ) → HangsOn (sync_anchor (steps ++ []) (length steps) v) mark → HangsOn (sync_anchor ((steps ++ e ∷ []) ++ []) (length (steps ++ e ∷ [])) v) mark) →
+        Knows tau streams (steps ++ e ∷ []) Idle at 0 last marks newest' rings waiting count
+    ended newest' hangs' hang = record {
       tick = h.tick;
       last_is = now-one steps e;
       fine = λ ahead a. subst (KeepTheRules tau streams at (steps ++ e ∷ [])) (sym a) (fine-one tau streams now at steps [] [] e (after-le now rank at 0 order) (finds-more steps (e ∷ [])) (h.fine [] none-awaited-end) here-end);
@@ -503,8 +590,43 @@ module _ (tau : ℕ) (streams : List Stream) (steps : List Step) (bus : Bus) (no
       none_ahead = λ m f. (let c = count-kept (is_start m) steps e refl in let q = count-kept (is_queue m) steps e refl in let v = h.none_ahead m (ap (λ b. joins b m) sends) in omega (arith, c, q, v));
       one_ahead = λ m t. absurd (cc);
       lasts = last-kept e last steps (λ k v. refl) h.lasts;
+      last_queued = queued-kept steps e refl (λ v. refl) h.last_queued;
+      hangs = λ ahead a. subst (λ (xs : List Step). IsNewest newest' ((steps ++ e ∷ []) ++ xs) (length (steps ++ e ∷ []))) (sym a) hangs';
+      marked = λ ahead a m j there synced v l. subst (λ (xs : List Step). HangsOn (sync_anchor ((steps ++ e ∷ []) ++ xs) (length (steps ++ e ∷ [])) v) (slice_index marks m)) (sym a)
+          (hang v (slice_index marks m) (h.marked [] none-awaited-end m j there synced v (sym (last-end m) ∙ l)));
       held = λ m. held-other steps e now at m (ring_of rings m) (after-le now rank at 0 order) refl refl (h.held m);
       listed = h.listed;
       known = λ m l. h.known m (let c = count-kept (is_queue m) steps e refl in omega (arith, c, l));
       count = h.count ∙ sym (count-kept is_a_start steps e refl);
     }
+
+    pub ended-other : (id == sync_id) ≡ false → Knows tau streams (steps ++ e ∷ []) Idle at 0 last marks newest rings waiting count
+    ended-other f =
+        let le = after-le now rank at 0 order in
+        ended newest (newest-after tau streams now at steps [] [] e le (finds-more steps (e ∷ [])) (h.fine [] none-awaited-end) f newest (h.hangs [] none-awaited-end))
+        (hang-after tau streams now at steps [] [] e le (finds-more steps (e ∷ [])) (h.fine [] none-awaited-end) f)
+
+  -- The end of a SYNC.
+  module _ (at : ℕ) (sends : bus ≡ Sending sync_id at) (order : is_after now rank at 0 ≡ true) (is_known : is_some (stream_of streams sync_id) ≡ true) where
+    none-awaited-sync : Awaits tau bus []
+    none-awaited-sync = subst (λ b. Awaits tau b []) (sym sends) refl
+
+    runs-sync : running tau (steps ++ []) (length steps) ≡ Some (sync_id, at)
+    runs-sync = h.runs [] none-awaited-sync ∙ ap (λ b. runs_of tau b []) sends
+
+    as-many-sync : ring_of rings sync_id ≡ [] → starts sync_id steps ≡ queues sync_id steps
+    as-many-sync none =
+        let c = (h.held sync_id).count in
+        let n = ap (λ (xs : List ℕ). length xs) none in
+        let l = h.none_ahead sync_id (ap (λ b. joins b sync_id) sends) in
+        omega (arith, c, n, l)
+
+    pub ended-sync : (newest' : Newest) → EndsSync (ring_of rings sync_id) (get_or last sync_id None) newest at newest' → Knows tau streams (steps ++ End sync_id at ∷ []) Idle at 0 last marks newest' rings waiting count
+    ended-sync Nothing w = absurd w
+    ended-sync (Sync event mark from) w =
+        let its = λ (some : 0 < queues sync_id steps). h.last_queued some ∙ sym (h.lasts sync_id) ∙ w.1 in
+        let many = as-many-sync w.0 in
+        let next = newest-next tau streams now steps at (h.fine [] none-awaited-sync) event runs-sync many its newest mark w.3 (h.hangs [] none-awaited-sync) in
+        ended sync_id at sends order is_known (Sync event mark from) (subst (λ n. IsNewest (Sync event mark n) ((steps ++ End sync_id at ∷ []) ++ []) (length (steps ++ End sync_id at ∷ []))) (sym w.2) next)
+        (hang-next tau streams now steps at (h.fine [] none-awaited-sync))
+    ended-sync Lost w = ended sync_id at sends order is_known Lost tt (hang-next tau streams now steps at (h.fine [] none-awaited-sync))

@@ -1,5 +1,6 @@
 pub mod Rings
 pub mod Rules
+pub mod Syncs
 pub mod Knowing
 pub mod Watching
 pub mod Reading

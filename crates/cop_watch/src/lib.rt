@@ -5,6 +5,7 @@ mod bus;
 mod reading;
 mod rings;
 mod rules;
+mod syncs;
 mod watching;
 
 pub use reading::TraceWatch;

@@ -37,7 +37,7 @@ impl Ring {
         }
     }
 
-    fn is_empty(&self) -> bool
+    pub(crate) fn is_empty(&self) -> bool
         ensures none { result ≡ true → self.now ≡ [] }
         ensures some { result ≡ false → 0 < length self.now }
     {

@@ -3,7 +3,9 @@
 ghost use Rattle.std.specs.Prelude.{◌≡◌, ◌+◌, ◌≤◌, ℕ, true, Some};
 ghost use Rattle.cop_bus.specs.Judge.{stream_of};
 ghost use Rattle.cop_watch.specs.Rules.{Obeys, IsOfLength, is_after};
+ghost use Rattle.cop_watch.specs.Syncs.{ObeysSync};
 
+use crate::syncs::Newest;
 use cop_bus::Content;
 use cop_frame::{least_bits, worst_bits};
 use cop_rta::{Stream, StreamSet};
@@ -47,6 +49,36 @@ pub(crate) fn obeys(
         && event <= at
         && u128::from(at) <= u128::from(event) + u128::from(stream.jitter)
         && is_of_length(stream, frame)
+}
+
+/// Whether a synchronous stream may queue an instance, by the event of the one before and the number of the SYNC that has it.
+pub(crate) fn obeys_sync(
+    stream: &Stream,
+    before: Option<u64>,
+    mark: u64,
+    newest: Newest,
+    at: u64,
+    event: u64,
+    frame: &Content,
+) -> bool
+    requires { 1 ≤ stream.now.every }
+    ensures { result ≡ true → ObeysSync stream.now before mark newest at event frame.now }
+{
+    match newest {
+        Newest::Sync {
+            event: newest,
+            mark: number,
+            from,
+        } => {
+            newest == event
+                && (before.is_none()
+                    || u128::from(mark) + u128::from(stream.every) <= u128::from(number))
+                && from <= at
+                && u128::from(at) <= u128::from(from) + u128::from(stream.jitter)
+                && is_of_length(stream, frame)
+        }
+        Newest::Nothing | Newest::Lost => false,
+    }
 }
 
 /// The stream of the set that has the identifier.

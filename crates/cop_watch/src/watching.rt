@@ -1,25 +1,30 @@
 //! A trace that is watched, step by step.
 
-ghost use Rattle.std.specs.Prelude.{◌≡◌, ◌<◌, ◌≤◌, ◌++◌, ◌∷◌, [], ℕ, List, IfOk, None, true, slice_index_or};
+ghost use Rattle.std.specs.Prelude.{◌≡◌, ◌<◌, ◌≤◌, ◌++◌, ◌∷◌, [], ℕ, List, IfOk, None, true, length, slice_index, slice_index_or};
 ghost use Rattle.cop_frame.specs.Rate.{ticks_of};
-ghost use Rattle.cop_rta.specs.declared.streams.Stream.{Stream};
+ghost use Rattle.cop_rta.specs.declared.streams.Stream.{Stream as Seen};
 ghost use Rattle.cop_bus.specs.declared.steps.Step.{Step};
 ghost use Rattle.cop_bus.specs.Judge.{first_broken};
 ghost use Rattle.cop_watch.specs.Knowing.{sent};
 ghost use Rattle.cop_watch.specs.Rings.{ring_of};
+ghost use Rattle.cop_rta.specs.Test.{sync_id};
+ghost use Rattle.cop_watch.specs.Syncs.{MayCome, EndsSync};
 ghost use Rattle.cop_watch.specs.Watching.{HasTaken, MayQueue, MayStart, MayEnd, IsOpen};
 
 use crate::bus::{Bus, sending};
 use crate::rings::{Ring, none_lower, none_waits, take_first, wait};
-use crate::rules::{is_after, obeys, stream_of};
+use crate::rules::{is_after, obeys, obeys_sync, stream_of};
+use crate::syncs::{Newest, ended};
 use cop_bus::{Content, Step};
 use cop_frame::Rate;
-use cop_rta::StreamSet;
+use cop_rta::{Stream, StreamSet};
 use std::alloc::{AllocError, Global};
 use std::collections::BTreeSet;
 
 /// How many identifiers streams can have.
 const IDS: usize = 2048;
+
+const SYNC: u16 = 0x80;
 
 /// What is known of the steps of a trace that were taken so far. It keeps none of them: its memory grows with what waits alone, of which
 /// it has at most 64 instances of each stream.
@@ -27,8 +32,10 @@ const IDS: usize = 2048;
 pub struct Watch<'a> {
     streams: &'a StreamSet,
     ticks: u32,
-    // Each identifier's last event.
+    // Each identifier's last event, and of a synchronous stream the number of the SYNC that has it.
     last: Vec<Option<u64>>,
+    marks: Vec<u64>,
+    newest: Newest,
     // Each identifier's instances that wait, and those of which some do.
     rings: Vec<Ring>,
     waiting: BTreeSet<u16>,
@@ -48,6 +55,8 @@ impl<'a> Watch<'a> {
             streams,
             ticks: rate.ticks_per_bit(),
             last: no_events(alloc)?,
+            marks: vec![in alloc; 0; IDS]?,
+            newest: Newest::Nothing,
             rings: rings(alloc)?,
             waiting: BTreeSet::new(alloc),
             bus: Bus::Idle,
@@ -59,16 +68,16 @@ impl<'a> Watch<'a> {
 
     /// How many instances were sent.
     pub fn sent(&self) -> u64
-        ensures { (tau : ℕ) (streams : List Stream) (steps : List Step) → HasTaken tau streams steps self.now → result ≡ sent steps }
+        ensures { (tau : ℕ) (streams : List Seen) (steps : List Step) → HasTaken tau streams steps self.now → result ≡ sent steps }
     {
         self.sent
     }
 
     /// Takes the next step. Where it says that it did, all the steps so far may stand so in a trace that breaks no rule. Where it does not,
     /// nothing is known of them, and nothing more is to be taken: a rule may be broken, or more instances of a stream wait than there is
-    /// room for, or memory is wanting, or the stream is a synchronous one.
+    /// room for, or memory is wanting, or an instance hangs on another SYNC than the one that ended last.
     pub fn take(&mut self, step: &Step) -> bool
-        ensures { result ≡ true → (tau : ℕ) (streams : List Stream) (steps : List Step)
+        ensures { result ≡ true → (tau : ℕ) (streams : List Seen) (steps : List Step)
             → HasTaken tau streams steps self.old → HasTaken tau streams (steps ++ step.now ∷ []) self.new }
     {
         match step {
@@ -85,7 +94,7 @@ impl<'a> Watch<'a> {
 
     /// Whether the trace of the steps that were taken, up to a moment, breaks no rule. Where it does not say so, nothing is known.
     pub fn finish(&self, until: u64) -> bool
-        ensures { result ≡ true → (tau : ℕ) (streams : List Stream) (steps : List Step)
+        ensures { result ≡ true → (tau : ℕ) (streams : List Seen) (steps : List Step)
             → HasTaken tau streams steps self.now → first_broken tau streams until steps ≡ None }
     {
         self.at <= until
@@ -113,15 +122,36 @@ impl<'a> Watch<'a> {
         ensures { result ≡ true → MayQueue self.now id at event frame.now }
     {
         let place = usize::from(id);
-        if place >= self.last.len() || place >= self.rings.len() {
+        if place >= self.last.len() || place >= self.rings.len() || place >= self.marks.len() {
             return false;
         }
         if !is_after(self.at, self.rank, at, 1) || !self.is_open(at) {
             return false;
         }
         match stream_of(self.streams, id) {
-            Some(stream) => obeys(&stream, self.last[place], at, event, frame),
+            Some(stream) => self.may_come(&stream, place, at, event, frame),
             None => false,
+        }
+    }
+
+    // Whether the stream at a place may queue an instance, by those before it.
+    fn may_come(&self, stream: &Stream, place: usize, at: u64, event: u64, frame: &Content) -> bool
+        requires last { place < length self.now.last.items }
+        requires marks { place < length self.now.marks.items }
+        ensures { result ≡ true → MayCome stream.now (slice_index_or self.now.last.items place None) (slice_index self.now.marks.items place) self.now.newest at event frame.now }
+    {
+        if stream.every == 0 {
+            obeys(stream, self.last[place], at, event, frame)
+        } else {
+            obeys_sync(
+                stream,
+                self.last[place],
+                self.marks[place],
+                self.newest,
+                at,
+                event,
+                frame,
+            )
         }
     }
 
@@ -146,15 +176,17 @@ impl<'a> Watch<'a> {
     }
 
     fn take_queue(&mut self, id: u16, at: u64, event: u64, frame: &Content) -> bool
-        ensures { result ≡ true → (tau : ℕ) (streams : List Stream) (steps : List Step)
+        ensures { result ≡ true → (tau : ℕ) (streams : List Seen) (steps : List Step)
             → HasTaken tau streams steps self.old → HasTaken tau streams (steps ++ Step.Queue id at event frame.now ∷ []) self.new }
     {
         if !self.may_queue(id, at, event, frame) {
             return false;
         }
+        let place = usize::from(id);
         self.at = at;
         self.rank = 1;
-        self.last[usize::from(id)] = Some(event);
+        self.last[place] = Some(event);
+        self.marks[place] = self.newest.mark();
         match self.bus.joined(id) {
             Some(start) => {
                 self.bus = sending(id, start, frame.bits, self.ticks);
@@ -165,7 +197,7 @@ impl<'a> Watch<'a> {
     }
 
     fn take_start(&mut self, id: u16, at: u64) -> bool
-        ensures { result ≡ true → (tau : ℕ) (streams : List Stream) (steps : List Step)
+        ensures { result ≡ true → (tau : ℕ) (streams : List Seen) (steps : List Step)
             → HasTaken tau streams steps self.old → HasTaken tau streams (steps ++ Step.Start id at ∷ []) self.new }
     {
         if !self.may_start(id, at) {
@@ -182,7 +214,7 @@ impl<'a> Watch<'a> {
     }
 
     fn take_end(&mut self, id: u16, at: u64) -> bool
-        ensures { result ≡ true → (tau : ℕ) (streams : List Stream) (steps : List Step)
+        ensures { result ≡ true → (tau : ℕ) (streams : List Seen) (steps : List Step)
             → HasTaken tau streams steps self.old → HasTaken tau streams (steps ++ Step.End id at ∷ []) self.new }
     {
         if !self.may_end(id, at) {
@@ -191,7 +223,21 @@ impl<'a> Watch<'a> {
         self.at = at;
         self.rank = 0;
         self.bus = Bus::Idle;
+        if id == SYNC {
+            self.newest = self.after_sync(at);
+        }
         true
+    }
+
+    // The newest SYNC, where one ends. Where another waits it is lost which of them ends.
+    fn after_sync(&self, at: u64) -> Newest
+        ensures { EndsSync (ring_of self.now.rings.items sync_id) (slice_index_or self.now.last.items sync_id None) self.now.newest at result }
+    {
+        let place = usize::from(SYNC);
+        if place >= self.rings.len() || place >= self.last.len() || !self.rings[place].is_empty() {
+            return Newest::Lost;
+        }
+        ended(self.newest, self.last[place], at)
     }
 }
 

@@ -11,6 +11,6 @@ returns c =
     record {
       ticks = c.ticks_per_bit.ensures.ticks;
       set = refl;
-      knows = at-first (ticks_of c.args.rate) c.args.streams.now c.in_ok-no_events.field-0.items c.in_ok-rings.field-0.items c.new.result tick c.in_ok-no_events.ensures c.in_ok-rings.ensures
+      knows = at-first (ticks_of c.args.rate) c.args.streams.now c.in_ok-no_events.field-0.items _ c.in_ok-rings.field-0.items c.new.result tick c.in_ok-no_events.ensures c.in_ok-rings.ensures
           (has-none c.new.result (λ l. let e = c.new.ensures.len in omega (arith, e, l)));
     }

@@ -17,14 +17,16 @@ returns-in-Some c = λ is tau streams steps h.
     let m = c.may_queue.ensures (search rules) in
     let its = subst (λ (ks : List Stream). stream_of ks id ≡ Some m.stream) h.set m.its in
     let open_to = subst (λ (n : ℕ). IsOpen n w.at w.waiting w.bus at) h.ticks m.open_to in
-    let known = queued-joined tau streams steps w.bus w.at w.rank w.last.items w.rings.items w.waiting w.sent h.knows id at c.args.event c.args.frame.now m.stream its m.obeying m.order open_to m.last_there m.ring_there c.in-Some.start c.in-Some.ensures.some in
+    let known = queued-joined tau streams steps w.bus w.at w.rank w.last.items w.marks.items w.newest w.rings.items w.waiting w.sent h.knows id at c.args.event c.args.frame.now m.stream its m.obeying m.order open_to
+    m.last_there m.mark_there m.ring_there c.in-Some.start c.in-Some.ensures.some in
     let sends : Sending id (c.in-Some.start + c.args.frame.now.bits * tau) ≡ c.sending-self.result = ap (λ n. Sending id (c.in-Some.start + c.args.frame.now.bits * n)) (sym h.ticks) ∙ sym c.sending-self.ensures in
+    let After : Bus → ℕ → ℕ → Type 0 = λ b n k. Knows tau streams (steps ++ Queue id at c.args.event c.args.frame.now ∷ []) b at 1 (slice_set w.last.items n (Some c.args.event)) (slice_set w.marks.items n k) w.newest w.rings.items w.waiting w.sent in
     record {
       ticks = h.ticks;
       set = h.set;
-      knows = subst (λ (b : Bus). Knows tau streams (steps ++ Queue id at c.args.event c.args.frame.now ∷ []) b at 1 (slice_set w.last.items c.from.result (Some c.args.event)) w.rings.items w.waiting w.sent) sends
-          (subst (λ (n : ℕ). Knows tau streams (steps ++ Queue id at c.args.event c.args.frame.now ∷ []) (Sending id (c.in-Some.start + c.args.frame.now.bits * tau)) at 1 (slice_set w.last.items n (Some c.args.event)) w.rings.items w.waiting w.sent)
-          (sym c.from.ensures) known);
+      knows = subst (λ b. After b c.from-place.result c.mark.result) sends
+          (subst (λ n. After (Sending id (c.in-Some.start + c.args.frame.now.bits * tau)) n c.mark.result) (sym c.from-place.ensures)
+          (subst (λ k. After (Sending id (c.in-Some.start + c.args.frame.now.bits * tau)) id k) (sym c.mark.ensures) known));
     }
 
 pub returns-in-None : goal.returns-in-None
@@ -35,11 +37,11 @@ returns-in-None c = λ is tau streams steps h.
     let m = c.may_queue.ensures (search rules) in
     let its = subst (λ (ks : List Stream). stream_of ks id ≡ Some m.stream) h.set m.its in
     let open_to = subst (λ (n : ℕ). IsOpen n w.at w.waiting w.bus at) h.ticks m.open_to in
-    let known = queued-behind tau streams steps w.bus w.at w.rank w.last.items w.rings.items w.waiting w.sent h.knows id at c.args.event c.args.frame.now m.stream its m.obeying m.order open_to m.last_there m.ring_there
-    c.wait.new.rings.items c.wait.new.waiting c.in-None.ensures.none (c.wait.ensures is) in
+    let known = queued-behind tau streams steps w.bus w.at w.rank w.last.items w.marks.items w.newest w.rings.items w.waiting w.sent h.knows id at c.args.event c.args.frame.now m.stream its m.obeying m.order open_to
+    m.last_there m.mark_there m.ring_there c.wait.new.rings.items c.wait.new.waiting c.in-None.ensures.none (c.wait.ensures is) in
+    let After : ℕ → ℕ → Type 0 = λ n k. Knows tau streams (steps ++ Queue id at c.args.event c.args.frame.now ∷ []) w.bus at 1 (slice_set w.last.items n (Some c.args.event)) (slice_set w.marks.items n k) w.newest c.wait.new.rings.items c.wait.new.waiting w.sent in
     record {
       ticks = h.ticks;
       set = h.set;
-      knows = subst (λ (n : ℕ). Knows tau streams (steps ++ Queue id at c.args.event c.args.frame.now ∷ []) w.bus at 1 (slice_set w.last.items n (Some c.args.event)) c.wait.new.rings.items c.wait.new.waiting w.sent)
-          (sym c.from.ensures) known;
+      knows = subst (λ n. After n c.mark.result) (sym c.from-place.ensures) (subst (λ k. After id k) (sym c.mark.ensures) known);
     }
