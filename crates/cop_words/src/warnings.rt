@@ -45,23 +45,68 @@ fn inhibit_words(alloc: Global, row: &PdoRow, units: u64) -> Result<String, Allo
     )
 }
 
-/// What is said of the rows of a kind of frames that are missing.
-fn missing_row(kind: FrameKind) -> &'static str {
+/// The row of frames of a kind that devices lack.
+fn row_word(kind: FrameKind) -> &'static str {
     match kind {
-        FrameKind::Emcy => {
-            "sends EMCY frames by its EDS file (1014h), and no row emcy has them: they are not counted"
-        }
+        FrameKind::Nmt => "nmt",
+        FrameKind::Sync => "sync",
+        FrameKind::Emcy => "emcy",
+        FrameKind::SdoRequest => "sdo_request",
+        FrameKind::SdoResponse => "sdo_response",
+        FrameKind::Heartbeat => "heartbeat",
+    }
+}
+
+/// What the EDS file of a device says that lacks a row of a kind.
+fn described(kind: FrameKind) -> &'static str {
+    match kind {
+        FrameKind::Emcy => "it sends EMCY frames (1014h), and these are not counted",
         FrameKind::SdoRequest => {
-            "has an SDO server by its EDS file (1200h sub 1), and no row sdo_request has what is sent to it: add one if SDO is used while the machine runs"
+            "it has an SDO server (1200h sub 1): add the row if SDO is used while the machine runs"
         }
         FrameKind::SdoResponse => {
-            "has an SDO server by its EDS file (1200h sub 2), and no row sdo_response has what it sends: add one if SDO is used while the machine runs"
+            "it has an SDO server (1200h sub 2): add the row if SDO is used while the machine runs"
         }
         FrameKind::Heartbeat => {
-            "begins with a heartbeat by its EDS file (1017h), and no row heartbeat has it: the plan switches it off"
+            "it begins with a heartbeat (1017h), which the plan switches off"
         }
-        FrameKind::Nmt | FrameKind::Sync => "has no row",
+        FrameKind::Nmt | FrameKind::Sync => "it sends them",
     }
+}
+
+/// The node whose frames of a kind a warning says to have no row.
+fn without_row(warning: Warning, wanted: FrameKind) -> Option<u8> {
+    match warning {
+        Warning::NoRow { node, kind } if kind == wanted => Some(node),
+        _ => None,
+    }
+}
+
+/// Adds the nodes whose frames of a kind have no row, in one line.
+fn push_missing(
+    words: &mut Vec<u8>,
+    alloc: Global,
+    warnings: &[Warning],
+    kind: FrameKind,
+) -> Result<(), AllocError> {
+    let before = words.len();
+    let row = row_word(kind);
+    for warning in warnings {
+        if let Some(node) = without_row(*warning, kind) {
+            let said = if words.len() == before {
+                format!(in alloc; "warning: no row {row} of node {node}")?
+            } else {
+                format!(in alloc; ", {node}")?
+            };
+            words.extend_from_slice(said.as_bytes())?;
+        }
+    }
+    if words.len() != before {
+        let said = described(kind);
+        let line = format!(in alloc; ": by its EDS file {said}\n")?;
+        words.extend_from_slice(line.as_bytes())?;
+    }
+    Ok(())
 }
 
 fn identifier_words(
@@ -89,10 +134,6 @@ fn row_words(alloc: Global, row: &PdoRow, warning: Warning) -> Result<String, Al
 /// What is said of a warning on a device.
 fn device_words(alloc: Global, warning: Warning) -> Result<String, AllocError> {
     match warning {
-        Warning::NoRow { node, kind } => {
-            let said = missing_row(kind);
-            format!(in alloc; "node {node} {said}\n")
-        }
         Warning::OtherIdentifier {
             node,
             index,
@@ -127,7 +168,22 @@ fn words_of(alloc: Global, network: &Network<'_>, warning: Warning) -> Result<St
     }
 }
 
-/// What is said of the warnings of a network, a line each.
+/// Adds what is said of a warning, if it is not on a row that is missing.
+fn push_warning(
+    words: &mut Vec<u8>,
+    alloc: Global,
+    network: &Network<'_>,
+    warning: Warning,
+) -> Result<(), AllocError> {
+    let said = words_of(alloc, network, warning)?;
+    if !said.is_empty() {
+        words.extend_from_slice(b"warning: ")?;
+        words.extend_from_slice(said.as_bytes())?;
+    }
+    Ok(())
+}
+
+/// What is said of the warnings of a network: a line each, and one for all nodes that lack a row of one kind.
 pub fn warning_words(
     alloc: Global,
     network: &Network<'_>,
@@ -135,9 +191,11 @@ pub fn warning_words(
 ) -> Result<Vec<u8>, AllocError> {
     let mut words = Vec::new(alloc);
     for warning in warnings {
-        let said = words_of(alloc, network, *warning)?;
-        words.extend_from_slice(b"warning: ")?;
-        words.extend_from_slice(said.as_bytes())?;
+        push_warning(&mut words, alloc, network, *warning)?;
     }
+    push_missing(&mut words, alloc, warnings, FrameKind::Emcy)?;
+    push_missing(&mut words, alloc, warnings, FrameKind::SdoRequest)?;
+    push_missing(&mut words, alloc, warnings, FrameKind::SdoResponse)?;
+    push_missing(&mut words, alloc, warnings, FrameKind::Heartbeat)?;
     Ok(words)
 }

@@ -634,14 +634,14 @@ const WARNED: &[(&str, &str, &str, &str, &str)] = &[
         "AccessType=rw\nDefaultValue=1000\n[1400]",
         "",
         "5,1,10000,0,670,",
-        "warning: node 5 begins with a heartbeat by its EDS file (1017h), and no row heartbeat has it: the plan switches it off\n",
+        "warning: no row heartbeat of node 5: by its EDS file it begins with a heartbeat (1017h), which the plan switches off\n",
     ),
     (
         "SupportedObjects=5",
         "SupportedObjects=6\n6=0x1014",
         "[1014]\nDataType=7\nAccessType=rw\nDefaultValue=0x85\n",
         "5,1,10000,0,670,",
-        "warning: node 5 sends EMCY frames by its EDS file (1014h), and no row emcy has them: they are not counted\n",
+        "warning: no row emcy of node 5: by its EDS file it sends EMCY frames (1014h), and these are not counted\n",
     ),
     (
         "SupportedObjects=5",
