@@ -42,13 +42,13 @@ static EXPLANATIONS: [Explanation; 50] = [
     },
     Explanation {
         number: 3,
-        rule: "a field of the table of streams is no number",
+        rule: "a field of the table of streams is no number: each has 1 to 10 decimal digits, or of an id 0x and hexadecimal digits; a deadline may be empty",
         cause: "a unit, a sign, a blank or a point in a number",
         right: "0x181,8,10000,0,670",
     },
     Explanation {
         number: 4,
-        rule: "a number of the table of streams is out of its range",
+        rule: "a number of the table of streams is out of its range: id up to 0x7FF, bytes 0 to 8, period 100 to 60000000 us, jitter 0 to 60000000 us, deadline 1 to 60000000 us or empty",
         cause: "an identifier that is not permitted, more than 8 bytes, or times that are not microseconds",
         right: "0x181,8,10000,0,670",
     },
@@ -86,7 +86,7 @@ static EXPLANATIONS: [Explanation; 50] = [
         number: 13,
         rule: "a number of the EDS text cannot be read, or does not fit its type",
         cause: "a default beyond the object's type or limits, a blank in a number, or more than 64 bits",
-        right: "DefaultValue=0x40000180",
+        right: "DefaultValue=0x40000180 and DataType=0x0007",
     },
     Explanation {
         number: 14,
@@ -96,15 +96,15 @@ static EXPLANATIONS: [Explanation; 50] = [
     },
     Explanation {
         number: 15,
-        rule: "a list of the EDS text names an object that has no section",
-        cause: "an object that was removed and is still listed",
+        rule: "a list of the EDS text names an object that has no section, or lacks an entry that SupportedObjects counts",
+        cause: "an object that was removed and is still listed, or a number of objects that is not that of the entries 1=, 2= and on",
         right: "1=0x1800 and a section [1800]",
     },
     Explanation {
         number: 16,
-        rule: "the ObjectType or DataType of an object is not known",
+        rule: "the ObjectType, the DataType or the AccessType of an object is not known",
         cause: "a type of a later profile, or a value in another notation",
-        right: "ObjectType=0x7 and DataType=0x0007",
+        right: "ObjectType=0x7, DataType=0x0007 and AccessType=rw",
     },
     Explanation {
         number: 17,
@@ -120,8 +120,8 @@ static EXPLANATIONS: [Explanation; 50] = [
     },
     Explanation {
         number: 20,
-        rule: "a mapping record, its count or one of its entries is absent",
-        cause: "1A00h or 1600h and on is not described as far as its count says",
+        rule: "the COB-ID of the PDO, its mapping record, the count of that or one of its entries is absent",
+        cause: "1800h or 1400h and on is not described, or 1A00h or 1600h and on not as far as its count says",
         right: "[1A00sub1] with DataType=0x0007",
     },
     Explanation {

@@ -141,6 +141,9 @@ pub(crate) fn push_mapping(
     let name = pdo_name(alloc, pdo)?;
     let line = format!(in alloc; "{name}: {said}\n")?;
     words.extend_from_slice(line.as_bytes())?;
+    if dict.entries().is_empty() {
+        words.extend_from_slice(b"its EDS file describes no object\n")?;
+    }
     push_value_line(words, alloc, &device.eds, mapping, sub)
 }
 

@@ -92,6 +92,10 @@ fn push_record(
     refusal: &Refusal,
     rule: cop_rows::Rule,
 ) -> Result<(), AllocError> {
+    if rule == cop_rows::Rule::NoDevice && refusal.place == 0 {
+        words.extend_from_slice(b"no row of the table is one of a device\n")?;
+        return Ok(());
+    }
     let said = row_words(alloc, refusal.table, files.nodes.text, rule)?;
     words.extend_from_slice(said.as_bytes())?;
     let text = match refusal.table {
