@@ -113,7 +113,7 @@ def calls_of_program():
     examples = f"{HERE}/examples"
     yield "test", ["test", "--rate", "125", f"{examples}/three-frames.csv"]
     yield "usage", ["test", "--rate", "7", f"{examples}/three-frames.csv"]
-    for name in "valve", "conveyor", "crane", "drives", "sdo-refusal":
+    for name in "valve", "conveyor", "crane", "drives", "second-range", "sdo-refusal":
         tables = [f"{examples}/{name}/nodes.csv", f"{examples}/{name}/pdos.csv"]
         yield f"plan {name}", ["plan", *tables, "OUT"]
         yield f"check {name}", ["check", *tables, f"{examples}/{name}/refusals.csv"]
