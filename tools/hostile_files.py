@@ -8,7 +8,7 @@ its size and at its whole size. Told are the status, standard error, the seconds
 memory of the second. Wrong is an answer that is neither a plan nor a refusal, and a time that grows by far more than the
 file.
 
-`cut`: each table, EDS file and refusal file of the examples, and a trace, cut off at each byte, by `check` or `judge`. Wrong
+`cut`: each table, EDS file and refusal file of the examples, and two traces, cut off at each byte, by `check` or `judge`. Wrong
 is an answer that is neither an answer nor a refusal.
 
 Without a word both are done.
@@ -137,12 +137,13 @@ def large(folder):
 
 def cut_calls():
     """The words of each call with the file in it that is cut."""
-    for example in "valve", "conveyor", "crane":
+    for example in "valve", "conveyor", "crane", "drives", "second-range", "sdo-refusal":
         folder = f"{EXAMPLES}/{example}"
         eds = sorted(it for it in os.listdir(folder) if it.endswith(".eds"))
         for name in ["nodes.csv", "pdos.csv", "refusals.csv", *eds]:
             yield folder, name, ["check", "nodes.csv", "pdos.csv", "refusals.csv"]
-    yield f"{EXAMPLES}/valve", "trace.csv", ["judge", "nodes.csv", "pdos.csv", "trace.csv"]
+    for example in "valve", "drives":
+        yield f"{EXAMPLES}/{example}", "trace.csv", ["judge", "nodes.csv", "pdos.csv", "trace.csv"]
 
 
 def wrong_cuts(room, folder, name, words):
