@@ -5,15 +5,10 @@ fn quotes(text: &[u8]) -> usize {
     text.iter().filter(|byte| **byte == b'"').count()
 }
 
-/// What is seen at the beginning of a file that is no ASCII or UTF-8 without a mark.
+/// What is seen at the beginning of a file that is UTF-16.
 fn encoding_seen(text: &[u8]) -> Option<&'static str> {
     if text.starts_with(b"\xFF\xFE") || text.starts_with(b"\xFE\xFF") {
         return Some("the file is UTF-16: save it as CSV in ASCII or UTF-8\n");
-    }
-    if text.starts_with(b"\xEF\xBB\xBF") {
-        return Some(
-            "the file begins with a byte order mark, which is no part of a header: save it as UTF-8 without one\n",
-        );
     }
     None
 }

@@ -311,7 +311,7 @@ const PDO_MISTAKES: &[(&str, &str, &str)] = &[
     (
         "5,2,10000,0,670,",
         "pdos.csv, line 2: 5,2",
-        "rule 20: a mapping record",
+        "rule 20: the COB-ID of the PDO",
     ),
     (
         "5,1,10000,0,670,5.2",
@@ -469,7 +469,7 @@ const SEPARATORS: &[(&str, &str)] = &[
     ),
     (
         "\u{FEFF}row,node,name,eds,period,jitter\n",
-        "begins with a byte order mark",
+        "no row of the table is one of a device",
     ),
     (
         "row,node,name,eds,period,jitter\ndevice,5,\"Valve,unit.eds,0,0\n",
