@@ -45,8 +45,8 @@ pub fn set_of(alloc: Global, streams: &[Stream]) -> Result<StreamSet, SetFault> 
     Ok(set)
 }
 
-// 181h and 182h of 8 bytes, the second with a deadline.
-fn two_streams(alloc: Global, deadline: u64) -> Result<StreamSet, SetFault>
+/// 181h and 182h of 8 bytes, the second with a deadline.
+pub fn two_streams(alloc: Global, deadline: u64) -> Result<StreamSet, SetFault>
     requires { (1 ≤ deadline) × (deadline ≤ 240000000) }
 {
     let first = Stream {
@@ -227,7 +227,7 @@ fn bound_is_reached(rt: HostRuntime) -> Result<(), Fail> {
     Ok(())
 }
 
-const LATE_JOINER: &str = "kind,moment,id,event,bits,data\n\
+pub const LATE_JOINER: &str = "kind,moment,id,event,bits,data\n\
      queue,100,386,100,135,0000000000000000\n\
      start,100,385,,,\n\
      queue,102,385,102,111,0000000000000000\n\

@@ -19,3 +19,5 @@ mod response_times;
 mod simulator;
 #[cfg(test)]
 mod syncs;
+#[cfg(test)]
+mod watched;

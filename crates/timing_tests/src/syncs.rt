@@ -52,7 +52,8 @@ fn streams(every: u8) -> [Stream; 3]
     ]
 }
 
-fn set(alloc: Global, every: u8) -> Result<StreamSet, SetFault>
+/// The set of these.
+pub fn set(alloc: Global, every: u8) -> Result<StreamSet, SetFault>
     requires { (1 ≤ every) × (every ≤ 2) }
 {
     set_of(alloc, &streams(every))

@@ -1,0 +1,56 @@
+//! Traces that are judged while they are read, in pieces.
+
+ghost use Rattle.std.specs.Prelude.{◌≤◌};
+
+use crate::bus::{LATE_JOINER, two_streams};
+use crate::syncs::set;
+use cop_frame::Rate;
+use cop_rta::StreamSet;
+use cop_watch::TraceWatch;
+use std::alloc::{AllocError, Global};
+use std::test::Fail;
+
+/// How many transfers start in a trace that is read in pieces of so many bytes, if it is taken.
+fn starts(
+    alloc: Global,
+    set: &StreamSet,
+    rate: Rate,
+    text: &str,
+    size: usize,
+) -> Result<Option<u64>, AllocError>
+    requires { 1 ≤ size }
+{
+    let mut watch = TraceWatch::new(alloc, set, rate)?;
+    for piece in text.as_bytes().chunks(size) {
+        if !watch.feed(piece) {
+            return Ok(None);
+        }
+    }
+    Ok(watch.finish())
+}
+
+#[test]
+fn a_late_joiner_is_watched(rt: HostRuntime) -> Result<(), Fail> {
+    let set = two_streams(rt.alloc(), 984)?;
+    assert!(rt; starts(rt.alloc(), &set, Rate::Kbit1000, LATE_JOINER, 1)? == Some(2));
+    assert!(rt; starts(rt.alloc(), &set, Rate::Kbit1000, LATE_JOINER, 7)? == Some(2));
+    assert!(rt; starts(rt.alloc(), &set, Rate::Kbit1000, LATE_JOINER, 4096)? == Some(2));
+    assert!(rt; starts(rt.alloc(), &set, Rate::Kbit500, LATE_JOINER, 4096)?.is_none());
+    Ok(())
+}
+
+const AFTER_SYNC: &str = "kind,moment,id,event,bits,data\n\
+    queue,0,128,0,47,\n\
+    start,0,128,,,\n\
+    end,376,128,,,\n\
+    queue,376,385,0,111,0000000000000000\n\
+    start,376,385,,,\n\
+    end,1264,385,,,\n\
+    until,1264,0,,,\n";
+
+#[test]
+fn a_synchronous_instance_is_watched(rt: HostRuntime) -> Result<(), Fail> {
+    let set = set(rt.alloc(), 1)?;
+    assert!(rt; starts(rt.alloc(), &set, Rate::Kbit500, AFTER_SYNC, 64)? == Some(2));
+    Ok(())
+}
