@@ -22,6 +22,7 @@ pub mod Accepts
 pub mod Found
 pub mod SyncTable
 pub mod LateLemmas
+pub mod LineLemmas
 pub mod StreamOf
 pub mod WholeTrace
 pub mod Sent

@@ -1,13 +1,15 @@
 -- Records that a writer has written, one after another.
-use Rattle.std.proofs.Common.{◌≡◌, ◌≢◌, false, ℕ, ◌+◌, ◌<◌, ◌≤◌, List, [], ◌∷◌, ◌++◌, length, map, take, get_or, sym, ◌∙◌, append_assoc, append-nil, subst, Option, Some, None}
+use Rattle.std.proofs.Common.{◌≡◌, ◌≢◌, false, ℕ, ◌+◌, ◌<◌, ◌≤◌, List, [], ◌∷◌, ◌++◌, length, map, take, get_or, sym, refl, arith, ◌∙◌, append_assoc, append-nil, subst, Option, Some, None}
 use Rattle.std.specs.Io.KnownBytes.{Appends}
+use Rattle.std.proofs.lemmas.Bool.{ne_eqb}
 use Rattle.std.proofs.lemmas.Grind.{flat_map-append}
 use Rattle.std.proofs.lemmas.List.{map_more, take_all}
-use Rattle.csv.specs.Writing.{row_text, default_writer, text_written, writer_setup, fields_written, has_written}
+use Rattle.csv.specs.Machine.{line_feed}
+use Rattle.csv.specs.Writing.{row_text, is_blank, fields_text, text_written, writer_setup, fields_written, has_written}
 use Rattle.csv.specs.declared.writer.Writer.{Writer}
 use Rattle.csv.specs.declared.writer.QuoteStyle.TheVariants as style
 use Rattle.cop_bus.specs.Format.{Fields, line, lines}
-use Rattle.cop_bus.specs.Writer.{IsBetween, Adds}
+use Rattle.cop_bus.specs.Writer.{IsBetween, Adds, plain_writer}
 
 -- ---- known bytes that grow
 
@@ -24,19 +26,24 @@ appends_more (Some ws) (Some bs) (Some cs) xs ys h k = k ∙ rw h (append_assoc 
 pub appends_as : (a b : Option (List ℕ)) (xs ys : List ℕ) → xs ≡ ys → Appends a b xs → Appends a b ys
 appends_as a b xs ys e h = subst (λ (zs : List ℕ). Appends a b zs) e h
 
+-- a text that is some, as a writer that quotes nothing writes it
+plain_line : (text : List ℕ) → 0 < length text → row_text plain_writer (text ∷ []) ≡ text ++ line_feed ∷ []
+unfolding is_blank fields_text
+plain_line text h = rw (ne_eqb (length text) 0 (λ e. absurd (omega (arith, e, h))), append-nil text) refl
+
 -- ---- records
 
 module _ {W : Type 0} (contents : W → Option (List ℕ)) where
-  -- one record, as the writer's crate says it
-  pub one_written : (old new : Writer W) (fields : Fields) → IsBetween old → fields_written new ≡ 0 → has_written new ≡ false → writer_setup new ≡ writer_setup old
-      → ((fields_written old ≡ 0) → (has_written old ≡ false) → ((writer_setup old).style ≢ style.NonNumeric) → Appends (text_written contents old) (text_written contents new) (row_text (writer_setup old) fields))
-      → Adds contents old new (fields ∷ [])
-  unfolding line
-  one_written old new fields h none clean same bytes =
-      let text = bytes h.fields h.wrote (rw h.setup (λ e. cc e)) in
+  -- one line, as the writer's crate says it
+  pub line_written : (old new : Writer W) (text : List ℕ) → IsBetween old → 0 < length text → fields_written new ≡ 0 → has_written new ≡ false → writer_setup new ≡ writer_setup old
+      → ((fields_written old ≡ 0) → (has_written old ≡ false) → ((writer_setup old).style ≢ style.NonNumeric) → Appends (text_written contents old) (text_written contents new) (row_text (writer_setup old) (text ∷ [])))
+      → (row : Fields) → text ++ line_feed ∷ [] ≡ line row → Adds contents old new (row ∷ [])
+  line_written old new text h some none clean same bytes row is =
+      let written = bytes h.fields h.wrote (rw h.setup (λ e. cc e)) in
+      let plain : Appends (text_written contents old) (text_written contents new) (row_text plain_writer (text ∷ [])) = rw h.setup at written in
       record {
         between = record { setup = same ∙ h.setup; fields = none; wrote = clean };
-        text = appends_as (text_written contents old) (text_written contents new) (row_text default_writer fields) (row_text default_writer fields ++ []) (sym (append-nil (row_text default_writer fields))) (rw h.setup at text);
+        text = appends_as (text_written contents old) (text_written contents new) (row_text plain_writer (text ∷ [])) (line row ++ []) (plain_line text some ∙ is ∙ sym (append-nil (line row))) plain;
       }
 
   pub adds_none : (w : Writer W) → IsBetween w → Adds contents w w []

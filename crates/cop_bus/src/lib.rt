@@ -9,6 +9,7 @@ mod faults;
 mod judging;
 mod lateness;
 mod laws;
+mod lines;
 mod pending;
 mod piecewise;
 mod queues;

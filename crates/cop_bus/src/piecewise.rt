@@ -4,8 +4,8 @@ ghost use Rattle.std.specs.Prelude.{◌≡◌, true, false, IfSome};
 ghost use Rattle.cop_bus.specs.Writer.{IsBetween};
 
 use crate::steps::Step;
-use crate::writing::{write_end, write_header, write_step};
-use csv::{Writer, WriterBuilder};
+use crate::writing::{lines_into, write_end, write_header, write_step};
+use csv::Writer;
 use std::io::Write;
 
 /// A writer of a trace's table: the record of each step as it comes, and at last the end's. It takes no memory, and so
@@ -24,7 +24,7 @@ impl<W: Write + Drop> TraceWriter<W> {
     pub fn new(writer: W) -> TraceWriter<W>
         ensures { has_failed result ≡ false → Begins W.contents writer result }
     {
-        let mut writer = WriterBuilder::new().from_writer(writer);
+        let mut writer = lines_into(writer);
         let failed = write_header(&mut writer).is_err();
         TraceWriter { writer, failed }
     }

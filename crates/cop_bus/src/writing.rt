@@ -1,18 +1,17 @@
 //! Writing a trace as a table.
 
-ghost use Rattle.std.specs.Prelude.{◌≡◌, ◌+◌, ◌≤◌, ◌<◌, ◌∷◌, [], OnOk, IfOk, codes, length, map, slice_index, take};
-ghost use Rattle.hex.specs.Hex.{upper_digits, encode_upper};
-ghost use Rattle.cop_bus.specs.Format.{bytes_of, header, short, queue_fields, fields_of, text_of};
+ghost use Rattle.std.specs.Prelude.{◌≡◌, ◌<◌, ◌∷◌, ◌++◌, [], OnOk, IfOk, codes, length, map};
+ghost use Rattle.csv.specs.Machine.{line_feed};
+ghost use Rattle.csv.specs.Writing.{writer_under, writer_pending};
+ghost use Rattle.cop_bus.specs.Format.{Fields, header, short, fields_of, line, text_of};
 ghost use Rattle.cop_bus.specs.Writer.{IsBetween, Adds};
 
+use crate::lines::{queue_line, short_line};
 use crate::runs::Trace;
-use crate::steps::{Content, Step};
-use csv::{Writer, WriterBuilder};
-use itoa::Buffer;
+use crate::steps::Step;
+use csv::{QuoteStyle, Writer, WriterBuilder};
 use std::alloc::{AllocError, Global};
 use std::io::Write;
-
-const DIGITS: [u8; 16] = *b"0123456789ABCDEF";
 
 /// A record is not written: the writer failed. The text of a record takes no memory.
 #[derive(Clone, Copy)]
@@ -24,48 +23,36 @@ impl From<NotWritten> for AllocError {
     }
 }
 
-fn write_fields<W: Write + Drop>(writer: &mut Writer<W>, fields: &[&[u8]]) -> Result<(), NotWritten>
-    requires { IsBetween writer.old }
-    ensures { OnOk result (Adds W.contents writer.old writer.new (map (λ f. f.now) fields.now ∷ [])) }
+/// A writer of lines, which quotes nothing.
+pub(crate) fn lines_into<W: Write + Drop>(writer: W) -> Writer<W>
+    ensures between { IsBetween result }
+    ensures under { writer_under result ≡ writer }
+    ensures pending { writer_pending result ≡ [] }
 {
-    if let Ok(()) = writer.write_fields(fields) {
+    WriterBuilder::new()
+        .quote_style(QuoteStyle::Never)
+        .from_writer(writer)
+}
+
+// Writes a line, which has to be a record's, and its end.
+fn write_line<W: Write + Drop>(writer: &mut Writer<W>, text: &[u8]) -> Result<(), NotWritten>
+    requires between { IsBetween writer.old }
+    requires some { 0 < length text.now }
+    ensures { OnOk result ((row : Fields) → text.now ++ line_feed ∷ [] ≡ line row → Adds W.contents writer.old writer.new (row ∷ [])) }
+{
+    if let Ok(()) = writer.write_fields(&[text]) {
         return Ok(());
     }
     Err(NotWritten {})
 }
 
+#[tactic(auto, using(crate::proofs::LineLemmas::header_is_line))]
 /// The names of the fields.
 pub(crate) fn write_header<W: Write + Drop>(writer: &mut Writer<W>) -> Result<(), NotWritten>
     requires { IsBetween writer.old }
     ensures { OnOk result (Adds W.contents writer.old writer.new (header ∷ [])) }
 {
-    write_fields(
-        writer,
-        &[b"kind", b"moment", b"id", b"event", b"bits", b"data"],
-    )
-}
-
-// A record that queues nothing.
-fn write_short<W: Write + Drop>(
-    writer: &mut Writer<W>,
-    kind: &[u8],
-    at: u64,
-    id: u16,
-) -> Result<(), NotWritten>
-    requires { IsBetween writer.old }
-    ensures { OnOk result (Adds W.contents writer.old writer.new (short kind.now at id ∷ [])) }
-{
-    let mut at_text = Buffer::new();
-    let mut id_text = Buffer::new();
-    let fields = [
-        kind,
-        at_text.format(at).as_bytes(),
-        id_text.format(id).as_bytes(),
-        b"",
-        b"",
-        b"",
-    ];
-    write_fields(writer, &fields)
+    write_line(writer, b"kind,moment,id,event,bits,data")
 }
 
 /// The last record, which tells the end.
@@ -76,66 +63,7 @@ pub(crate) fn write_end<W: Write + Drop>(
     requires { IsBetween writer.old }
     ensures { OnOk result (Adds W.contents writer.old writer.new (short (codes "until") until 0 ∷ [])) }
 {
-    write_short(writer, b"until", until, 0)
-}
-
-// A frame's data bytes.
-fn bytes_of(frame: &Content) -> &[u8]
-    ensures { result.now ≡ bytes_of frame.now }
-{
-    if frame.len < 8 {
-        &frame.body[..usize::from(frame.len)]
-    } else {
-        &frame.body
-    }
-}
-
-// A digit of the base 16.
-fn digit_of(value: u8) -> u8
-    requires { value < 16 }
-    ensures { result ≡ slice_index upper_digits value }
-{
-    DIGITS[usize::from(value)]
-}
-
-// Eight bytes or fewer as pairs of hexadecimal digits, of which the first count.
-fn digits_of(bytes: &[u8]) -> [u8; 16]
-    requires { length bytes.now ≤ 8 }
-    ensures { take (length bytes.now + length bytes.now) result ≡ encode_upper bytes.now }
-{
-    let mut digits = [b'0'; 16];
-    for i in 0..bytes.len() {
-        digits[i + i] = digit_of(bytes[i] / 16);
-        digits[i + i + 1] = digit_of(bytes[i] % 16);
-    }
-    digits
-}
-
-fn write_queue<W: Write + Drop>(
-    writer: &mut Writer<W>,
-    at: u64,
-    id: u16,
-    event: u64,
-    frame: &Content,
-) -> Result<(), NotWritten>
-    requires { IsBetween writer.old }
-    ensures { OnOk result (Adds W.contents writer.old writer.new (queue_fields at id event frame.now ∷ [])) }
-{
-    let mut at_text = Buffer::new();
-    let mut id_text = Buffer::new();
-    let mut event_text = Buffer::new();
-    let mut bits_text = Buffer::new();
-    let bytes = bytes_of(frame);
-    let digits = digits_of(bytes);
-    let fields = [
-        b"queue",
-        at_text.format(at).as_bytes(),
-        id_text.format(id).as_bytes(),
-        event_text.format(event).as_bytes(),
-        bits_text.format(frame.bits).as_bytes(),
-        &digits[..bytes.len() + bytes.len()],
-    ];
-    write_fields(writer, &fields)
+    write_line(writer, &short_line(b"until", until, 0))
 }
 
 /// The record of a step.
@@ -152,9 +80,9 @@ pub(crate) fn write_step<W: Write + Drop>(
             id,
             event,
             frame,
-        } => write_queue(writer, *at, *id, *event, frame),
-        Step::Start { at, id } => write_short(writer, b"start", *at, *id),
-        Step::End { at, id } => write_short(writer, b"end", *at, *id),
+        } => write_line(writer, &queue_line(*at, *id, *event, frame)),
+        Step::Start { at, id } => write_line(writer, &short_line(b"start", *at, *id)),
+        Step::End { at, id } => write_line(writer, &short_line(b"end", *at, *id)),
     }
 }
 
@@ -174,7 +102,7 @@ fn write_steps<W: Write + Drop>(writer: &mut Writer<W>, steps: &[Step]) -> Resul
 pub fn write_trace(alloc: Global, trace: &Trace) -> Result<Vec<u8>, AllocError>
     ensures { IfOk result (λ text. text.items ≡ text_of trace.now.until trace.now.steps.items) }
 {
-    let mut writer = WriterBuilder::new().from_writer(Vec::new(alloc));
+    let mut writer = lines_into(Vec::new(alloc));
     write_header(&mut writer)?;
     write_steps(&mut writer, &trace.steps)?;
     write_end(&mut writer, trace.until)?;

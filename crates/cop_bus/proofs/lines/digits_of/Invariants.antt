@@ -1,6 +1,6 @@
 use Rattle.std.proofs.Common.{◌≡◌, ◌+◌, take, length}
 use Rattle.hex.specs.Hex.{encode_upper}
-use Rattle.cop_bus.proofs.writing.digits_of.Given as goal
+use Rattle.cop_bus.proofs.lines.digits_of.Given as goal
 
 abbrev pub invariant-loop-i : goal.invariant-loop-i
 invariant-loop-i l = record {

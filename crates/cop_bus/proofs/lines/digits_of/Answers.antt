@@ -2,7 +2,7 @@ use Rattle.std.proofs.Common.{◌+◌, ◌∙◌, refl, arith, slice_set, slice_
 use Rattle.std.proofs.lemmas.List.{length-set}
 use Rattle.hex.specs.Hex.{encode_with}
 use Rattle.cop_bus.proofs.HexLemmas.{digits_one}
-use Rattle.cop_bus.proofs.writing.digits_of.Goals as goal
+use Rattle.cop_bus.proofs.lines.digits_of.Goals as goal
 
 pub loop-i-init : goal.loop-i-init
 unfolding encode_with

@@ -1,0 +1,89 @@
+-- Records whose fields need no quotes, as lines.
+use Rattle.std.proofs.Common.{◌≡◌, ℕ, ◌<◌, ◌^◌, ◌/◌, ◌%◌, ◌==◌, ◌||◌, Bool, true, false, subst, List, [], ◌∷◌, ◌++◌, refl, sym, ◌∙◌, ap, arith, append_assoc, append-nil, slice_index, codes, decimal, inl, inr}
+use Rattle.std.specs.Char.{digit_value}
+use Rattle.std.specs.Str.Parse.{AllDigits}
+use Rattle.std.proofs.lemmas.Bool.{cases_lt, ne_eqb, false_from_ne_true}
+use Rattle.std.proofs.lemmas.Fmt.{decimal_is_IsNumeral}
+use Rattle.std.proofs.Math.ListN.{get_or-eq_default}
+use Rattle.std.proofs.lemmas.List.Folds.{list_any_at}
+use Rattle.csv.specs.Writing.{needs_byte, needs_quotes, default_writer, escaped, fields_text, is_blank, comma}
+use Rattle.csv.specs.Machine.{line_feed}
+use Rattle.hex.specs.Hex.{upper_digits, encode_with, encode_upper}
+use Rattle.cop_bus.specs.Format.{header, line, bytes_of, short, queue_fields}
+use Rattle.cop_bus.specs.declared.steps.Content.{Content}
+
+abbrev pub IsPlain : List ℕ → Type 0
+IsPlain field = needs_quotes default_writer field ≡ false
+
+both_no : (a b : Bool) → a ≡ false → b ≡ false → (a || b) ≡ false
+both_no a b h k = rw (h, k) refl
+
+-- ---- decimal digits
+
+digit_is_plain : (d : ℕ) → digit_value d < 10 → needs_byte default_writer d ≡ false
+digit_is_plain d h =
+    let comma_no : (d == 44) ≡ false = ne_eqb d 44 (λ e. (let f : digit_value 44 < 10 = subst (λ x. digit_value x < 10) e h in absurd (omega (arith, f)))) in
+    let quote_no : (d == 34) ≡ false = ne_eqb d 34 (λ e. (let f : digit_value 34 < 10 = subst (λ x. digit_value x < 10) e h in absurd (omega (arith, f)))) in
+    let return_no : (d == 13) ≡ false = ne_eqb d 13 (λ e. (let f : digit_value 13 < 10 = subst (λ x. digit_value x < 10) e h in absurd (omega (arith, f)))) in
+    let feed_no : (d == 10) ≡ false = ne_eqb d 10 (λ e. (let f : digit_value 10 < 10 = subst (λ x. digit_value x < 10) e h in absurd (omega (arith, f)))) in
+    rw (comma_no, quote_no, return_no, feed_no) refl
+
+digits_are_plain : (ds : List ℕ) → AllDigits 10 ds → IsPlain ds
+digits_are_plain [] h = refl
+digits_are_plain (d ∷ ds) h = both_no (needs_byte default_writer d) (needs_quotes default_writer ds) (digit_is_plain d h.0) (digits_are_plain ds h.1)
+
+decimal_is_plain : (n : ℕ) → n < 2 ^ 64 → IsPlain (decimal n)
+decimal_is_plain n h = digits_are_plain (decimal n) (decimal_is_IsNumeral n h).0.1
+
+-- ---- hexadecimal digits
+
+digit_is_one : (k : ℕ) → k < 16 → needs_byte default_writer (slice_index upper_digits k) ≡ false
+digit_is_one k h =
+    false_from_ne_true (needs_byte default_writer (slice_index upper_digits k)) (λ e. (let all : false ≡ true = list_any_at (needs_byte default_writer) upper_digits k 0 h e in absurd (cc all)))
+
+hexadecimal_is_plain : (k : ℕ) → needs_byte default_writer (slice_index upper_digits k) ≡ false
+hexadecimal_is_plain k = elim (cases_lt k 16) [
+  | inl h ↦ digit_is_one k h
+  | inr h ↦ ap (needs_byte default_writer) (get_or-eq_default upper_digits 0 h)
+]
+
+bytes_are_plain : (bytes : List ℕ) → IsPlain (encode_upper bytes)
+unfolding encode_with
+bytes_are_plain [] = refl
+bytes_are_plain (b ∷ bytes) =
+    both_no (needs_byte default_writer (slice_index upper_digits (b / 16))) (needs_byte default_writer (slice_index upper_digits (b % 16)) || needs_quotes default_writer (encode_upper bytes)) (hexadecimal_is_plain (b / 16))
+        (both_no (needs_byte default_writer (slice_index upper_digits (b % 16))) (needs_quotes default_writer (encode_upper bytes)) (hexadecimal_is_plain (b % 16)) (bytes_are_plain bytes))
+
+-- ---- lines
+
+pub short_is_line : (kind : List ℕ) (at id : ℕ) → at < 2 ^ 64 → id < 2 ^ 64 → IsPlain kind
+    → (((kind ++ comma ∷ decimal at) ++ comma ∷ decimal id) ++ codes ",,,") ++ line_feed ∷ [] ≡ line (short kind at id)
+unfolding line fields_text is_blank
+short_is_line kind at id h k plain =
+    rw (plain, decimal_is_plain at h, decimal_is_plain id k) (simp append_assoc refl)
+
+-- a part more behind a comma
+behind : (before part rest : List ℕ) → (before ++ comma ∷ part) ++ rest ≡ before ++ comma ∷ (part ++ rest)
+behind before part rest = append_assoc before (comma ∷ part) rest
+
+joined : (kind at id event bits bytes : List ℕ)
+    → ((((((kind ++ comma ∷ at) ++ comma ∷ id) ++ comma ∷ event) ++ comma ∷ bits) ++ comma ∷ []) ++ bytes) ++ line_feed ∷ [] ≡ (kind ++ comma ∷ (at ++ comma ∷ (id ++ comma ∷ (event ++ comma ∷ (bits ++ comma ∷ (bytes ++ [])))))) ++ line_feed ∷ []
+joined kind at id event bits bytes =
+    ap (λ text. text ++ line_feed ∷ [])
+        (behind ((((kind ++ comma ∷ at) ++ comma ∷ id) ++ comma ∷ event) ++ comma ∷ bits) [] bytes
+        ∙ behind (((kind ++ comma ∷ at) ++ comma ∷ id) ++ comma ∷ event) bits (comma ∷ bytes)
+        ∙ behind ((kind ++ comma ∷ at) ++ comma ∷ id) event (comma ∷ (bits ++ comma ∷ bytes))
+        ∙ behind (kind ++ comma ∷ at) id (comma ∷ (event ++ comma ∷ (bits ++ comma ∷ bytes)))
+        ∙ behind kind at (comma ∷ (id ++ comma ∷ (event ++ comma ∷ (bits ++ comma ∷ bytes))))
+        ∙ ap (λ last. kind ++ comma ∷ (at ++ comma ∷ (id ++ comma ∷ (event ++ comma ∷ (bits ++ comma ∷ last))))) (sym (append-nil bytes)))
+
+pub queue_is_line : (at id event : ℕ) (frame : Content) → at < 2 ^ 64 → id < 2 ^ 64 → event < 2 ^ 64 → frame.bits < 2 ^ 64
+    → ((((((codes "queue" ++ comma ∷ decimal at) ++ comma ∷ decimal id) ++ comma ∷ decimal event) ++ comma ∷ decimal frame.bits) ++ comma ∷ []) ++ encode_upper (bytes_of frame)) ++ line_feed ∷ [] ≡ line (queue_fields at id event frame)
+unfolding line fields_text is_blank
+queue_is_line at id event frame h k m n =
+    rw (decimal_is_plain at h, decimal_is_plain id k, decimal_is_plain event m, decimal_is_plain frame.bits n, bytes_are_plain (bytes_of frame)) (joined (codes "queue") (decimal at) (decimal id) (decimal event) (decimal frame.bits) (encode_upper (bytes_of frame)))
+
+-- the names of the fields
+pub header_is_line : codes "kind,moment,id,event,bits,data" ++ line_feed ∷ [] ≡ line header
+unfolding line fields_text is_blank escaped
+header_is_line = refl
