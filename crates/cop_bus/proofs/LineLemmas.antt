@@ -52,7 +52,7 @@ unfolding encode_with
 bytes_are_plain [] = refl
 bytes_are_plain (b ∷ bytes) =
     both_no (needs_byte default_writer (slice_index upper_digits (b / 16))) (needs_byte default_writer (slice_index upper_digits (b % 16)) || needs_quotes default_writer (encode_upper bytes)) (hexadecimal_is_plain (b / 16))
-        (both_no (needs_byte default_writer (slice_index upper_digits (b % 16))) (needs_quotes default_writer (encode_upper bytes)) (hexadecimal_is_plain (b % 16)) (bytes_are_plain bytes))
+    (both_no (needs_byte default_writer (slice_index upper_digits (b % 16))) (needs_quotes default_writer (encode_upper bytes)) (hexadecimal_is_plain (b % 16)) (bytes_are_plain bytes))
 
 -- ---- lines
 
@@ -70,12 +70,12 @@ joined : (kind at id event bits bytes : List ℕ)
     → ((((((kind ++ comma ∷ at) ++ comma ∷ id) ++ comma ∷ event) ++ comma ∷ bits) ++ comma ∷ []) ++ bytes) ++ line_feed ∷ [] ≡ (kind ++ comma ∷ (at ++ comma ∷ (id ++ comma ∷ (event ++ comma ∷ (bits ++ comma ∷ (bytes ++ [])))))) ++ line_feed ∷ []
 joined kind at id event bits bytes =
     ap (λ text. text ++ line_feed ∷ [])
-        (behind ((((kind ++ comma ∷ at) ++ comma ∷ id) ++ comma ∷ event) ++ comma ∷ bits) [] bytes
-        ∙ behind (((kind ++ comma ∷ at) ++ comma ∷ id) ++ comma ∷ event) bits (comma ∷ bytes)
-        ∙ behind ((kind ++ comma ∷ at) ++ comma ∷ id) event (comma ∷ (bits ++ comma ∷ bytes))
-        ∙ behind (kind ++ comma ∷ at) id (comma ∷ (event ++ comma ∷ (bits ++ comma ∷ bytes)))
-        ∙ behind kind at (comma ∷ (id ++ comma ∷ (event ++ comma ∷ (bits ++ comma ∷ bytes))))
-        ∙ ap (λ last. kind ++ comma ∷ (at ++ comma ∷ (id ++ comma ∷ (event ++ comma ∷ (bits ++ comma ∷ last))))) (sym (append-nil bytes)))
+    (behind ((((kind ++ comma ∷ at) ++ comma ∷ id) ++ comma ∷ event) ++ comma ∷ bits) [] bytes
+    ∙ behind (((kind ++ comma ∷ at) ++ comma ∷ id) ++ comma ∷ event) bits (comma ∷ bytes)
+    ∙ behind ((kind ++ comma ∷ at) ++ comma ∷ id) event (comma ∷ (bits ++ comma ∷ bytes))
+    ∙ behind (kind ++ comma ∷ at) id (comma ∷ (event ++ comma ∷ (bits ++ comma ∷ bytes)))
+    ∙ behind kind at (comma ∷ (id ++ comma ∷ (event ++ comma ∷ (bits ++ comma ∷ bytes))))
+    ∙ ap (λ last. kind ++ comma ∷ (at ++ comma ∷ (id ++ comma ∷ (event ++ comma ∷ (bits ++ comma ∷ last))))) (sym (append-nil bytes)))
 
 pub queue_is_line : (at id event : ℕ) (frame : Content) → at < 2 ^ 64 → id < 2 ^ 64 → event < 2 ^ 64 → frame.bits < 2 ^ 64
     → ((((((codes "queue" ++ comma ∷ decimal at) ++ comma ∷ decimal id) ++ comma ∷ decimal event) ++ comma ∷ decimal frame.bits) ++ comma ∷ []) ++ encode_upper (bytes_of frame)) ++ line_feed ∷ [] ≡ line (queue_fields at id event frame)

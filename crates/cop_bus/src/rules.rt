@@ -68,42 +68,41 @@ pub(crate) fn is_period_later(
 ) -> bool
     ensures { (steps : List Step) (i : ℕ) → IfSome stream (λ k. AreAnchors k steps i syncs.now) → result ≡ is_period_later stream before steps i step.now }
 {
-    match stream {
-        Some(stream) => match before {
-            Some(before) => match step {
-                Step::Queue { event, .. } => {
-                    if stream.every == 0 {
-                        u128::from(before) + u128::from(stream.period) <= u128::from(*event)
-                    } else {
-                        syncs.are_apart(stream.every, before, *event)
-                    }
-                }
-                Step::Start { .. } => true,
-                Step::End { .. } => true,
-            },
-            None => true,
-        },
-        None => true,
+    let Some(stream) = stream else {
+        return true;
+    };
+    let Some(before) = before else {
+        return true;
+    };
+    match step {
+        Step::Queue { event, .. } => {
+            if stream.every == 0 {
+                u128::from(before) + u128::from(stream.period) <= u128::from(*event)
+            } else {
+                syncs.are_apart(stream.every, before, *event)
+            }
+        }
+        Step::Start { .. } => true,
+        Step::End { .. } => true,
     }
 }
 
 pub(crate) fn is_queued_in_time(stream: Option<Stream>, syncs: &Syncs, step: &Step) -> bool
     ensures { (steps : List Step) (i : ℕ) → IfSome stream (λ k. AreAnchors k steps i syncs.now) → result ≡ is_queued_in_time stream steps i step.now }
 {
-    match stream {
-        Some(stream) => match step {
-            Step::Queue { at, event, .. } => {
-                if stream.every == 0 {
-                    *event <= *at
-                        && u128::from(*at) <= u128::from(*event) + u128::from(stream.jitter)
-                } else {
-                    syncs.is_in_time(stream.jitter, *event, *at)
-                }
+    let Some(stream) = stream else {
+        return true;
+    };
+    match step {
+        Step::Queue { at, event, .. } => {
+            if stream.every == 0 {
+                *event <= *at && u128::from(*at) <= u128::from(*event) + u128::from(stream.jitter)
+            } else {
+                syncs.is_in_time(stream.jitter, *event, *at)
             }
-            Step::Start { .. } => true,
-            Step::End { .. } => true,
-        },
-        None => true,
+        }
+        Step::Start { .. } => true,
+        Step::End { .. } => true,
     }
 }
 
