@@ -716,7 +716,7 @@ fn each_rule_is_explained(rt: HostRuntime) {
 }
 
 #[test]
-fn records_and_lines_are_found(rt: HostRuntime) -> Result<(), Fail> {
+fn records_are_found(rt: HostRuntime) -> Result<(), Fail> {
     let text = b"a,b\r\n\r\n\"1\n2\",3\n4,5".as_slice();
     let cases: &[(u64, u64, &[u8])] = &[(0, 1, b"a,b"), (1, 3, b"\"1\n2\",3"), (2, 5, b"4,5")];
     for case in cases {
@@ -728,6 +728,12 @@ fn records_and_lines_are_found(rt: HostRuntime) -> Result<(), Fail> {
         assert!(rt; place.text == record);
     }
     assert!(rt; record_at(text, 3).is_none());
+    Ok(())
+}
+
+#[test]
+fn lines_are_found(rt: HostRuntime) -> Result<(), Fail> {
+    let text = b"a,b\r\n3".as_slice();
     assert!(rt; line_at(text, 0).is_none());
     assert!(rt; line_at(text, 1).is_some_and(|place| place.text == b"a,b".as_slice()));
     Ok(())

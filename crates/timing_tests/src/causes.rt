@@ -72,6 +72,12 @@ fn refusals_by_sync_are_made(rt: HostRuntime) -> Result<(), Fail> {
     assert!(rt; sync_list(&refusal) == SYNC_BUSY);
     assert!(rt; holds(&set, 1, &refusal) == Some(true));
     assert!(rt; made(rt.alloc(), &set, 1, Rate::Kbit500)?.is_some());
+    Ok(())
+}
+
+#[test]
+fn none_is_made_where_sync_is_short(rt: HostRuntime) -> Result<(), Fail> {
+    let set = synchronous(rt.alloc(), 400, 6_480)?;
     assert!(rt; made(rt.alloc(), &set, 1, Rate::Kbit1000)?.is_none());
     let slower = synchronous(rt.alloc(), 40_000, 6_480)?;
     assert!(rt; made(rt.alloc(), &slower, 1, Rate::Kbit250)?.is_none());

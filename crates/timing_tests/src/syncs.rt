@@ -89,10 +89,17 @@ fn a_synchronous_instance_is_queued_from_the_end_of_its_sync_on(
 ) -> Result<(), Fail> {
     let alloc = rt.alloc();
     let latest = SYNC_ENDS + LATENCY;
-    assert!(rt; after_sync(alloc, SYNC_ENDS, 0)?.is_none());
-    assert!(rt; after_sync(alloc, latest, 0)?.is_none());
-    assert!(rt; after_sync(alloc, latest + 1, 0)? == Some((4, 63)));
-    assert!(rt; after_sync(alloc, 500, 1)? == Some((4, 63)));
+    // the queue moment, the event, and the rule that is broken
+    let cases: &[(u64, u64, Option<(usize, u8)>)] = &[
+        (SYNC_ENDS, 0, None),
+        (latest, 0, None),
+        (latest + 1, 0, Some((4, 63))),
+        (500, 1, Some((4, 63))),
+    ];
+    for case in cases {
+        let (at, event, wanted) = *case;
+        assert!(rt; after_sync(alloc, at, event)? == wanted);
+    }
     let sooner = [
         queue(0, SYNC, 0, 47, 0),
         start(0, SYNC),
@@ -129,9 +136,14 @@ fn synchronous_instances_are_so_many_syncs_apart(rt: HostRuntime) -> Result<(), 
     assert!(rt; after_two(alloc, 1, 40_000, 40_000)?.is_none());
     assert!(rt; after_two(alloc, 1, 40_000, 0)? == Some((10, 62)));
     assert!(rt; after_two(alloc, 1, 40_000, 1)? == Some((10, 63)));
+    Ok(())
+}
+
+#[test]
+fn syncs_are_counted_by_their_numbers(rt: HostRuntime) -> Result<(), Fail> {
     // By its event the second SYNC is far enough from the first, by its number it is not.
-    assert!(rt; after_two(alloc, 1, 80_000, 80_000)?.is_none());
-    assert!(rt; after_two(alloc, 2, 80_000, 80_000)? == Some((10, 62)));
+    assert!(rt; after_two(rt.alloc(), 1, 80_000, 80_000)?.is_none());
+    assert!(rt; after_two(rt.alloc(), 2, 80_000, 80_000)? == Some((10, 62)));
     Ok(())
 }
 
