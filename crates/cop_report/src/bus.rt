@@ -190,7 +190,7 @@ pub(crate) fn push_bus(
     plan: &Plan,
     timeline: &Timeline,
 ) -> Result<(), AllocError> {
-    page.push_str("<section>\n<h2>The bus over time</h2>\n")?;
+    page.push_str("<section id=\"bus\">\n<h2>The bus over time</h2>\n")?;
     push_words(page, timeline)?;
     if !timeline.lanes.is_empty() {
         push_lanes(page, network, plan, timeline)?;

@@ -94,7 +94,7 @@ pub(crate) fn push_frames(
         return Ok(());
     }
     page.push_str(
-        "<section>\n<h2>SDO frames with deadlines</h2>\n\
+        "<section id=\"frames\">\n<h2>SDO frames with deadlines</h2>\n\
 <p>Times are microseconds, the response as that of a PDO.</p>\n\
 <div class=\"scroll\"><table>\n<tr><th>Identifier</th><th>Frame</th><th class=\"n\">Period</th><th class=\"n\">Jitter</th>\
 <th class=\"n\">Deadline</th><th class=\"n\">Response</th><th></th><th class=\"n\">Margin</th></tr>\n",

@@ -41,7 +41,10 @@ fn push_used(page: &mut String, settings: &[Setting]) -> Result<(), AllocError> 
             let (kind, number) = pdo_of(setting.index);
             let verb = if kind == "TPDO" { "sends" } else { "takes" };
             let id = Identifier((setting.value % 2048) as u16);
-            write!(page, "<li>{kind} {number} {verb} <b>{id}</b></li>\n")?;
+            write!(
+                page,
+                "<li>{kind} {number} {verb} <a href=\"#pdo-{id}\">{id}</a></li>\n"
+            )?;
         }
     }
     Ok(())
@@ -84,7 +87,7 @@ fn push_device(
     let node = row.node;
     write!(
         page,
-        "<article>\n<h3>{name} <small>node {node}, {eds}</small></h3>\n<ul>\n"
+        "<article id=\"node-{node}\">\n<h3>{name} <small>node {node}, {eds}</small></h3>\n<ul>\n"
     )?;
     push_used(page, settings)?;
     push_unused(page, settings)?;
@@ -101,7 +104,9 @@ pub(crate) fn push_nodes(
 ) -> Result<(), AllocError>
     requires { IsPlan network.now.equipment.rates network.now.set (length network.now.rows) plan.now }
 {
-    page.push_str("<section>\n<h2>What each node is set to</h2>\n<div class=\"cards\">\n")?;
+    page.push_str(
+        "<section id=\"nodes\">\n<h2>What each node is set to</h2>\n<div class=\"cards\">\n",
+    )?;
     for row in network.devices() {
         let settings = settings(alloc, plan, network, row.node)?;
         push_device(page, row, &settings, network.heartbeat(row.node))?;

@@ -139,6 +139,40 @@ fn push_header(
     )
 }
 
+/// Adds a link to a section, where the page has it.
+fn push_link(
+    page: &mut String,
+    is_there: bool,
+    section: &str,
+    words: &str,
+) -> Result<(), AllocError> {
+    if is_there {
+        write!(page, " <a href=\"#{section}\">{words}</a>")?;
+    }
+    Ok(())
+}
+
+/// Adds the links to the sections.
+fn push_contents(page: &mut String, report: Report<'_, '_>) -> Result<(), AllocError> {
+    let is_planned = matches!(report.outcome, Outcome::Planned(_));
+    let has_frames = is_planned && !report.figures.frames.is_empty();
+    page.push_str("<nav>")?;
+    push_link(page, true, "rates", "Why no slower rate")?;
+    push_link(page, true, "load", "Load")?;
+    push_link(page, is_planned, "pdos", "PDOs")?;
+    push_link(page, has_frames, "frames", "SDO frames")?;
+    push_link(
+        page,
+        is_planned && report.timeline.is_some(),
+        "bus",
+        "Bus over time",
+    )?;
+    push_link(page, is_planned, "nodes", "Nodes")?;
+    push_link(page, is_planned, "premises", "On the machine")?;
+    push_link(page, true, "files", "Files")?;
+    page.push_str("</nav>\n")
+}
+
 /// Adds the sections that a plan alone has.
 fn push_plan(page: &mut String, alloc: Global, report: Report<'_, '_>) -> Result<(), AllocError>
     requires { IsOutcome report.network.now.equipment.rates report.network.now.set (length report.network.now.rows) report.outcome.now }
@@ -166,6 +200,7 @@ fn push_page(page: &mut String, alloc: Global, report: Report<'_, '_>) -> Result
     page.push_str(STYLE)?;
     page.push_str("</style>\n</head>\n<body>\n<main>\n")?;
     push_header(page, report.network, report.figures)?;
+    push_contents(page, report)?;
     push_rates(page, report.network, report.figures)?;
     push_loads(page, report.figures)?;
     push_plan(page, alloc, report)?;

@@ -3,7 +3,7 @@
 use crate::bars::ResponseBar;
 use crate::devices::{device_of, taken_by};
 use crate::frames::{is_lower, push_lower};
-use crate::units::{Identifier, Micros};
+use crate::units::{Identifier, Micros, Share};
 use cop_figures::{Figures, PdoTimes, SyncTimes};
 use cop_net::{Consumer, Network, PdoRow};
 use std::alloc::AllocError;
@@ -16,6 +16,11 @@ fn deadline_of(times: &PdoTimes) -> u64 {
 /// What a PDO uses of its deadline, in millionths.
 fn used(times: &PdoTimes) -> u64 {
     times.response.saturating_mul(1000000) / deadline_of(times).max(1)
+}
+
+/// Whether less than a tenth of the deadline is left.
+fn is_close(times: &PdoTimes) -> bool {
+    900000 < used(times)
 }
 
 /// The PDO that uses the most of its deadline.
@@ -94,15 +99,21 @@ fn push_number(
 
 /// Adds the response of a PDO against its deadline.
 fn push_margin(page: &mut String, times: &PdoTimes, is_tightest: bool) -> Result<(), AllocError> {
-    let margin = Micros(deadline_of(times).saturating_sub(times.response));
+    let deadline = deadline_of(times);
+    let left = deadline.saturating_sub(times.response);
     let bar = ResponseBar {
         response: times.response,
-        deadline: deadline_of(times),
+        deadline,
         is_tightest,
     };
+    let share = Share {
+        part: left,
+        whole: deadline,
+    };
+    let margin = Micros(left);
     write!(
         page,
-        "<td class=\"wide\">{bar}</td><td class=\"n\">{margin}</td>"
+        "<td class=\"wide\">{bar}</td><td class=\"n\">{margin}</td><td class=\"n\">{share}</td>"
     )
 }
 
@@ -116,6 +127,8 @@ fn push_sender(
 ) -> Result<(), AllocError> {
     let (class, note) = if is_tightest {
         (" class=\"tightest\"", " <em>tightest</em>")
+    } else if is_close(times) {
+        (" class=\"close\"", "")
     } else {
         ("", "")
     };
@@ -126,10 +139,11 @@ fn push_sender(
     };
     let id = Identifier(times.stream.id);
     let device = device_of(network, row.node);
-    let tpdo = row.tpdo;
+    let (node, tpdo) = (row.node, row.tpdo);
     write!(
         page,
-        "<tr{class}><th scope=\"row\">{id}{lower}</th><td>{device}{note}</td><td class=\"n\">{tpdo}</td>"
+        "<tr{class} id=\"pdo-{id}\"><th scope=\"row\">{id}{lower}</th><td><a href=\"#node-{node}\">{device}</a>{note}</td>\
+<td class=\"n\">{tpdo}</td>"
     )
 }
 
@@ -174,7 +188,7 @@ pub(crate) fn push_pdos(
     figures: &Figures,
 ) -> Result<(), AllocError> {
     page.push_str(
-        "<section>\n<h2>PDOs by identifier</h2>\n\
+        "<section id=\"pdos\">\n<h2>PDOs by identifier</h2>\n\
 <p>Times are microseconds. The response is the greatest time from an event to the end of its transfer; a bar is full where it \
 takes the whole deadline.</p>\n",
     )?;
@@ -183,7 +197,7 @@ takes the whole deadline.</p>\n",
     page.push_str(
         "<div class=\"scroll\"><table>\n<tr><th>Identifier</th><th>Device</th><th class=\"n\">TPDO</th>\
 <th class=\"n\">Bytes</th><th class=\"n\">Period</th><th class=\"n\">Jitter</th><th class=\"n\">Deadline</th>\
-<th class=\"n\">Response</th><th></th><th class=\"n\">Margin</th><th>Taken by</th></tr>\n",
+<th class=\"n\">Response</th><th></th><th class=\"n\">Margin</th><th class=\"n\">of it</th><th>Taken by</th></tr>\n",
     )?;
     let most = tightest(&figures.pdos).map(|times| times.pdo);
     for times in figures.pdos.iter() {

@@ -5,7 +5,7 @@ use crate::units::Escaped;
 use std::alloc::AllocError;
 
 /// What has to be true on the machine.
-const PREMISES: &str = "<section>
+const PREMISES: &str = "<section id=\"premises\">
 <h2>What has to be true on the machine</h2>
 <p>It is proved that each PDO, and each SDO frame with a deadline, ends each of its transfers within its deadline where</p>
 <ul>
@@ -29,7 +29,7 @@ pub(crate) fn push_premises(page: &mut String) -> Result<(), AllocError> {
 /// Adds the files that were read.
 pub(crate) fn push_inputs(page: &mut String, inputs: &[Input<'_>]) -> Result<(), AllocError> {
     page.push_str(
-        "<section>\n<h2>Files that were read</h2>\n<div class=\"scroll\"><table>\n\
+        "<section id=\"files\">\n<h2>Files that were read</h2>\n<div class=\"scroll\"><table>\n\
 <tr><th>File</th><th class=\"n\">Bytes</th></tr>\n",
     )?;
     for input in inputs {

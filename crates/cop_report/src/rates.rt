@@ -179,7 +179,7 @@ pub(crate) fn push_rates(
     network: &Network<'_>,
     figures: &Figures,
 ) -> Result<(), AllocError> {
-    page.push_str("<section>\n<h2>Why no slower rate</h2>\n")?;
+    page.push_str("<section id=\"rates\">\n<h2>Why no slower rate</h2>\n")?;
     if figures.refused.is_empty() {
         page.push_str("<p>No slower rate is supported by all devices.</p>\n")?;
     }
@@ -217,7 +217,7 @@ fn push_load(page: &mut String, load: &Load, planned: Option<Rate>) -> Result<()
 /// Adds the load at each candidate rate.
 pub(crate) fn push_loads(page: &mut String, figures: &Figures) -> Result<(), AllocError> {
     page.push_str(
-        "<section>\n<h2>Load of the bus</h2>\n\
+        "<section id=\"load\">\n<h2>Load of the bus</h2>\n\
 <p>The longest frame of each stream over its period. The line is a full bus; a bar ends at 150&nbsp;%. \
 <span class=\"key pdo\"></span> PDOs <span class=\"key fixed\"></span> fixed frames</p>\n\
 <div class=\"scroll\"><table>\n<tr><th>Rate</th><th></th><th class=\"n\">Load</th><th class=\"n\">PDOs</th><th class=\"n\">Fixed</th></tr>\n",

@@ -22,18 +22,21 @@ section { background: var(--card); border: 1px solid var(--line); border-radius:
 .tiles b { display: block; font-size: 1.5rem; line-height: 1.3; }
 .good { color: var(--good); } .bad { color: var(--bad); }
 .cards { display: grid; grid-template-columns: repeat(auto-fill, minmax(min(17rem, 100%), 1fr)); gap: .4rem 1.4rem; }
-.scroll { overflow-x: auto; }
+@media (max-width: 75rem) { .scroll { overflow-x: auto; background: linear-gradient(to left, var(--track), transparent 1.2rem); } }
 .taken { white-space: normal; min-width: 13rem; }
 table { border-collapse: collapse; width: 100%; font-size: .92rem; }
 th, td { text-align: left; padding: .32rem .6rem; border-bottom: 1px solid var(--line); white-space: nowrap; }
-tr:first-child th { color: var(--soft); font-weight: 600; }
+tr:first-child th { color: var(--soft); font-weight: 600; background: var(--card); position: sticky; top: 0; }
+a { color: inherit; text-decoration-color: var(--line); text-underline-offset: .2em; }
+nav { display: flex; flex-wrap: wrap; gap: .3rem 1.1rem; margin-top: 1rem; }
+:target { outline: 2px solid var(--pdo); outline-offset: 2px; }
 .n { text-align: right; font-variant-numeric: tabular-nums; }
 .wide { min-width: 9rem; width: 30%; }
 .bar { display: block; width: 100%; height: .7rem; border-radius: 3px; }
 .track { fill: var(--track); } .pdo { fill: var(--pdo); background: var(--pdo); } .fixed { fill: var(--fixed); background: var(--fixed); }
 .tight { fill: var(--tight); }
 .full { stroke: var(--bad); stroke-width: 2; vector-effect: non-scaling-stroke; }
-.tightest td, .tightest th, .chosen td, .chosen th { background: var(--mark); }
+.tightest td, .tightest th, .close td, .close th, .chosen td, .chosen th { background: var(--mark); }
 .tightest em { color: var(--tight); font-style: normal; font-weight: 600; }
 .key { display: inline-block; width: .8rem; height: .8rem; border-radius: 3px; margin-left: .8rem; }
 .lane { display: grid; grid-template-columns: 18rem minmax(0, 1fr); column-gap: .8rem; align-items: center; font-size: .92rem; }
@@ -49,4 +52,12 @@ tr:first-child th { color: var(--soft); font-weight: 600; }
   .marks span:nth-child(even) { display: none; } }
 details { margin-bottom: .6rem; } summary { cursor: pointer; color: var(--soft); }
 footer { color: var(--soft); font-size: .88rem; margin-top: 1.2rem; }
+@page { size: A4; margin: 12mm; }
+@media print { :root { color-scheme: light; --back: #ffffff; --card: #ffffff; --text: #000000; --soft: #444444; --line: #bbbbbb;
+  --track: #e7ebf0; --pdo: #2f6fd0; --fixed: #93a4b8; --tight: #c2570c; --mark: #fff3e2; --good: #1c7a4b; --bad: #b3261e; }
+  * { print-color-adjust: exact; } body { font-size: 10pt; } main { max-width: none; padding: 0; } nav, #window { display: none !important; }
+  section, .tiles div { border-radius: 0; padding: .6rem .7rem; } article, tr, .lane, .tiles div { break-inside: avoid; }
+  h2, h3 { break-after: avoid; } table { font-size: 7.5pt; } th, td { padding: .2rem .3rem; white-space: normal; }
+  tr:first-child th, .axis { position: static; } .wide { min-width: 3rem; width: 12%; } .taken { min-width: 8rem; }
+  .lane { grid-template-columns: 11rem minmax(0, 1fr); font-size: 7.5pt; } }
 ";

@@ -57,6 +57,25 @@ impl fmt::Display for Percent {
     }
 }
 
+/// A part of a whole as percent, to a tenth, rounded down.
+#[derive(Clone, Copy, Debug)]
+pub struct Share {
+    pub part: u64,
+    pub whole: u64,
+}
+
+impl fmt::Display for Share {
+    fn fmt<W: fmt::Write>(&self, f: &mut fmt::Formatter<W>) -> fmt::Result {
+        let tenths = match self.part.saturating_mul(1000).checked_div(self.whole) {
+            Some(tenths) => tenths,
+            None => 0,
+        };
+        let whole = tenths / 10;
+        let rest = tenths % 10;
+        write!(f, "{whole}.{rest} %")
+    }
+}
+
 /// An identifier in hexadecimal, as 181h.
 #[derive(Clone, Copy, Debug)]
 pub struct Identifier(pub u16);

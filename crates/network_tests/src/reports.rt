@@ -113,7 +113,7 @@ fn the_loads_are_those_of_the_tables(rt: HostRuntime) -> Result<(), Fail> {
 const SAID: &[&str] = &[
     "500&nbsp;kbit/s",
     "At 250 kbit/s TPDO 1 of Valve (node 5) needs 1340 µs, its deadline is 670 µs.",
-    "<li>TPDO 1 sends <b>181h</b></li>",
+    "<li>TPDO 1 sends <a href=\"#pdo-181h\">181h</a></li>",
     "<li>switched off: TPDO 2</li>",
     "<li>heartbeat every 100 ms</li>",
     "a&lt;b&gt;&amp;&quot;c&quot;.csv",
