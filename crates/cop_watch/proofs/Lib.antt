@@ -4,3 +4,4 @@ pub mod HangLemmas
 pub mod Taken
 pub mod Finished
 pub mod TextLemmas
+pub mod PieceLemmas

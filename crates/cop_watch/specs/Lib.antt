@@ -4,3 +4,4 @@ pub mod Syncs
 pub mod Knowing
 pub mod Watching
 pub mod Reading
+pub mod Pieces
