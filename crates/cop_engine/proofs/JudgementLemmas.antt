@@ -1,8 +1,9 @@
 -- A judged trace has no late instance.
-use Rattle.std.proofs.Common.{◌≡◌, ℕ, ◌+◌, Bool, cond, inl, inr, List, [], ◌∷◌, length, get_or, None, Ok, Err, Result, MatchResult, All, refl, sym, ap, ◌∙◌, arith}
+use Rattle.std.proofs.Common.{◌≡◌, ℕ, ◌+◌, Bool, cond, inl, inr, List, [], ◌∷◌, length, get_or, Option, None, Some, IfSome, Ok, Err, Result, IfOk, MatchResult, All, refl, sym, subst, ap, ◌∙◌, arith}
 use Rattle.std.specs.Prelude.{fold}
 use Rattle.std.proofs.lemmas.Option.{slice_get-get_or}
 use Rattle.std.specs.Global.{Vec}
+use Rattle.std.specs.Result.{result_ok}
 use Rattle.cop_frame.specs.Rate.{ticks_of}
 use Rattle.cop_frame.specs.declared.rates.Rate.{Rate}
 use Rattle.cop_rta.specs.declared.streams.Stream.{Stream}
@@ -30,6 +31,7 @@ use Rattle.cop_engine.specs.declared.faults.Fault.TheVariants as faults
 use Rattle.cop_engine.specs.Networks.{ExplainsNetwork}
 use Rattle.cop_watch.specs.Knowing.{is_a_start, sent}
 use Rattle.cop_watch.specs.Reading.{IsLawful}
+use Rattle.cop_watch.specs.Pieces.{HoldsOfAll}
 use Rattle.cop_engine.specs.Judgements.{IsJudged, IsCleared, IsJudgedBy, ExplainsTrace, IsPlannedNetwork, IsJudgement, ExplainsJudgement, SaysOnTime, is_start, judged_text, transfers_in}
 use Rattle.cop_engine.proofs.GuaranteeLemmas.{all_kept}
 use Rattle.cop_engine.proofs.NetworkLemmas.{network_found}
@@ -78,7 +80,7 @@ sent_are : (xs : List Step) → sent xs ≡ transfers_in xs
 sent_are xs = let whole : transfers_in xs ≡ 0 + sent xs = sent_before 0 xs in omega (arith, whole)
 
 -- a trace that breaks no rule is that of a legal run
-pub lawful_cleared : (rate : Rate) (streams : List Stream) (trace text : List ℕ) (count : ℕ) → ((until : ℕ) (xs : List Step) → first_broken (ticks_of rate) streams until xs ≡ None → IsLegalTrace (ticks_of rate) streams until xs)
+lawful_cleared : (rate : Rate) (streams : List Stream) (trace text : List ℕ) (count : ℕ) → ((until : ℕ) (xs : List Step) → first_broken (ticks_of rate) streams until xs ≡ None → IsLegalTrace (ticks_of rate) streams until xs)
     → IsLawful (ticks_of rate) streams trace count → text ≡ judged_text count None → IsCleared rate streams trace text
 lawful_cleared rate streams trace text count legal w is = record {
   told = w.told;
@@ -86,6 +88,43 @@ lawful_cleared rate streams trace text count legal w is = record {
   legal = legal w.told.until w.told.steps w.clean;
   text_is = is ∙ ap (λ (n : ℕ). judged_text n None) (w.sent_is ∙ sent_are w.told.steps);
 }
+
+-- the same of all that a reader has left
+cleared_with : (rate : Rate) (streams : List Stream) (left : Option (List ℕ)) (count : ℕ) → ((until : ℕ) (xs : List Step) → first_broken (ticks_of rate) streams until xs ≡ None → IsLegalTrace (ticks_of rate) streams until xs)
+    → HoldsOfAll left (λ trace. IsLawful (ticks_of rate) streams trace count) → (text : List ℕ) → text ≡ judged_text count None → HoldsOfAll left (λ trace. IsCleared rate streams trace text)
+cleared_with rate streams left count legal h text is = record { bytes = h.bytes; all = h.all; holds = lawful_cleared rate streams h.bytes text count legal h.holds is }
+
+pub lawful_gives : {E : Type 0} (rate : Rate) (streams : List Stream) (left : Option (List ℕ)) (count : ℕ) (r : Result (Vec ℕ) E) (o : Option (Vec ℕ))
+    → ((until : ℕ) (xs : List Step) → first_broken (ticks_of rate) streams until xs ≡ None → IsLegalTrace (ticks_of rate) streams until xs)
+    → HoldsOfAll left (λ trace. IsLawful (ticks_of rate) streams trace count) → o ≡ result_ok r → IfOk r (λ text. text.items ≡ judged_text count None)
+    → IfSome o (λ text. HoldsOfAll left (λ trace. IsCleared rate streams trace text.items))
+lawful_gives rate streams left count (Ok text) o legal h e is = rw e (cleared_with rate streams left count legal h text.items is)
+lawful_gives rate streams left count (Err fault) o legal h e is = rw e tt
+
+pub cleared_gives : (plan : PlanValue) (left : Option (List ℕ)) (r : Option (Vec ℕ)) → IfSome r (λ text. HoldsOfAll left (λ trace. IsCleared plan.rate plan.streams trace text.items))
+    → IfSome r (λ text. (nodes pdos : List ℕ) (eds : List File) → IsPlannedNetwork nodes pdos eds (Planned plan) → HoldsOfAll left (λ trace. IsJudgement nodes pdos eds trace text.items))
+cleared_gives plan left None h = h
+cleared_gives plan left (Some text) h = λ nodes pdos eds n. record {
+  bytes = h.bytes;
+  all = h.all;
+  holds = record { outcome = Planned plan; network = n; judged = cleared_judged nodes pdos eds plan n h.bytes text.items h.holds };
+}
+
+-- what is said of every trace
+said_of_all : (outcome : Outcome) (left : Option (List ℕ)) (text : List ℕ) → ((trace : List ℕ) → IsJudgedBy outcome trace text)
+    → (nodes pdos : List ℕ) (eds : List File) → IsPlannedNetwork nodes pdos eds outcome → HoldsOfAll left (λ trace. IsJudgement nodes pdos eds trace text)
+said_of_all outcome None text j nodes pdos eds n = record { bytes = []; all = tt; holds = record { outcome = outcome; network = n; judged = j [] } }
+said_of_all outcome (Some xs) text j nodes pdos eds n = record { bytes = xs; all = refl; holds = record { outcome = outcome; network = n; judged = j xs } }
+
+pub said_gives : {E : Type 0} (outcome : Outcome) (said : List ℕ) (left : Option (List ℕ)) (r : Result (Vec ℕ) E) (o : Option (Vec ℕ)) → ((trace : List ℕ) → IsJudgedBy outcome trace said)
+    → o ≡ result_ok r → IfOk r (λ text. text.items ≡ said)
+    → IfSome o (λ text. (nodes pdos : List ℕ) (eds : List File) → IsPlannedNetwork nodes pdos eds outcome → HoldsOfAll left (λ trace. IsJudgement nodes pdos eds trace text.items))
+said_gives outcome said left (Ok text) o j e is = rw e (said_of_all outcome left text.items (λ trace. subst (IsJudgedBy outcome trace) (sym is) (j trace)))
+said_gives outcome said left (Err fault) o j e is = rw e tt
+
+-- where it is known what a reader has left
+pub of_known : (xs : List ℕ) (holds_of : List ℕ → Type 0) → HoldsOfAll (Some xs) holds_of → holds_of xs
+of_known xs holds_of h = subst holds_of h.all h.holds
 
 -- ---- what each reading gives
 

@@ -1,18 +1,19 @@
 //! The judgement of a trace by the plan of a network.
 
-ghost use Rattle.std.specs.Prelude.{◌≡◌, map, None, IfOk, IfSome, MatchResult};
+ghost use Rattle.std.specs.Prelude.{◌≡◌, ℕ, List, map, None, IfOk, IfSome, MatchResult};
 ghost use Rattle.std.specs.String.{string_bytes};
-ghost use Rattle.cop_frame.specs.Rate.{ticks_of};
-ghost use Rattle.cop_watch.specs.Reading.{IsLawful};
-ghost use Rattle.cop_engine.specs.Judgements.{transfers_in, judged_text, none_passes, IsCleared, ExplainsTrace, IsJudgement, ExplainsJudgement};
+ghost use Rattle.cop_net.specs.Devices.{File};
+ghost use Rattle.cop_watch.specs.Pieces.{HoldsOfAll};
+ghost use Rattle.cop_engine.specs.Judgements.{transfers_in, judged_text, none_passes, IsCleared, ExplainsTrace, IsPlannedNetwork, IsJudgement, ExplainsJudgement};
 
 use crate::faults::Fault;
 use crate::reports::push_number;
 use crate::runs::outcome_of;
 use cop_bus::{Step, clean_is_legal, judge, read_trace};
 use cop_plan::{Outcome, Plan};
-use cop_watch::TraceWatch;
+use cop_watch::sent_if_lawful;
 use std::alloc::{AllocError, Global};
+use std::io::Read;
 
 /// How many transfers start.
 fn transfers_in(steps: &[Step]) -> usize
@@ -45,36 +46,53 @@ pub fn none_passes(alloc: Global) -> Result<Vec<u8>, AllocError>
     Ok(text)
 }
 
-/// How many transfers start in a trace that breaks no rule, where that is seen step by step while it is read, which takes no memory
-/// for its steps.
-fn transfers_of_lawful(alloc: Global, plan: &Plan, trace: &[u8]) -> Option<u64>
-    ensures { IfSome result (IsLawful (ticks_of plan.now.rate) plan.now.streams trace.now) }
+/// The judgement of the trace that a reader has left, by a plan, if it is seen while it is read that it breaks no rule. No instance of
+/// such a trace is late, which the plan guarantees, so none is looked for.
+fn cleared<R: Read + Drop>(alloc: Global, plan: &Plan, reader: R) -> Option<Vec<u8>>
+    ensures { IfSome result (λ text. HoldsOfAll (R.remaining reader) (λ trace. IsCleared plan.now.rate plan.now.streams trace text.items)) }
 {
-    let Ok(mut watch) = TraceWatch::new(alloc, plan.streams(), plan.rate()) else {
-        return None;
-    };
-    if watch.feed(trace) {
-        watch.finish()
-    } else {
-        None
-    }
+    let streams = plan.streams();
+    let _distinct = streams.streams();
+    clean_is_legal();
+    let transfers = sent_if_lawful(alloc, streams, plan.rate(), reader)?;
+    on_time_text(alloc, transfers).ok()
 }
 
-/// The judgement of a trace by a plan. No instance of a trace that breaks no rule is late, which the plan guarantees, so
-/// none is looked for. Where it is not seen while the trace is read that it breaks none, its steps are kept, and the first that
-/// does is named.
+/// The judgement of a trace by a plan. Its steps are kept, and the first that breaks a rule is named.
 fn judged(alloc: Global, plan: &Plan, trace: &[u8]) -> Result<Vec<u8>, Fault>
     ensures { MatchResult result (λ text. IsCleared plan.now.rate plan.now.streams trace.now text.items) (λ fault. ExplainsTrace plan.now.rate plan.now.streams trace.now fault) }
 {
     let streams = plan.streams();
     let _distinct = streams.streams();
     clean_is_legal();
-    if let Some(transfers) = transfers_of_lawful(alloc, plan, trace) {
-        return Ok(on_time_text(alloc, transfers)?);
-    }
     let trace = read_trace(alloc, trace)?;
     let run = judge(alloc, streams, plan.rate(), &trace)?;
     Ok(on_time_text(alloc, transfers_in(&run.trace.steps) as u64)?)
+}
+
+/// The judgement of the trace that a reader has left, by what the planner answers for a network, if it is seen while it is read in
+/// pieces that it breaks no rule. Memory does not grow with the trace. Where there is none, nothing is known of the trace:
+/// a rule may be broken, or it cannot be read, or it has what is rare in a trace, and [`judge_outcome`] judges it.
+pub fn judge_pieces<R: Read + Drop>(alloc: Global, outcome: &Outcome, reader: R) -> Option<Vec<u8>>
+    ensures { IfSome result (λ text. (nodes pdos : List ℕ) (eds : List File) → IsPlannedNetwork nodes pdos eds outcome.now
+        → HoldsOfAll (R.remaining reader) (λ trace. IsJudgement nodes pdos eds trace text.items)) }
+{
+    match outcome {
+        Outcome::Planned(plan) => cleared(alloc, plan, reader),
+        Outcome::Refused(_) => none_passes(alloc).ok(),
+    }
+}
+
+/// The judgement of a trace by what the planner answers for a network, as [`judge_bytes`] gives it of the network's files. The steps of
+/// the trace are kept.
+pub fn judge_outcome(alloc: Global, outcome: &Outcome, trace: &[u8]) -> Result<Vec<u8>, Fault>
+    ensures { (nodes pdos : List ℕ) (eds : List File) → IsPlannedNetwork nodes pdos eds outcome.now
+        → MatchResult result (λ text. IsJudgement nodes pdos eds trace.now text.items) (λ fault. ExplainsJudgement nodes pdos eds trace.now fault) }
+{
+    match outcome {
+        Outcome::Planned(plan) => judged(alloc, plan, trace),
+        Outcome::Refused(_) => Ok(none_passes(alloc)?),
+    }
 }
 
 /// The judgement of a trace by the plan of the network of some tables and EDS files: how many transfers start, and
@@ -90,8 +108,9 @@ pub fn judge_bytes(
 ) -> Result<Vec<u8>, Fault>
     ensures { MatchResult result (λ text. IsJudgement nodes.now pdos.now (map (λ f. record { name = string_bytes f.0; text = f.1.items }) eds_files.now) trace.now text.items) (λ fault. ExplainsJudgement nodes.now pdos.now (map (λ f. record { name = string_bytes f.0; text = f.1.items }) eds_files.now) trace.now fault) }
 {
-    match outcome_of(alloc, nodes, pdos, eds_files)? {
-        Outcome::Planned(plan) => judged(alloc, &plan, trace),
-        Outcome::Refused(_) => Ok(none_passes(alloc)?),
+    let outcome = outcome_of(alloc, nodes, pdos, eds_files)?;
+    match judge_pieces(alloc, &outcome, trace) {
+        Some(text) => Ok(text),
+        None => judge_outcome(alloc, &outcome, trace),
     }
 }

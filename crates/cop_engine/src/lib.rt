@@ -25,7 +25,7 @@ pub use dcfs::DcfFile;
 pub use faults::{Fault, status};
 pub use guarantee::{dcf_round_trip, judged_on_time, planner_guarantee};
 pub use inputs::read_all;
-pub use judgements::{judge_bytes, none_passes};
+pub use judgements::{judge_bytes, judge_outcome, judge_pieces, none_passes};
 pub use laws::{
     one_check, one_judgement, one_plan, one_report, one_run, plan_is_used, planned_refusals_hold,
 };
