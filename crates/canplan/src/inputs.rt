@@ -40,16 +40,31 @@ impl Inputs {
     }
 }
 
-/// The bytes of a file of at most 64 MiB.
-pub fn read_file(rt: &HostRuntime, name: &str) -> Result<Vec<u8>, Failure> {
-    let file = match File::open(rt, name) {
-        Ok(file) => file,
-        Err(error) => return Err(file_failure(rt, name, Use::Read, &error)),
-    };
+/// A file that is to be read.
+pub fn open_file(rt: &HostRuntime, name: &str) -> Result<File, Failure> {
+    match File::open(rt, name) {
+        Ok(file) => Ok(file),
+        Err(error) => Err(file_failure(rt, name, Use::Read, &error)),
+    }
+}
+
+/// Whether a file can be read again from its beginning, as no pipe can.
+pub fn is_regular(file: &File) -> bool {
+    matches!(file.metadata(), Ok(found) if found.is_file())
+}
+
+/// The bytes of an open file of at most 64 MiB.
+pub fn read_opened(rt: &HostRuntime, name: &str, file: File) -> Result<Vec<u8>, Failure> {
     match read_all(rt.alloc(), file) {
         Ok(bytes) => Ok(bytes),
         Err(error) => Err(file_failure(rt, name, Use::Read, &error)),
     }
+}
+
+/// The bytes of a file of at most 64 MiB.
+pub fn read_file(rt: &HostRuntime, name: &str) -> Result<Vec<u8>, Failure> {
+    let file = open_file(rt, name)?;
+    read_opened(rt, name, file)
 }
 
 /// The bytes of a file, or of standard input for `-`.

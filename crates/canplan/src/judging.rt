@@ -2,9 +2,10 @@
 
 use crate::failures::Failure;
 use crate::files::print;
-use crate::inputs::{Inputs, read_file};
+use crate::inputs::{Inputs, is_regular, open_file, read_file, read_opened};
 use crate::orders::NetworkFiles;
-use cop_engine::{judge_bytes, text_status};
+use cop_engine::{judge_bytes, judge_outcome, judge_pieces, outcome_of, text_status};
+use std::fs::File;
 
 /// The judgement of the trace that was read, by the plan of the network that was read.
 pub fn judge_inputs(rt: &HostRuntime, inputs: &Inputs) -> Result<u8, Failure> {
@@ -20,6 +21,27 @@ pub fn judge_inputs(rt: &HostRuntime, inputs: &Inputs) -> Result<u8, Failure> {
     Ok(text_status(&text))
 }
 
+/// The judgement of the trace in a regular file, by the plan of the network that was read. It is read in pieces, and read again as a whole
+/// only where it is not seen by them that it breaks no rule.
+fn judge_file(
+    rt: &HostRuntime,
+    name: &str,
+    file: File,
+    inputs: &mut Inputs,
+) -> Result<u8, Failure> {
+    let texts = &inputs.network;
+    let outcome = outcome_of(rt.alloc(), &texts.nodes, &texts.pdos, &texts.eds_files)?;
+    let text = match judge_pieces(rt.alloc(), &outcome, file) {
+        Some(text) => text,
+        None => {
+            inputs.other = read_file(rt, name)?;
+            judge_outcome(rt.alloc(), &outcome, &inputs.other)?
+        }
+    };
+    print(rt, &text)?;
+    Ok(text_status(&text))
+}
+
 /// The judgement of a trace by the plan of a network.
 pub fn judge(
     rt: &HostRuntime,
@@ -28,7 +50,12 @@ pub fn judge(
     inputs: &mut Inputs,
 ) -> Result<u8, Failure> {
     inputs.network.read_tables(rt, network)?;
-    inputs.other = read_file(rt, trace)?;
+    let file = open_file(rt, trace)?;
+    if is_regular(&file) {
+        inputs.network.read_eds_files(rt, network)?;
+        return judge_file(rt, trace, file, inputs);
+    }
+    inputs.other = read_opened(rt, trace, file)?;
     inputs.network.read_eds_files(rt, network)?;
     judge_inputs(rt, inputs)
 }
