@@ -2,6 +2,7 @@ mod boots;
 mod cut;
 mod large;
 mod outlets;
+mod pieces;
 mod ranges;
 mod runs;
 
