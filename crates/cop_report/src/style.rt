@@ -23,15 +23,15 @@ section { background: var(--card); border: 1px solid var(--line); border-radius:
 .good { color: var(--good); } .bad { color: var(--bad); }
 .cards { display: grid; grid-template-columns: repeat(auto-fill, minmax(min(17rem, 100%), 1fr)); gap: .4rem 1.4rem; }
 @media (max-width: 75rem) { .scroll { overflow-x: auto; background: linear-gradient(to left, var(--track), transparent 1.2rem); } }
-.taken { white-space: normal; min-width: 13rem; }
+.taken { white-space: normal; min-width: 11rem; }
 table { border-collapse: collapse; width: 100%; font-size: .92rem; }
-th, td { text-align: left; padding: .32rem .6rem; border-bottom: 1px solid var(--line); white-space: nowrap; }
+th, td { text-align: left; padding: .32rem .5rem; border-bottom: 1px solid var(--line); white-space: nowrap; }
 tr:first-child th { color: var(--soft); font-weight: 600; background: var(--card); position: sticky; top: 0; }
 a { color: inherit; text-decoration-color: var(--line); text-underline-offset: .2em; }
 nav { display: flex; flex-wrap: wrap; gap: .3rem 1.1rem; margin-top: 1rem; }
 :target { outline: 2px solid var(--pdo); outline-offset: 2px; }
 .n { text-align: right; font-variant-numeric: tabular-nums; }
-.wide { min-width: 9rem; width: 30%; }
+.wide { min-width: 6rem; width: 30%; } #pdos .wide { width: 12%; }
 .bar { display: block; width: 100%; height: .7rem; border-radius: 3px; }
 .track { fill: var(--track); } .pdo { fill: var(--pdo); background: var(--pdo); } .fixed { fill: var(--fixed); background: var(--fixed); }
 .tight { fill: var(--tight); }
@@ -58,6 +58,7 @@ footer { color: var(--soft); font-size: .88rem; margin-top: 1.2rem; }
   * { print-color-adjust: exact; } body { font-size: 10pt; } main { max-width: none; padding: 0; } nav, #window { display: none !important; }
   section, .tiles div { border-radius: 0; padding: .6rem .7rem; } article, tr, .lane, .tiles div { break-inside: avoid; }
   h2, h3 { break-after: avoid; } table { font-size: 7.5pt; } th, td { padding: .2rem .3rem; white-space: normal; }
-  tr:first-child th, .axis { position: static; } .wide { min-width: 3rem; width: 12%; } .taken { min-width: 8rem; }
+  tr:first-child th, .axis { position: static; } .n { white-space: nowrap; } .wide { min-width: 2.5rem; width: 10%; }
+  .taken { min-width: 7rem; } .scroll { overflow: visible; background: none; }
   .lane { grid-template-columns: 11rem minmax(0, 1fr); font-size: 7.5pt; } }
 ";
