@@ -4,13 +4,12 @@ use Rattle.std.specs.Prelude.{filter, option_to_list}
 use Rattle.std.proofs.lemmas.Bool.Decides.{nat_tests}
 use Rattle.std.proofs.lemmas.List.{append-nil}
 use Rattle.std.proofs.lemmas.List.Elements.{filter-append}
-use Rattle.cop_sdo.specs.Message.{Message, message_of}
-use Rattle.cop_boot.specs.declared.input.Input.{Input}
-use Rattle.cop_boot.specs.declared.input.Input.TheVariants as inputs
+use Rattle.cop_sdo.specs.Message.{Message}
 use Rattle.cop_boot.specs.declared.turn.Turn.{Turn}
 use Rattle.cop_boot.specs.declared.turn.Turn.TheVariants.{ToNode, FromNode, Moment}
 use Rattle.cop_boot.specs.Node.{Node, Moved, awaited}
-use Rattle.cop_boot.specs.Manager.{Managing, Managed, heard, heard_by, passed, moved, at_least, sent_by, starting, all_ready, start_all, is_command, starts_of, commands_of, begun_at, met, met_all, driven}
+use Rattle.cop_boot.specs.Manager as managers
+use Rattle.cop_boot.specs.Manager.{Managing, Managed, Meeting, heard, heard_by, passed, moved, at_least, sent_by, starting, all_ready, start_all, is_command, starts_of, commands_of, begun_at, met, met_all, driven}
 use Rattle.cop_boot.specs.Device.{Attached}
 use Rattle.cop_boot.specs.Schedule.{Line, World, line_of, Delivers, DeliversTo, heard_on, heard_from, answered_on, answered_from, sent_at, sent_over, sent_in, Takes, TakesAll, begins, Boots}
 use Rattle.cop_boot.proofs.DriveLemmas.{heard_begun, passed_begun}
@@ -80,11 +79,11 @@ then_tells : (before : List Message) (one more : List Message) (a b : List Messa
 then_tells before one more a b h g =
     ap (λ l. before ++ l) (filter-append is_command one more) ∙ sym (append_assoc before (filter is_command one) (filter is_command more)) ∙ ap (λ l. l ++ filter is_command more) h ∙ g
 
-met_tells : (m : Managing) (input : Input) → Tells m.started (met m input)
-met_tells m (inputs.Heard frame) = heard_tells m (message_of frame) m.clock
-met_tells m (inputs.Moment now) = passed_tells m now
+met_tells : (m : Managing) (meeting : Meeting) → Tells m.started (met m meeting)
+met_tells m (managers.Heard frame) = heard_tells m frame m.clock
+met_tells m (managers.Moment now) = passed_tells m now
 
-all_tell : (inputs : List Input) (m : Managing) → Tells m.started (met_all m inputs)
+all_tell : (came : List Meeting) (m : Managing) → Tells m.started (met_all m came)
 unfolding met_all
 all_tell [] m = nothing_tells m
 all_tell (input ∷ rest) m =
@@ -92,7 +91,7 @@ all_tell (input ∷ rest) m =
     (met_tells m input) (all_tell rest (met m input).manager)
 
 -- the commands of a manager over a list of inputs
-pub driven_commands : (m : Managing) (inputs : List Input) → filter is_command (driven m inputs).frames ≡ commands_of (driven m inputs).manager.started
+pub driven_commands : (m : Managing) (inputs : List Meeting) → filter is_command (driven m inputs).frames ≡ commands_of (driven m inputs).manager.started
 driven_commands m inputs = ap (λ l. (begun_at m 0).frames ++ l) (all_tell inputs (begun_at m 0).manager)
 
 -- ---- over the turns of a boot

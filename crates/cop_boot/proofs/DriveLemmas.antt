@@ -2,18 +2,17 @@
 use Rattle.std.proofs.Common.{◌≡◌, ℕ, suc, ◌+◌, ◌<◌, ◌≤◌, length, drop, get_or, drop-cons, drop_of_length-le, add-one, append_assoc, nat_le, max, Bool, true, false, cond, not, ◌&&◌, List, [], ◌∷◌, ◌++◌, map, refl, ap, sym, ◌∙◌, arith, ◌==◌, Option, Some, None, option_map}
 use Rattle.std.specs.Prelude.{slice_get, option_and_then}
 use Rattle.std.proofs.lemmas.List.{map-id, append-nil}
-use Rattle.cop_sdo.specs.Message.{Message, message_of}
+use Rattle.cop_sdo.specs.Message.{Message}
 use Rattle.cop_sdo.specs.Reply.{is_answer, Reply}
 use Rattle.cop_dcf.specs.declared.setting.Setting.{Setting}
 use Rattle.cop_boot.specs.declared.«end».End.TheVariants.{Silent, Restarting}
 use Rattle.cop_boot.specs.declared.«end».Phase.{Phase}
 use Rattle.cop_boot.specs.declared.«end».Phase.TheVariants.{Waiting, Sending, Over}
 use Rattle.cop_boot.specs.declared.input.Input.{Input}
-use Rattle.cop_boot.specs.declared.input.Input.TheVariants.{Heard, Moment}
 use Rattle.cop_boot.specs.Node.{Node, stays, over, sends, goes_on, is_final, booted, answered, answer_to, judged, awaited, refusal, answered_in, awaited_in, gives_up}
 use Rattle.cop_sdo.specs.Reply.{reply_of}
 use Rattle.cop_boot.specs.Settings.{address_of}
-use Rattle.cop_boot.specs.Manager.{Managing, Managed, is_boot_up, heard_by, end_in, end_at, node_of, starting, moved, at_least, heard, passed, met, met_all, behind, driven, waiting_from, begun_at, all_ready, start_all, sent_by}
+use Rattle.cop_boot.specs.Manager.{Managing, Managed, Meeting, Heard, Moment, meeting_of, is_boot_up, heard_by, end_in, end_at, node_of, starting, moved, at_least, heard, passed, met, met_all, behind, driven, waiting_from, begun_at, all_ready, start_all, sent_by}
 use Rattle.cop_boot.specs.Ends.{Event, BootUp, Answer, Reached, event_of, events, end_of}
 use Rattle.cop_boot.proofs.EndLemmas.{met_by, after_events, ends_so}
 
@@ -106,14 +105,14 @@ starting_so m frames = by_test (not m.started && all_ready m.nodes)
     by_test false = (refl, refl, refl)
 
 -- what a list of inputs makes of a node
-abbrev pub run : ℕ → List Input → Node → Node
+abbrev pub run : ℕ → List Meeting → Node → Node
 run clock inputs node = after_events node (events node.number clock inputs)
 
 map_two : {A B C : Type 0} (f : B → C) (g : A → B) (h : A → C) → ((x : A) → f (g x) ≡ h x) → (xs : List A) → map f (map g xs) ≡ map h xs
 map_two f g h same [] = refl
 map_two f g h same (x ∷ xs) = rw (same x, map_two f g h same xs) refl
 
-abbrev Met : Managing → Managing → List Node → ℕ → Type 0
+abbrev pub Met : Managing → Managing → List Node → ℕ → Type 0
 Met m out nodes now = (out.nodes ≡ nodes) × (out.clock ≡ now) × (out.begun ≡ true)
 
 pub chosen : {A : Type 0} (b : Bool) (x y : A) → b ≡ true → cond b x y ≡ x
@@ -134,7 +133,7 @@ heard_each : (frame : Message) (clock now : ℕ) → now ≡ clock → (nodes : 
 heard_each frame clock now e [] = refl
 heard_each frame clock now e (node ∷ nodes) = rw (heard_so frame now node, heard_each frame clock now e nodes, e) refl
 
-heard_met : (m : Managing) (frame : Message) → m.begun ≡ true
+pub heard_met : (m : Managing) (frame : Message) → m.begun ≡ true
     → Met m (heard m frame m.clock).manager (map (λ node. after_events node (event_of node.number m.clock frame)) m.nodes) m.clock
 heard_met m frame begun =
     let s = starting_so (moved (heard_by frame (max m.clock m.clock)) (at_least m m.clock)) (sent_by (heard_by frame (max m.clock m.clock)) m.nodes) in
@@ -144,32 +143,32 @@ heard_met m frame begun =
       ap (λ x. x.manager.begun) h ∙ s.2 ∙ begun,
     )
 
-passed_met : (m : Managing) (now : ℕ) → m.begun ≡ true
+pub passed_met : (m : Managing) (now : ℕ) → m.begun ≡ true
     → Met m (passed m now).manager (map (λ node. after_events node (Reached (max m.clock now) ∷ [])) m.nodes) (max m.clock now)
 passed_met m now begun =
     let h = passed_begun m now begun in
     (ap (λ x. x.manager.nodes) h, ap (λ x. x.manager.clock) h, ap (λ x. x.manager.begun) h ∙ begun)
 
 -- what came before does to a node, and then what comes
-run_on : (clock : ℕ) (one : List Event) (inputs : List Input) (node : Node)
+run_on : (clock : ℕ) (one : List Event) (inputs : List Meeting) (node : Node)
     → run clock inputs (after_events node one) ≡ after_events node (one ++ events node.number clock inputs)
 run_on clock one inputs node =
     rw ((after_keeps one node).number, after_more one (events node.number clock inputs) node) refl
 
-runs_on : (out : Managing) (inputs : List Input) (m : Managing) (clock : ℕ) (g h : Node → Node) → Met m out (map g m.nodes) clock
+runs_on : (out : Managing) (inputs : List Meeting) (m : Managing) (clock : ℕ) (g h : Node → Node) → Met m out (map g m.nodes) clock
     → ((node : Node) → run clock inputs (g node) ≡ h node)
     → (met_all out inputs).manager.nodes ≡ map (run out.clock inputs) out.nodes
     → (met_all out inputs).manager.nodes ≡ map h m.nodes
 runs_on out inputs m clock g h met same later =
     later ∙ ap (λ nodes. map (run out.clock inputs) nodes) met.0 ∙ ap (λ now. map (run now inputs) (map g m.nodes)) met.1 ∙ map_two (run clock inputs) g h same m.nodes
 
-pub runs : (inputs : List Input) (m : Managing) → m.begun ≡ true → (met_all m inputs).manager.nodes ≡ map (run m.clock inputs) m.nodes
+pub runs : (inputs : List Meeting) (m : Managing) → m.begun ≡ true → (met_all m inputs).manager.nodes ≡ map (run m.clock inputs) m.nodes
 unfolding met_all
 runs [] m begun = sym (map-id m.nodes)
 runs (Heard frame ∷ inputs) m begun =
-    let h = heard_met m (message_of frame) begun in
-    runs_on (heard m (message_of frame) m.clock).manager inputs m m.clock (λ node. after_events node (event_of node.number m.clock (message_of frame))) (run m.clock (Heard frame ∷ inputs)) h
-    (λ node. run_on m.clock (event_of node.number m.clock (message_of frame)) inputs node) (runs inputs (heard m (message_of frame) m.clock).manager h.2)
+    let h = heard_met m frame begun in
+    runs_on (heard m frame m.clock).manager inputs m m.clock (λ node. after_events node (event_of node.number m.clock frame)) (run m.clock (Heard frame ∷ inputs)) h
+    (λ node. run_on m.clock (event_of node.number m.clock frame) inputs node) (runs inputs (heard m frame m.clock).manager h.2)
 runs (Moment now ∷ inputs) m begun =
     let h = passed_met m now begun in
     runs_on (passed m now).manager inputs m (max m.clock now) (λ node. after_events node (Reached (max m.clock now) ∷ [])) (run m.clock (Moment now ∷ inputs)) h
@@ -189,7 +188,7 @@ found_map f same (node ∷ nodes) number =
     by_test false h = h
 
 -- the end of each node after a list of inputs is that of what came from it
-pub drives : (m : Managing) (inputs : List Input) (number : ℕ)
+pub drives : (m : Managing) (inputs : List Meeting) (number : ℕ)
     → end_at (driven m inputs).manager.nodes number ≡ option_and_then (λ node. end_of node.number node.settings (events node.number 0 inputs)) (node_of m.nodes number)
 drives m inputs number =
     let all = runs inputs (begun_at m 0).manager refl ∙ map_two (run 0 inputs) (waiting_from 0) (λ node. run 0 inputs (waiting_from 0 node)) (λ node. refl) m.nodes in
@@ -202,24 +201,26 @@ drives m inputs number =
     by_found (Some node) = ends_so node.number node.settings (events node.number 0 inputs)
 
 -- a list of inputs, one after the other
-pub begins_so : (m new : Managing) (first : Message) (before : List Message) (inputs : List Input) → (let out : Managed = record { manager = new; frames = first ∷ [] } in out) ≡ begun_at m 0
+pub begins_so : (m new : Managing) (first : Message) (before : List Message) (inputs : List Meeting) → (let out : Managed = record { manager = new; frames = first ∷ [] } in out) ≡ begun_at m 0
     → before ≡ first ∷ [] → driven m inputs ≡ behind before (met_all new inputs)
 begins_so m new first before inputs begins push =
     ap (λ out. behind out.frames (met_all out.manager inputs)) (sym begins) ∙ ap (λ before. behind before (met_all new inputs)) (sym push)
 
 pub meets_one : (all : Managed) (m new : Managing) (before after : List Message) (i : ℕ) (input : Input) (inputs : List Input) → i < length inputs → input ≡ get_or inputs i input
-    → all ≡ behind before (met_all m (drop i inputs)) → (let out : Managed = record { manager = new; frames = after } in out) ≡ behind before (met m input)
-    → all ≡ behind after (met_all new (drop (i + 1) inputs))
+    → all ≡ behind before (met_all m (map meeting_of (drop i inputs))) → (let out : Managed = record { manager = new; frames = after } in out) ≡ behind before (met m (meeting_of input))
+    → all ≡ behind after (met_all new (map meeting_of (drop (i + 1) inputs)))
 unfolding met_all
 meets_one all m new before after i input inputs inside is whole call =
-    let rest = drop (suc i) inputs in
-    let split : drop i inputs ≡ input ∷ rest = drop-cons inputs i input inside ∙ ap (λ x. x ∷ rest) (sym is) in
-    whole ∙ ap (λ l. behind before (met_all m l)) split
-    ∙ ap (λ frames. let out : Managed = record { manager = (met_all (met m input).manager rest).manager; frames = frames } in out) (sym (append_assoc before (met m input).frames (met_all (met m input).manager rest).frames))
-    ∙ ap (λ out. behind out.frames (met_all out.manager rest)) (sym call) ∙ ap (λ j. behind after (met_all new (drop j inputs))) (sym (add-one i))
+    let later = drop (suc i) inputs in
+    let rest = map meeting_of later in
+    let one = met m (meeting_of input) in
+    let split : drop i inputs ≡ input ∷ later = drop-cons inputs i input inside ∙ ap (λ x. x ∷ later) (sym is) in
+    whole ∙ ap (λ l. behind before (met_all m (map meeting_of l))) split
+    ∙ ap (λ frames. let out : Managed = record { manager = (met_all one.manager rest).manager; frames = frames } in out) (sym (append_assoc before one.frames (met_all one.manager rest).frames))
+    ∙ ap (λ out. behind out.frames (met_all out.manager rest)) (sym call) ∙ ap (λ j. behind after (met_all new (map meeting_of (drop j inputs)))) (sym (add-one i))
 
-pub met_whole : (all : Managed) (m : Managing) (before : List Message) (i : ℕ) (inputs : List Input) → length inputs ≤ i → all ≡ behind before (met_all m (drop i inputs))
+pub met_whole : (all : Managed) (m : Managing) (before : List Message) (i : ℕ) (inputs : List Input) → length inputs ≤ i → all ≡ behind before (met_all m (map meeting_of (drop i inputs)))
     → (let out : Managed = record { manager = m; frames = before } in out) ≡ all
 unfolding met_all
 met_whole all m before i inputs past whole =
-    sym (whole ∙ ap (λ l. behind before (met_all m l)) (drop_of_length-le inputs past) ∙ ap (λ frames. let out : Managed = record { manager = m; frames = frames } in out) (append-nil before))
+    sym (whole ∙ ap (λ l. behind before (met_all m (map meeting_of l))) (drop_of_length-le inputs past) ∙ ap (λ frames. let out : Managed = record { manager = m; frames = frames } in out) (append-nil before))

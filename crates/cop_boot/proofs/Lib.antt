@@ -5,6 +5,8 @@ pub mod WorldLemmas
 pub mod BootLemmas
 pub mod ReadyLemmas
 pub mod CommandLemmas
+pub mod ConfiguredLemmas
+pub mod StartLemmas
 pub mod MemberLemmas
 pub mod HearingLemmas
 pub mod LoopLemmas

@@ -1,5 +1,5 @@
 -- In a device that has the settings of a plan exactly the planned PDOs exist, with their identifiers.
-use Rattle.std.proofs.Common.{◌≡◌, ℕ, ◌%◌, ◌^◌, ◌<◌, suc, Bool, true, false, cond, ◌&&◌, ◌||◌, ◌==◌, List, [], ◌∷◌, ◌++◌, get_or, All, Contains, refl, ap, sym, subst, ◌∙◌, arith, Option, Some, None, IfSome, is_some}
+use Rattle.std.proofs.Common.{◌≡◌, ℕ, ◌%◌, ◌^◌, ◌<◌, suc, Bool, true, false, cond, ◌||◌, ◌==◌, List, [], ◌∷◌, ◌++◌, get_or, All, Contains, refl, ap, sym, subst, ◌∙◌, arith, Option, Some, None, IfSome, is_some}
 use Rattle.std.proofs.lemmas.List.{get_or_default}
 use Rattle.std.specs.Prelude.{ℤ, pos, option_map}
 use Rattle.std.specs.List.{filter_map, cons_option}

@@ -181,7 +181,7 @@ not_mine n m frame now node low high apart number from =
     over_cross : (n m : ℕ) → n < 128 → m < 128 → (0x700 + m == 0x580 + n) ≡ false
     over_cross n m low high = grind (arith, nat_tests)
 
-all_are : (nodes : List Node) (n : ℕ) (node : Node) → list_all is_ready nodes ≡ true → node_of nodes n ≡ Some node → is_ready node ≡ true
+pub all_are : (nodes : List Node) (n : ℕ) (node : Node) → list_all is_ready nodes ≡ true → node_of nodes n ≡ Some node → is_ready node ≡ true
 all_are [] n node all h = cc
 all_are (x ∷ nodes) n node all h = by_test (x.number == n) (is_ready x) refl all h (λ all h. all_are nodes n node all h)
   where

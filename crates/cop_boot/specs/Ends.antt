@@ -1,16 +1,14 @@
 -- How the boot of a node ends, seen of all that came from it and of the moments.
 use Rattle.std.specs.Prelude.{◌≡◌, ℕ, suc, ◌+◌, max, Bool, ◌&&◌, List, [], ◌∷◌, ◌++◌, length, reverse, slice_get, ◌==◌, nat_lt, nat_le, Option, Some, None, option_and_then, option_map, if◌then◌else◌}
 use Rattle.std.specs.Option.{option_or}
-use Rattle.cop_sdo.specs.Message.{Message, message_of}
+use Rattle.cop_sdo.specs.Message.{Message}
 use Rattle.cop_sdo.specs.Reply.{is_answer, reply_of}
 use Rattle.cop_dcf.specs.declared.setting.Setting.{Setting}
 use Rattle.cop_boot.specs.declared.«end».End.{End}
 use Rattle.cop_boot.specs.declared.«end».End.TheVariants.{Ready, Silent, Restarting}
-use Rattle.cop_boot.specs.declared.input.Input.{Input}
-use Rattle.cop_boot.specs.declared.input.Input.TheVariants.{Heard, Moment}
 use Rattle.cop_boot.specs.Settings.{address_of}
 use Rattle.cop_boot.specs.Node.{refusal, ended_at}
-use Rattle.cop_boot.specs.Manager.{is_boot_up}
+use Rattle.cop_boot.specs.Manager.{Meeting, Heard, Moment, is_boot_up}
 
 -- what came: a boot-up or an answer of the node, and when, or a moment that was handed in
 pub data Event : Type 0 where
@@ -23,10 +21,10 @@ abbrev pub event_of : ℕ → ℕ → Message → List Event
 event_of number clock frame =
     if is_boot_up number frame then BootUp clock ∷ [] else if is_answer number frame then Answer clock frame.body ∷ [] else []
 
--- what came from a node in a list of inputs: each frame at the greatest moment that was handed in before it
-abbrev pub events : ℕ → ℕ → List Input → List Event
+-- what came from a node among all that came: each frame at the greatest moment that was handed in before it
+abbrev pub events : ℕ → ℕ → List Meeting → List Event
 events number clock [] = []
-events number clock (Heard frame ∷ rest) = event_of number clock (message_of frame) ++ events number clock rest
+events number clock (Heard frame ∷ rest) = event_of number clock frame ++ events number clock rest
 events number clock (Moment now ∷ rest) = Reached (max clock now) ∷ events number (max clock now) rest
 
 -- A past is a list of events, the latest first.

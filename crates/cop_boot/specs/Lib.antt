@@ -2,6 +2,7 @@ pub mod Settings
 pub mod Node
 pub mod Manager
 pub mod Ends
+pub mod Sent
 pub mod Device
 pub mod Schedule
 pub mod Booted

@@ -8,7 +8,7 @@ use Rattle.cop_boot.specs.declared.«end».End.TheVariants.{Ready}
 use Rattle.cop_boot.specs.declared.«end».Phase.{Phase}
 use Rattle.cop_boot.specs.declared.«end».Phase.TheVariants.{Waiting, Sending, Over}
 use Rattle.cop_boot.specs.declared.input.Input.{Input}
-use Rattle.cop_boot.specs.declared.input.Input.TheVariants.{Heard, Moment}
+use Rattle.cop_boot.specs.declared.input.Input.TheVariants as inputs
 use Rattle.cop_boot.specs.Node.{Node, Moved, stays, booted, answered, awaited, is_final}
 
 -- the clock is the greatest moment that was handed in
@@ -145,18 +145,27 @@ open_nodes (node ∷ nodes) = (if is_final node.phase then 0 else 1) + open_node
 abbrev pub and_then : Managed → (Managing → Managed) → Managed
 and_then a f = record { manager = (f a.manager).manager; frames = a.frames ++ (f a.manager).frames }
 
+-- what a manager meets, as contracts see it: a frame that it hears, or a moment that is handed in
+pub data Meeting : Type 0 where
+  Heard : (frame : Message) → Meeting
+  Moment : (now : ℕ) → Meeting
+
+abbrev pub meeting_of : Input → Meeting
+meeting_of (inputs.Heard frame) = Heard (message_of frame)
+meeting_of (inputs.Moment now) = Moment now
+
 -- each frame is heard at the moment handed in last
-abbrev pub met : Managing → Input → Managed
-met m (Heard frame) = heard m (message_of frame) m.clock
+abbrev pub met : Managing → Meeting → Managed
+met m (Heard frame) = heard m frame m.clock
 met m (Moment now) = passed m now
 
-unfoldable pub met_all : Managing → List Input → Managed
+unfoldable pub met_all : Managing → List Meeting → Managed
 met_all m [] = record { manager = m; frames = [] }
-met_all m (input ∷ rest) = and_then (met m input) (λ later. met_all later rest)
+met_all m (meeting ∷ rest) = and_then (met m meeting) (λ later. met_all later rest)
 
--- a manager begins at 0, and then meets each of a list of inputs
-abbrev pub driven : Managing → List Input → Managed
-driven m inputs = and_then (begun_at m 0) (λ later. met_all later inputs)
+-- a manager begins at 0, and then meets all that comes
+abbrev pub driven : Managing → List Meeting → Managed
+driven m came = and_then (begun_at m 0) (λ later. met_all later came)
 
 abbrev pub node_of : List Node → ℕ → Option Node
 node_of nodes number = find (λ node. node.number == number) nodes

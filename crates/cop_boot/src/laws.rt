@@ -2,6 +2,7 @@
 
 ghost use Rattle.std.specs.Prelude.{◌≡◌, ℕ, List, All, Contains, true, Option, Some, None};
 ghost use Rattle.std.specs.Option.{option_and_then};
+ghost use Rattle.std.specs.List.{AllByRecursion};
 ghost use Rattle.cop_dict.specs.Find.{Entry, entry_at, unsigned32_of};
 ghost use Rattle.cop_dict.specs.Pdo.{is_cob_id};
 ghost use Rattle.cop_dict.specs.Dict.{valued, refused_alone};
@@ -15,7 +16,10 @@ ghost use Rattle.cop_rows.specs.declared.node_table.DeviceRow.{DeviceRow};
 ghost use Rattle.cop_net.specs.Devices.{File};
 ghost use Rattle.cop_dcf.specs.Planned.{planned, IsNodeReadAgain};
 ghost use Rattle.cop_boot.specs.declared.«end».End.TheVariants.{Ready};
-ghost use Rattle.cop_boot.specs.Manager.{Managing, end_at};
+ghost use Rattle.cop_boot.specs.Manager.{Managing, Meeting, driven, node_of, end_at, start_all};
+ghost use Rattle.cop_boot.specs.Ends.{IsConfigured, events};
+ghost use Rattle.cop_boot.specs.Node.{Node};
+ghost use Rattle.cop_boot.specs.Sent.{MaySend, WereConfigured};
 ghost use Rattle.cop_boot.specs.Device.{Attached};
 ghost use Rattle.cop_boot.specs.Bus.{Made};
 ghost use Rattle.cop_boot.specs.NetworkBoot.{IsPlanOf, HasWhatItsDcfSays};
@@ -71,4 +75,18 @@ pub fn ready_devices_have_what_their_dcf_says()
     ensures { (m later : Managing) (after : List Attached) (built : ℕ → List Entry) (net : Net) (files : List File) (ids : List ℕ) (rate : Rate) (node : ℕ) (row : DeviceRow)
         → Made m built later after → IsPlanOf net ids m built → IsNodeReadAgain net files ids rate node row → end_at later.nodes node ≡ Some Ready
         → HasWhatItsDcfSays net files ids rate node row after }
+{}
+
+/// Who is ready, and when the start is sent, whatever came: a node that is ready has, since its last boot-up, confirmed each of its
+/// settings in turn; and the start was sent only where each node had done so by something that came before.
+pub fn ready_nodes_are_configured()
+    ensures ready { (m : Managing) (came : List Meeting) (number : ℕ) (node : Node) → node_of m.nodes number ≡ Some node → end_at (driven m came).manager.nodes number ≡ Some Ready
+        → IsConfigured node.settings (events node.number 0 came) }
+    ensures start { (m : Managing) (came : List Meeting) → AllByRecursion (λ frame. frame ≡ start_all → WereConfigured m.nodes came) (driven m came).frames }
+{}
+
+/// Whatever came, a manager sends the reset and the start of all nodes, and to each of its own nodes what is about its
+/// settings: nothing else.
+pub fn nothing_else_is_sent()
+    ensures { (m : Managing) (came : List Meeting) → AllByRecursion (MaySend m.nodes) (driven m came).frames }
 {}
