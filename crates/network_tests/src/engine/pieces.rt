@@ -26,7 +26,7 @@ impl Read for Pieces<'_> {
     }
 }
 
-fn pieces(text: &[u8], fails: bool) -> Pieces<'_> {
+fn in_pieces(text: &[u8], fails: bool) -> Pieces<'_> {
     Pieces {
         left: text,
         len: 0,
@@ -39,7 +39,7 @@ fn a_trace_in_pieces_is_judged_as_it_is_told(rt: HostRuntime) -> Result<(), Fail
     let files = eds_files(rt.alloc(), UNIT)?;
     let outcome = outcome_of(rt.alloc(), VALVE, ONE_PDO, &files)?;
     let (text, trace) = run_bytes(rt.alloc(), 42, 2000000, VALVE, ONE_PDO, &files)?;
-    let judged = judge_pieces(rt.alloc(), &outcome, pieces(&trace, false));
+    let judged = judge_pieces(rt.alloc(), &outcome, in_pieces(&trace, false));
     assert!(rt; judged.is_some_and(|judged| judged == text));
     let whole = judge_outcome(rt.alloc(), &outcome, &trace)?;
     assert!(rt; whole == text);
@@ -51,6 +51,6 @@ fn a_trace_that_is_not_read_to_its_end_is_not_judged(rt: HostRuntime) -> Result<
     let files = eds_files(rt.alloc(), UNIT)?;
     let outcome = outcome_of(rt.alloc(), VALVE, ONE_PDO, &files)?;
     let (_, trace) = run_bytes(rt.alloc(), 42, 20000, VALVE, ONE_PDO, &files)?;
-    assert!(rt; judge_pieces(rt.alloc(), &outcome, pieces(&trace, true)).is_none());
+    assert!(rt; judge_pieces(rt.alloc(), &outcome, in_pieces(&trace, true)).is_none());
     Ok(())
 }
