@@ -1,0 +1,31 @@
+use Rattle.std.proofs.Common.{◌≡◌, ap, ◌∙◌, length, arith}
+use Rattle.std.specs.Prelude.{option_map}
+use Rattle.cop_sdo.specs.Message.{message_of}
+use Rattle.cop_boot.specs.Manager.{passed}
+use Rattle.cop_live.proofs.Sessions.{passed_some, passed_none, frame_sent, none_sent, fewer}
+use Rattle.cop_live.proofs.session.+pass.Goals as goal
+
+pub pass-requires : goal.pass-requires
+pass-requires g t c κs within =
+    let s = passed_some c.args.manager.now c.on_moment.new.self c.args.now _ (message_of c.in-Some.frame) (ap (option_map message_of) c.in-Some.is) c.on_moment.ensures in
+    let f = fewer _ _ _ s.1 in
+    let d : length (passed c.args.manager.now c.args.now).frames ≡ t = c.decreases in
+    (omega (arith, d, f), within)
+
+pub returns-then-send-clause-manager : goal.returns-then-send-clause-manager
+returns-then-send-clause-manager g t c = λ ok.
+    let s = passed_some c.args.manager.now c.on_moment.new.self c.args.now _ (message_of c.in-Some.frame) (ap (option_map message_of) c.in-Some.is) c.on_moment.ensures in
+    c.pass.ensures.manager ok ∙ s.0
+
+pub returns-then-send-clause-sent : goal.returns-then-send-clause-sent
+returns-then-send-clause-sent g t c = λ ok.
+    let s = passed_some c.args.manager.now c.on_moment.new.self c.args.now _ (message_of c.in-Some.frame) (ap (option_map message_of) c.in-Some.is) c.on_moment.ensures in
+    frame_sent g.P.Port.reads g.P.Port.writes g.P.Port.asks c.args.port.now c.send.new.port c.pass.new.port (message_of c.in-Some.frame) _ _ s.1 (c.send.ensures c.if-send.true) (c.pass.ensures.sent ok)
+
+pub returns-in-None-clause-manager : goal.returns-in-None-clause-manager
+returns-in-None-clause-manager g t c = λ _.
+    (passed_none c.args.manager.now c.on_moment.new.self c.args.now _ (ap (option_map message_of) c.in-None.is) c.on_moment.ensures).0
+
+pub returns-in-None-clause-sent : goal.returns-in-None-clause-sent
+returns-in-None-clause-sent g t c = λ _.
+    none_sent g.P.Port.reads g.P.Port.writes g.P.Port.asks c.args.port.now _ (passed_none c.args.manager.now c.on_moment.new.self c.args.now _ (ap (option_map message_of) c.in-None.is) c.on_moment.ensures).1
