@@ -22,7 +22,7 @@ section { background: var(--card); border: 1px solid var(--line); border-radius:
 .tiles b { display: block; font-size: 1.5rem; line-height: 1.3; }
 .good { color: var(--good); } .bad { color: var(--bad); }
 .cards { display: grid; grid-template-columns: repeat(auto-fill, minmax(min(17rem, 100%), 1fr)); gap: .4rem 1.4rem; }
-@media (max-width: 75rem) { .scroll { overflow-x: auto; background: linear-gradient(to left, var(--track), transparent 1.2rem); } }
+@media (max-width: 79rem) { .scroll { overflow-x: auto; background: linear-gradient(to left, var(--track), transparent 1.2rem); } }
 .taken { white-space: normal; min-width: 11rem; }
 table { border-collapse: collapse; width: 100%; font-size: .92rem; }
 th, td { text-align: left; padding: .32rem .5rem; border-bottom: 1px solid var(--line); white-space: nowrap; }
@@ -31,7 +31,8 @@ a { color: inherit; text-decoration-color: var(--line); text-underline-offset: .
 nav { display: flex; flex-wrap: wrap; gap: .3rem 1.1rem; margin-top: 1rem; }
 :target { outline: 2px solid var(--pdo); outline-offset: 2px; }
 .n { text-align: right; font-variant-numeric: tabular-nums; }
-.wide { min-width: 6rem; width: 30%; } #pdos .wide { width: 12%; }
+.wide { min-width: 6rem; width: 30%; } #pdos .wide { width: 8%; }
+#pdos small { display: block; } #pdos td:nth-child(2) { white-space: normal; min-width: 10rem; }
 .bar { display: block; width: 100%; height: .7rem; border-radius: 3px; }
 .track { fill: var(--track); } .pdo { fill: var(--pdo); background: var(--pdo); } .fixed { fill: var(--fixed); background: var(--fixed); }
 .tight { fill: var(--tight); }
