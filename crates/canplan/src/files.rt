@@ -120,16 +120,47 @@ fn has_dcf(files: &Files, name: &str) -> bool {
     files.dcf.as_slice().iter().any(|file| file.name() == name)
 }
 
+/// Whether a file's name is that of the DCF file of some node.
+fn is_dcf_name(name: &str) -> bool {
+    let Some(rest) = name.strip_prefix("node-") else {
+        return false;
+    };
+    let Some(node) = rest.strip_suffix(".dcf") else {
+        return false;
+    };
+    let is_number = node.len() == 3 && node.bytes().all(|digit| digit.is_ascii_digit());
+    is_number && node >= "001" && node <= "127"
+}
+
+/// Removes the file of a name from the folder of a plan, where it is a DCF file of an earlier plan.
+fn remove_if_earlier(
+    rt: &HostRuntime,
+    folder: &str,
+    name: &str,
+    files: &Files,
+) -> Result<(), Failure> {
+    if !is_dcf_name(name) || has_dcf(files, name) {
+        return Ok(());
+    }
+    let path = format!(in rt.alloc(); "{folder}/{name}")?;
+    match remove(rt, &path) {
+        Ok(()) => Ok(()),
+        Err(error) => Err(file_failure(rt, &path, Use::Remove, &error)),
+    }
+}
+
 /// Removes from the folder of a plan the DCF files of the nodes that it has none for, which are of an earlier plan.
 pub fn remove_earlier(rt: &HostRuntime, folder: &str, files: &Files) -> Result<(), Failure> {
-    for node in 1..128u8 {
-        let name = format!(in rt.alloc(); "node-{node:03}.dcf")?;
-        if has_dcf(files, &name) {
-            continue;
-        }
-        let path = format!(in rt.alloc(); "{folder}/{name}")?;
-        if let Err(error) = remove(rt, &path) {
-            return Err(file_failure(rt, &path, Use::Remove, &error));
+    let entries = match fs::read_dir(rt, folder) {
+        Ok(entries) => entries,
+        Err(error) => return Err(file_failure(rt, folder, Use::Read, &error)),
+    };
+    for entry in entries {
+        match entry {
+            Ok(entry) => remove_if_earlier(rt, folder, entry.file_name(), files)?,
+            // No plan gave such a name.
+            Err(error) if error.kind() == ErrorKind::InvalidFilename => {}
+            Err(error) => return Err(file_failure(rt, folder, Use::Read, &error)),
         }
     }
     Ok(())

@@ -1,5 +1,5 @@
 -- Where a refusal holds, no assignment passes.
-use Rattle.std.proofs.Common.{◌≡◌, ℕ, ◌<◌, ◌≤◌, List, length, sym, arith, le_of_eq}
+use Rattle.std.proofs.Common.{ℕ, ◌≤◌, List, length, sym, arith, le_of_eq}
 use Rattle.cop_frame.specs.declared.rates.Rate.{Rate}
 use Rattle.cop_rta.specs.declared.streams.Stream.{Stream}
 use Rattle.cop_rta.specs.Ranges.{first_range}

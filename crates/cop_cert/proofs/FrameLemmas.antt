@@ -1,5 +1,5 @@
 -- The SDO frame of an identifier, and SYNC: a set has one of each at most.
-use Rattle.std.proofs.Common.{◌≡◌, ◌↔◌, ℕ, ◌+◌, ◌<◌, ◌≤◌, Bool, true, false, not, IsTrue, List, [], length, get_or, slice_get, Option, Some, None, IfSome, IfNone, refl, sym, subst, ◌∙◌, ap, arith}
+use Rattle.std.proofs.Common.{◌≡◌, ◌↔◌, ℕ, ◌<◌, ◌≤◌, Bool, true, false, not, IsTrue, List, [], length, get_or, slice_get, Option, Some, None, IfSome, IfNone, refl, sym, subst, ◌∙◌, arith}
 use Rattle.std.specs.Option.{option_and_then, is_some}
 use Rattle.std.proofs.lemmas.Bool.{both_ways}
 use Rattle.std.proofs.lemmas.Option.{slice_get_read}

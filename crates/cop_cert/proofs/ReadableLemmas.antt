@@ -1,5 +1,5 @@
 -- What is read can be written: a draft keeps, record by record, what a file may hold.
-use Rattle.std.proofs.Common.{◌≡◌, ℕ, ◌+◌, ◌<◌, ◌≤◌, ◌^◌, ◌==◌, Bool, true, false, not, ◌&&◌, ◌||◌, ◌⊎◌, inl, inr, ◌-◌, nat_lt, nat_le, List, [], ◌∷◌, ◌++◌, length, All, AllPairs, Result, Ok, Err, Option, Some, None, IfOk, refl, arith, cond, length-append}
+use Rattle.std.proofs.Common.{◌≡◌, ℕ, ◌+◌, ◌<◌, ◌≤◌, ◌^◌, ◌==◌, Bool, true, false, not, ◌&&◌, ◌⊎◌, inl, inr, ◌-◌, nat_lt, nat_le, List, [], ◌∷◌, ◌++◌, length, All, Result, Ok, Err, Option, Some, None, IfOk, refl, arith, cond, length-append}
 use Rattle.std.proofs.lemmas.List.Elements.{All-append}
 use Rattle.std.proofs.lemmas.List.Quantifiers.{all_pairs_push}
 use Rattle.std.proofs.lemmas.Bool.{and_parts, or_cases, leb-true, not-true, not-false}

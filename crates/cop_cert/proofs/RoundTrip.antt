@@ -1,5 +1,5 @@
 -- What is written is read again.
-use Rattle.std.proofs.Common.{◌≡◌, ℕ, zero, suc, ◌+◌, ◌<◌, ◌≤◌, ◌^◌, true, false, ◌==◌, List, [], ◌∷◌, ◌++◌, ◌-◌, ◌&&◌, ◌||◌, ◌⊎◌, inl, inr, Bool, nat_le, if◌then◌else◌, get_or, length, All, map, Result, Ok, Err, Option, Some, None, codes, refl, ◌∙◌, arith, add-zero, append-nil, append_assoc, length-append, AllPairs, lit<}
+use Rattle.std.proofs.Common.{◌≡◌, ℕ, zero, suc, ◌+◌, ◌<◌, ◌≤◌, ◌^◌, true, false, ◌==◌, List, [], ◌∷◌, ◌++◌, ◌-◌, ◌&&◌, ◌||◌, inl, inr, Bool, nat_le, if◌then◌else◌, get_or, length, All, Result, Ok, Err, Option, Some, None, codes, refl, ◌∙◌, arith, add-zero, append-nil, append_assoc, length-append, AllPairs, lit<}
 use Rattle.std.specs.List.{flat_map, list_all}
 use Rattle.std.proofs.lemmas.Bool.{and_parts, le-leb, lt-ltb, le-ltb, lt-leb, ne_eqb, eq-eqb}
 use Rattle.std.proofs.lemmas.List.Elements.{All-head, All-tail}
@@ -22,7 +22,6 @@ use Rattle.cop_cert.specs.declared.entries.Version.TheVariants.{First, Second}
 use Rattle.cop_cert.specs.declared.faults.Rule.{Rule}
 use Rattle.cop_cert.specs.declared.refusals.Cause.{Cause}
 use Rattle.cop_cert.specs.declared.refusals.Cause.TheVariants.{Places, Sync, Sdo}
-use Rattle.cop_cert.specs.declared.entries.Word.{Word}
 use Rattle.cop_cert.specs.declared.entries.Word.TheVariants as words
 use Rattle.cop_cert.specs.declared.entries.Listed.{Listed}
 use Rattle.cop_cert.specs.declared.entries.Listed.TheVariants as lists

@@ -179,10 +179,14 @@ fn have_evidence<'a>(at: &AtRate<'a>, above: &'a [bool], members: &[Member]) -> 
     requires flagged { All (λ m. is_flagged above.now m.pdo ≡ true) members.now }
     ensures { IsTrue result ↔ All (λ m. IsEvidence (flagged_place at.now.streams above.now m.pdo at.now.rate) m.evidence) members.now }
 {
+    let Some(first) = members.first() else {
+        return true;
+    };
+    let shared = Busy::among(at, above, first.pdo);
     let mut before: &[u64] = &[];
     let mut end = None;
     for member in members {
-        let busy = Busy::among(at, above, member.pdo);
+        let busy = shared.beside(member.pdo);
         end = busy_end_after(&busy, &member.evidence, before, end);
         before = member.evidence.busy();
         if !has_evidence(&busy, &member.evidence, end) {

@@ -44,6 +44,16 @@ impl<'a> Above<'a> {
         }
     }
 
+    /// The same once more.
+    pub(crate) fn again(&self) -> Above<'a>
+        ensures { result ≡ self.now }
+    {
+        Above {
+            flags: self.flags,
+            turned: self.turned,
+        }
+    }
+
     /// Whether a stream is above.
     pub(crate) fn has(&self, k: usize) -> bool
         requires { k < length self.now }

@@ -7,7 +7,7 @@ use cop_frame::worst_bits;
 
 /// How often a stream is sent, and how long. How many instances it has within a time is the high half of one product,
 /// which takes a small part of the time of a quotient by the period.
-#[derive(Clone, Copy)]
+#[derive(Clone, Copy, PartialEq, Eq)]
 pub(crate) struct Pace {
     // The bits of the longest transfer.
     bits: u32,

@@ -208,6 +208,17 @@ fn the_third_stream_is_busy_and_waits(rt: HostRuntime) -> Result<(), TableFault>
     Ok(())
 }
 
+#[test]
+fn a_stream_beside_another_has_its_busy_time(rt: HostRuntime) -> Result<(), TableFault> {
+    let three = read_streams(rt.alloc(), THREE_TABLE)?;
+    assert!(rt; three.len() == 3);
+    let second = Busy::new(&three, &[true, true, false], 0, Rate::Kbit125).beside(1);
+    assert!(rt; second.stream().id == 0x182);
+    assert!(rt; second.time() == Some(20_000));
+    assert!(rt; least(&second.queueing(0), 0, HORIZON) == Some(8000));
+    Ok(())
+}
+
 /// An instance of the stream with much jitter, its wait and its response, in ticks.
 const INSTANCES: &[(u64, u64, u128)] = &[(0, 0, 10_540), (1, 540, 7080), (2, 1080, 3620)];
 

@@ -1,5 +1,5 @@
 use Rattle.cop_rta.specs.Rates.{RatedSet}
-use Rattle.std.proofs.Common.{ap, ◌≡◌, ◌<◌, length, arith, false, refl}
+use Rattle.std.proofs.Common.{ap, length, arith, false, refl}
 use Rattle.std.proofs.lemmas.Bool.{both_ways}
 use Rattle.cop_cert.proofs.MemberLemmas.{members_flagged}
 use Rattle.cop_cert.proofs.CheckLemmas.{shown_iff}

@@ -16,9 +16,9 @@ loop-member-preserved c =
       known = end_for_each trial c.member-item.result.pdo
           (rw (← c.member-item.is) at (c.requires.inside c.loop-member.member-index c.member-item.result below))
           (rw (← c.member-item.is) at (c.requires.flagged c.loop-member.member-index c.member-item.result below))
-          c.busy-before.result.now c.busy_end_after-end.result (rw (← c.busy-before.ensures, c.among-busy.ensures) at c.busy_end_after-end.ensures);
+          c.busy-before.result.now c.busy_end_after-end.result (rw (← c.busy-before.ensures, c.beside-busy.ensures, c.among-shared.ensures) at c.busy_end_after-end.ensures);
       shown = All-more (λ (m : Member). IsEvidence (flagged_place c.args.at.now.streams c.args.above.now m.pdo c.args.at.now.rate) m.evidence) c.args.members.now c.loop-member.member-index c.member-item.result below c.loop-member.invariant.shown
-          (rw (← c.member-item.is) (rw c.among-busy.ensures at (c.has_evidence.ensures.0 c.if-not-has_evidence.false)));
+          (rw (← c.member-item.is) (rw (c.beside-busy.ensures, c.among-shared.ensures) at (c.has_evidence.ensures.0 c.if-not-has_evidence.false)));
     }
 
 pub returns : goal.returns

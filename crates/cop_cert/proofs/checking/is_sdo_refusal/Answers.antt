@@ -1,4 +1,4 @@
-use Rattle.std.proofs.Common.{refl, false, sym, rules}
+use Rattle.std.proofs.Common.{refl, false}
 use Rattle.std.proofs.lemmas.Bool.{both_ways}
 use Rattle.cop_cert.proofs.FrameLemmas.{sdo_refusal_iff}
 use Rattle.cop_cert.proofs.checking.is_sdo_refusal.Goals as goal

@@ -1,6 +1,6 @@
 use Rattle.std.proofs.Common.{refl, false}
 use Rattle.std.proofs.lemmas.Bool.{both_ways}
-use Rattle.cop_cert.proofs.FrameLemmas.{no_refusal, refusal_at}
+use Rattle.cop_cert.proofs.FrameLemmas.{no_refusal}
 use Rattle.cop_cert.proofs.checking.is_sync_refusal.Goals as goal
 
 pub returns-in-None : goal.returns-in-None

@@ -36,26 +36,26 @@ pub overflow_sub-costs : goal.overflow_sub-costs
 overflow_sub-costs c = omega (arith, own_is c, c.self.invariant.costs_are, others_once (before c) c.args.index (inside c) (flag c))
 
 pub shared_time-busy-requires-clause-some : goal.shared_time-busy-requires-clause-some
-shared_time-busy-requires-clause-some c = rw (turned c.self.inside.below.now c.args.index) (rw (← c.self.view_is) at c.requires.some)
+shared_time-busy-requires-clause-some c = rw (c.lower.ensures.below, turned c.self.inside.below.now c.args.index) (rw (← c.self.view_is) at c.requires.some)
 
 pub shared_time-busy-requires-clause-blocking : goal.shared_time-busy-requires-clause-blocking
-shared_time-busy-requires-clause-blocking c = rw c.again-at.ensures (longest (goal.at.shared_time-busy-requires-clause-blocking c).After-max-from_below)
+shared_time-busy-requires-clause-blocking c = rw (c.again-at.ensures, c.lower.ensures.below) (longest (goal.at.shared_time-busy-requires-clause-blocking c).After-max-from_below)
 
 pub shared_time-busy-requires-clause-costs : goal.shared_time-busy-requires-clause-costs
-shared_time-busy-requires-clause-costs c = rw c.again-at.ensures (costs (goal.at.shared_time-busy-requires-clause-costs c).After-max-from_below)
+shared_time-busy-requires-clause-costs c = rw (c.again-at.ensures, c.lower.ensures.below) (costs (goal.at.shared_time-busy-requires-clause-costs c).After-max-from_below)
 
 pub invariant_of-self : goal.invariant_of-self
 invariant_of-self c =
     let at = (goal.at.invariant_of-self c).After-max-from_below in
-    record {
+    rw c.lower.ensures.below (record {
       size = length-map (set c.self.inside.below.now c.args.index true) not ∙ length-set c.self.inside.below.now c.args.index true ∙ (rw length-map at c.self.invariant.size);
       blocking = longest at;
       most = omega (arith, longest at, c.max-from_below.ensures, c.self.invariant.most, c.cost-own.ensures.most);
       costs_are = costs at;
       costs_most = omega (arith, c.self.invariant.costs_most);
-      is_row = rw (c.set.ensures, c.clock.ensures.ahead, c.again-at.ensures, c.unflagged-above.ensures) at c.fill.ensures;
-      shared = rw c.again-at.ensures at c.shared_time-busy.ensures;
-    }
+      is_row = rw (c.set.ensures, c.clock-ahead.ensures.ahead, c.again-at.ensures, c.lower.ensures.below) at c.lower.ensures.row;
+      shared = rw (c.again-at.ensures, c.lower.ensures.below) at c.shared_time-busy.ensures;
+    })
 
 pub returns : goal.returns
-returns c = rw (← c.self.view_is) (ap (λ (flags : List Bool). record { streams = c.self.inside.at.streams; flags = flags; rate = c.self.inside.at.rate }) (turned c.self.inside.below.now c.args.index))
+returns c = rw (← c.self.view_is, c.lower.ensures.below) (ap (λ (flags : List Bool). record { streams = c.self.inside.at.streams; flags = flags; rate = c.self.inside.at.rate }) (turned c.self.inside.below.now c.args.index))
