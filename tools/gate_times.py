@@ -44,7 +44,8 @@ def checker(pid):
 
 def gate():
     """A kit whose gate keeps what it passed has a flag for a run from nothing; of another kit each run is."""
-    told = subprocess.run(["rt", "--help"], capture_output=True, text=True, check=False).stdout
+    asked = subprocess.run(["rt", "--help"], stdout=subprocess.PIPE, stderr=subprocess.STDOUT, text=True, check=False)
+    told = asked.stdout
     return ["rt", "ci", "--anew"] if "--anew" in told else ["rt", "ci"]
 
 

@@ -9,14 +9,14 @@ use cop_frame::worst_bits;
 /// which takes a small part of the time of a quotient by the period.
 #[derive(Clone, Copy, PartialEq, Eq)]
 pub(crate) struct Pace {
-    // The bits of the longest transfer.
-    bits: u32,
-    // Whether the stream is synchronous: its jitter is a latency, before which SYNC's response stands.
-    is_synchronous: bool,
-    // The jitter, and a period less a tick: the quotient is rounded up.
-    ahead: u64,
     // 2^64 by the period, rounded up.
     inverse: u64,
+    // The jitter, and a period less a tick: the quotient is rounded up.
+    ahead: u32,
+    // The bits of the longest transfer.
+    bits: u16,
+    // Whether the stream is synchronous: its jitter is a latency, before which SYNC's response stands.
+    is_synchronous: bool,
     ghost bits_most: { bits ≤ 135 },
     ghost ahead_most: { ahead ≤ 760000000 },
     ghost inverse_most: { inverse ≤ 2 ^ 56 },
@@ -26,10 +26,10 @@ impl Default for Pace {
     /// That of no frame.
     fn default() -> Pace {
         Pace {
+            inverse: 0,
+            ahead: 0,
             bits: 0,
             is_synchronous: false,
-            ahead: 0,
-            inverse: 0,
         }
     }
 }
@@ -48,10 +48,10 @@ impl Pace {
             ..
         } = *stream;
         Pace {
-            bits: u32::from(worst_bits(stream.bytes)),
-            is_synchronous: every != 0,
-            ahead: jitter + (period - 1),
             inverse: u64::MAX / period + 1,
+            ahead: (jitter + (period - 1)) as u32,
+            bits: worst_bits(stream.bytes) as u16,
+            is_synchronous: every != 0,
         }
     }
 
@@ -62,12 +62,12 @@ impl Pace {
         ensures { IsPaceAfter ahead self.now result }
     {
         let pace = *self;
-        let more = if pace.is_synchronous { ahead } else { 0 };
+        let more = if pace.is_synchronous { ahead as u32 } else { 0 };
         Pace {
+            inverse: pace.inverse,
+            ahead: pace.ahead + more,
             bits: pace.bits,
             is_synchronous: pace.is_synchronous,
-            ahead: pace.ahead + more,
-            inverse: pace.inverse,
         }
     }
 
@@ -78,7 +78,8 @@ impl Pace {
         ensures most { result ≤ 2 ^ 28 }
     {
         let Pace { ahead, inverse, .. } = *self;
-        ((u128::from(time + ahead) * u128::from(inverse)) >> 64) as u64
+        let end = time + u64::from(ahead);
+        ((u128::from(end) * u128::from(inverse)) >> 64) as u64
     }
 
     /// How many bits they have at most. What they take is so many times a bit's ticks, which are the same for all streams:
