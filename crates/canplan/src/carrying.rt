@@ -8,12 +8,14 @@ use crate::judging::judge;
 use crate::notes::{check_notes, plan_notes};
 use crate::orders::{NetworkFiles, Order, Request};
 use crate::reporting::write_report;
+use crate::tidying::tidy_file;
 use cop_engine::{
     Fault, Files, RunFault, boot_bytes, check_bytes, check_status, deliver, none_passes,
     outcome_of, plan_bytes, plan_status, run_plan, test_bytes, text_status,
 };
 use cop_frame::Rate;
 use cop_plan::{Outcome, Plan};
+use cop_tidy::question_words;
 use cop_words::{late_words, rule_words};
 use std::fs::File;
 use std::io::{BufWriter, Write};
@@ -188,10 +190,15 @@ fn run(
 /// What the rule of a number says.
 fn explain(rt: &HostRuntime, number: u8) -> Result<u8, Failure> {
     let words = rule_words(rt.alloc(), number)?;
+    let words = if words.is_empty() {
+        question_words(number).as_bytes()
+    } else {
+        words.as_slice()
+    };
     if words.is_empty() {
         return Err(Failure::from(Fault::Usage));
     }
-    print(rt, &words)?;
+    print(rt, words)?;
     Ok(0)
 }
 
@@ -219,6 +226,7 @@ pub fn carry_out(
             trace,
             out,
         } => write_report(rt, network, trace, out, inputs),
+        Order::Tidy(order) => tidy_file(rt, order, inputs),
         Order::Explain { number } => explain(rt, number),
     }
 }

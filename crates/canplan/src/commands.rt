@@ -2,11 +2,19 @@
 
 use clap::builder::ValueParser;
 use clap::{Arg, ArgAction, Command};
-use cop_words::RULE_WORDS;
 use std::alloc::{AllocError, Global};
 
 /// The greatest end of a run, in microseconds.
 pub const MOST_UNTIL: u64 = 1000000000;
+
+/// The greatest number of a rule.
+const MOST_RULE: u64 = 255;
+
+/// The accesses that objects of an EDS file may have.
+static ACCESSES: [&str; 6] = ["ro", "wo", "rw", "rwr", "rww", "const"];
+
+/// What may become of the PDOs that no list of an EDS file names.
+static UNLISTED: [&str; 2] = ["add", "leave"];
 
 /// The rate words that the command line takes.
 static RATES: [&str; 8] = ["10", "20", "50", "125", "250", "500", "800", "1000"];
@@ -155,10 +163,70 @@ fn report_command<'a>(alloc: Global) -> Result<Command<'a>, AllocError> {
         .arg(trace)
 }
 
+/// A word that answers a question, which may be left out.
+fn choice<'a>(alloc: Global, name: &'a str, help: &'a str) -> Arg<'a> {
+    Arg::new(alloc, name)
+        .long(name)
+        .action(ArgAction::SetTrue)
+        .help(help)
+}
+
+/// The word that gives an access to the objects that state none.
+fn access_choice<'a>(alloc: Global) -> Arg<'a> {
+    Arg::new(alloc, "access")
+        .long("access")
+        .value_parser(ACCESSES.as_slice())
+        .action(ArgAction::Set)
+        .help("The access of objects that state none")
+}
+
+/// The word that says what becomes of PDOs that no list names.
+fn unlisted_choice<'a>(alloc: Global) -> Arg<'a> {
+    Arg::new(alloc, "unlisted")
+        .long("unlisted")
+        .value_parser(UNLISTED.as_slice())
+        .action(ArgAction::Set)
+        .help("Whether PDOs that no list names are listed, or left as they are")
+}
+
+/// The words that choose where an EDS file has two meanings.
+fn with_choices<'a>(alloc: Global, command: Command<'a>) -> Result<Command<'a>, AllocError> {
+    let octal = "Digits with a 0 before them are octal, as CiA 306 says";
+    let decimal = "They are decimal, as people write them";
+    let clamp = "A limit outside of its type becomes the end of the type";
+    command
+        .arg(choice(alloc, "octal", octal).conflicts_with("decimal")?)?
+        .arg(choice(alloc, "decimal", decimal))?
+        .arg(access_choice(alloc))?
+        .arg(unlisted_choice(alloc))?
+        .arg(choice(alloc, "clamp", clamp))
+}
+
+fn tidy_command<'a>(alloc: Global) -> Result<Command<'a>, AllocError> {
+    let out = Arg::new(alloc, "OUT")
+        .required_unless_present("check")?
+        .action(ArgAction::Set)
+        .help("The file that the text is written to");
+    let check = choice(
+        alloc,
+        "check",
+        "Tells the changes alone: status 3 where there are some",
+    )
+    .conflicts_with("OUT")?;
+    let command = Command::new(alloc, "tidy")
+        .about("Makes of an EDS file as makers ship it one that plan reads, and tells each change")
+        .after_help("Example: canplan tidy unit.eds unit-tidy.eds")
+        .arg(operand(alloc, "IN", "The EDS file"))?
+        .arg(out)?
+        .arg(check)?
+        .arg(explain_flag(alloc))?;
+    with_choices(alloc, command)
+}
+
 fn explain_command<'a>(alloc: Global) -> Result<Command<'a>, AllocError> {
     let number = Arg::new(alloc, "NUMBER")
         .required(true)
-        .value_parser(RULE_WORDS.as_slice())
+        .value_parser(ValueParser::unsigned(1, MOST_RULE))
         .action(ArgAction::Set)
         .help("The number of a rule, as in canplan: refused NUMBER PLACE");
     Command::new(alloc, "explain")
@@ -188,5 +256,6 @@ pub fn command<'a>(alloc: Global) -> Result<Command<'a>, AllocError> {
     let command = with(command, run_command(alloc))?;
     let command = with(command, judge_command(alloc))?;
     let command = with(command, report_command(alloc))?;
+    let command = with(command, tidy_command(alloc))?;
     with(command, explain_command(alloc))
 }

@@ -3,9 +3,11 @@
 use crate::failures::Failure;
 use crate::inputs::{Inputs, beside};
 use crate::orders::{NetworkFiles, Order};
+use crate::tidying::mend_words;
 use cop_engine::Fault;
 use cop_net::read_nodes;
-use cop_words::{Network, Source, network_words, record_words, rule_words};
+use cop_tidy::refusal_words;
+use cop_words::{Network, Source, line_at, network_words, record_words, rule_words};
 use std::alloc::{AllocError, Global};
 use std::{fs, str};
 
@@ -18,7 +20,7 @@ fn network_of<'a>(order: Order<'a>) -> Option<NetworkFiles<'a>> {
         Order::Judge { network, .. } => Some(network),
         Order::Run { network, .. } => Some(network),
         Order::Report { network, .. } => Some(network),
-        Order::Test { .. } | Order::Explain { .. } => None,
+        Order::Test { .. } | Order::Tidy(_) | Order::Explain { .. } => None,
     }
 }
 
@@ -55,6 +57,18 @@ fn refused_network(
     network_words(alloc, network)
 }
 
+/// What is said of an EDS file that is not made one that plan reads.
+fn refused_text(
+    alloc: Global,
+    name: &str,
+    text: &[u8],
+    number: u8,
+    line: u64,
+) -> Result<Vec<u8>, AllocError> {
+    let found = line_at(text, line as usize);
+    refusal_words(alloc, name, number, line, found.map(|found| found.text))
+}
+
 fn refused(
     alloc: Global,
     order: Order<'_>,
@@ -62,6 +76,9 @@ fn refused(
     number: u8,
     place: u64,
 ) -> Result<Vec<u8>, AllocError> {
+    if let Order::Tidy(order) = order {
+        return refused_text(alloc, order.input, &inputs.other, number, place);
+    }
     if let Some(name) = file_of(order, number) {
         let source = Source {
             name,
@@ -73,6 +90,16 @@ fn refused(
         Some(files) => refused_network(alloc, files, inputs),
         None => rule_words(alloc, number),
     }
+}
+
+/// The EDS file of a name, as it was read.
+fn eds_file<'a>(inputs: &'a Inputs, name: &[u8]) -> Option<(&'a str, &'a [u8])> {
+    for (known, text) in inputs.network.eds_files.iter() {
+        if known.as_bytes() == name {
+            return Some((known.as_str(), text.as_slice()));
+        }
+    }
+    None
 }
 
 /// The record of the device that wants a file as its EDS file.
@@ -114,6 +141,29 @@ fn push_wanted(
     Ok(())
 }
 
+/// Adds whether the EDS file of a record that is refused can be mended, and how.
+fn push_mend(
+    words: &mut Vec<u8>,
+    alloc: Global,
+    files: NetworkFiles<'_>,
+    inputs: &Inputs,
+    record: u64,
+) -> Result<(), AllocError> {
+    let Ok(nodes) = read_nodes(alloc, &inputs.network.nodes) else {
+        return Ok(());
+    };
+    for device in nodes.devices() {
+        if device.place != record {
+            continue;
+        }
+        if let Some((name, text)) = eds_file(inputs, device.eds.as_bytes()) {
+            let path = beside(alloc, files.nodes, name)?;
+            words.extend_from_slice(mend_words(alloc, &path, text)?.as_bytes())?;
+        }
+    }
+    Ok(())
+}
+
 /// Adds that the files in the folder of a plan that is refused are of an earlier run, where there are any.
 fn push_earlier(words: &mut Vec<u8>, rt: &HostRuntime, order: Order<'_>) -> Result<(), AllocError> {
     let Order::Plan { out, .. } = order else {
@@ -144,6 +194,9 @@ pub fn explain(
         Fault::Refused { number, place } => {
             let said = refused(alloc, order, inputs, *number, *place)?;
             words.extend_from_slice(&said)?;
+            if let (43, Some(files)) = (*number, network_of(order)) {
+                push_mend(&mut words, alloc, files, inputs, *place)?;
+            }
             push_earlier(&mut words, rt, order)?;
         }
         Fault::File(name) => push_wanted(&mut words, alloc, order, inputs, name)?,

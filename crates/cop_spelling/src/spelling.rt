@@ -1,0 +1,267 @@
+//! Other spellings of numbers and words.
+
+use crate::blanks::{bare_ends, before_comment};
+use crate::names::{is_decimal, is_hexadecimal, number_in};
+use crate::text::{is_blank, joined, same_name, trim, trim_start};
+use cop_change::Digits;
+use std::alloc::{AllocError, Global};
+
+/// A value without a comment behind it, quotes, and blanks and commas at its ends.
+pub fn bare(alloc: Global, value: &[u8], is_utf8: bool) -> Result<Vec<u8>, AllocError> {
+    let plain: Vec<u8> = before_comment(value)
+        .iter()
+        .copied()
+        .filter(|b| *b != b'"' && *b != b'\'')
+        .collect(alloc)?;
+    Vec::from_slice(alloc, bare_ends(&plain, is_utf8))
+}
+
+/// What a spelling of a number is.
+#[derive(Drop)]
+pub enum Spelling {
+    /// The number in the spelling of CiA 306.
+    Number(Vec<u8>),
+    /// Decimal digits that would read otherwise as octal.
+    Octal,
+    /// No number.
+    Nothing,
+}
+
+/// Without the letters behind a number of a program.
+fn without_letters(text: &[u8]) -> &[u8] {
+    let mut rest = text;
+    for _ in 0..3u8 {
+        match rest {
+            [front @ .., b'u' | b'U' | b'l' | b'L'] => rest = front,
+            _ => break,
+        }
+    }
+    rest
+}
+
+/// Without a point and zeros behind a number.
+fn without_zeros(text: &[u8]) -> &[u8] {
+    match text.iter().position(|b| *b == b'.') {
+        Some(point) => {
+            let (front, back) = text.split_at(point);
+            let zeros = back.iter().skip(1).all(|b| *b == b'0');
+            if zeros { front } else { text }
+        }
+        None => text,
+    }
+}
+
+/// The digits of a hexadecimal number behind its mark, without blanks and `_` among them.
+fn marked_digits(alloc: Global, text: &[u8]) -> Result<Vec<u8>, AllocError> {
+    text.iter()
+        .copied()
+        .filter(|b| !is_blank(*b) && *b != b'_')
+        .collect(alloc)
+}
+
+/// The digits of a number that is hexadecimal by a mark.
+fn hexadecimal_digits(alloc: Global, text: &[u8]) -> Result<Option<Vec<u8>>, AllocError> {
+    let digits = match text {
+        [b'0', b'x' | b'X', digits @ ..] => marked_digits(alloc, digits)?,
+        [b'$', digits @ ..] => Vec::from_slice(alloc, digits)?,
+        [digits @ .., b'h' | b'H'] => Vec::from_slice(alloc, digits)?,
+        _ => return Ok(None),
+    };
+    if number_in(16, &digits).is_none() {
+        return Ok(None);
+    }
+    Ok(Some(digits))
+}
+
+/// The spelling of a hexadecimal number.
+fn hexadecimal(alloc: Global, is_negative: bool, digits: &[u8]) -> Result<Spelling, AllocError> {
+    if !is_negative {
+        return Ok(Spelling::Number(joined(alloc, b"0x", digits)?));
+    }
+    let number = number_in(16, digits).unwrap_or(0);
+    let text = format!(in alloc; "-{number}")?;
+    Ok(Spelling::Number(text.into_bytes()))
+}
+
+/// Whether decimal digits would read otherwise as octal.
+fn is_ambiguous(digits: &[u8]) -> bool {
+    digits.starts_with(b"0")
+        && number_in(8, digits).is_some()
+        && number_in(10, digits).is_some_and(|n| n >= 8)
+}
+
+/// The spelling of a decimal number.
+fn decimal(
+    alloc: Global,
+    is_negative: bool,
+    digits: &[u8],
+    choice: Option<Digits>,
+) -> Result<Spelling, AllocError> {
+    let Some(number) = number_in(10, digits) else {
+        return Ok(Spelling::Nothing);
+    };
+    let sign: &[u8] = if is_negative { b"-" } else { b"" };
+    if !is_ambiguous(digits) {
+        return Ok(Spelling::Number(joined(alloc, sign, digits)?));
+    }
+    let number = match choice {
+        None => return Ok(Spelling::Octal),
+        Some(Digits::Decimal) => number,
+        Some(Digits::Octal) => number_in(8, digits).unwrap_or(number),
+    };
+    let text = format!(in alloc; "{number}")?;
+    Ok(Spelling::Number(joined(alloc, sign, text.as_bytes())?))
+}
+
+/// Without the sign of a number, and whether that was a minus.
+fn without_sign(text: &[u8]) -> (&[u8], bool) {
+    match text {
+        [b'-', rest @ ..] => (trim_start(rest), true),
+        [b'+', rest @ ..] => (trim_start(rest), false),
+        _ => (text, false),
+    }
+}
+
+/// The number that a text is, in the spelling of CiA 306.
+pub fn number(alloc: Global, text: &[u8], choice: Option<Digits>) -> Result<Spelling, AllocError> {
+    let (rest, is_negative) = without_sign(trim(text));
+    let plain = trim(without_zeros(without_letters(rest)));
+    if is_decimal(plain) {
+        return decimal(alloc, is_negative, plain, choice);
+    }
+    match hexadecimal_digits(alloc, plain)? {
+        Some(digits) if is_hexadecimal(&digits) => hexadecimal(alloc, is_negative, &digits),
+        _ => Ok(Spelling::Nothing),
+    }
+}
+
+/// A word without case, blanks, `_` and `-`.
+pub fn word(alloc: Global, text: &[u8]) -> Result<Vec<u8>, AllocError> {
+    text.iter()
+        .filter(|b| !is_blank(**b) && !matches!(**b, b'_' | b'-'))
+        .map(|b| b.to_ascii_lowercase())
+        .collect(alloc)
+}
+
+/// What a word stands for, among words and their meanings.
+fn meant(meanings: &[(&'static [u8], &'static [u8])], word: &[u8]) -> Option<&'static [u8]> {
+    for (name, text) in meanings {
+        if *name == word {
+            return Some(text);
+        }
+    }
+    None
+}
+
+/// The number of the object type that a word names (CiA 301).
+pub fn object_type(word: &[u8]) -> Option<&'static [u8]> {
+    meant(
+        &[
+            (b"null", b"0x0"),
+            (b"domain", b"0x2"),
+            (b"deftype", b"0x5"),
+            (b"defstruct", b"0x6"),
+            (b"var", b"0x7"),
+            (b"variable", b"0x7"),
+            (b"array", b"0x8"),
+            (b"record", b"0x9"),
+        ],
+        word,
+    )
+}
+
+/// The number of the integer type of so many bits.
+fn integer_type(bits: &[u8], is_signed: bool) -> Option<&'static [u8]> {
+    let number: &[u8] = match (bits, is_signed) {
+        (b"8", true) => b"0x0002",
+        (b"16", true) => b"0x0003",
+        (b"32", true) => b"0x0004",
+        (b"64", true) => b"0x0015",
+        (b"8", false) => b"0x0005",
+        (b"16", false) => b"0x0006",
+        (b"32", false) => b"0x0007",
+        (b"64", false) => b"0x001B",
+        _ => return None,
+    };
+    Some(number)
+}
+
+/// The number of the data type that a word names (CiA 301).
+pub fn data_type(word: &[u8]) -> Option<&'static [u8]> {
+    match word {
+        [b'u', b'n', b's', b'i', b'g', b'n', b'e', b'd', bits @ ..]
+        | [b'u', b'i', b'n', b't', bits @ ..]
+        | [b'u', bits @ ..]
+            if integer_type(bits, false).is_some() => integer_type(bits, false),
+        [b'i', b'n', b't', b'e', b'g', b'e', b'r', bits @ ..]
+        | [b'i', b'n', b't', bits @ ..]
+        | [b'i' | b's', bits @ ..]
+            if integer_type(bits, true).is_some() => integer_type(bits, true),
+        _ => meant(
+            &[
+                (b"boolean", b"0x0001"),
+                (b"bool", b"0x0001"),
+                (b"real32", b"0x0008"),
+                (b"visiblestring", b"0x0009"),
+                (b"octetstring", b"0x000A"),
+                (b"domain", b"0x000F"),
+                (b"real64", b"0x0011"),
+            ],
+            word,
+        ),
+    }
+}
+
+/// The word of CiA 306 for an access.
+pub fn access(word: &[u8]) -> Option<&'static [u8]> {
+    meant(
+        &[
+            (b"ro", b"ro"),
+            (b"r", b"ro"),
+            (b"read", b"ro"),
+            (b"readonly", b"ro"),
+            (b"r/o", b"ro"),
+            (b"wo", b"wo"),
+            (b"w", b"wo"),
+            (b"write", b"wo"),
+            (b"writeonly", b"wo"),
+            (b"w/o", b"wo"),
+            (b"rw", b"rw"),
+            (b"wr", b"rw"),
+            (b"r/w", b"rw"),
+            (b"readwrite", b"rw"),
+            (b"read/write", b"rw"),
+            (b"rwr", b"rwr"),
+            (b"rww", b"rww"),
+            (b"const", b"const"),
+            (b"c", b"const"),
+            (b"cst", b"const"),
+            (b"constant", b"const"),
+        ],
+        word,
+    )
+}
+
+/// 1 or 0 for a word of truth.
+pub fn truth(text: &[u8]) -> Option<&'static [u8]> {
+    if [b"true" as &[u8], b"yes", b"on"]
+        .iter()
+        .any(|w| same_name(w, text))
+    {
+        Some(b"1")
+    } else if [b"false" as &[u8], b"no", b"off"]
+        .iter()
+        .any(|w| same_name(w, text))
+    {
+        Some(b"0")
+    } else {
+        None
+    }
+}
+
+/// Whether a word is an access of CiA 306.
+pub fn is_access(text: &[u8]) -> bool {
+    [b"ro" as &[u8], b"wo", b"rw", b"rwr", b"rww", b"const"]
+        .iter()
+        .any(|word| same_name(word, text))
+}

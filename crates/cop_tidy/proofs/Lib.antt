@@ -1,0 +1,3 @@
+pub mod AcceptedLemmas
+pub mod KeptLemmas
+pub mod LoopLemmas

@@ -1,0 +1,18 @@
+-- PDOs that a dictionary can switch off.
+use Rattle.std.specs.Prelude.{ℕ, ◌≡◌, Bool, true, false, List, Option, Some, None, Ok, All}
+use Rattle.cop_dict.specs.Types.{is_unsigned32}
+use Rattle.cop_dict.specs.Find.{Entry, entry_at}
+use Rattle.cop_dict.specs.Build.{built}
+use Rattle.cop_tidy.specs.Kept.{is_record}
+
+abbrev pub is_identifier : Option Entry → Bool
+is_identifier None = false
+is_identifier (Some entry) = is_unsigned32 entry.description.data_type
+
+-- an entry of a PDO's communication record has an UNSIGNED32 beside it at sub 1
+abbrev pub IsIdentified : List Entry → Entry → Type 0
+IsIdentified dict entry = is_record entry.index ≡ true → is_identifier (entry_at dict entry.index 1) ≡ true
+
+-- in the dictionary of the text for a node each PDO's record that has an entry has an identifier
+abbrev pub AreIdentified : ℕ → List ℕ → Type 0
+AreIdentified node text = (dict : List Entry) → built text node ≡ Ok dict → All (IsIdentified dict) dict

@@ -1,0 +1,83 @@
+//! What a text leaves open, in words.
+
+use crate::telling::put_shown;
+use std::alloc::{AllocError, Global};
+
+/// What is said of a number: what is left open, what is usually behind it, and what answers it. Nothing for a number that neither a
+/// refusal nor a hazard has.
+pub fn question_words(number: u8) -> &'static str {
+    match number {
+        70 => {
+            "rule 70: the bytes of an EDS file are no text\nusually: the file was cut, or is of another kind\nright: UTF-8, UTF-16 or one byte a letter, without a byte 0\n"
+        }
+        71 => {
+            "rule 71: a line of an EDS file is neither a header, nor a key with its value, nor a comment\nusually: a line that was cut or wrapped\nright: ParameterName=Device type\n"
+        }
+        72 => {
+            "rule 72: a section or a key of an EDS file stands twice, with different content\nusually: one of them was copied and changed\nright: one of the two\n"
+        }
+        73 => {
+            "rule 73: a list of an EDS file names what is not there, or in two ways, or no list names a section of a PDO\nusually: a section that was renamed or left out, hexadecimal numbers without 0x\nright: 1=0x1800 and a section [1800]; --unlisted add lists PDOs that no list names, --unlisted leave lets them be\n"
+        }
+        74 => {
+            "rule 74: an object of an EDS file has no type, or an unknown one\nusually: a key DataType or ObjectType that was left out\nright: DataType=0x0007\n"
+        }
+        75 => {
+            "rule 75: an object of an EDS file has no access, or an unknown one\nusually: a key AccessType that was left out\nright: AccessType=rw; --access rw gives it to the objects that have none\n"
+        }
+        76 => {
+            "rule 76: a number of an EDS file is none, or a value or a limit does not fit its type, or fits in two ways\nusually: FFh in a signed type, a limit of a wider type\nright: a number within its type; --clamp takes the type's end for a limit\n"
+        }
+        77 => {
+            "rule 77: a compact form of an EDS file, or the record of a PDO, cannot be completed\nusually: a CompactPDO that leaves out the COB-ID, a count that is too large\nright: CompactPDO with bit 0, a record with a sub-index 1\n"
+        }
+        78 => {
+            "rule 78: digits with a 0 before them are octal by CiA 306, and decimal as people write them\nusually: a decimal number that was filled up with zeros\nright: --octal or --decimal\n"
+        }
+        79 => {
+            "rule 79: what was made of an EDS file would still be refused, or still hides what the device does\nusually: what no rule of tidy mends\nright: the file corrected by hand\n"
+        }
+        80..=84 => hazard_words(number),
+        _ => "",
+    }
+}
+
+/// The same of what a text that is read may hide.
+fn hazard_words(number: u8) -> &'static str {
+    match number {
+        80 => {
+            "rule 80: an EDS file has a section of a PDO that no list names, so a plan does not switch it off\nusually: a list that was not brought up to date\nright: --unlisted add, or --unlisted leave where the device has no such PDO\n"
+        }
+        81 => {
+            "rule 81: the record of a PDO has no COB-ID at sub-index 1, or one of another type than UNSIGNED32\nusually: a sub section that was left out\nright: DataType=0x0007 at sub-index 1\n"
+        }
+        82 => {
+            "rule 82: CompactPDO says of PDOs that no section describes, so a plan does not switch them off\nusually: a device with many PDOs alike\nright: canplan tidy writes their sections\n"
+        }
+        83 => {
+            "rule 83: an entry of a list behind its number of entries names a section\nusually: a number of entries that was not raised\nright: SupportedObjects as many as there are entries\n"
+        }
+        _ => {
+            "rule 84: a section that describes an object has a name that nothing reads\nusually: 0x, a blank or an underline in the name\nright: [1800sub1]\n"
+        }
+    }
+}
+
+/// What is said of a text that is refused: the line of a file with its text, where it is a line's, and what is left open.
+pub fn refusal_words(
+    alloc: Global,
+    name: &str,
+    number: u8,
+    line: u64,
+    text: Option<&[u8]>,
+) -> Result<Vec<u8>, AllocError> {
+    let mut words = Vec::new(alloc);
+    if let Some(text) = text {
+        let begin = format!(in alloc; "{name}, line {line}: ")?;
+        words.extend_from_slice(begin.as_bytes())?;
+        put_shown(&mut words, text)?;
+        words.push(b'\n')?;
+    }
+    words.extend_from_slice(question_words(number).as_bytes())?;
+    Ok(words)
+}

@@ -1,0 +1,102 @@
+#!/usr/bin/env python3
+"""Brings EDS files as makers ship them to a plan, by the program alone, and looks at each answer on the way.
+
+    python3 tools/makers_files.py
+
+Each sample of crates/tidy_samples goes through `canplan tidy`: the text, the changes that are told and the status are as they are to be,
+`--check` tells the same and writes nothing, and what was written is not changed once more. What was accepted is then planned as the only
+device of a network, with its DCF file and its page: no plan ends in a refused EDS text. What is refused names a number that `explain`
+knows.
+"""
+import os
+import subprocess
+import sys
+import tempfile
+
+HERE = os.path.dirname(os.path.dirname(os.path.realpath(__file__)))
+SAMPLES = f"{HERE}/crates/tidy_samples/data"
+PROGRAM = f"{HERE}/bin/canplan"
+NODES = b"row,node,name,eds,period,jitter\ndevice,5,Device,unit.eds,0,0\n"
+PDOS = b"node,tpdo,period,jitter,deadline,consumers\n5,1,10000,0,10000,\n"
+
+
+def bytes_of(file):
+    with open(file, "rb") as it:
+        return it.read()
+
+
+def write(file, content):
+    with open(file, "wb") as it:
+        it.write(content)
+
+
+def run(*words):
+    """Status, standard output and standard error. What hangs ends the script."""
+    it = subprocess.run([PROGRAM, *words], capture_output=True, timeout=60)
+    return it.returncode, it.stdout, it.stderr
+
+
+def of_refused(name, words, said, out):
+    """What is wrong where a sample is to be refused."""
+    status, told, fault = said
+    wanted = next(line for line in bytes_of(f"{SAMPLES}/../stdout").decode().splitlines() if line.startswith(f"{name}: "))
+    place = wanted.partition(": ")[2]
+    if (status, told, fault) != (3, b"", f"canplan: {place}\n".encode()) or os.path.exists(out):
+        yield f"{name}: {said}, wanted {place}"
+    number = place.split()[1]
+    if run("explain", number)[0] != 0:
+        yield f"{name}: {number} is not explained"
+    told_why = run("tidy", "--explain", *words, f"{SAMPLES}/{name}/in.eds", out)[2]
+    if f"\nrule {number}: ".encode() not in told_why:
+        yield f"{name}: words of a refusal: {told_why}"
+
+
+def of_plan(name, folder):
+    """What is wrong with the plan of a network with this device alone."""
+    write(f"{folder}/nodes.csv", NODES)
+    write(f"{folder}/pdos.csv", PDOS)
+    status, _, fault = run("plan", f"{folder}/nodes.csv", f"{folder}/pdos.csv", folder)
+    if status != 0 or not os.path.exists(f"{folder}/node-005.dcf"):
+        yield f"{name}: plan: {status} {fault}"
+    if run("report", f"{folder}/nodes.csv", f"{folder}/pdos.csv", f"{folder}/page.html")[0] != 0:
+        yield f"{name}: no page"
+
+
+def of_accepted(name, words, said, out):
+    """What is wrong where a sample is to be accepted."""
+    source = f"{SAMPLES}/{name}/in.eds"
+    told = bytes_of(f"{SAMPLES}/{name}/told.txt")
+    if said != (0, told, b"") or bytes_of(out) != bytes_of(f"{SAMPLES}/{name}/out.eds"):
+        yield f"{name}: other answers: {said}"
+    is_same = told == b"changes 0\n"
+    if run("tidy", "--check", *words, source) != (0 if is_same else 3, told, b""):
+        yield f"{name}: --check says something else"
+    if run("tidy", "--check", *words, out) != (0, b"changes 0\n", b""):
+        yield f"{name}: it is changed once more"
+
+
+def of_sample(name, words):
+    with tempfile.TemporaryDirectory() as folder:
+        out = f"{folder}/unit.eds"
+        said = run("tidy", *words, f"{SAMPLES}/{name}/in.eds", out)
+        if not os.path.exists(f"{SAMPLES}/{name}/out.eds"):
+            yield from of_refused(name, words, said, out)
+            return
+        yield from of_accepted(name, words, said, out)
+        yield from of_plan(name, folder)
+
+
+def main():
+    found = []
+    for line in bytes_of(f"{SAMPLES}/list").decode().splitlines():
+        name, _, word = line.partition(" ")
+        found += of_sample(name, [word] if word else [])
+    for words in (["tidy", "x.eds"], ["tidy", "--octal", "--decimal", "x.eds", "y.eds"], ["tidy", "--check", "x.eds", "y.eds"]):
+        if run(*words)[0] != 2:
+            found.append(f"{words} is understood")
+    print("\n".join(found) or "all samples as they are to be")
+    return 1 if found else 0
+
+
+if __name__ == "__main__":
+    sys.exit(main())
