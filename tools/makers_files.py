@@ -2,13 +2,18 @@
 """Brings EDS files as makers ship them to a plan, by the program alone, and looks at each answer on the way.
 
     python3 tools/makers_files.py
+    python3 tools/makers_files.py bent COUNT
 
 Each sample of crates/tidy_samples goes through `canplan tidy`: the text, the changes that are told and the status are as they are to be,
 `--check` tells the same and writes nothing, and what was written is not changed once more. What was accepted is then planned as the only
 device of a network, with its DCF file and its page: no plan ends in a refused EDS text. What is refused names a number that `explain`
 knows.
+
+With `bent` lines of the samples are cut, doubled, moved and changed, by a seed that is always the same: each text is refused or accepted,
+what was accepted is not changed once more, and no plan with it ends in a refused EDS text.
 """
 import os
+import random
 import subprocess
 import sys
 import tempfile
@@ -86,7 +91,71 @@ def of_sample(name, words):
         yield from of_plan(name, folder)
 
 
+CHOICES = [[], [], ["--decimal"], ["--octal"], ["--access", "rw"], ["--unlisted", "add"], ["--unlisted", "leave"], ["--clamp"]]
+TAILS = [b" ; x", b" // y", b"\r", b"h", b'"', b"0"]
+VALUES = [b"", b"FFh", b"0377", b"-1", b"$NODEID+0x180", b"true", b"99999999999", b"NODEID"]
+
+
+def bend_line(lines, at, by):
+    """Changes a line in one of some ways."""
+    way = by.randrange(6)
+    if way == 0:
+        lines[at] += by.choice(TAILS)
+    elif way == 1 and lines[at]:
+        place = by.randrange(len(lines[at]))
+        lines[at] = lines[at][:place] + bytes([by.randrange(256)]) + lines[at][place + 1:]
+    elif way == 2:
+        lines[at] = lines[at].replace(b"0x", by.choice([b"", b"$", b"0X", b"-0x"]))
+    elif way == 3:
+        lines[at] = lines[at].partition(b"=")[0] + b"=" + by.choice(VALUES)
+    elif way == 4:
+        lines.insert(at, by.choice(lines))
+    elif len(lines) > 1:
+        del lines[at]
+
+
+def of_bent(folder, text, words):
+    """What is wrong with the answers to a bent text."""
+    source, out = f"{folder}/in.eds", f"{folder}/unit.eds"
+    write(source, text)
+    status, _, fault = run("tidy", *words, source, out)
+    if status == 3:
+        return
+    if status != 0:
+        yield f"{words}: {status} {fault}"
+        return
+    if run("tidy", "--check", *words, out) != (0, b"changes 0\n", b""):
+        yield f"{words}: it is changed once more"
+    status, _, fault = run("plan", f"{folder}/nodes.csv", f"{folder}/pdos.csv", folder)
+    if status not in (0, 3, 4) or fault.startswith(b"canplan: refused 43 "):
+        yield f"{words}: plan: {status} {fault}"
+
+
+def bend(count):
+    """Tries so many bent texts. The first that is wrong is kept."""
+    by = random.Random(1)
+    samples = [bytes_of(f"{SAMPLES}/{line.split()[0]}/in.eds") for line in bytes_of(f"{SAMPLES}/list").decode().splitlines()]
+    samples = [text for text in samples if len(text) < 20_000]
+    with tempfile.TemporaryDirectory() as folder:
+        write(f"{folder}/nodes.csv", NODES)
+        write(f"{folder}/pdos.csv", PDOS)
+        for _ in range(count):
+            lines = by.choice(samples).split(b"\n")
+            for _ in range(by.randint(1, 4)):
+                bend_line(lines, by.randrange(len(lines)), by)
+            text, words = b"\n".join(lines), by.choice(CHOICES)
+            found = list(of_bent(folder, text, words))
+            if found:
+                write("bent.eds", text)
+                return found
+    return []
+
+
 def main():
+    if sys.argv[1:2] == ["bent"]:
+        found = bend(int(sys.argv[2]))
+        print("\n".join(found) or "all bent texts are refused, or as they are to be")
+        return 1 if found else 0
     found = []
     for line in bytes_of(f"{SAMPLES}/list").decode().splitlines():
         name, _, word = line.partition(" ")
