@@ -22,6 +22,8 @@ import tempfile
 import time
 from concurrent.futures import ThreadPoolExecutor
 
+from files import bytes_of, write
+
 HERE = os.path.dirname(os.path.dirname(os.path.realpath(__file__)))
 EXAMPLES = f"{HERE}/examples"
 PROGRAM = f"{HERE}/crates/canplan/out/canplan"
@@ -31,16 +33,6 @@ KIB, MIB = 2**10, 2**20
 NODES = b"row,node,name,eds,period,jitter\n"
 PDOS = b"node,tpdo,period,jitter,deadline,consumers\n"
 STREAMS = b"id,bytes,period,jitter,deadline\n"
-
-
-def bytes_of(file):
-    with open(file, "rb") as it:
-        return it.read()
-
-
-def write(file, content):
-    with open(file, "wb") as it:
-        it.write(content)
 
 
 # Runs a command in a small process of its own, since a child's peak of memory begins at what its parent holds.

@@ -18,21 +18,13 @@ import subprocess
 import sys
 import tempfile
 
+from files import bytes_of, write
+
 HERE = os.path.dirname(os.path.dirname(os.path.realpath(__file__)))
 SAMPLES = f"{HERE}/crates/tidy_samples/data"
 PROGRAM = f"{HERE}/bin/canplan"
 NODES = b"row,node,name,eds,period,jitter\ndevice,5,Device,unit.eds,0,0\n"
 PDOS = b"node,tpdo,period,jitter,deadline,consumers\n5,1,10000,0,10000,\n"
-
-
-def bytes_of(file):
-    with open(file, "rb") as it:
-        return it.read()
-
-
-def write(file, content):
-    with open(file, "wb") as it:
-        it.write(content)
 
 
 def run(*words):

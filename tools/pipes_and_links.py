@@ -15,21 +15,13 @@ import sys
 import tempfile
 import threading
 
+from files import bytes_of, write
+
 HERE = os.path.dirname(os.path.dirname(os.path.realpath(__file__)))
 VALVE = f"{HERE}/examples/valve"
 TABLES = [f"{VALVE}/nodes.csv", f"{VALVE}/pdos.csv"]
 PROGRAM = f"{HERE}/bin/canplan"
 FILES = ["plan.txt", "refusals.csv", "node-005.dcf"]
-
-
-def bytes_of(file):
-    with open(file, "rb") as it:
-        return it.read()
-
-
-def write(file, content=b""):
-    with open(file, "wb") as it:
-        it.write(content)
 
 
 def run(*words, given=b""):
