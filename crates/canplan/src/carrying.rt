@@ -68,7 +68,13 @@ fn plan(
 ) -> Result<u8, Failure> {
     inputs.network.read(rt, network)?;
     let texts = &inputs.network;
-    let files = plan_bytes(rt.alloc(), &texts.nodes, &texts.pdos, &texts.eds_files)?;
+    let files = plan_bytes(
+        rt.alloc(),
+        &texts.nodes,
+        &texts.pdos,
+        &texts.eds_files,
+        texts.choice,
+    )?;
     print(rt, &files.plan)?;
     write_files(rt, &files, out)?;
     if told {
@@ -118,6 +124,7 @@ fn boot(
         &texts.nodes,
         &texts.pdos,
         &texts.eds_files,
+        texts.choice,
     )?;
     print(rt, &text)?;
     Ok(text_status(&text))
@@ -181,7 +188,13 @@ fn run(
 ) -> Result<u8, Failure> {
     inputs.network.read(rt, network)?;
     let texts = &inputs.network;
-    let outcome = outcome_of(rt.alloc(), &texts.nodes, &texts.pdos, &texts.eds_files)?;
+    let outcome = outcome_of(
+        rt.alloc(),
+        &texts.nodes,
+        &texts.pdos,
+        &texts.eds_files,
+        texts.choice,
+    )?;
     let text = run_outcome(rt, &outcome, numbers, trace)?;
     print(rt, &text)?;
     Ok(text_status(&text))

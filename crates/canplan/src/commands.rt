@@ -61,6 +61,16 @@ fn explain_flag<'a>(alloc: Global) -> Arg<'a> {
         )
 }
 
+/// The word that asks for the identifiers that leave the most room.
+fn margin_flag<'a>(alloc: Global) -> Arg<'a> {
+    Arg::new(alloc, "margin")
+        .long("margin")
+        .action(ArgAction::SetTrue)
+        .help(
+            "Takes, at the same rate, the identifiers with the greatest least margin of all deadlines",
+        )
+}
+
 /// A subcommand on a network: its two tables.
 fn network_command<'a>(
     alloc: Global,
@@ -74,6 +84,7 @@ fn network_command<'a>(
         .about(about)
         .arg(operand(alloc, "NODES", nodes))?
         .arg(operand(alloc, "PDOS", pdos))?
+        .arg(margin_flag(alloc))?
         .arg(explain_flag(alloc))
 }
 

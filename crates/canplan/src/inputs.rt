@@ -4,6 +4,7 @@ use crate::failures::{Failure, Use, file_failure};
 use crate::orders::NetworkFiles;
 use cop_engine::read_all;
 use cop_net::{NodeTable, read_nodes};
+use cop_plan::Choice;
 use std::alloc::{AllocError, Global};
 use std::collections::BTreeSet;
 use std::fs::File;
@@ -16,6 +17,8 @@ pub struct Texts {
     pub pdos: Vec<u8>,
     /// The EDS files by their names, each once.
     pub eds_files: Vec<(String, Vec<u8>)>,
+    /// What the identifiers are chosen by.
+    pub choice: Choice,
 }
 
 /// All that was read for an order.
@@ -34,6 +37,7 @@ impl Inputs {
                 nodes: Vec::new(alloc),
                 pdos: Vec::new(alloc),
                 eds_files: Vec::new(alloc),
+                choice: Choice::Order,
             },
             other: Vec::new(alloc),
         }
@@ -115,6 +119,7 @@ impl Texts {
     ) -> Result<(), Failure> {
         self.nodes = read_file(rt, files.nodes)?;
         self.pdos = read_file(rt, files.pdos)?;
+        self.choice = files.choice;
         Ok(())
     }
 

@@ -15,6 +15,7 @@ pub fn judge_inputs(rt: &HostRuntime, inputs: &Inputs) -> Result<u8, Failure> {
         &texts.nodes,
         &texts.pdos,
         &texts.eds_files,
+        texts.choice,
         &inputs.other,
     )?;
     print(rt, &text)?;
@@ -30,7 +31,13 @@ fn judge_file(
     inputs: &mut Inputs,
 ) -> Result<u8, Failure> {
     let texts = &inputs.network;
-    let outcome = outcome_of(rt.alloc(), &texts.nodes, &texts.pdos, &texts.eds_files)?;
+    let outcome = outcome_of(
+        rt.alloc(),
+        &texts.nodes,
+        &texts.pdos,
+        &texts.eds_files,
+        texts.choice,
+    )?;
     let text = match judge_pieces(rt.alloc(), &outcome, file) {
         Some(text) => text,
         None => {

@@ -33,7 +33,7 @@ pub fn plan_notes(alloc: Global, texts: &Texts) -> Result<Vec<u8>, Fault> {
     let nodes = read_nodes(alloc, &texts.nodes)?;
     let pdos = read_pdos(alloc, &texts.pdos)?;
     let network = network(alloc, &nodes, &pdos, &texts.eds_files)?;
-    let outcome = plan(alloc, &network)?;
+    let outcome = plan(alloc, &network, texts.choice)?;
     Ok(outcome_notes(alloc, &nodes, &network, &outcome)?)
 }
 

@@ -131,7 +131,8 @@ fn network_page(
     sources: Sources<'_>,
     network: &Network<'_>,
 ) -> Result<Page, Fault> {
-    let outcome = plan(rt.alloc(), network)?;
+    let choice = sources.inputs.network.choice;
+    let outcome = plan(rt.alloc(), network, choice)?;
     outcome_page(rt, sources, network, &outcome)
 }
 

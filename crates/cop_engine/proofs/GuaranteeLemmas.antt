@@ -1,5 +1,5 @@
 -- A plan's guarantee for the rows of both tables.
-use Rattle.std.proofs.Common.{◌≡◌, ◌≢◌, ℕ, ◌+◌, ◌≤◌, inl, inr, List, length, get_or, slice_get, option_map, Option, Some, None, IfSome, All, Contains, refl, sym, ap, ◌∙◌, subst}
+use Rattle.std.proofs.Common.{◌≡◌, ◌≢◌, ℕ, ◌+◌, ◌-◌, ◌≤◌, inl, inr, List, length, get_or, slice_get, option_map, Option, Some, None, IfSome, All, Contains, refl, sym, ap, ◌∙◌, subst}
 use Rattle.std.proofs.lemmas.Bool.{cases_lt}
 use Rattle.std.proofs.lemmas.List.Elements.{All-weaker, All-contains}
 use Rattle.cop_frame.specs.Rate.{ticks_of}
@@ -10,15 +10,20 @@ use Rattle.cop_rows.specs.declared.node_table.FrameRow.{FrameRow}
 use Rattle.cop_rows.specs.Nodes.{IsFrame, IsFrameDeadline}
 use Rattle.cop_net.specs.Fixed.{base_of, ticks}
 use Rattle.cop_net.specs.Network.{IsNetwork}
-use Rattle.cop_plan.specs.Values.{PlanValue, id_of}
+use Rattle.cop_cert.specs.Assignments.{IsTested}
+use Rattle.cop_plan.specs.Margins.{AreLowered}
+use Rattle.cop_plan.specs.Values.{PlanValue, id_of, margin_of, AreOnTime}
 use Rattle.cop_plan.specs.Plans.{IsPlan, IsOutcome}
 use Rattle.cop_plan.specs.declared.assigning.Outcome.{Outcome}
 use Rattle.cop_plan.specs.declared.assigning.Outcome.TheVariants.{Planned, Refused}
+use Rattle.cop_plan.proofs.MarginLemmas.{tested_after}
+use Rattle.cop_plan.proofs.MarginKept.{lowered_plan, kept_with_margin}
 use Rattle.cop_sim.specs.Guarantee.{IsRunOf, IsKept}
 use Rattle.cop_sim.proofs.GuaranteeLemmas.{kept}
 use Rattle.cop_engine.specs.Networks.{Found, net_of}
 use Rattle.cop_engine.specs.Guarantee.{IsFrameOf, AreOnTimeIn, IsGuaranteed}
-use Rattle.cop_engine.proofs.PlanStreams.{fine, synced, pdo_of, frame_at, tested_at, no_other}
+use Rattle.cop_engine.proofs.MarginRuns.{legal_lowered, obeying_lowered, lowered_here}
+use Rattle.cop_engine.proofs.PlanStreams.{fine, synced, have_deadlines, provisional, pdo_of, frame_at, tested_at, no_other}
 
 sent_row : (row : FrameRow) (d : ℕ) → row.deadline ≡ Some d → IfSome row.deadline (IsFrameDeadline row.kind row.period) → row.period ≢ 0
 sent_row row d dated h =
@@ -41,20 +46,63 @@ module _ (found : Found) (streams : List Stream) (is : IsNetwork (net_of found s
         by_deadline None none past = λ j e low its. subst (λ (o : Option ℕ). IsOnTime (ticks_of plan.rate) until o (get_or run j e)) (sym none) (λ v q. absurd (cc))
         by_deadline (Some d) dated past = is_kept.frames k (p, tested_at found streams is plan planned p k d past here dated, here)
 
-    -- the same by what is known of the stream
-    on_time : (p : ℕ) (k : Stream) (id d : ℕ) → slice_get plan.streams p ≡ Some k → k.id ≡ id → k.deadline ≡ Some d → AreOnTimeIn plan id d
-    on_time p k id d here its dated until run legal =
-        All-weaker (λ y. y.id ≡ k.id → IsOnTime (ticks_of plan.rate) until k.deadline y) (λ y. y.id ≡ id → IsOnTime (ticks_of plan.rate) until (Some d) y)
-        (λ y h same. subst (λ (o : Option ℕ). IsOnTime (ticks_of plan.rate) until o y) dated (h (same ∙ sym its))) run (all_kept p k here until run legal)
+    -- the same plan with deadlines lowered by its margin
+    lowered : (renamed : List Stream) × AreLowered (margin_of plan) plan.streams renamed
+    lowered = lowered_plan found.network.equipment.rates streams (length found.rows) plan planned
 
-    pdos_on_time : (p : ℕ) (row : PdoRow) → slice_get found.rows p ≡ Some row → AreOnTimeIn plan (id_of plan.ids p) (ticks row.deadline)
+    tight : PlanValue
+    tight = record { rate = plan.rate; order = plan.order; ids = plan.ids; margin = plan.margin; refusals = plan.refusals; streams = lowered.0 }
+
+    run_of_tight : (until : ℕ) (run : List Instance) → IsRunOf plan until run → IsRunOf tight until run
+    unfolding tight
+    run_of_tight until run h = record {
+      legal = legal_lowered (margin_of plan) plan.streams lowered.0 lowered.1 (ticks_of plan.rate) until run h.legal;
+      obeying = obeying_lowered (margin_of plan) plan.streams lowered.0 lowered.1 (ticks_of plan.rate) until run h.obeying;
+    }
+
+    tight_kept : (until : ℕ) (run : List Instance) → IsRunOf plan until run → IsKept tight until run
+    unfolding tight
+    tight_kept until run legal =
+        let passes = kept_with_margin found.network.equipment.rates streams (length found.rows) plan planned lowered.0 lowered.1
+        is.streams.count (have_deadlines found streams is plan planned) (provisional found streams is plan planned) is.synced in
+        let fine : AreOnTime plan.rate lowered.0 (length plan.ids) = subst (λ (n : ℕ). AreOnTime plan.rate lowered.0 n) (sym planned.count) passes.0 in
+        kept tight fine passes.1 until run (run_of_tight until run legal)
+
+    -- each instance ends by the margin before the deadline
+    pub all_kept_before : (p : ℕ) (k : Stream) (d : ℕ) → slice_get plan.streams p ≡ Some k → k.deadline ≡ Some d → (until : ℕ) (run : List Instance) → IsRunOf plan until run
+        → All (λ y. y.id ≡ k.id → IsOnTime (ticks_of plan.rate) until (Some (d - margin_of plan)) y) run
+    unfolding tight
+    all_kept_before p k d here dated until run legal =
+        All-weaker (λ y. y.id ≡ t.0.id → IsOnTime (ticks_of plan.rate) until t.0.deadline y) (λ y. y.id ≡ k.id → IsOnTime (ticks_of plan.rate) until (Some (d - margin_of plan)) y)
+        (λ y h same. subst (λ (o : Option ℕ). IsOnTime (ticks_of plan.rate) until o y) less (h (same ∙ sym t.2))) run
+        (elim (cases_lt p (length plan.ids)) [ inl low ↦ is_kept.on_time t.0 (p, low, t.1) | inr past ↦ is_kept.frames t.0 (p, tested past, t.1) ])
+      where
+        t : (t : Stream) × (slice_get lowered.0 p ≡ Some t) × (t.id ≡ k.id) × (t.deadline ≡ option_map (λ d. d - margin_of plan) k.deadline)
+        t = lowered_here (margin_of plan) plan.streams lowered.0 lowered.1 p k here
+
+        less : t.0.deadline ≡ Some (d - margin_of plan)
+        less = t.3 ∙ ap (option_map (λ d. d - margin_of plan)) dated
+
+        is_kept : IsKept tight until run
+        is_kept = tight_kept until run legal
+
+        tested : length plan.ids ≤ p → IsTested lowered.0 (length plan.ids) p
+        tested past = tested_after (margin_of plan) plan.streams lowered.0 lowered.1 plan.rate (length plan.ids) p (tested_at found streams is plan planned p k d past here dated)
+
+    -- the same by what is known of the stream
+    on_time : (p : ℕ) (k : Stream) (id d : ℕ) → slice_get plan.streams p ≡ Some k → k.id ≡ id → k.deadline ≡ Some d → AreOnTimeIn plan id (d - margin_of plan)
+    on_time p k id d here its dated until run legal =
+        All-weaker (λ y. y.id ≡ k.id → IsOnTime (ticks_of plan.rate) until (Some (d - margin_of plan)) y) (λ y. y.id ≡ id → IsOnTime (ticks_of plan.rate) until (Some (d - margin_of plan)) y)
+        (λ y h same. h (same ∙ sym its)) run (all_kept_before p k d here dated until run legal)
+
+    pdos_on_time : (p : ℕ) (row : PdoRow) → slice_get found.rows p ≡ Some row → AreOnTimeIn plan (id_of plan.ids p) (ticks row.deadline - margin_of plan)
     pdos_on_time p row there =
         let k = pdo_of found streams is plan planned p row there in on_time p k.0 (id_of plan.ids p) (ticks row.deadline) k.1.here k.1.id k.1.deadline
 
     frame_of : (row : FrameRow) → Contains found.nodes.frames row → row.period ≢ 0 → (k : Stream) × IsFrameOf plan row k
     frame_of row at some = let k = frame_at found streams is plan planned row at some in (k.2, k.4)
 
-    frames_on_time : (row : FrameRow) (d : ℕ) → Contains found.nodes.frames row → row.deadline ≡ Some d → AreOnTimeIn plan (base_of row.kind + row.node) (ticks d)
+    frames_on_time : (row : FrameRow) (d : ℕ) → Contains found.nodes.frames row → row.deadline ≡ Some d → AreOnTimeIn plan (base_of row.kind + row.node) (ticks d - margin_of plan)
     frames_on_time row d at dated =
         let its = All-contains (IsFrame found.nodes.devices) found.nodes.frames row is.nodes.frames at in
         let k = frame_at found streams is plan planned row at (sent_row row d dated its.deadline) in

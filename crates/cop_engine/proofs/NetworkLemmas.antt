@@ -15,6 +15,7 @@ use Rattle.cop_net.specs.Faults.{refusal}
 use Rattle.cop_net.specs.Tables.{in_table}
 use Rattle.cop_net.specs.Network.{Net, Accepted, IsNetwork, accepted, network_of}
 use Rattle.cop_engine.specs.declared.faults.Fault.{Fault}
+use Rattle.cop_plan.specs.declared.choices.Choice.{Choice}
 use Rattle.cop_engine.specs.declared.plans.Files.{Files}
 use Rattle.cop_cert.specs.declared.faults.CertFault.{CertFault}
 use Rattle.cop_cert.specs.declared.faults.CertFault.TheVariants as cert
@@ -68,9 +69,9 @@ module _ (nodes pdos : List ℕ) (files : List File) where
   network_found n rows network read also e = network_read n rows (accepted network) read also e
 
   -- the files of the network's plan are those of the files
-  pub files_are : (n : NodeLists) (rows : List PdoRow) (network : Net) (made : Files) → in_table Nodes (nodes_of nodes) ≡ Ok n → in_table Pdos (pdos_of pdos) ≡ Ok rows
-      → network_of n rows files ≡ Ok (accepted network) → network.nodes ≡ n → network.rows ≡ rows → IsNetwork network → AreFilesFor files network made → AreFilesOf nodes pdos files made
-  files_are n rows network made read also e of same is planned = record {
+  pub files_are : (choice : Choice) (n : NodeLists) (rows : List PdoRow) (network : Net) (made : Files) → in_table Nodes (nodes_of nodes) ≡ Ok n → in_table Pdos (pdos_of pdos) ≡ Ok rows
+      → network_of n rows files ≡ Ok (accepted network) → network.nodes ≡ n → network.rows ≡ rows → IsNetwork network → AreFilesFor choice files network made → AreFilesOf choice nodes pdos files made
+  files_are choice n rows network made read also e of same is planned = record {
     found = record { nodes = n; rows = rows; network = accepted network };
     read = network_read n rows (accepted network) read also e;
     streams = network.set;

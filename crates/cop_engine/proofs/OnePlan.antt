@@ -18,6 +18,7 @@ use Rattle.cop_net.proofs.NetworkLemmas.{accepted_one_set}
 use Rattle.cop_plan.specs.Orders.{HasPdos}
 use Rattle.cop_plan.specs.declared.assigning.Outcome.{Outcome}
 use Rattle.cop_plan.specs.declared.assigning.Outcome.TheVariants.{Planned, Refused}
+use Rattle.cop_plan.specs.declared.choices.Choice.{Choice}
 use Rattle.cop_plan.proofs.OutcomeOnce.{outcome_once}
 use Rattle.cop_engine.specs.declared.plans.Files.{Files}
 use Rattle.cop_engine.specs.Reports.{lines_below}
@@ -50,9 +51,9 @@ text_same : (rows : List PdoRow) (outcome : Outcome) (vs ws : List Verdict) → 
 text_same rows (Planned plan) vs ws x y = rw (all_verdicts_same plan.rate plan.streams vs ws (length rows) x y) refl
 text_same rows (Refused refusals) vs ws x y = refl
 
-files_same : (eds : List File) (net : Net) (a b : Files) → HasPdos net.set (length net.rows) → AreFilesFor eds net a → AreFilesFor eds net b → SameFiles a b
-files_same eds net a b has x y =
-    let same : x.outcome ≡ y.outcome = outcome_once net.equipment.rates net.set (length net.rows) has x.outcome y.outcome x.planned y.planned in
+files_same : (choice : Choice) (eds : List File) (net : Net) (a b : Files) → HasPdos net.set (length net.rows) → AreFilesFor choice eds net a → AreFilesFor choice eds net b → SameFiles a b
+files_same choice eds net a b has x y =
+    let same : x.outcome ≡ y.outcome = outcome_once net.equipment.rates net.set (length net.rows) has choice x.outcome y.outcome x.planned y.planned x.chosen y.chosen in
     let judged : ArePlanVerdicts y.outcome x.verdicts (length net.rows) = subst (λ (o : Outcome). ArePlanVerdicts o x.verdicts (length net.rows)) same x.judged in (
       x.is_plan ∙ ap is_planned same ∙ sym y.is_plan,
       x.plan ∙ ap (plan_text net.rows x.verdicts) same ∙ text_same net.rows y.outcome x.verdicts y.verdicts judged y.judged ∙ sym y.plan,
@@ -66,14 +67,14 @@ ok_once {A} {E} r a b x y =
     let both : ◌≡◌ {A = Result A E} (Ok a) (Ok b) = sym x ∙ y in
     cc
 
-pub one_plan : (nodes pdos : List ℕ) (eds : List File) (a b : Files) → AreFilesOf nodes pdos eds a → AreFilesOf nodes pdos eds b → SameFiles a b
-one_plan nodes pdos eds a b x y =
+pub one_plan : (choice : Choice) (nodes pdos : List ℕ) (eds : List File) (a b : Files) → AreFilesOf choice nodes pdos eds a → AreFilesOf choice nodes pdos eds b → SameFiles a b
+one_plan choice nodes pdos eds a b x y =
     let found : x.found ≡ y.found = ok_once (network_in nodes pdos eds) x.found y.found x.read y.read in
     let entries : map entry_of x.streams ≡ map entry_of y.streams = x.streams_are ∙ ap (λ (f : Found). f.network.streams) found ∙ sym y.streams_are in
     let streams : x.streams ≡ y.streams = streams_same x.streams y.streams entries in
     let net : net_of x.found x.streams ≡ net_of y.found y.streams = ap (λ (f : Found). net_of f x.streams) found ∙ ap (net_of y.found) streams in
-    let mine : AreFilesFor eds (net_of y.found y.streams) a = subst (λ (n : Net). AreFilesFor eds n a) net x.planned in
-    files_same eds (net_of y.found y.streams) a b (has_pdos (net_of y.found y.streams) y.network) mine y.planned
+    let mine : AreFilesFor choice eds (net_of y.found y.streams) a = subst (λ (n : Net). AreFilesFor choice eds n a) net x.planned in
+    files_same choice eds (net_of y.found y.streams) a b (has_pdos (net_of y.found y.streams) y.network) mine y.planned
 
 -- ---- checks
 

@@ -43,10 +43,10 @@ module _ (found : Found) (streams : List Stream) (is : IsNetwork (net_of found s
   abbrev pdos : ℕ
   pdos = length found.rows
 
-  have_deadlines : HaveDeadlines streams pdos
+  pub have_deadlines : HaveDeadlines streams pdos
   have_deadlines p h = some_is (deadline_at streams p) (is.streams.deadlines p h)
 
-  provisional : ArePdosHigh streams pdos
+  pub provisional : ArePdosHigh streams pdos
   provisional p h = omega (arith, is.streams.provisional p h)
 
   chosen : (p : ℕ) → p < pdos → least_id ≤ id_of plan.ids p

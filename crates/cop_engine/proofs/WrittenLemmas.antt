@@ -29,6 +29,7 @@ use Rattle.cop_plan.specs.declared.assigning.Outcome.TheVariants.{Planned, Refus
 use Rattle.cop_plan.proofs.WritableLemmas.{refusals_writable}
 use Rattle.cop_engine.specs.declared.faults.Fault.{Fault}
 use Rattle.cop_engine.specs.declared.faults.Fault.TheVariants as faults
+use Rattle.cop_plan.specs.declared.choices.Choice.{Choice}
 use Rattle.cop_engine.specs.declared.plans.Files.{Files}
 use Rattle.cop_engine.specs.Networks.{Found, network_in}
 use Rattle.cop_engine.specs.PlanTexts.{refusals_of}
@@ -95,7 +96,7 @@ all_answered streams pdos (r ∷ rs) answers checked all = λ k d below.
     any_default : (answers : List Bool) (k : ℕ) (d : Bool) → k < length answers → get_or answers k false ≡ true → get_or answers k d ≡ true
     any_default answers k d below h = grind (arith, h, below, slice_get-get_or answers k d below, slice_get-get_or answers k false below)
 
-module _ (nodes pdos : List ℕ) (eds : List File) (files : Files) (f : AreFilesOf nodes pdos eds files) where
+module _ (choice : Choice) (nodes pdos : List ℕ) (eds : List File) (files : Files) (f : AreFilesOf choice nodes pdos eds files) where
   -- the refusal file is read as the refusals of the outcome
   pub read_again : cert.refusals_of files.refusals.items ≡ Ok (refusals_of f.planned.outcome)
   read_again =

@@ -13,8 +13,9 @@ use Rattle.cop_net.specs.Devices.{File}
 use Rattle.cop_net.specs.Tables.{in_table}
 use Rattle.cop_net.specs.Network.{Net, IsNetwork, accepted, network_of}
 use Rattle.cop_plan.specs.declared.assigning.Outcome.{Outcome}
+use Rattle.cop_plan.specs.declared.choices.Choice.{Choice}
 use Rattle.cop_plan.specs.declared.assigning.Outcome.TheVariants.{Planned, Refused}
-use Rattle.cop_plan.specs.Plans.{IsOutcome}
+use Rattle.cop_plan.specs.Plans.{IsOutcome, IsChosenBy}
 use Rattle.cop_dcf.specs.Settings.{dictionary_of, node_settings}
 use Rattle.cop_boot.specs.declared.«end».End.{End}
 use Rattle.cop_boot.specs.declared.«end».End.TheVariants.{Ready, Aborted, Silent, Restarting}
@@ -96,11 +97,11 @@ IsBootedBy seed net (Planned plan) text = IsBooted seed net plan.ids text
 IsBootedBy seed net (Refused refusals) text = text ≡ none_passes
 
 -- the boot of a network by what the planner answers for it
-abbrev pub IsBootOfNetwork : ℕ → Net → List ℕ → Type 0
-IsBootOfNetwork seed net text = (outcome : Outcome) × IsOutcome net.equipment.rates net.set (length net.rows) outcome × IsBootedBy seed net outcome text
+abbrev pub IsBootOfNetwork : Choice → ℕ → Net → List ℕ → Type 0
+IsBootOfNetwork choice seed net text = (outcome : Outcome) × IsOutcome net.equipment.rates net.set (length net.rows) outcome × IsChosenBy choice outcome × IsBootedBy seed net outcome text
 
 -- the boot of the network that the tables and the EDS files say, by its plan
-pub record IsBootOf (seed : ℕ) (nodes pdos : List ℕ) (eds : List File) (text : List ℕ) : Type 0 where
+pub record IsBootOf (choice : Choice) (seed : ℕ) (nodes pdos : List ℕ) (eds : List File) (text : List ℕ) : Type 0 where
   pub net : Net
   pub network : IsNetwork net
   pub node_table : in_table Nodes (nodes_of nodes) ≡ Ok net.nodes
@@ -108,4 +109,5 @@ pub record IsBootOf (seed : ℕ) (nodes pdos : List ℕ) (eds : List File) (text
   pub read : network_of net.nodes net.rows eds ≡ Ok (accepted net)
   pub outcome : Outcome
   pub planned : IsOutcome net.equipment.rates net.set (length net.rows) outcome
+  pub chosen : IsChosenBy choice outcome
   pub booted : IsBootedBy seed net outcome text

@@ -1,5 +1,5 @@
 -- What the plan of a network guarantees.
-use Rattle.std.specs.Prelude.{◌≡◌, ◌≢◌, ◌≤◌, ℕ, ◌+◌, ◌*◌, List, Option, None, Some, Ok, option_map, length, get_or, slice_get, All, Contains}
+use Rattle.std.specs.Prelude.{◌≡◌, ◌≢◌, ◌≤◌, ℕ, ◌+◌, ◌-◌, ◌*◌, List, Option, None, Some, Ok, option_map, length, get_or, slice_get, All, Contains}
 use Rattle.cop_frame.specs.Rate.{ticks_of}
 use Rattle.cop_dict.specs.declared.mapping.Direction.TheVariants.{Transmit}
 use Rattle.cop_dict.specs.declared.mapping.Mapped.{Mapped}
@@ -14,9 +14,10 @@ use Rattle.cop_net.specs.declared.devices.Device.{Device}
 use Rattle.cop_net.specs.Fixed.{base_of, size_of, ticks}
 use Rattle.cop_net.specs.Pdos.{every_at, sent_by}
 use Rattle.cop_net.specs.Signals.{sync_of}
-use Rattle.cop_plan.specs.Values.{PlanValue, id_of}
+use Rattle.cop_plan.specs.Values.{PlanValue, id_of, margin_of}
 use Rattle.cop_plan.specs.Plans.{IsPlan, AreAllRefused}
 use Rattle.cop_plan.specs.declared.assigning.Outcome.{Outcome}
+use Rattle.cop_plan.specs.declared.choices.Choice.{Choice}
 use Rattle.cop_plan.specs.declared.assigning.Outcome.TheVariants.{Planned, Refused}
 use Rattle.cop_sim.specs.Guarantee.{IsRunOf}
 use Rattle.cop_net.specs.Devices.{File}
@@ -75,15 +76,15 @@ abbrev pub AreOnTimeIn : PlanValue → ℕ → ℕ → Type 0
 AreOnTimeIn plan id deadline =
     (until : ℕ) (run : List Instance) → IsRunOf plan until run → All (λ y. y.id ≡ id → IsOnTime (ticks_of plan.rate) until (Some deadline) y) run
 
--- Each row's PDO ends each of its transfers within the row's deadline, in every legal run of the plan's streams at its
--- rate in which all of them obey. So does each SDO frame for which the table of nodes has a deadline. The plan has no streams but those of
+-- Each row's PDO ends each of its transfers within the row's deadline, and by the plan's margin before it, in every legal run of the plan's
+-- streams at its rate in which all of them obey. So does each SDO frame for which the table of nodes has a deadline. The plan has no streams but those of
 -- the rows of both tables.
 pub record MeetsDeadlines (found : Found) (plan : PlanValue) : Type 0 where
   pub pdos : (p : ℕ) (row : PdoRow) → slice_get found.rows p ≡ Some row → (k : Stream) × IsPdoOf found plan p row k
-  pub on_time : (p : ℕ) (row : PdoRow) → slice_get found.rows p ≡ Some row → AreOnTimeIn plan (id_of plan.ids p) (ticks row.deadline)
+  pub on_time : (p : ℕ) (row : PdoRow) → slice_get found.rows p ≡ Some row → AreOnTimeIn plan (id_of plan.ids p) (ticks row.deadline - margin_of plan)
   pub frames : (row : FrameRow) → Contains found.nodes.frames row → row.period ≢ 0 → (k : Stream) × IsFrameOf plan row k
   pub no_other : (f : ℕ) (k : Stream) → length found.rows ≤ f → slice_get plan.streams f ≡ Some k → (row : FrameRow) × Contains found.nodes.frames row × (row.period ≢ 0) × IsFrameOf plan row k
-  pub frames_on_time : (row : FrameRow) (d : ℕ) → Contains found.nodes.frames row → row.deadline ≡ Some d → AreOnTimeIn plan (base_of row.kind + row.node) (ticks d)
+  pub frames_on_time : (row : FrameRow) (d : ℕ) → Contains found.nodes.frames row → row.deadline ≡ Some d → AreOnTimeIn plan (base_of row.kind + row.node) (ticks d - margin_of plan)
 
 -- The plan has the slowest rate that all devices support and at which some assignment of identifiers passes the
 -- response-time test, it passes there, and each slower rate has a refusal that holds; and its PDOs and SDO frames meet their
@@ -93,6 +94,6 @@ IsGuaranteed found streams (Planned plan) = IsPlan found.network.equipment.rates
 IsGuaranteed found streams (Refused refusals) = AreAllRefused found.network.equipment.rates streams (length found.rows) refusals
 
 -- the files of the plan of the network that the tables and the EDS files say, with what the plan guarantees
-pub record AreGuaranteedFiles (nodes pdos : List ℕ) (eds : List File) (files : Files) : Type 0 where
-  pub exact : AreFilesOf nodes pdos eds files
+pub record AreGuaranteedFiles (choice : Choice) (nodes pdos : List ℕ) (eds : List File) (files : Files) : Type 0 where
+  pub exact : AreFilesOf choice nodes pdos eds files
   pub guaranteed : IsGuaranteed exact.found exact.streams exact.planned.outcome

@@ -1,5 +1,5 @@
 -- The text of a plan.
-use Rattle.std.specs.Prelude.{ℕ, ◌<◌, List, [], ◌++◌, Bool, true, false, codes, decimal, length, get_or, slice_get}
+use Rattle.std.specs.Prelude.{ℕ, ◌<◌, List, [], ◌++◌, Bool, true, false, codes, decimal, length, get_or, slice_get, Option, None, Some}
 use Rattle.std.specs.List.{flat_map}
 use Rattle.std.specs.Option.{option_map_or}
 use Rattle.cop_frame.specs.declared.rates.Rate.{Rate}
@@ -37,6 +37,11 @@ pdo_line row id response = pdo_name row ++ codes " id " ++ hexadecimal id ++ res
 abbrev pub pdo_line_at : List PdoRow → List ℕ → List Verdict → ℕ → List ℕ
 pdo_line_at rows ids verdicts k = option_map_or (λ row. pdo_line row (get_or ids k 0) (response_of (get_or verdicts k Long))) (slice_get rows k) []
 
+-- the margin of a plan that was chosen by it
+abbrev pub margin_line : Option ℕ → List ℕ
+margin_line None = []
+margin_line (Some margin) = codes "margin " ++ decimal margin ++ codes "\n"
+
 -- why a rate is refused: how many members its refusal has, or SYNC, or the identifier of an SDO frame
 abbrev pub cause_text : Cause → List ℕ
 cause_text (Places members) = codes "members " ++ decimal (length members)
@@ -53,9 +58,9 @@ HasIdentifier (Places members) = Unit {0}
 HasIdentifier (Sync busy) = Unit {0}
 HasIdentifier (Sdo up id evidence) = id < 2048
 
--- the plan's rate, a line for each PDO in the order of the table, and one for each refused rate
+-- the plan's rate, a line for each PDO in the order of the table, the margin, and a line for each refused rate
 abbrev pub plan_text : List PdoRow → List Verdict → Outcome → List ℕ
-plan_text rows verdicts (Planned plan) = rate_line plan.rate ++ lines_below (pdo_line_at rows plan.ids verdicts) (length rows) ++ flat_map refused_line plan.refusals
+plan_text rows verdicts (Planned plan) = rate_line plan.rate ++ lines_below (pdo_line_at rows plan.ids verdicts) (length rows) ++ margin_line plan.margin ++ flat_map refused_line plan.refusals
 plan_text rows verdicts (Refused refusals) = codes "no rate passes\n" ++ flat_map refused_line refusals
 
 abbrev pub is_planned : Outcome → Bool

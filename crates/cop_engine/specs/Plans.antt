@@ -8,8 +8,9 @@ use Rattle.cop_rows.specs.declared.pdo_table.PdoRow.{PdoRow}
 use Rattle.cop_net.specs.Devices.{File}
 use Rattle.cop_net.specs.Network.{Net, BeginsWith, IsNetwork}
 use Rattle.cop_plan.specs.declared.assigning.Outcome.{Outcome}
+use Rattle.cop_plan.specs.declared.choices.Choice.{Choice}
 use Rattle.cop_plan.specs.declared.assigning.Outcome.TheVariants.{Planned, Refused}
-use Rattle.cop_plan.specs.Plans.{IsOutcome}
+use Rattle.cop_plan.specs.Plans.{IsOutcome, IsChosenBy}
 use Rattle.cop_plan.specs.Values.{PlanValue}
 use Rattle.cop_engine.specs.declared.plans.Files.{Files}
 use Rattle.cop_engine.specs.Tests.{AreVerdicts}
@@ -28,9 +29,10 @@ IsPlanText rows plan text = (verdicts : List Verdict) × AreVerdicts plan.rate p
 
 -- The plan's text with the response of each PDO, the refusal file with the greatest refusal set of each slower
 -- candidate, or of each candidate where no rate passes, and the DCF file of each device.
-pub record AreFilesFor (eds : List File) (net : Net) (files : Files) : Type 0 where
+pub record AreFilesFor (choice : Choice) (eds : List File) (net : Net) (files : Files) : Type 0 where
   pub outcome : Outcome
   pub planned : IsOutcome net.equipment.rates net.set (length net.rows) outcome
+  pub chosen : IsChosenBy choice outcome
   pub verdicts : List Verdict
   pub judged : ArePlanVerdicts outcome verdicts (length net.rows)
   pub is_plan : files.planned ≡ is_planned outcome
@@ -39,11 +41,11 @@ pub record AreFilesFor (eds : List File) (net : Net) (files : Files) : Type 0 wh
   pub dcf : files.dcf ≡ dcfs_of eds net outcome
 
 -- the files of the network that the tables and the EDS files say, whose first streams are the PDOs
-pub record AreFilesOf (nodes pdos : List ℕ) (eds : List File) (files : Files) : Type 0 where
+pub record AreFilesOf (choice : Choice) (nodes pdos : List ℕ) (eds : List File) (files : Files) : Type 0 where
   pub found : Found
   pub read : network_in nodes pdos eds ≡ Ok found
   pub streams : List Stream
   pub streams_are : map entry_of streams ≡ found.network.streams
   pub begins : BeginsWith (length found.rows) streams
   pub network : IsNetwork (net_of found streams)
-  pub planned : AreFilesFor eds (net_of found streams) files
+  pub planned : AreFilesFor choice eds (net_of found streams) files

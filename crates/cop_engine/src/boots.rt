@@ -18,7 +18,7 @@ use cop_boot::{Device, End, Manager, run_schedule};
 use cop_dcf::{Setting, settings};
 use cop_dict::{Dictionary, Object};
 use cop_net::{Network, network, read_nodes, read_pdos};
-use cop_plan::{Outcome, Plan, plan};
+use cop_plan::{Choice, Outcome, Plan, plan};
 use std::alloc::{AllocError, Global};
 use std::collections::BTreeMap;
 
@@ -175,11 +175,16 @@ fn booted(
 }
 
 /// The boot of a network by what the planner answers for it.
-fn boot_of(alloc: Global, seed: u64, network: &Network<'_>) -> Result<Vec<u8>, AllocError>
+fn boot_of(
+    alloc: Global,
+    seed: u64,
+    network: &Network<'_>,
+    choice: Choice,
+) -> Result<Vec<u8>, AllocError>
     requires { IsNetwork network.now }
-    ensures { IfOk result (λ text. IsBootOfNetwork seed network.now text.items) }
+    ensures { IfOk result (λ text. IsBootOfNetwork choice seed network.now text.items) }
 {
-    match plan(alloc, network)? {
+    match plan(alloc, network, choice)? {
         Outcome::Planned(plan) => booted(alloc, seed, network, &plan),
         Outcome::Refused(_) => none_passes(alloc),
     }
@@ -194,11 +199,12 @@ pub fn boot_bytes(
     nodes: &[u8],
     pdos: &[u8],
     eds_files: &[(String, Vec<u8>)],
+    choice: Choice,
 ) -> Result<Vec<u8>, Fault>
-    ensures { MatchResult result (λ text. IsBootOf seed nodes.now pdos.now (map (λ f. record { name = string_bytes f.0; text = f.1.items }) eds_files.now) text.items) (λ fault. ExplainsNetwork nodes.now pdos.now (map (λ f. record { name = string_bytes f.0; text = f.1.items }) eds_files.now) fault) }
+    ensures { MatchResult result (λ text. IsBootOf choice seed nodes.now pdos.now (map (λ f. record { name = string_bytes f.0; text = f.1.items }) eds_files.now) text.items) (λ fault. ExplainsNetwork nodes.now pdos.now (map (λ f. record { name = string_bytes f.0; text = f.1.items }) eds_files.now) fault) }
 {
     let nodes = read_nodes(alloc, nodes)?;
     let pdos = read_pdos(alloc, pdos)?;
     let network = network(alloc, &nodes, &pdos, eds_files)?;
-    Ok(boot_of(alloc, seed, &network)?)
+    Ok(boot_of(alloc, seed, &network, choice)?)
 }

@@ -2,6 +2,7 @@
 
 ghost use Rattle.std.specs.Prelude.{ℕ, List};
 ghost use Rattle.cop_net.specs.Devices.{File};
+ghost use Rattle.cop_plan.specs.declared.choices.Choice.{Choice};
 ghost use Rattle.cop_engine.specs.declared.plans.Files.{Files};
 ghost use Rattle.cop_engine.specs.Networks.{net_of};
 ghost use Rattle.cop_engine.specs.Dcfs.{AreReadAgain};
@@ -16,17 +17,17 @@ ghost use Rattle.cop_engine.specs.Judgements.{IsJudgement, SaysOnTime};
 /// that has a deadline ends its transfer within it. That of a PDO that is sent by SYNC counts from SYNC's event, and the
 /// stream of such a PDO has as many times SYNC's period as the transmission type of its device says.
 pub fn planner_guarantee()
-    ensures { (nodes pdos : List ℕ) (eds : List File) (files : Files) → (f : AreFilesOf nodes pdos eds files) → IsGuaranteed f.found f.streams f.planned.outcome }
+    ensures { (choice : Choice) (nodes pdos : List ℕ) (eds : List File) (files : Files) → (f : AreFilesOf choice nodes pdos eds files) → IsGuaranteed f.found f.streams f.planned.outcome }
 {}
 
 /// By it the judgement of a trace ([`judge_bytes`](crate::judge_bytes)) never says that an instance is late.
 pub fn judged_on_time()
-    ensures { (nodes pdos : List ℕ) (eds : List File) (trace text : List ℕ) → (j : IsJudgement nodes pdos eds trace text) → SaysOnTime j.outcome trace text }
+    ensures { (choice : Choice) (nodes pdos : List ℕ) (eds : List File) (trace text : List ℕ) → (j : IsJudgement choice nodes pdos eds trace text) → SaysOnTime j.outcome trace text }
 {}
 
 /// Each DCF file of [`plan_bytes`](crate::plan_bytes) that is not longer than an EDS text may be is read again as what is
 /// planned: it is accepted, and the dictionary that it describes for its node is that of the device with the last value of
 /// each of the node's settings.
 pub fn dcf_round_trip()
-    ensures { (nodes pdos : List ℕ) (eds : List File) (files : Files) → (f : AreFilesOf nodes pdos eds files) → AreReadAgain eds (net_of f.found f.streams) f.planned.outcome }
+    ensures { (choice : Choice) (nodes pdos : List ℕ) (eds : List File) (files : Files) → (f : AreFilesOf choice nodes pdos eds files) → AreReadAgain eds (net_of f.found f.streams) f.planned.outcome }
 {}

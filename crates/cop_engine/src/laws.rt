@@ -8,6 +8,7 @@ ghost use Rattle.cop_engine.specs.Tests.{IsReport};
 ghost use Rattle.cop_engine.specs.Plans.{AreFilesOf};
 ghost use Rattle.cop_engine.specs.Checks.{IsCheckOf, ExplainsCheck};
 ghost use Rattle.cop_plan.specs.declared.assigning.Outcome.{Outcome};
+ghost use Rattle.cop_plan.specs.declared.choices.Choice.{Choice};
 ghost use Rattle.cop_engine.specs.Judgements.{IsPlannedNetwork, IsJudgement};
 ghost use Rattle.cop_engine.specs.Runs.{IsNetworkRun};
 ghost use Rattle.cop_engine.specs.Boots.{IsBootOf};
@@ -22,31 +23,31 @@ pub fn one_report()
     ensures { (rate : Rate) (text a b : List ℕ) → IsReport rate text a → IsReport rate text b → a ≡ b }
 {}
 
-/// The bytes of tables and EDS files have one plan: its files are a function of the bytes.
+/// The bytes of tables and EDS files and the choice of identifiers have one plan: its files are a function of them.
 pub fn one_plan()
-    ensures { (nodes pdos : List ℕ) (eds : List File) (a b : Files) → AreFilesOf nodes pdos eds a → AreFilesOf nodes pdos eds b → (a.planned ≡ b.planned) × (a.plan.items ≡ b.plan.items) × (a.refusals.items ≡ b.refusals.items) × (a.dcf ≡ b.dcf) }
+    ensures { (choice : Choice) (nodes pdos : List ℕ) (eds : List File) (a b : Files) → AreFilesOf choice nodes pdos eds a → AreFilesOf choice nodes pdos eds b → (a.planned ≡ b.planned) × (a.plan.items ≡ b.plan.items) × (a.refusals.items ≡ b.refusals.items) × (a.dcf ≡ b.dcf) }
 {}
 
 /// It is one plan that [`plan_bytes`](crate::plan_bytes) gives and by which [`judge_bytes`](crate::judge_bytes) judges a
 /// trace, [`run_bytes`](crate::run_bytes) runs the network, and [`boot_bytes`](crate::boot_bytes) boots it.
 pub fn plan_is_used()
-    ensures network { (nodes pdos : List ℕ) (eds : List File) (files : Files) (outcome : Outcome) → (f : AreFilesOf nodes pdos eds files) → IsPlannedNetwork nodes pdos eds outcome → outcome ≡ f.planned.outcome }
-    ensures boot { (seed : ℕ) (nodes pdos : List ℕ) (eds : List File) (files : Files) (text : List ℕ) → (f : AreFilesOf nodes pdos eds files) → (b : IsBootOf seed nodes pdos eds text) → b.outcome ≡ f.planned.outcome }
+    ensures network { (choice : Choice) (nodes pdos : List ℕ) (eds : List File) (files : Files) (outcome : Outcome) → (f : AreFilesOf choice nodes pdos eds files) → IsPlannedNetwork choice nodes pdos eds outcome → outcome ≡ f.planned.outcome }
+    ensures boot { (choice : Choice) (seed : ℕ) (nodes pdos : List ℕ) (eds : List File) (files : Files) (text : List ℕ) → (f : AreFilesOf choice nodes pdos eds files) → (b : IsBootOf choice seed nodes pdos eds text) → b.outcome ≡ f.planned.outcome }
 {
     one_outcome();
 }
 
 /// The bytes of tables, EDS files and a trace have one judgement.
 pub fn one_judgement()
-    ensures { (nodes pdos : List ℕ) (eds : List File) (trace text other : List ℕ) → IsJudgement nodes pdos eds trace text → IsJudgement nodes pdos eds trace other → text ≡ other }
+    ensures { (choice : Choice) (nodes pdos : List ℕ) (eds : List File) (trace text other : List ℕ) → IsJudgement choice nodes pdos eds trace text → IsJudgement choice nodes pdos eds trace other → text ≡ other }
 {
     one_outcome();
 }
 
 /// The bytes of tables and EDS files, a seed and a moment have one run.
 pub fn one_run()
-    ensures { (nodes pdos : List ℕ) (eds : List File) (seed until : ℕ) (text trace other another : List ℕ)
-        → IsNetworkRun nodes pdos eds seed until text trace → IsNetworkRun nodes pdos eds seed until other another → (text ≡ other) × (trace ≡ another) }
+    ensures { (choice : Choice) (nodes pdos : List ℕ) (eds : List File) (seed until : ℕ) (text trace other another : List ℕ)
+        → IsNetworkRun choice nodes pdos eds seed until text trace → IsNetworkRun choice nodes pdos eds seed until other another → (text ≡ other) × (trace ≡ another) }
 {
     one_outcome();
     planned_streams_are_distinct();
@@ -62,6 +63,6 @@ pub fn one_check()
 /// [`plan_bytes`](crate::plan_bytes) gives, against the same tables and EDS files, says so of each, and nothing but want
 /// of memory keeps it from that.
 pub fn planned_refusals_hold()
-    ensures holds { (nodes pdos : List ℕ) (eds : List File) (files : Files) (lines : List ℕ) (all : Bool) → AreFilesOf nodes pdos eds files → IsCheckOf nodes pdos eds files.refusals.items lines all → all ≡ true }
-    ensures read { (nodes pdos : List ℕ) (eds : List File) (files : Files) (fault : Fault) → AreFilesOf nodes pdos eds files → ExplainsCheck nodes pdos eds files.refusals.items fault → fault ≡ faults.Memory }
+    ensures holds { (choice : Choice) (nodes pdos : List ℕ) (eds : List File) (files : Files) (lines : List ℕ) (all : Bool) → AreFilesOf choice nodes pdos eds files → IsCheckOf nodes pdos eds files.refusals.items lines all → all ≡ true }
+    ensures read { (choice : Choice) (nodes pdos : List ℕ) (eds : List File) (files : Files) (fault : Fault) → AreFilesOf choice nodes pdos eds files → ExplainsCheck nodes pdos eds files.refusals.items fault → fault ≡ faults.Memory }
 {}

@@ -4,7 +4,7 @@ ghost use Rattle.std.specs.Prelude.{◌≡◌, ◌≤◌, ◌<◌, ◌++◌, len
 ghost use Rattle.std.specs.List.{flat_map};
 ghost use Rattle.cop_frame.specs.Rate.{kbits_of};
 ghost use Rattle.cop_engine.specs.Reports.{lines_below};
-ghost use Rattle.cop_engine.specs.PlanTexts.{response_of, rate_line, pdo_name, response_end, pdo_line, pdo_line_at, cause_text, refused_line, HasIdentifier};
+ghost use Rattle.cop_engine.specs.PlanTexts.{response_of, rate_line, pdo_name, response_end, pdo_line, pdo_line_at, margin_line, cause_text, refused_line, HasIdentifier};
 
 use crate::reports::{push_id, push_number};
 use cop_cert::{Cause, Refusal};
@@ -113,6 +113,18 @@ fn push_refused(text: &mut Vec<u8>, refusal: &Refusal) -> Result<(), AllocError>
     text.extend_from_slice(b"\n")
 }
 
+/// The line of the margin, where the plan was chosen by it.
+fn push_margin(text: &mut Vec<u8>, margin: Option<u64>) -> Result<(), AllocError>
+    ensures { OnOk result (text.new.items ≡ text.old.items ++ margin_line margin) }
+{
+    if let Some(ticks) = margin {
+        text.extend_from_slice(b"margin ")?;
+        push_number(text, ticks)?;
+        text.extend_from_slice(b"\n")?;
+    }
+    Ok(())
+}
+
 #[tactic(auto, using(crate::proofs::PlanTextLemmas::refused_more))]
 /// The line of each refused rate.
 fn push_all_refused(text: &mut Vec<u8>, refusals: &[Refusal]) -> Result<(), AllocError>
@@ -125,7 +137,8 @@ fn push_all_refused(text: &mut Vec<u8>, refusals: &[Refusal]) -> Result<(), Allo
     Ok(())
 }
 
-/// The text of a plan: its rate, a line for each PDO in the order of the table, and one for each refused rate.
+/// The text of a plan: its rate, a line for each PDO in the order of the table, its margin, where it was chosen by one, and a line for each
+/// refused rate.
 pub fn planned_text(
     alloc: Global,
     rows: &[PdoRow],
@@ -136,11 +149,12 @@ pub fn planned_text(
     requires verdicts { length verdicts.now ≡ length rows.now }
     requires range { All (λ id. id < 2048) plan.now.ids }
     requires causes { All (λ r. HasIdentifier r.cause) plan.now.refusals }
-    ensures { IfOk result (λ text. text.items ≡ rate_line plan.now.rate ++ lines_below (pdo_line_at rows.now plan.now.ids verdicts.now) (length rows.now) ++ flat_map refused_line plan.now.refusals) }
+    ensures { IfOk result (λ text. text.items ≡ rate_line plan.now.rate ++ lines_below (pdo_line_at rows.now plan.now.ids verdicts.now) (length rows.now) ++ margin_line plan.now.margin ++ flat_map refused_line plan.now.refusals) }
 {
     let mut text = Vec::new(alloc);
     push_rate(&mut text, plan.rate())?;
     push_pdos(&mut text, rows, plan.ids(), verdicts)?;
+    push_margin(&mut text, plan.margin())?;
     push_all_refused(&mut text, plan.refusals())?;
     Ok(text)
 }

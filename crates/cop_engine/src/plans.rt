@@ -18,7 +18,7 @@ use crate::plan_texts::{planned_text, refused_text};
 use crate::tests_of_streams::judge_first;
 use cop_cert::{Items, Refusal, write};
 use cop_net::{EdsFiles, Network, network_of_files, read_nodes, read_pdos};
-use cop_plan::{Outcome, Plan, plan};
+use cop_plan::{Choice, Outcome, Plan, plan};
 use std::alloc::{AllocError, Global};
 
 /// What `plan` gives: the text of the plan, the refusal file, and the DCF file of each device.
@@ -50,7 +50,7 @@ fn planned_files(
 ) -> Result<Files, AllocError>
     requires plan { IsPlan network.now.equipment.rates network.now.set (length network.now.rows) plan.now }
     requires texts { HaveTexts eds_files.now network.now.nodes.devices }
-    ensures { IfOk result (AreFilesFor eds_files.now network.now) }
+    ensures { IfOk result (AreFilesFor choice eds_files.now network.now) }
 {
     Ok(Files {
         planned: true,
@@ -63,7 +63,7 @@ fn planned_files(
 /// The files where no rate passes.
 fn refused_files(alloc: Global, refusals: &[Refusal]) -> Result<Files, AllocError>
     requires { All (λ r. HasIdentifier r.cause) refusals.now }
-    ensures { (eds : List File) (net : Net) → IsOutcome net.equipment.rates net.set (length net.rows) (Refused refusals.now) → IfOk result (AreFilesFor eds net) }
+    ensures { (eds : List File) (net : Net) → IsOutcome net.equipment.rates net.set (length net.rows) (Refused refusals.now) → IfOk result (AreFilesFor choice eds net) }
 {
     Ok(Files {
         planned: false,
@@ -78,11 +78,12 @@ fn files_of(
     alloc: Global,
     network: &Network<'_>,
     eds_files: &EdsFiles<'_>,
+    choice: Choice,
 ) -> Result<Files, AllocError>
     requires { HaveTexts eds_files.now network.now.nodes.devices }
-    ensures { IfOk result (AreFilesFor eds_files.now network.now) }
+    ensures { IfOk result (AreFilesFor choice eds_files.now network.now) }
 {
-    match plan(alloc, network)? {
+    match plan(alloc, network, choice)? {
         Outcome::Planned(plan) => planned_files(alloc, network, &plan, eds_files),
         Outcome::Refused(refusals) => refused_files(alloc, refusals.as_slice()),
     }
@@ -98,12 +99,13 @@ pub fn plan_bytes(
     nodes: &[u8],
     pdos: &[u8],
     eds_files: &[(String, Vec<u8>)],
+    choice: Choice,
 ) -> Result<Files, Fault>
-    ensures { MatchResult result (AreGuaranteedFiles nodes.now pdos.now (map (λ f. record { name = string_bytes f.0; text = f.1.items }) eds_files.now)) (λ fault. ExplainsNetwork nodes.now pdos.now (map (λ f. record { name = string_bytes f.0; text = f.1.items }) eds_files.now) fault) }
+    ensures { MatchResult result (AreGuaranteedFiles choice nodes.now pdos.now (map (λ f. record { name = string_bytes f.0; text = f.1.items }) eds_files.now)) (λ fault. ExplainsNetwork nodes.now pdos.now (map (λ f. record { name = string_bytes f.0; text = f.1.items }) eds_files.now) fault) }
 {
     let nodes = read_nodes(alloc, nodes)?;
     let pdos = read_pdos(alloc, pdos)?;
     let eds_files = EdsFiles::new(alloc, eds_files)?;
     let network = network_of_files(alloc, &nodes, &pdos, &eds_files)?;
-    Ok(files_of(alloc, &network, &eds_files)?)
+    Ok(files_of(alloc, &network, &eds_files, choice)?)
 }

@@ -1,5 +1,5 @@
 -- SDO frames with all PDOs above them, and why PDOs stand below them.
-use Rattle.std.proofs.Common.{◌≡◌, ℕ, zero, suc, ◌+◌, ◌<◌, ◌≤◌, ◌⊎◌, inl, inr, Bool, true, nat_lt, List, length, get_or, slice_get, Some, None, Any, refl, sym, ◌∙◌, subst, arith}
+use Rattle.std.proofs.Common.{◌≡◌, ℕ, zero, suc, ◌+◌, ◌<◌, ◌≤◌, ◌⊎◌, inl, inr, Bool, true, nat_lt, List, length, get_or, slice_get, Option, Some, None, Any, refl, sym, ◌∙◌, subst, arith}
 use Rattle.std.proofs.lemmas.Bool.{cases_lt, lt-ltb}
 use Rattle.std.proofs.lemmas.List.{get_or_default}
 use Rattle.std.proofs.lemmas.Option.{slice_get_cases}
@@ -15,6 +15,7 @@ use Rattle.cop_cert.specs.Assignments.{id_at, IsSdo, IsTested}
 use Rattle.cop_cert.specs.Sets.{is_in_trial}
 use Rattle.cop_cert.proofs.AboveLemmas.{id_of_fixed, trial_of_pdo, trial_of_fixed}
 use Rattle.cop_plan.specs.Fillings.{number}
+use Rattle.cop_plan.specs.Margins.{IsChosenOrder}
 use Rattle.cop_plan.specs.Orders.{FramesPass, IsPlanOrder, least_of_part, is_part}
 use Rattle.cop_plan.specs.Values.{PlanValue, id_of, HaveIds}
 use Rattle.cop_plan.proofs.RangePassLemmas.{number_most}
@@ -115,9 +116,12 @@ module _ (streams : List Stream) (plan : PlanValue) (have : HaveIds streams (len
       (pass_iff (place_below_all streams (length plan.ids) plan.rate found.1.place) found.1.below_all timed.below_all).0 passes in
       subst (λ (k : ℕ). Passes (place_below_all streams (length plan.ids) plan.rate k)) found.4 there
 
-  pub tells_why : length plan.ids ≤ 512 → IsPlanOrder plan.rate streams (length plan.ids) (id_of plan.ids) → (frames : List FrameTimes) → AreFrames streams plan frames → TellsWhy plan frames
-  tells_why few order frames are p h second = go (some_fails frames (length frames) (omega arith))
+  pub tells_why : length plan.ids ≤ 512 → IsChosenOrder plan.margin plan.rate streams (length plan.ids) (id_of plan.ids) → (frames : List FrameTimes) → AreFrames streams plan frames → TellsWhy plan frames
+  tells_why few chosen frames are plain p h second = go (some_fails frames (length frames) (omega arith))
     where
+      order : IsPlanOrder plan.rate streams (length plan.ids) (id_of plan.ids)
+      order = subst (λ (margin : Option ℕ). IsChosenOrder margin plan.rate streams (length plan.ids) (id_of plan.ids)) plain chosen
+
       go : Any (λ t. IsPass t.below_all → ⊥) frames ⊎ ((k : ℕ) (d : FrameTimes) → k < length frames → IsPass (get_or frames k d).below_all) → Any (λ t. IsPass t.below_all → ⊥) frames
       go (inl some) = some
       go (inr pass) = absurd (needs_none few order p h second (frames_pass frames are pass))

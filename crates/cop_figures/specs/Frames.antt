@@ -1,5 +1,5 @@
 -- SYNC and the SDO frames with deadlines under a plan.
-use Rattle.std.specs.Prelude.{ℕ, ◌≡◌, ◌<◌, ◌≤◌, nat_lt, List, length, slice_get, Option, Some, All, AllPairs, Any}
+use Rattle.std.specs.Prelude.{ℕ, ◌≡◌, ◌<◌, ◌≤◌, nat_lt, List, length, slice_get, Option, None, Some, All, AllPairs, Any}
 use Rattle.std.specs.Option.{option_and_then, option_map}
 use Rattle.cop_frame.specs.declared.rates.Rate.{Rate}
 use Rattle.cop_rta.specs.declared.streams.Stream.{Stream}
@@ -36,6 +36,6 @@ pub record AreFrames (streams : List Stream) (plan : PlanValue) (frames : List F
   pub each : All (IsFrameTimed streams plan) frames
   pub every : (f : ℕ) → IsTested plan.streams (length plan.ids) f → Any (λ t. t.place ≡ f) frames
 
--- where a PDO has an identifier of the second range, some SDO frame fails below all PDOs
+-- where a PDO has an identifier of the second range, and not by a margin, some SDO frame fails below all PDOs
 abbrev pub TellsWhy : PlanValue → List FrameTimes → Type 0
-TellsWhy plan frames = (p : ℕ) → p < length plan.ids → second_range.least ≤ id_of plan.ids p → Any (λ t. IsPass t.below_all → ⊥) frames
+TellsWhy plan frames = plan.margin ≡ None → (p : ℕ) → p < length plan.ids → second_range.least ≤ id_of plan.ids p → Any (λ t. IsPass t.below_all → ⊥) frames

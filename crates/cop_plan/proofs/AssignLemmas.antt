@@ -1,5 +1,5 @@
 -- Refusals of rates, one after the other.
-use Rattle.std.proofs.Common.{◌≡◌, ℕ, ◌+◌, ◌*◌, ◌<◌, ◌≤◌, ◌⊎◌, inl, inr, true, false, List, [], ◌∷◌, ◌++◌, length, get_or, All, Any, Contains, refl, sym, ap, ◌∙◌, subst, arith, le_refl, length-append}
+use Rattle.std.proofs.Common.{◌≡◌, ℕ, ◌+◌, ◌*◌, ◌<◌, ◌≤◌, ◌⊎◌, inl, inr, true, false, List, [], ◌∷◌, ◌++◌, length, get_or, Option, None, All, Any, Contains, refl, sym, ap, ◌∙◌, subst, arith, le_refl, length-append}
 use Rattle.std.proofs.lemmas.Bool.{cases_eq}
 use Rattle.std.proofs.lemmas.List.{get_or_append_left, length-map}
 use Rattle.std.proofs.lemmas.List.Elements.{All-push}
@@ -11,6 +11,7 @@ use Rattle.cop_rta.specs.declared.streams.Stream.{Stream}
 use Rattle.cop_cert.specs.declared.refusals.Refusal.{Refusal}
 use Rattle.cop_cert.specs.Assignments.{IsPassing, NoAssignmentPasses}
 use Rattle.cop_cert.proofs.CauseLemmas.{refusal_rules_out}
+use Rattle.cop_plan.specs.Margins.{IsChosenOrder}
 use Rattle.cop_plan.specs.Orders.{IsPlanOrder, IsByPriority}
 use Rattle.cop_plan.specs.Values.{PlanValue, id_of, HaveIds}
 use Rattle.cop_plan.specs.Plans.{IsGreatestRefusal, AreRefusals, members_of, members_in, is_filled, filled_in, IsSlower, IsPlan}
@@ -108,9 +109,9 @@ busy_more before after old tried each h sum = let one : (tried + 1) * each ≡ t
 
 -- what is planned at the first rate that is not refused
 pub plan_is : (rates : List Rate) (streams : List Stream) (pdos i : ℕ) (plan : PlanValue) (refusals : List Refusal) → pdos ≤ length streams → i < 8
-    → Contains rates (rate_at i) → plan.rate ≡ rate_at i → plan.refusals ≡ refusals → length plan.ids ≡ pdos → IsPassing (rate_at i) streams pdos (id_of plan.ids) → IsPlanOrder (rate_at i) streams pdos (id_of plan.ids)
+    → Contains rates (rate_at i) → plan.rate ≡ rate_at i → plan.margin ≡ None → plan.refusals ≡ refusals → length plan.ids ≡ pdos → IsPassing (rate_at i) streams pdos (id_of plan.ids) → IsPlanOrder (rate_at i) streams pdos (id_of plan.ids)
     → IsByPriority pdos (id_of plan.ids) plan.order → HaveIds streams pdos (id_of plan.ids) plan.streams → AreRefusals streams pdos (IsEarlier rates i) refusals → IsPlan rates streams pdos plan
-plan_is rates streams pdos i plan refusals few low candidate rate_is refusals_are count passing ordered by_priority renamed refused =
+plan_is rates streams pdos i plan refusals few low candidate rate_is plain refusals_are count passing ordered by_priority renamed refused =
     let slower : AreRefusals streams pdos (IsSlower rates (rate_at i)) plan.refusals =
     subst (λ (list : List Refusal). AreRefusals streams pdos (IsSlower rates (rate_at i)) list) (sym refusals_are) (slower_refused streams pdos rates i refusals low refused) in
     let all : AreRefusals streams pdos (IsSlower rates plan.rate) plan.refusals =
@@ -119,7 +120,7 @@ plan_is rates streams pdos i plan refusals few low candidate rate_is refusals_ar
       candidate = subst (Contains rates) (sym rate_is) candidate;
       count = count;
       passing = subst (λ (rate : Rate). IsPassing rate streams pdos (id_of plan.ids)) (sym rate_is) passing;
-      order = subst (λ (rate : Rate). IsPlanOrder rate streams pdos (id_of plan.ids)) (sym rate_is) ordered;
+      order = subst (λ (margin : Option ℕ). IsChosenOrder margin plan.rate streams pdos (id_of plan.ids)) (sym plain) (subst (λ (rate : Rate). IsPlanOrder rate streams pdos (id_of plan.ids)) (sym rate_is) ordered);
       by_priority = by_priority;
       slowest = refused_is_ruled_out streams pdos (IsSlower rates plan.rate) plan.refusals few all;
       refused = all;

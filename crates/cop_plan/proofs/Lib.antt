@@ -1,11 +1,16 @@
 pub mod FillingLemmas
 pub mod GreedyLemmas
 pub mod OrderLemmas
+pub mod SameAsking
 pub mod SamePlace
 pub mod SameSync
 pub mod RateLemmas
 pub mod AssignLemmas
 pub mod RenameLemmas
+pub mod MarginLemmas
+pub mod MarginOutcome
+pub mod MarginSteps
+pub mod MarginKept
 pub mod PlannedLemmas
 pub mod DeadlineLemmas
 pub mod NetworkLemmas

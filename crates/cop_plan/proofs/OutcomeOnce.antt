@@ -1,5 +1,5 @@
 -- Some streams and candidates have one outcome.
-use Rattle.std.proofs.Common.{◌≡◌, ℕ, suc, ◌<◌, ◌⊎◌, inl, inr, List, [], ◌∷◌, map, length, get_or, Contains, refl, sym, ap, ◌∙◌, subst, arith}
+use Rattle.std.proofs.Common.{◌≡◌, ℕ, suc, ◌<◌, ◌≤◌, ◌⊎◌, inl, inr, Bool, Option, Some, None, is_some, List, [], ◌∷◌, map, length, get_or, Contains, refl, sym, ap, ◌∙◌, subst, arith}
 use Rattle.std.proofs.lemmas.Bool.{cases_order}
 use Rattle.std.proofs.lemmas.List.{ext_get_or}
 use Rattle.cop_frame.specs.declared.rates.Rate.{Rate}
@@ -10,14 +10,19 @@ use Rattle.cop_rta.specs.Entries.{entry_of}
 use Rattle.cop_rta.proofs.StreamLemmas.{streams_same}
 use Rattle.cop_cert.specs.declared.refusals.Refusal.{Refusal}
 use Rattle.cop_plan.specs.declared.assigning.Outcome.{Outcome}
+use Rattle.cop_plan.specs.declared.choices.Choice.{Choice}
 use Rattle.cop_plan.specs.declared.assigning.Outcome.TheVariants.{Planned, Refused}
+use Rattle.cop_cert.specs.Assignments.{IsAssignment}
+use Rattle.cop_plan.specs.Margins.{IsOrderWith, IsChosenOrder}
 use Rattle.cop_plan.specs.Orders.{HasPdos, IsPlanOrder, IsByPriority}
 use Rattle.cop_plan.specs.Values.{PlanValue, Timing, timing_of, id_of, HaveIds}
-use Rattle.cop_plan.specs.Plans.{IsGreatestRefusal, AreRefusals, IsSlower, IsPlan, IsOutcome}
+use Rattle.cop_plan.specs.Plans.{IsGreatestRefusal, AreRefusals, IsSlower, IsPlan, IsOutcome, IsChosenBy}
+use Rattle.cop_plan.proofs.MarginLemmas.{lowered_length, lowered_once}
+use Rattle.cop_plan.proofs.MarginOutcome.{greatest_once}
 use Rattle.cop_plan.proofs.RateLemmas.{rate_at, at_place, kbits_rise}
 use Rattle.cop_plan.proofs.SamePlace.{same_length}
 use Rattle.cop_plan.proofs.RangeUniqueLemmas.{unique_over_ranges}
-use Rattle.cop_plan.proofs.CausesOnce.{greatest_once}
+use Rattle.cop_plan.proofs.CausesOnce as causes
 use Rattle.cop_plan.proofs.ListsOnce.{rate_has, refusals_once}
 
 -- ---- refusals
@@ -25,7 +30,7 @@ use Rattle.cop_plan.proofs.ListsOnce.{rate_has, refusals_once}
 module _ (streams : List Stream) (pdos : ℕ) (s : HasPdos streams pdos) where
   pub all_once : (Are : Rate → Type 0) (rs ss : List Refusal) → AreRefusals streams pdos Are rs → AreRefusals streams pdos Are ss → rs ≡ ss
   all_once Are rs ss a b =
-      refusals_once (IsGreatestRefusal streams pdos) (greatest_once streams pdos s.distinct) rs ss a.rise b.rise a.each b.each
+      refusals_once (IsGreatestRefusal streams pdos) (causes.greatest_once streams pdos s.distinct) rs ss a.rise b.rise a.each b.each
       (λ rate h. b.every rate (rate_has Are rs rate a.only h))
       (λ rate h. a.every rate (rate_has Are ss rate b.only h))
 
@@ -67,15 +72,32 @@ entries_same (s ∷ ss) (t ∷ ts) e ids =
 
 -- ---- plans
 
-module _ (rate : Rate) (streams : List Stream) (pdos : ℕ) (s : HasPdos streams pdos) where
+module _ (rate : Rate) (streams : List Stream) (pdos : ℕ) (few : pdos ≤ length streams) where
   ids_once : (ids others : List ℕ) → length ids ≡ pdos → length others ≡ pdos → IsPlanOrder rate streams pdos (id_of ids) → IsPlanOrder rate streams pdos (id_of others) → ids ≡ others
   ids_once ids others m n a b =
-      ext_get_or 0 ids others (m ∙ sym n) (λ p low. unique_over_ranges rate streams pdos (id_of ids) (id_of others) s.count a b p (omega (arith, low, m)))
+      ext_get_or 0 ids others (m ∙ sym n) (λ p low. unique_over_ranges rate streams pdos (id_of ids) (id_of others) few a b p (omega (arith, low, m)))
 
-  priority_once : (ids : ℕ → ℕ) (order other : List ℕ) → IsPlanOrder rate streams pdos ids → IsByPriority pdos ids order → IsByPriority pdos ids other → order ≡ other
+module _ (rate : Rate) (streams : List Stream) (pdos : ℕ) (few : pdos ≤ length streams) where
+  with_margin_once : (margin : ℕ) (ids others : List ℕ) → length ids ≡ pdos → length others ≡ pdos → IsOrderWith margin rate streams pdos (id_of ids) → IsOrderWith margin rate streams pdos (id_of others) → ids ≡ others
+  with_margin_once margin ids others m n a b =
+      let same : b.0 ≡ a.0 = lowered_once margin streams b.0 a.0 b.1 a.1 in
+      ids_once rate a.0 pdos (omega (arith, few, lowered_length margin streams a.0 a.1)) ids others m n a.2 (subst (λ (lowered : List Stream). IsPlanOrder rate lowered pdos (id_of others)) same b.2)
+
+  -- of the identifiers that are chosen there are one of each kind, and one margin
+  chosen_once : (o p : Option ℕ) (ids others : List ℕ) → is_some o ≡ is_some p → length ids ≡ pdos → length others ≡ pdos → IsAssignment pdos (id_of ids) → IsAssignment pdos (id_of others)
+      → IsChosenOrder o rate streams pdos (id_of ids) → IsChosenOrder p rate streams pdos (id_of others) → (o ≡ p) × (ids ≡ others)
+  chosen_once None None ids others kind m n x y a b = (refl, ids_once rate streams pdos few ids others m n a b)
+  chosen_once None (Some q) ids others kind m n x y a b = absurd (cc)
+  chosen_once (Some p) None ids others kind m n x y a b = absurd (cc)
+  chosen_once (Some p) (Some q) ids others kind m n x y a b =
+      let one : p ≡ q = greatest_once rate streams pdos p q (id_of ids) (id_of others) x y a.0 b.0 a.1 b.1 in
+      (ap (λ (n : ℕ). Some n) one, with_margin_once q ids others m n (subst (λ (margin : ℕ). IsOrderWith margin rate streams pdos (id_of ids)) one a.0) b.0)
+
+module _ (streams : List Stream) (pdos : ℕ) where
+  priority_once : (ids : ℕ → ℕ) (order other : List ℕ) → IsAssignment pdos ids → IsByPriority pdos ids order → IsByPriority pdos ids other → order ≡ other
   priority_once ids order other a x y =
       ext_get_or 0 order other (x.count ∙ sym y.count)
-      (λ i low. a.2.distinct (get_or order i 0) (get_or other i 0) (x.inside i 0 low) (y.inside i 0 (omega (arith, low, x.count, y.count)))
+      (λ i low. a.distinct (get_or order i 0) (get_or other i 0) (x.inside i 0 low) (y.inside i 0 (omega (arith, low, x.count, y.count)))
       (x.places i (omega (arith, low, x.count)) ∙ sym (y.places i (omega (arith, low, x.count)))))
 
   renamed_once : (ids : ℕ → ℕ) (ss ts : List Stream) → HaveIds streams pdos ids ss → HaveIds streams pdos ids ts → ss ≡ ts
@@ -83,32 +105,34 @@ module _ (rate : Rate) (streams : List Stream) (pdos : ℕ) (s : HasPdos streams
       streams_same ss ts (entries_same ss ts (x.timings ∙ sym y.timings)
       (λ k low. let inside : k < length streams = omega (arith, low, same_length ss streams x.timings) in x.each k inside ∙ sym (y.each k inside)))
 
-make_plan : Rate → List ℕ → List ℕ → List Refusal → List Stream → PlanValue
-make_plan rate order ids refusals streams = record { rate = rate; order = order; ids = ids; refusals = refusals; streams = streams }
+make_plan : Rate → List ℕ → List ℕ → Option ℕ → List Refusal → List Stream → PlanValue
+make_plan rate order ids margin refusals streams = record { rate = rate; order = order; ids = ids; margin = margin; refusals = refusals; streams = streams }
 
-plan_same : (a b : PlanValue) → a.rate ≡ b.rate → a.order ≡ b.order → a.ids ≡ b.ids → a.refusals ≡ b.refusals → a.streams ≡ b.streams → a ≡ b
+plan_same : (a b : PlanValue) → a.rate ≡ b.rate → a.order ≡ b.order → a.ids ≡ b.ids → a.margin ≡ b.margin → a.refusals ≡ b.refusals → a.streams ≡ b.streams → a ≡ b
 unfolding make_plan
-plan_same a b rate order ids refusals streams =
-    let made : make_plan a.rate a.order a.ids a.refusals a.streams ≡ make_plan b.rate b.order b.ids b.refusals b.streams = rw (rate, order, ids, refusals, streams) refl in
+plan_same a b rate order ids margin refusals streams =
+    let made : make_plan a.rate a.order a.ids a.margin a.refusals a.streams ≡ make_plan b.rate b.order b.ids b.margin b.refusals b.streams = rw (rate, order, ids, margin, refusals, streams) refl in
     made
 
 module _ (rates : List Rate) (streams : List Stream) (pdos : ℕ) (s : HasPdos streams pdos) where
   -- the same where the rate is known to be the same
-  at_rate : (a b : PlanValue) → a.rate ≡ b.rate → IsPlan rates streams pdos a → IsPlan rates streams pdos b → a ≡ b
-  at_rate a b e x y =
-      let mine : IsPlanOrder b.rate streams pdos (id_of a.ids) = subst (λ (rate : Rate). IsPlanOrder rate streams pdos (id_of a.ids)) e x.order in
-      let ids : a.ids ≡ b.ids = ids_once b.rate streams pdos s a.ids b.ids x.count y.count mine y.order in
+  at_rate : (a b : PlanValue) → a.rate ≡ b.rate → is_some a.margin ≡ is_some b.margin → IsPlan rates streams pdos a → IsPlan rates streams pdos b → a ≡ b
+  at_rate a b e kind x y =
+      let mine : IsChosenOrder a.margin b.rate streams pdos (id_of a.ids) = subst (λ (rate : Rate). IsChosenOrder a.margin rate streams pdos (id_of a.ids)) e x.order in
+      let chosen = chosen_once b.rate streams pdos s.count a.margin b.margin a.ids b.ids kind x.count y.count x.passing.0 y.passing.0 mine y.order in
+      let ids : a.ids ≡ b.ids = chosen.1 in
       let priority : IsByPriority pdos (id_of b.ids) a.order = subst (λ (list : List ℕ). IsByPriority pdos (id_of list) a.order) ids x.by_priority in
       let renamed : HaveIds streams pdos (id_of b.ids) a.streams = subst (λ (list : List ℕ). HaveIds streams pdos (id_of list) a.streams) ids x.renamed in
       let refused : AreRefusals streams pdos (IsSlower rates b.rate) a.refusals = subst (λ (rate : Rate). AreRefusals streams pdos (IsSlower rates rate) a.refusals) e x.refused in
       plan_same a b e
-      (priority_once b.rate streams pdos s (id_of b.ids) a.order b.order y.order priority y.by_priority)
+      (priority_once streams pdos (id_of b.ids) a.order b.order y.passing.0 priority y.by_priority)
       ids
+      chosen.0
       (all_once streams pdos s (IsSlower rates b.rate) a.refusals b.refusals refused y.refused)
-      (renamed_once b.rate streams pdos s (id_of b.ids) a.streams b.streams renamed y.renamed)
+      (renamed_once streams pdos (id_of b.ids) a.streams b.streams renamed y.renamed)
 
-  pub outcome_once : (a b : Outcome) → IsOutcome rates streams pdos a → IsOutcome rates streams pdos b → a ≡ b
-  outcome_once (Planned a) (Planned b) x y = ap Planned (at_rate a b (rate_once rates streams pdos a b x y) x y)
-  outcome_once (Planned a) (Refused rs) x y = absurd (y.none a.rate x.candidate (id_of a.ids) x.passing)
-  outcome_once (Refused rs) (Planned b) x y = absurd (x.none b.rate y.candidate (id_of b.ids) y.passing)
-  outcome_once (Refused rs) (Refused ss) x y = ap Refused (all_once streams pdos s (Contains rates) rs ss x.refused y.refused)
+  pub outcome_once : (choice : Choice) (a b : Outcome) → IsOutcome rates streams pdos a → IsOutcome rates streams pdos b → IsChosenBy choice a → IsChosenBy choice b → a ≡ b
+  outcome_once choice (Planned a) (Planned b) x y k l = ap Planned (at_rate a b (rate_once rates streams pdos a b x y) (k ∙ sym l) x y)
+  outcome_once choice (Planned a) (Refused rs) x y k l = absurd (y.none a.rate x.candidate (id_of a.ids) x.passing)
+  outcome_once choice (Refused rs) (Planned b) x y k l = absurd (x.none b.rate y.candidate (id_of b.ids) y.passing)
+  outcome_once choice (Refused rs) (Refused ss) x y k l = ap Refused (all_once streams pdos s (Contains rates) rs ss x.refused y.refused)

@@ -1,5 +1,5 @@
 -- The plan of two fillings.
-use Rattle.std.proofs.Common.{◌≡◌, ◌≢◌, ◌<◌, ◌≤◌, ◌+◌, ◌⊎◌, inl, inr, ℕ, zero, suc, Bool, true, false, ◌==◌, nat_lt, nat_le, List, [], ◌∷◌, ◌++◌, length, get_or, reverse, All, AllPairs, refl, sym, ap, subst, ◌∙◌, arith}
+use Rattle.std.proofs.Common.{◌≡◌, ◌≢◌, ◌<◌, ◌≤◌, ◌+◌, ◌⊎◌, inl, inr, ℕ, zero, suc, Bool, true, false, ◌==◌, nat_lt, nat_le, List, [], ◌∷◌, ◌++◌, length, get_or, reverse, Option, All, AllPairs, refl, sym, ap, subst, ◌∙◌, arith}
 use Rattle.std.proofs.lemmas.Bool.{cases_Bool, cases_lt, lt-ltb, le-ltb, lt-leb, cond-false, eq-eqb, ne_eqb, or_left, or_right}
 use Rattle.std.proofs.lemmas.List.{length-reverse, reverse-append}
 use Rattle.cop_frame.specs.declared.rates.Rate.{Rate}
@@ -14,6 +14,7 @@ use Rattle.cop_cert.specs.Evidence.{is_listed}
 use Rattle.cop_cert.specs.Sets.{is_in_trial, IsGreatestStuckSet}
 use Rattle.cop_cert.proofs.AboveLemmas.{trial_of_pdo, trial_of_fixed}
 use Rattle.cop_plan.specs.Fillings.{AreDistinct, ArePlaced, number, ids_in_ranges}
+use Rattle.cop_plan.specs.Margins.{IsOrderWith}
 use Rattle.cop_plan.specs.Orders.{FramesPass, IsUpper, IsOrderOf, IsPlanOrder, IsByPriority, from_place, least_of_part, is_part, in_first, id_at_place}
 use Rattle.cop_plan.specs.Plans.{CanAssign}
 use Rattle.cop_plan.specs.Planned.{IsPlanned}
@@ -22,6 +23,7 @@ use Rattle.cop_plan.proofs.FillingLemmas.{no_bit, rank_below}
 use Rattle.cop_plan.proofs.GreedyLemmas.{count_less, count_alike}
 use Rattle.cop_plan.proofs.RangePassLemmas.{number_most}
 use Rattle.cop_plan.proofs.SamePlace.{same_length}
+use Rattle.cop_plan.proofs.MarginLemmas.{passing_before}
 use Rattle.cop_plan.proofs.OrderLemmas.{order_inside, order_distinct, whole_of_placed, in_upper, lower_id, upper_id, ids_by_rank}
 use Rattle.cop_plan.proofs.RenameLemmas.{AreApart, id_of_pdo, id_of_fixed, apart_from_fixed, none_lower, outside_renamed, still_tested, on_time_renamed, synced_renamed}
 
@@ -174,26 +176,29 @@ module _ (pdos : ℕ) (lower upper : List ℕ) (placed : ArePlaced pdos lower up
 -- ---- the plan
 
 -- what is known where the plan of two fillings is made: the fillings, the PDOs by priority, and their identifiers
-pub record HasPlaces (rate : Rate) (streams : List Stream) (pdos : ℕ) (lower upper order ids : List ℕ) : Type 0 where
+pub record HasPlaces (margin : ℕ) (rate : Rate) (streams : List Stream) (pdos : ℕ) (lower upper order ids : List ℕ) : Type 0 where
   pub can : CanAssign streams pdos
   pub placed : ArePlaced pdos lower upper
-  pub plan : IsPlanOrder rate streams pdos (ids_in_ranges lower upper)
+  pub plan : IsOrderWith margin rate streams pdos (ids_in_ranges lower upper)
   pub listed : order ≡ reverse upper ++ reverse lower
   pub count : length ids ≡ length order
   pub places : (i : ℕ) → i < length order → id_of ids (get_or order i 0) ≡ id_at_place (length upper) i
 
-module _ {rate : Rate} {streams : List Stream} {pdos : ℕ} {lower upper order ids : List ℕ} (has : HasPlaces rate streams pdos lower upper order ids) where
+module _ {margin : ℕ} {rate : Rate} {streams : List Stream} {pdos : ℕ} {lower upper order ids : List ℕ} (has : HasPlaces margin rate streams pdos lower upper order ids) where
   same_ids : (p : ℕ) → p < pdos → id_of ids p ≡ ids_in_ranges lower upper p
   same_ids = ids_by_rank pdos lower upper has.placed order ids has.listed has.places
 
   pub ids_count : length ids ≡ pdos
   ids_count = has.count ∙ order_count pdos lower upper has.placed order has.listed
 
-  pub order_of_places : IsPlanOrder rate streams pdos (id_of ids)
-  order_of_places = plan_order_same streams pdos (ids_in_ranges lower upper) (id_of ids) (λ p h. sym (same_ids p h)) rate has.plan
+  order_lowered : IsPlanOrder rate has.plan.0 pdos (id_of ids)
+  order_lowered = plan_order_same has.plan.0 pdos (ids_in_ranges lower upper) (id_of ids) (λ p h. sym (same_ids p h)) rate has.plan.2
+
+  pub order_of_places : IsOrderWith margin rate streams pdos (id_of ids)
+  order_of_places = (has.plan.0, has.plan.1, order_lowered)
 
   pub passing_of_places : IsPassing rate streams pdos (id_of ids)
-  passing_of_places = order_passes rate streams pdos (id_of ids) has.can.few order_of_places
+  passing_of_places = passing_before margin streams has.plan.0 has.plan.1 rate pdos (id_of ids) (order_passes rate has.plan.0 pdos (id_of ids) has.can.few order_lowered)
 
   pub by_priority_of_places : IsByPriority pdos (id_of ids) order
   by_priority_of_places = priority_of_places pdos lower upper has.placed has.can.few (id_of ids) same_ids order has.listed has.places
@@ -211,9 +216,9 @@ module _ {rate : Rate} {streams : List Stream} {pdos : ℕ} {lower upper order i
     have : HaveIds streams pdos (id_of ids) renamed
     have = have_of_places renamed given
 
-    pub planned_of_places : (refusals : List Refusal) → (1 ≤ length lower → HasTested streams pdos)
-        → IsPlanned (record { rate = rate; order = order; ids = ids; refusals = refusals; streams = renamed })
-    planned_of_places refusals tested =
+    pub planned_of_places : (chosen : Option ℕ) (refusals : List Refusal) → (1 ≤ length lower → HasTested streams pdos)
+        → IsPlanned (record { rate = rate; order = order; ids = ids; margin = chosen; refusals = refusals; streams = renamed })
+    planned_of_places chosen refusals tested =
         let size : length renamed ≡ length streams = same_length renamed streams have.timings in
         record {
           count = omega (arith, size, ids_count, has.can.count);

@@ -17,7 +17,8 @@ use Rattle.cop_cert.proofs.AboveLemmas.{more_above}
 use Rattle.cop_plan.specs.Values.{Timing, timing_of, HaveIds, HaveDeadlines, ArePdosHigh, AreOnTime}
 use Rattle.cop_plan.specs.Orders.{HasPdos}
 use Rattle.cop_plan.proofs.FillingLemmas.{no_bit}
-use Rattle.cop_plan.proofs.SamePlace.{place_at, same_length, same_number, same_deadline, passes_same}
+use Rattle.cop_plan.proofs.SameAsking.{Asking, place_at, same_number}
+use Rattle.cop_plan.proofs.SamePlace.{askings, same_length, same_deadline, passes_same}
 use Rattle.cop_plan.proofs.SameSync.{AreAlike, ahead_same, one_sync}
 
 -- the first k streams under their identifiers
@@ -160,7 +161,7 @@ module _ (rate : Rate) (streams renamed : List Stream) (pdos : ℕ) (ids : ℕ �
       passes_under_fewer (place_by_id renamed p rate) (is_lower streams pdos ids p) (omega (arith, h, same_count))
       (more_above (place_by_id renamed p rate) (is_lower streams pdos ids p) above)
       (subst (λ (ahead : ℕ). Passes (place_at renamed (is_lower streams pdos ids p) p rate ahead))
-      (ahead_same streams renamed (sym have.timings) (sync_alike provisional low) rate)
+      (ahead_same streams renamed (askings streams renamed (sym have.timings)) (sync_alike provisional low) rate)
       (passes_same streams renamed (sym have.timings) (is_lower streams pdos ids p) p rate (ahead_of streams rate) passes))
     where
       above : (k : ℕ) → k < length renamed → k ≢ p → has_lower_id renamed p k ≡ true → is_lower streams pdos ids p k ≡ true
@@ -218,8 +219,8 @@ module _ (rate : Rate) (streams renamed : List Stream) (pdos : ℕ) (ids : ℕ �
           let same : (get_or renamed k d).every ≡ (get_or streams k d).every = ap (λ (t : Timing). t.every) (timing k d h) in
           let period : (get_or renamed k d).period ≡ (get_or streams k d).period = ap (λ (t : Timing). t.period) (timing k d h) in
           let found = synced.each k d (omega (arith, h, same_count)) (omega (arith, every, same)) in
-          let sync : of_stream (λ t. t.period) streams found.0 ≡ of_stream (λ t. t.period) renamed found.0 = same_number streams renamed (sym have.timings) (λ (t : Timing). t.period) found.0 in (
+          let sync : of_stream (λ t. t.period) streams found.0 ≡ of_stream (λ t. t.period) renamed found.0 = same_number streams renamed (askings streams renamed (sym have.timings)) (λ (t : Asking). t.period) found.0 in (
             found.0,
-            sym (one_sync streams renamed (sym have.timings) (sync_alike provisional low)) ∙ found.1,
+            sym (one_sync streams renamed (askings streams renamed (sym have.timings)) (sync_alike provisional low)) ∙ found.1,
             period ∙ found.2 ∙ ap (λ (n : ℕ). n * of_stream (λ t. t.period) streams found.0) (sym same) ∙ ap (λ (n : ℕ). (get_or renamed k d).every * n) sync,
           )

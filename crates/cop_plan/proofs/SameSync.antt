@@ -8,8 +8,7 @@ use Rattle.cop_rta.specs.declared.streams.Stream.{Stream}
 use Rattle.cop_rta.specs.Streams.{place_of_id}
 use Rattle.cop_rta.specs.Test.{of_stream, has_lower_id, greatest_response, sync_id, sync_place, sync_response, ahead_of}
 use Rattle.cop_rta.proofs.IdentifierLemmas.{place_has_id}
-use Rattle.cop_plan.specs.Values.{timing_of}
-use Rattle.cop_plan.proofs.SamePlace.{same_length, same_greatest}
+use Rattle.cop_plan.proofs.SameAsking.{asking_of, same_length, same_greatest}
 
 abbrev id_at : List Stream → ℕ → ℕ
 id_at streams k = of_stream (λ s. s.id) streams k
@@ -27,7 +26,7 @@ place_same (s ∷ ss) (t ∷ ts) id count alike =
     let rest = place_same ss ts id (omega arith) (λ k lt. alike (suc k) (omega (arith, lt))) in
     rw (head, rest) refl
 
-module _ (one other : List Stream) (e : map timing_of one ≡ map timing_of other) (alike : AreAlike one other) where
+module _ (one other : List Stream) (e : map asking_of one ≡ map asking_of other) (alike : AreAlike one other) where
   sync_alike : (k : ℕ) → k < length one → (id_at one k == sync_id) ≡ (id_at other k == sync_id)
   sync_alike k lt = ⊎_elim
       (λ same. ap (λ (n : ℕ). n == sync_id) same)

@@ -1,5 +1,5 @@
 -- What a planner answers.
-use Rattle.std.specs.Prelude.{◌≡◌, Bool, nat_lt, ℕ, ◌+◌, ◌<◌, ◌≤◌, List, [], ◌∷◌, length, All, AllPairs, Any, Contains}
+use Rattle.std.specs.Prelude.{◌≡◌, Bool, true, false, is_some, nat_lt, ℕ, ◌+◌, ◌<◌, ◌≤◌, List, [], ◌∷◌, length, All, AllPairs, Any, Contains}
 use Rattle.cop_frame.specs.declared.rates.Rate.{Rate}
 use Rattle.cop_frame.specs.Rate.{kbits_of}
 use Rattle.cop_rta.specs.declared.streams.Stream.{Stream}
@@ -14,8 +14,11 @@ use Rattle.cop_cert.specs.Causes.{kept, PassesBelow, IsRefusal}
 use Rattle.cop_cert.specs.Sets.{IsRefusalSet, IsGreatestRefusalSet, IsGreatestStuckSet}
 use Rattle.cop_cert.specs.Evidence.{is_member}
 use Rattle.cop_cert.specs.Chains.{IsMade}
-use Rattle.cop_plan.specs.Orders.{IsPlanOrder, IsByPriority}
+use Rattle.cop_plan.specs.Margins.{IsChosenOrder}
+use Rattle.cop_plan.specs.Orders.{IsByPriority}
 use Rattle.cop_plan.specs.declared.assigning.Outcome.{Outcome}
+use Rattle.cop_plan.specs.declared.choices.Choice.{Choice}
+use Rattle.cop_plan.specs.declared.choices.Choice.TheVariants as choices
 use Rattle.cop_plan.specs.declared.assigning.Outcome.TheVariants.{Planned, Refused}
 use Rattle.cop_plan.specs.Values.{PlanValue, id_of, HaveIds, HaveDeadlines, ArePdosHigh}
 
@@ -64,7 +67,7 @@ pub record IsPlan (rates : List Rate) (streams : List Stream) (pdos : ℕ) (plan
   pub candidate : Contains rates plan.rate
   pub count : length plan.ids ≡ pdos
   pub passing : IsPassing plan.rate streams pdos (id_of plan.ids)
-  pub order : IsPlanOrder plan.rate streams pdos (id_of plan.ids)
+  pub order : IsChosenOrder plan.margin plan.rate streams pdos (id_of plan.ids)
   pub by_priority : IsByPriority pdos (id_of plan.ids) plan.order
   pub slowest : (rate : Rate) → IsSlower rates plan.rate rate → NoAssignmentPasses rate streams pdos
   pub refused : AreRefusals streams pdos (IsSlower rates plan.rate) plan.refusals
@@ -78,6 +81,15 @@ pub record AreAllRefused (rates : List Rate) (streams : List Stream) (pdos : ℕ
 abbrev pub IsOutcome : List Rate → List Stream → ℕ → Outcome → Type 0
 IsOutcome rates streams pdos (Planned plan) = IsPlan rates streams pdos plan
 IsOutcome rates streams pdos (Refused refusals) = AreAllRefused rates streams pdos refusals
+
+-- a plan by the greatest margin has one
+abbrev pub is_by_margin : Choice → Bool
+is_by_margin choices.Order = false
+is_by_margin choices.Margin = true
+
+abbrev pub IsChosenBy : Choice → Outcome → Type 0
+IsChosenBy choice (Planned plan) = is_some plan.margin ≡ is_by_margin choice
+IsChosenBy choice (Refused refusals) = Unit {0}
 
 -- at how many rates it was tried
 abbrev pub rates_tried : Outcome → ℕ

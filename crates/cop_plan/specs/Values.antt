@@ -1,5 +1,5 @@
 -- What a plan says, and the streams under its identifiers.
-use Rattle.std.specs.Prelude.{◌≡◌, ℕ, ◌<◌, ◌≤◌, List, length, map, get_or, slice_get, Option, Some}
+use Rattle.std.specs.Prelude.{◌≡◌, ℕ, ◌<◌, ◌≤◌, List, length, map, get_or, slice_get, Option, Some, unwrap_or}
 use Rattle.std.specs.Option.{option_and_then}
 use Rattle.cop_frame.specs.declared.rates.Rate.{Rate}
 use Rattle.cop_rta.specs.declared.streams.Stream.{Stream}
@@ -7,13 +7,19 @@ use Rattle.cop_rta.specs.Test.{Passes, of_stream, place_by_id}
 use Rattle.cop_cert.specs.declared.refusals.Refusal.{Refusal}
 use Rattle.cop_cert.specs.Assignments.{least_id, id_under, IsTested}
 
--- the rate, the PDOs by priority, their identifiers, the refusals of slower rates, and all streams under their identifiers
+-- the rate, the PDOs by priority, their identifiers, the margin that they were chosen by, the refusals of slower rates, and all streams
+-- under their identifiers
 pub record PlanValue : Type 0 where
   pub rate : Rate
   pub order : List ℕ
   pub ids : List ℕ
+  pub margin : Option ℕ
   pub refusals : List Refusal
   pub streams : List Stream
+
+-- by how many ticks deadlines were lowered
+abbrev pub margin_of : PlanValue → ℕ
+margin_of plan = unwrap_or plan.margin 0
 
 -- the identifier of a PDO
 abbrev pub id_of : List ℕ → ℕ → ℕ

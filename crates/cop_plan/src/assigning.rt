@@ -11,7 +11,8 @@ ghost use Rattle.cop_cert.specs.Sets.{is_in_trial};
 ghost use Rattle.cop_plan.specs.Fillings.{IsFilled};
 ghost use Rattle.cop_plan.specs.Found.{IsSynced, FailsBelow, IsLowestFailing, IsFound, members_found, least_found, filled_found};
 ghost use Rattle.cop_plan.specs.Orders.{FramesPass};
-ghost use Rattle.cop_plan.specs.Plans.{CanAssign, IsOutcome, rates_tried, least_trials, least_busy};
+ghost use Rattle.cop_plan.specs.Plans.{CanAssign, IsOutcome, IsChosenBy, rates_tried, least_trials, least_busy};
+ghost use Rattle.cop_plan.specs.declared.choices.Choice.TheVariants.{Order};
 ghost use Rattle.cop_plan.specs.Values.{HaveDeadlines, ArePdosHigh};
 
 use crate::filling::{Count, Filled, fill_range, flag_all};
@@ -130,7 +131,7 @@ pub fn can_assign(set: &StreamSet, pdos: usize) -> bool
 
 /// What there is at one rate.
 #[derive(Drop)]
-enum Found {
+pub(crate) enum Found {
     /// The PDOs of the second range and of the first; that of the lowest place comes first.
     Placed {
         lower: Vec<usize>,
@@ -295,7 +296,7 @@ fn over_both(
 }
 
 /// What there is at a rate: identifiers under which each PDO and each SDO frame with a deadline passes, or a refusal.
-fn at_rate(
+pub(crate) fn at_rate(
     alloc: Global,
     set: &StreamSet,
     pdos: usize,
@@ -351,6 +352,7 @@ pub fn assign(
     requires room { count.old.trials ≤ 2 ^ 32 }
     requires busy_room { count.old.busy ≤ 2 ^ 32 }
     ensures outcome { IfOk result (IsOutcome rates.now set.now pdos) }
+    ensures by_order { IfOk result (IsChosenBy Order) }
     ensures rises { count.old.trials ≤ count.new.trials }
     ensures trials { IfOk result (λ outcome. 2 * count.new.trials ≤ 2 * count.old.trials + rates_tried outcome * (3 * (pdos * (pdos + 1)))) }
     ensures least { IfOk result (λ outcome. count.old.trials + least_trials pdos outcome ≤ count.new.trials) }
@@ -365,7 +367,7 @@ pub fn assign(
         if rates.contains(rate) {
             match at_rate(alloc, set, pdos, rate, count)? {
                 Found::Placed { lower, upper } => {
-                    let plan = planned(alloc, set, pdos, rate, &lower, &upper, refusals)?;
+                    let plan = planned(alloc, set, pdos, rate, &lower, &upper, None, refusals)?;
                     return Ok(Outcome::Planned(plan));
                 }
                 Found::Refused(refusal) => refusals.push(refusal)?,

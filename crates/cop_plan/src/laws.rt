@@ -11,7 +11,8 @@ ghost use Rattle.cop_cert.specs.Causes.{kept, PassesBelow};
 ghost use Rattle.cop_cert.specs.Sets.{IsStuckSet, IsGreatestStuckSet};
 ghost use Rattle.cop_cert.specs.Writable.{AreWritable};
 ghost use Rattle.cop_plan.specs.Orders.{HasPdos, FramesPass, IsPlanOrder};
-ghost use Rattle.cop_plan.specs.Plans.{IsOutcome, IsPlan, AreAllRefused};
+ghost use Rattle.cop_plan.specs.Plans.{IsOutcome, IsPlan, IsChosenBy, AreAllRefused};
+ghost use Rattle.cop_plan.specs.declared.choices.Choice.{Choice};
 ghost use Rattle.cop_plan.specs.Fillings.{PassInTurn, AreSplit, IsFilled, ids_in_ranges};
 ghost use Rattle.cop_plan.specs.Values.{PlanValue};
 ghost use Rattle.cop_plan.specs.declared.assigning.Outcome.{Outcome};
@@ -21,9 +22,10 @@ pub fn order_is_unique()
     ensures { (rate : Rate) (streams : List Stream) (pdos : ℕ) (ids others : ℕ → ℕ) → HasPdos streams pdos → IsPlanOrder rate streams pdos ids → IsPlanOrder rate streams pdos others → (p : ℕ) → p < pdos → ids p ≡ others p }
 {}
 
-/// Some streams and candidate rates have one outcome.
+/// Some streams and candidate rates have one outcome of each kind: by the order of plans, and by the greatest margin.
 pub fn one_outcome()
-    ensures { (rates : List Rate) (streams : List Stream) (pdos : ℕ) (a b : Outcome) → HasPdos streams pdos → IsOutcome rates streams pdos a → IsOutcome rates streams pdos b → a ≡ b }
+    ensures { (rates : List Rate) (streams : List Stream) (pdos : ℕ) (choice : Choice) (a b : Outcome) → HasPdos streams pdos → IsOutcome rates streams pdos a → IsOutcome rates streams pdos b
+        → IsChosenBy choice a → IsChosenBy choice b → a ≡ b }
 {}
 
 /// No two streams of a plan have one identifier.

@@ -2,16 +2,20 @@
 #![tactic(auto)]
 
 mod assigning;
+mod choices;
 mod filling;
 mod laws;
+mod margins;
 mod planning;
 mod plans;
 
 pub use assigning::{Outcome, assign, can_assign};
+pub use choices::Choice;
 pub use filling::Count;
 pub use laws::{
     fillings_give_the_order, fillings_leave_the_greatest, one_outcome, order_is_unique,
     planned_streams_are_distinct, refusals_are_writable, some_assignment_passes_exactly,
 };
+pub use margins::assign_with_margin;
 pub use planning::plan;
 pub use plans::Plan;

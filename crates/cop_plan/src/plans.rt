@@ -1,11 +1,12 @@
 //! Plans: a rate, and identifiers for the PDOs.
 
-ghost use Rattle.std.specs.Prelude.{◌≡◌, ◌≢◌, ℕ, ◌+◌, ◌<◌, ◌≤◌, ◌∷◌, [], ◌++◌, false, length, reverse, get_or, IfOk, OnOk, All, AllPairs};
+ghost use Rattle.std.specs.Prelude.{◌≡◌, ◌≢◌, Some, unwrap_or, ℕ, ◌+◌, ◌<◌, ◌≤◌, ◌∷◌, [], ◌++◌, false, length, reverse, get_or, IfOk, OnOk, All, AllPairs};
 ghost use Rattle.cop_rta.specs.declared.streams.Stream.{Stream};
 ghost use Rattle.cop_rta.specs.Streams.{has_id};
 ghost use Rattle.cop_cert.specs.Assignments.{least_id, id_under, IsPassing};
 ghost use Rattle.cop_plan.specs.Fillings.{ArePlaced, ids_in_ranges};
-ghost use Rattle.cop_plan.specs.Orders.{IsPlanOrder, IsByPriority, id_at_place};
+ghost use Rattle.cop_plan.specs.Margins.{IsOrderWith};
+ghost use Rattle.cop_plan.specs.Orders.{IsByPriority, id_at_place};
 ghost use Rattle.cop_plan.specs.Planned.{IsPlanned};
 ghost use Rattle.cop_plan.specs.Plans.{CanAssign};
 ghost use Rattle.cop_plan.specs.Values.{id_of, timing_of, HaveIds, AreOnTime, HasTested};
@@ -24,6 +25,7 @@ pub struct Plan {
     rate: Rate,
     order: Items<usize>,
     ids: Items<u16>,
+    margin: Option<u64>,
     refusals: Items<Refusal>,
     streams: StreamSet,
 }
@@ -34,9 +36,9 @@ impl Model for Plan {
 
     ghost Value = { PlanValue };
 
-    ghost view = { λ p. record { rate = p.rate; order = p.order; ids = p.ids; refusals = p.refusals; streams = p.streams } };
+    ghost view = { λ p. record { rate = p.rate; order = p.order; ids = p.ids; margin = p.margin; refusals = p.refusals; streams = p.streams } };
 
-    ghost invariant = { λ p. IsPlanned (record { rate = p.rate; order = p.order; ids = p.ids; refusals = p.refusals; streams = p.streams }) };
+    ghost invariant = { λ p. IsPlanned (record { rate = p.rate; order = p.order; ids = p.ids; margin = p.margin; refusals = p.refusals; streams = p.streams }) };
 }
 
 impl Plan {
@@ -63,6 +65,14 @@ impl Plan {
         self.ids.as_slice()
     }
 
+    /// The greatest number of ticks by which each deadline can be lowered so that some assignment still passes at the rate, where the
+    /// identifiers were chosen by it: they pass with deadlines so lowered.
+    pub fn margin(&self) -> Option<u64>
+        ensures { result ≡ self.now.margin }
+    {
+        self.margin
+    }
+
     /// The refusals of the slower candidates, by rising rate.
     pub fn refusals(&self) -> &[Refusal]
         ensures { result.now ≡ self.now.refusals }
@@ -77,6 +87,40 @@ impl Plan {
         ensures planned { IsPlanned self.now }
     {
         &self.streams
+    }
+
+    /// The same plan, whose identifiers are also those of a margin.
+    pub(crate) fn keeping(self, margin: u64) -> Plan
+        ensures margin { result.margin ≡ Some margin }
+        ensures rate { result.rate ≡ self.rate }
+        ensures order { result.order ≡ self.order }
+        ensures ids { result.ids ≡ self.ids }
+        ensures refusals { result.refusals ≡ self.refusals }
+        ensures streams { result.streams ≡ self.streams }
+    {
+        let Plan {
+            rate,
+            order,
+            ids,
+            refusals,
+            streams,
+            ..
+        } = self;
+        Plan {
+            rate,
+            order,
+            ids,
+            margin: Some(margin),
+            refusals,
+            streams,
+        }
+    }
+
+    /// The refusals alone.
+    pub(crate) fn into_refusals(self) -> Items<Refusal>
+        ensures { result ≡ self.refusals }
+    {
+        self.refusals
     }
 }
 
@@ -164,7 +208,7 @@ fn id_at(streams: &[Stream], ids: &[u16], k: usize) -> u16
 }
 
 /// Puts a stream at the end, which is known to be possible.
-fn add(set: &mut StreamSet, stream: Stream) -> Result<(), AllocError>
+pub(crate) fn add(set: &mut StreamSet, stream: Stream) -> Result<(), AllocError>
     requires new { has_id set.old stream.id ≡ false }
     requires room { length set.old < 1100 }
     ensures { OnOk result (set.new ≡ set.old ++ stream ∷ []) }
@@ -192,7 +236,8 @@ fn renamed(alloc: Global, set: &StreamSet, ids: &[u16]) -> Result<StreamSet, All
     Ok(renamed)
 }
 
-/// The plan of two fillings, of the second range and of the first. The first `pdos` streams are the PDOs.
+/// The plan of two fillings, of the second range and of the first, which were made for deadlines lowered by a margin, where there is
+/// one. The first `pdos` streams are the PDOs.
 pub(crate) fn planned(
     alloc: Global,
     set: &StreamSet,
@@ -200,17 +245,19 @@ pub(crate) fn planned(
     rate: Rate,
     lower: &[usize],
     upper: &[usize],
+    margin: Option<u64>,
     refusals: Items<Refusal>,
 ) -> Result<Plan, AllocError>
     requires can { CanAssign set.now pdos }
     requires placed { ArePlaced pdos lower.now upper.now }
-    requires order { IsPlanOrder rate set.now pdos (ids_in_ranges lower.now upper.now) }
+    requires order { IsOrderWith (unwrap_or margin 0) rate set.now pdos (ids_in_ranges lower.now upper.now) }
     requires tested { 1 ≤ length lower.now → HasTested set.now pdos }
     ensures rate { IfOk result (λ plan. plan.rate ≡ rate) }
+    ensures margin { IfOk result (λ plan. plan.margin ≡ margin) }
     ensures refusals { IfOk result (λ plan. plan.refusals ≡ refusals) }
     ensures count { IfOk result (λ plan. length plan.ids ≡ pdos) }
     ensures passing { IfOk result (λ plan. IsPassing rate set.now pdos (id_of plan.ids)) }
-    ensures order { IfOk result (λ plan. IsPlanOrder rate set.now pdos (id_of plan.ids)) }
+    ensures order { IfOk result (λ plan. IsOrderWith (unwrap_or margin 0) rate set.now pdos (id_of plan.ids)) }
     ensures by_priority { IfOk result (λ plan. IsByPriority pdos (id_of plan.ids) plan.order) }
     ensures renamed { IfOk result (λ plan. HaveIds set.now pdos (id_of plan.ids) plan.streams) }
 {
@@ -221,6 +268,7 @@ pub(crate) fn planned(
         rate,
         order: order.into(),
         ids: ids.into(),
+        margin,
         refusals,
         streams,
     })

@@ -173,6 +173,22 @@ fn push_contents(page: &mut String, report: Report<'_, '_>) -> Result<(), AllocE
     page.push_str("</nav>\n")
 }
 
+/// Adds how much each deadline has left, where the identifiers were chosen by it.
+fn push_margin(page: &mut String, outcome: &Outcome) -> Result<(), AllocError> {
+    let Outcome::Planned(plan) = outcome else {
+        return Ok(());
+    };
+    let Some(ticks) = plan.margin() else {
+        return Ok(());
+    };
+    let margin = Micros(ticks);
+    write!(
+        page,
+        "<p>Every PDO, and every SDO frame with a deadline, keeps at least {margin} µs of its deadline in every run. \
+No other identifiers at this rate leave all of them more.</p>\n"
+    )
+}
+
 /// Adds the sections that a plan alone has.
 fn push_plan(page: &mut String, alloc: Global, report: Report<'_, '_>) -> Result<(), AllocError>
     requires { IsOutcome report.network.now.equipment.rates report.network.now.set (length report.network.now.rows) report.outcome.now }
@@ -201,6 +217,7 @@ fn push_page(page: &mut String, alloc: Global, report: Report<'_, '_>) -> Result
     page.push_str("</style>\n</head>\n<body>\n<main>\n")?;
     push_header(page, report.network, report.figures)?;
     push_contents(page, report)?;
+    push_margin(page, report.outcome)?;
     push_rates(page, report.network, report.figures)?;
     push_loads(page, report.figures)?;
     push_plan(page, alloc, report)?;

@@ -3,7 +3,7 @@ use cop_dict::build;
 use cop_eds::parse;
 use cop_frame::Rate;
 use cop_net::{Network, NodeTable, PdoTable, network, read_nodes, read_pdos};
-use cop_plan::{Outcome, plan};
+use cop_plan::{Choice, Outcome, plan};
 use std::alloc::Global;
 use std::test::Fail;
 
@@ -34,7 +34,7 @@ fn unit_file(alloc: Global) -> Result<(String, Vec<u8>), Fail> {
 
 // What the plan of a network sets in node 5.
 fn settings_of(alloc: Global, network: &Network<'_>) -> Result<Vec<Setting>, Fail> {
-    match plan(alloc, network)? {
+    match plan(alloc, network, Choice::Order)? {
         Outcome::Planned(plan) => Ok(settings(alloc, &plan, network, 5)?),
         Outcome::Refused(_) => Err(Fail::from("no rate passes")),
     }

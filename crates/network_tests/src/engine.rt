@@ -1,6 +1,7 @@
 mod boots;
 mod cut;
 mod large;
+mod margins;
 mod outlets;
 mod pieces;
 mod ranges;
@@ -10,6 +11,7 @@ use cop_engine::{
     Fault, Files, check_bytes, judge_bytes, plan_bytes, read_all, status, test_bytes,
 };
 use cop_frame::Rate;
+use cop_plan::Choice;
 use std::alloc::{AllocError, Global};
 use std::io;
 use std::test::Fail;
@@ -257,7 +259,7 @@ pub(crate) fn eds_files(alloc: Global, text: &[u8]) -> Result<Vec<(String, Vec<u
 
 fn planned(alloc: Global, nodes: &[u8], pdos: &[u8], eds: &[u8]) -> Result<Files, Fault> {
     let files = eds_files(alloc, eds)?;
-    plan_bytes(alloc, nodes, pdos, &files)
+    plan_bytes(alloc, nodes, pdos, &files, Choice::Order)
 }
 
 #[test]
@@ -431,7 +433,14 @@ until,4000,0,,,
 #[test]
 fn a_trace_of_the_valve_is_on_time(rt: HostRuntime) -> Result<(), Fail> {
     let files = eds_files(rt.alloc(), UNIT)?;
-    let text = judge_bytes(rt.alloc(), VALVE, ONE_PDO, &files, VALVE_TRACE)?;
+    let text = judge_bytes(
+        rt.alloc(),
+        VALVE,
+        ONE_PDO,
+        &files,
+        Choice::Order,
+        VALVE_TRACE,
+    )?;
     assert!(rt; text.as_slice() == b"transfers 3\non time\n".as_slice());
     Ok(())
 }
@@ -456,7 +465,7 @@ fn traces_are_refused(rt: HostRuntime) -> Result<(), Fail> {
     let files = eds_files(rt.alloc(), UNIT)?;
     for case in BROKEN_TRACES {
         let (trace, number, place) = *case;
-        let judged = judge_bytes(rt.alloc(), VALVE, ONE_PDO, &files, trace);
+        let judged = judge_bytes(rt.alloc(), VALVE, ONE_PDO, &files, Choice::Order, trace);
         assert!(rt; refused(judged)? == Some((number, place)));
     }
     Ok(())

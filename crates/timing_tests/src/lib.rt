@@ -8,6 +8,8 @@ mod bus;
 #[cfg(test)]
 mod causes;
 #[cfg(test)]
+mod margins;
+#[cfg(test)]
 mod plans;
 #[cfg(test)]
 mod ranges;

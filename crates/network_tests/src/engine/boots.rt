@@ -1,6 +1,7 @@
 //! Boots of planned networks by drawn turns.
 
 use cop_engine::boot_bytes;
+use cop_plan::Choice;
 use std::alloc::Global;
 use std::test::Fail;
 
@@ -14,7 +15,14 @@ fn booted(alloc: Global, seed: u64, nodes: &str, pdos: &str) -> Result<Vec<u8>, 
         String::from_str(alloc, "unit.eds")?,
         Vec::from_slice(alloc, UNIT)?,
     );
-    let text = boot_bytes(alloc, seed, nodes.as_bytes(), pdos.as_bytes(), &[file])?;
+    let text = boot_bytes(
+        alloc,
+        seed,
+        nodes.as_bytes(),
+        pdos.as_bytes(),
+        &[file],
+        Choice::Order,
+    )?;
     Ok(text)
 }
 

@@ -2,13 +2,14 @@
 
 use crate::engine::{ONE_PDO, UNIT, VALVE, VALVE_REFUSED, VALVE_TRACE, eds_files, refused};
 use cop_engine::{check_bytes, judge_bytes, plan_bytes};
+use cop_plan::Choice;
 use std::test::Fail;
 
 #[test]
 fn each_cut_table_of_nodes(rt: HostRuntime) -> Result<(), Fail> {
     let eds = eds_files(rt.alloc(), UNIT)?;
     for length in 0..VALVE.len() {
-        let planned = plan_bytes(rt.alloc(), &VALVE[..length], ONE_PDO, &eds);
+        let planned = plan_bytes(rt.alloc(), &VALVE[..length], ONE_PDO, &eds, Choice::Order);
         let _ = refused(planned)?;
     }
     Ok(())
@@ -18,7 +19,7 @@ fn each_cut_table_of_nodes(rt: HostRuntime) -> Result<(), Fail> {
 fn each_cut_table_of_pdos(rt: HostRuntime) -> Result<(), Fail> {
     let eds = eds_files(rt.alloc(), UNIT)?;
     for length in 0..ONE_PDO.len() {
-        let planned = plan_bytes(rt.alloc(), VALVE, &ONE_PDO[..length], &eds);
+        let planned = plan_bytes(rt.alloc(), VALVE, &ONE_PDO[..length], &eds, Choice::Order);
         let _ = refused(planned)?;
     }
     Ok(())
@@ -28,7 +29,7 @@ fn each_cut_table_of_pdos(rt: HostRuntime) -> Result<(), Fail> {
 fn each_cut_eds_text(rt: HostRuntime) -> Result<(), Fail> {
     for length in 0..UNIT.len() {
         let eds = eds_files(rt.alloc(), &UNIT[..length])?;
-        let planned = plan_bytes(rt.alloc(), VALVE, ONE_PDO, &eds);
+        let planned = plan_bytes(rt.alloc(), VALVE, ONE_PDO, &eds, Choice::Order);
         let _ = refused(planned)?;
     }
     Ok(())
@@ -49,7 +50,7 @@ fn each_cut_trace(rt: HostRuntime) -> Result<(), Fail> {
     let eds = eds_files(rt.alloc(), UNIT)?;
     for length in 0..VALVE_TRACE.len() {
         let cut = &VALVE_TRACE[..length];
-        let _ = refused(judge_bytes(rt.alloc(), VALVE, ONE_PDO, &eds, cut))?;
+        let _ = refused(judge_bytes(rt.alloc(), VALVE, ONE_PDO, &eds, Choice::Order, cut))?;
     }
     Ok(())
 }

@@ -4,6 +4,7 @@ ghost use Rattle.std.specs.Prelude.{◌<◌};
 
 use cop_engine::{Fault, Files, check_bytes, plan_bytes, test_bytes};
 use cop_frame::Rate;
+use cop_plan::Choice;
 use std::alloc::{AllocError, Global};
 use std::fmt::Write;
 use std::test::Fail;
@@ -155,6 +156,7 @@ fn planned(alloc: Global, network: &Sources) -> Result<Files, Fault> {
         network.nodes.as_bytes(),
         network.pdos.as_bytes(),
         &network.eds,
+        Choice::Order,
     )
 }
 

@@ -4,6 +4,7 @@ ghost use Rattle.std.specs.Prelude.{◌≡◌, false};
 
 use crate::engine::{NO_PDO, TWO_VALVES, UNIT, eds_files};
 use cop_engine::{Outlet, deliver, plan_bytes};
+use cop_plan::Choice;
 use std::alloc::Global;
 use std::test::Fail;
 
@@ -60,7 +61,7 @@ const DELIVERED: &[(usize, Result<(), usize>, &[u8])] = &[
 #[test]
 fn an_outlet_fails_at_each_file(rt: HostRuntime) -> Result<(), Fail> {
     let eds = eds_files(rt.alloc(), UNIT)?;
-    let files = plan_bytes(rt.alloc(), TWO_VALVES, NO_PDO, &eds)?;
+    let files = plan_bytes(rt.alloc(), TWO_VALVES, NO_PDO, &eds, Choice::Order)?;
     for case in DELIVERED {
         let (room, wanted, names) = *case;
         let mut shelf = with_room(rt.alloc(), room);

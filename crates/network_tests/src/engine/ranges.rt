@@ -2,6 +2,7 @@
 
 use crate::engine::{UNIT, eds_files, refused};
 use cop_engine::{Fault, boot_bytes, check_bytes, judge_bytes, plan_bytes};
+use cop_plan::Choice;
 use std::alloc::{AllocError, Global};
 use std::fmt::Write;
 use std::str;
@@ -97,7 +98,7 @@ const ROWS: &[Row] = &[
 fn synchronous_pdos_and_sdo_deadlines_are_planned(rt: HostRuntime) -> Result<(), Fail> {
     for row in ROWS {
         let eds = eds_of(rt.alloc(), row.transmission)?;
-        let files = plan_bytes(rt.alloc(), row.nodes, row.pdos, &eds)?;
+        let files = plan_bytes(rt.alloc(), row.nodes, row.pdos, &eds, Choice::Order)?;
         assert!(rt; files.plan.as_slice() == row.plan);
         assert!(rt; files.refusals.as_slice() == row.refusals);
         let (lines, _) = check_bytes(rt.alloc(), row.nodes, row.pdos, &eds, &files.refusals)?;
@@ -110,7 +111,7 @@ fn synchronous_pdos_and_sdo_deadlines_are_planned(rt: HostRuntime) -> Result<(),
 fn their_devices_take_the_plan(rt: HostRuntime) -> Result<(), Fail> {
     for row in ROWS {
         let eds = eds_of(rt.alloc(), row.transmission)?;
-        let text = boot_bytes(rt.alloc(), 1, row.nodes, row.pdos, &eds)?;
+        let text = boot_bytes(rt.alloc(), 1, row.nodes, row.pdos, &eds, Choice::Order)?;
         assert!(rt; text.as_slice() == row.boot);
     }
     Ok(())
@@ -123,7 +124,7 @@ const TOO_OFTEN: &[u8] =
 #[test]
 fn sync_past_the_horizon_is_told(rt: HostRuntime) -> Result<(), Fail> {
     let eds = eds_of(rt.alloc(), "1")?;
-    let files = plan_bytes(rt.alloc(), TOO_OFTEN, AT_SYNC, &eds)?;
+    let files = plan_bytes(rt.alloc(), TOO_OFTEN, AT_SYNC, &eds, Choice::Order)?;
     let plan =
         b"no rate passes\nrefused 250 sync\nrefused 500 sync\nrefused 1000 members 1\n".as_slice();
     assert!(rt; !files.planned && files.plan.as_slice() == plan);
@@ -175,7 +176,13 @@ fn the_second_range_has_room_for_96(rt: HostRuntime) -> Result<(), Fail> {
         let (count, deadline, begin, end) = *case;
         let nodes = many_nodes(rt.alloc(), count, deadline)?;
         let pdos = many_pdos(rt.alloc(), count)?;
-        let files = plan_bytes(rt.alloc(), nodes.as_bytes(), pdos.as_bytes(), &eds)?;
+        let files = plan_bytes(
+            rt.alloc(),
+            nodes.as_bytes(),
+            pdos.as_bytes(),
+            &eds,
+            Choice::Order,
+        )?;
         let plan = files.plan.as_slice();
         assert!(rt;
             plan.starts_with(begin.as_bytes()) && plan.ends_with(end.as_bytes()),
@@ -217,7 +224,7 @@ const TRACES: &[(&str, Option<(u8, u64)>)] = &[
 /// The judgement of a trace that begins with a SYNC.
 fn judged(alloc: Global, eds: &[(String, Vec<u8>)], steps: &str) -> Result<Vec<u8>, Fault> {
     let trace = format!(in alloc; "{SYNC_STEPS}{steps}until,4000,0,,,\n")?;
-    judge_bytes(alloc, SYNCED, AT_SYNC, eds, trace.as_bytes())
+    judge_bytes(alloc, SYNCED, AT_SYNC, eds, Choice::Order, trace.as_bytes())
 }
 
 #[test]

@@ -1,5 +1,5 @@
 use Rattle.std.proofs.Common.{ℕ, ◌≤◌, length, refl, ap, Some, sym, subst, arith}
-use Rattle.cop_plan.specs.Orders.{IsPlanOrder}
+use Rattle.cop_plan.specs.Margins.{IsChosenOrder}
 use Rattle.cop_plan.specs.Plans.{IsPlan, AreAllRefused}
 use Rattle.cop_plan.specs.Values.{HaveIds, id_of}
 use Rattle.cop_figures.proofs.BelowLemmas.{tells_why}
@@ -22,7 +22,7 @@ pub returns-in_ok-all_refused-in-Planned : goal.returns-in_ok-all_refused-in-Pla
 returns-in_ok-all_refused-in-Planned c =
     let is : IsPlan c.args.network.now.equipment.rates c.args.network.now.set (length c.args.network.now.rows) c.in-Planned.plan = rw c.in-Planned.is at c.requires in
     let renamed = subst (λ (n : ℕ). HaveIds c.args.network.now.set n (id_of c.in-Planned.plan.ids) c.in-Planned.plan.streams) (sym is.count) is.renamed in
-    let order = subst (λ (n : ℕ). IsPlanOrder c.in-Planned.plan.rate c.args.network.now.set n (id_of c.in-Planned.plan.ids)) (sym is.count) is.order in
+    let order = subst (λ (n : ℕ). IsChosenOrder c.in-Planned.plan.margin c.in-Planned.plan.rate c.args.network.now.set n (id_of c.in-Planned.plan.ids)) (sym is.count) is.order in
     let few : length c.in-Planned.plan.ids ≤ 512 = omega (arith, is.count, c.pdos-count.ensures.count, c.pdos-count.ensures.most) in
     let frames_are = rw c.set-set.ensures.set at c.in_ok-pdos-in-Planned.ensures.frames in
     rw c.in-Planned.is (

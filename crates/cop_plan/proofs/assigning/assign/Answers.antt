@@ -3,6 +3,7 @@ use Rattle.std.proofs.lemmas.List.{length-append}
 use Rattle.cop_plan.specs.Fillings.{ids_in_ranges}
 use Rattle.cop_plan.proofs.FillingLemmas.{no_bit}
 use Rattle.cop_plan.proofs.AssignLemmas.{passed_over, one_more, all_refused, refused_is_ruled_out, trials_more, busy_more, plan_is, members_push, filled_push}
+use Rattle.cop_plan.proofs.MarginOutcome.{plain_order}
 use Rattle.cop_plan.proofs.RateLemmas.{rate_at}
 use Rattle.cop_plan.proofs.assigning.assign.Goals as goal
 use Rattle.cop_plan.proofs.assigning.assign.Goals.{then-contains+in_ok-lower+in-Refused+in_ok-push-in-Refused, else-contains}
@@ -10,8 +11,9 @@ use Rattle.cop_plan.proofs.assigning.assign.Goals.{then-contains+in_ok-lower+in-
 pub returns-in-Placed-clause-outcome : goal.returns-in-Placed-clause-outcome
 returns-in-Placed-clause-outcome c =
     let made = c.in_ok-plan-in-Placed.ensures in
+    let ordered = plain_order _ c.args.set.now c.args.pdos _ made.order in
     plan_is c.args.rates.now c.args.set.now c.args.pdos c.loop-rate.rate-index c.in_ok-plan-in-Placed.plan c.loop-rate.refusals c.requires.can.count c.loop-rate-test.true
-    (c.contains.ensures.0 c.if-contains.true) made.rate made.refusals made.count made.passing made.order made.by_priority made.renamed c.loop-rate.invariant.refused
+    (c.contains.ensures.0 c.if-contains.true) made.rate made.margin made.refusals made.count made.passing ordered made.by_priority made.renamed c.loop-rate.invariant.refused
 
 pub returns-in-Placed-clause-trials : goal.returns-in-Placed-clause-trials
 returns-in-Placed-clause-trials c =

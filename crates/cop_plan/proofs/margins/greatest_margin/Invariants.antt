@@ -1,0 +1,17 @@
+use Rattle.std.proofs.Common.{◌≡◌, ◌-◌, ◌<◌, ◌≤◌, true, false, MatchOption}
+use Rattle.cop_plan.specs.Found.{ArePlannedWith, NoneFrom}
+use Rattle.cop_plan.specs.Margins.{has_deadline}
+use Rattle.cop_plan.proofs.margins.greatest_margin.Given as goal
+
+-- some assignment keeps the margin, and with a deadline none keeps what is above
+abbrev pub invariant-loop-above : goal.invariant-loop-above
+invariant-loop-above l = record {
+  apart : l.margin < l.above;
+  most : l.above ≤ 240000001;
+  fails : has_deadline l.set ≡ true → NoneFrom l.rate l.set l.pdos l.above;
+  none : has_deadline l.set ≡ false → l.above ≡ 1;
+  kept : MatchOption l.placing (l.margin ≡ 0) (λ placing. ArePlannedWith l.margin l.rate l.set l.pdos placing.lower.items placing.upper.items);
+}
+
+abbrev pub decreases-loop-above : goal.decreases-loop-above
+decreases-loop-above l = l.above - l.margin

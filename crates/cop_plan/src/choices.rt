@@ -1,0 +1,10 @@
+//! Which identifiers a plan has.
+
+/// What the identifiers of a plan are chosen by, of all that pass at its rate.
+#[derive(Clone, Copy, PartialEq, Eq, Debug)]
+pub enum Choice {
+    /// By the order of plans: without a gap, late rows as deep as they pass.
+    Order,
+    /// By the greatest margin: the order of plans where each deadline is lowered as far as some assignment passes.
+    Margin,
+}

@@ -1,0 +1,204 @@
+//! Identifiers with the greatest least margin.
+
+ghost use Rattle.std.specs.Prelude.{◌≡◌, ◌↔◌, ℕ, ◌<◌, ◌≤◌, true, false, List, Some, is_some, length, option_map, map, All, IfOk, IfSome, IsTrue, MatchOption};
+ghost use Rattle.std.specs.Option.{ForSome};
+ghost use Rattle.cop_frame.specs.declared.rates.Rate.{Rate};
+ghost use Rattle.cop_rta.specs.Entries.{entry_of};
+ghost use Rattle.cop_rta.specs.declared.streams.Stream.{Stream};
+ghost use Rattle.cop_cert.specs.Assignments.{NoAssignmentPasses};
+ghost use Rattle.cop_plan.specs.Found.{IsFound, ArePlanned, ArePlannedWith, NoneFrom};
+ghost use Rattle.cop_plan.specs.Margins.{lower, AreLowered, has_deadline, IsGreatestMargin};
+ghost use Rattle.cop_plan.specs.declared.choices.Choice.TheVariants.{Margin};
+ghost use Rattle.cop_plan.specs.Plans.{CanAssign, IsOutcome, IsPlan, IsChosenBy};
+
+use crate::assigning::{Found, Outcome, assign, at_rate};
+use crate::filling::Count;
+use crate::plans::{Plan, add, planned};
+use cop_frame::{Rate, RateSet};
+use cop_rta::{Stream, StreamSet};
+use std::alloc::{AllocError, Global};
+
+/// More ticks than any deadline has.
+const ABOVE_DEADLINES: u64 = 240_000_001;
+
+/// Fillings of the second range and of the first; that of the lowest place comes first.
+#[derive(Drop)]
+struct Placing {
+    lower: Vec<usize>,
+    upper: Vec<usize>,
+}
+
+/// The greatest margin that some assignment keeps, and the fillings that keep it; none where it is 0.
+#[derive(Drop)]
+struct Widest {
+    margin: u64,
+    placing: Option<Placing>,
+}
+
+/// Whether some stream has a deadline.
+fn is_some_deadline(streams: &[Stream]) -> bool
+    ensures { result ≡ has_deadline streams.now }
+{
+    streams.iter().any(|stream| stream.deadline.is_some())
+}
+
+/// Whether a deadline, if there is one, is above a margin.
+fn is_above(deadline: Option<u64>, margin: u64) -> bool
+    ensures { IsTrue result ↔ ForSome deadline (λ d. margin < d) }
+{
+    match deadline {
+        Some(ticks) => margin < ticks,
+        None => true,
+    }
+}
+
+/// Whether each deadline is above a margin.
+fn are_above(streams: &[Stream], margin: u64) -> bool
+    ensures { IsTrue result ↔ All (λ s. ForSome s.deadline (λ d. margin < d)) streams.now }
+{
+    for stream in streams {
+        if !is_above(stream.deadline, margin) {
+            return false;
+        }
+    }
+    true
+}
+
+/// The stream with a deadline of so many ticks less.
+fn with_less(stream: &Stream, margin: u64) -> Stream
+    requires { ForSome stream.now.deadline (λ d. margin < d) }
+    ensures { entry_of result ≡ lower margin (entry_of stream.now) }
+{
+    let Stream {
+        id,
+        bytes,
+        period,
+        jitter,
+        deadline,
+        every,
+    } = *stream;
+    Stream {
+        id,
+        bytes,
+        period,
+        jitter,
+        deadline: deadline.map(|ticks| ticks - margin),
+        every,
+    }
+}
+
+/// The same streams with deadlines of so many ticks less.
+fn lowered(alloc: Global, set: &StreamSet, margin: u64) -> Result<StreamSet, AllocError>
+    requires { All (λ s. ForSome s.deadline (λ d. margin < d)) set.now }
+    ensures { IfOk result (AreLowered margin set.now) }
+{
+    let mut lowered = StreamSet::new(alloc);
+    for stream in set.streams() {
+        add(&mut lowered, with_less(stream, margin))?;
+    }
+    Ok(lowered)
+}
+
+/// The fillings of what was found.
+fn placing_of(found: Found) -> Option<Placing>
+    ensures { (rate : Rate) (streams : List Stream) (pdos : ℕ) → pdos ≤ length streams → IsFound rate streams pdos found
+        → MatchOption result (NoAssignmentPasses rate streams pdos) (λ placing. ArePlanned rate streams pdos placing.lower.items placing.upper.items) }
+{
+    match found {
+        Found::Placed { lower, upper } => Some(Placing { lower, upper }),
+        Found::Refused(_) => None,
+    }
+}
+
+/// Fillings for deadlines of so many ticks less, where some assignment passes with them.
+fn keeping(
+    alloc: Global,
+    set: &StreamSet,
+    pdos: usize,
+    rate: Rate,
+    margin: u64,
+) -> Result<Option<Placing>, AllocError>
+    requires can { CanAssign set.now pdos }
+    ensures { IfOk result (λ kept. MatchOption kept (NoneFrom rate set.now pdos margin) (λ placing. ArePlannedWith margin rate set.now pdos placing.lower.items placing.upper.items)) }
+{
+    if !are_above(set.streams(), margin) {
+        return Ok(None);
+    }
+    let lowered = lowered(alloc, set, margin)?;
+    let mut count = Count { trials: 0, busy: 0 };
+    let found = at_rate(alloc, &lowered, pdos, rate, &mut count)?;
+    Ok(placing_of(found))
+}
+
+/// The greatest margin that some assignment keeps at a rate, found by halving.
+fn greatest_margin(
+    alloc: Global,
+    set: &StreamSet,
+    pdos: usize,
+    rate: Rate,
+) -> Result<Widest, AllocError>
+    requires can { CanAssign set.now pdos }
+    ensures greatest { IfOk result (λ widest. IsGreatestMargin rate set.now pdos widest.margin) }
+    ensures placing { IfOk result (λ widest. MatchOption widest.placing (widest.margin ≡ 0) (λ placing. ArePlannedWith widest.margin rate set.now pdos placing.lower.items placing.upper.items)) }
+{
+    let mut margin = 0;
+    let mut placing = None;
+    let mut above = if is_some_deadline(set.streams()) {
+        ABOVE_DEADLINES
+    } else {
+        1
+    };
+    while above - margin > 1 {
+        let middle = margin + (above - margin) / 2;
+        match keeping(alloc, set, pdos, rate, middle)? {
+            Some(kept) => {
+                margin = middle;
+                placing = Some(kept);
+            }
+            None => above = middle,
+        }
+    }
+    Ok(Widest { margin, placing })
+}
+
+/// The plan at the same rate whose identifiers keep the greatest margin.
+fn widened(alloc: Global, set: &StreamSet, pdos: usize, plan: Plan) -> Result<Plan, AllocError>
+    requires can { CanAssign set.now pdos }
+    ensures { (rates : List Rate) → IsPlan rates set.now pdos plan → is_some plan.margin ≡ false → IfOk result (λ wider. IsPlan rates set.now pdos wider × (is_some wider.margin ≡ true)) }
+{
+    let rate = plan.rate();
+    let Widest { margin, placing } = greatest_margin(alloc, set, pdos, rate)?;
+    match placing {
+        Some(placing) => planned(
+            alloc,
+            set,
+            pdos,
+            rate,
+            &placing.lower,
+            &placing.upper,
+            Some(margin),
+            plan.into_refusals(),
+        ),
+        None => Ok(plan.keeping(margin)),
+    }
+}
+
+/// What [`assign`](crate::assign) finds, but at the same rate the identifiers that keep the greatest margin: by so many ticks each
+/// deadline can be lowered, and each PDO and each SDO frame with a deadline still passes; with each lowered by more no assignment passes.
+/// `Err` is want of memory. The PDOs are placed at most 28 times more.
+pub fn assign_with_margin(
+    alloc: Global,
+    set: &StreamSet,
+    pdos: usize,
+    rates: &RateSet,
+) -> Result<Outcome, AllocError>
+    requires { CanAssign set.now pdos }
+    ensures outcome { IfOk result (IsOutcome rates.now set.now pdos) }
+    ensures by_margin { IfOk result (IsChosenBy Margin) }
+{
+    let mut count = Count { trials: 0, busy: 0 };
+    match assign(alloc, set, pdos, rates, &mut count)? {
+        Outcome::Planned(plan) => Ok(Outcome::Planned(widened(alloc, set, pdos, plan)?)),
+        Outcome::Refused(refusals) => Ok(Outcome::Refused(refusals)),
+    }
+}
