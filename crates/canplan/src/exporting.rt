@@ -4,13 +4,13 @@ ghost use Rattle.std.specs.Prelude.{length};
 ghost use Rattle.cop_plan.specs.Plans.{IsPlan};
 
 use crate::failures::Failure;
-use crate::files::{Folder, print, write_file};
+use crate::files::{print, write_file};
 use crate::inputs::Inputs;
 use crate::orders::{Format, NetworkFiles};
 use cop_cdcf::concise;
 use cop_dbc::dbc;
 use cop_dcf::settings;
-use cop_engine::{Outlet, none_passes, text_status};
+use cop_engine::{none_passes, text_status};
 use cop_net::{DeviceRow, Network, network, read_nodes, read_pdos};
 use cop_plan::{Outcome, Plan, plan};
 use std::alloc::{AllocError, Global};
@@ -25,6 +25,10 @@ struct Target<'a> {
 
 /// The columns of what a manager is told.
 const MASTER_COLUMNS: &str = "object,sub,value,words\n";
+
+/// How long a manager waits (CiA 302-2, object 1F89h).
+const BOOT_TIME: &str =
+    "1F89h,0,0,the manager waits for slaves that have to be there as long as it takes; else so many milliseconds\n";
 
 /// Writes the CAN database of a plan.
 fn write_dbc(
@@ -62,69 +66,46 @@ fn push_told(
     )
 }
 
+/// Writes a file of a folder.
+fn put(rt: &HostRuntime, folder: &str, name: &str, bytes: &[u8]) -> Result<(), Failure> {
+    let path = format!(in rt.alloc(); "{folder}/{name}")?;
+    write_file(rt, &path, bytes)
+}
+
 /// Writes the concise DCF of a device, and adds what a manager is told of it.
 fn put_device(
     rt: &HostRuntime,
     network: &Network<'_>,
     plan: &Plan,
     row: &DeviceRow,
-    folder: &mut Folder<'_>,
+    folder: &str,
     told: &mut String,
-) -> Result<(), AllocError>
+) -> Result<(), Failure>
     requires { IsPlan network.now.equipment.rates network.now.set (length network.now.rows) plan.now }
 {
     let settings = settings(rt.alloc(), plan, network, row.node)?;
     let bytes = concise(rt.alloc(), &settings)?;
     let name = cdcf_name(rt.alloc(), row.node)?;
-    if folder.put(&name, &bytes) {
-        push_told(told, row, &name, settings.len())?;
-    }
+    put(rt, folder, &name, &bytes)?;
+    push_told(told, row, &name, settings.len())?;
     Ok(())
 }
 
 /// Writes the concise DCF of each device into a folder, and what a manager is told. Once a file cannot be written, no other is.
-fn put_devices(
-    rt: &HostRuntime,
-    network: &Network<'_>,
-    plan: &Plan,
-    folder: &mut Folder<'_>,
-) -> Result<(), AllocError>
-    requires { IsPlan network.now.equipment.rates network.now.set (length network.now.rows) plan.now }
-{
-    let mut told = String::from_str(rt.alloc(), MASTER_COLUMNS)?;
-    for row in network.devices() {
-        if !folder.failed() {
-            put_device(rt, network, plan, row, folder, &mut told)?;
-        }
-    }
-    told.push_str(
-        "1F89h,0,0,the manager waits for slaves that have to be there as long as it takes; else so many milliseconds\n",
-    )?;
-    if !folder.failed() {
-        folder.put("master.csv", told.as_bytes());
-    }
-    Ok(())
-}
-
-/// Writes the concise DCFs of a plan.
 fn write_cdcf(
     rt: &HostRuntime,
     network: &Network<'_>,
     plan: &Plan,
-    out: &str,
+    folder: &str,
 ) -> Result<(), Failure>
     requires { IsPlan network.now.equipment.rates network.now.set (length network.now.rows) plan.now }
 {
-    let mut folder = Folder {
-        rt,
-        path: out,
-        failure: None,
-    };
-    put_devices(rt, network, plan, &mut folder)?;
-    match folder.failure {
-        Some(failure) => Err(failure),
-        None => Ok(()),
+    let mut told = String::from_str(rt.alloc(), MASTER_COLUMNS)?;
+    for row in network.devices() {
+        put_device(rt, network, plan, row, folder, &mut told)?;
     }
+    told.push_str(BOOT_TIME)?;
+    put(rt, folder, "master.csv", told.as_bytes())
 }
 
 /// Writes a plan.
