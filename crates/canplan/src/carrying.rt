@@ -1,6 +1,7 @@
 //! What each subcommand does.
 
 use crate::commands::MOST_UNTIL;
+use crate::exporting::export;
 use crate::failures::{Failure, Use, file_failure};
 use crate::files::{Folder, print, remove_earlier};
 use crate::inputs::{Inputs, read_file, read_input};
@@ -239,6 +240,11 @@ pub fn carry_out(
             trace,
             out,
         } => write_report(rt, network, trace, out, inputs),
+        Order::Export {
+            format,
+            network,
+            out,
+        } => export(rt, format, network, out, inputs),
         Order::Tidy(order) => tidy_file(rt, order, inputs),
         Order::Explain { number } => explain(rt, number),
     }

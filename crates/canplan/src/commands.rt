@@ -16,6 +16,9 @@ static ACCESSES: [&str; 6] = ["ro", "wo", "rw", "rwr", "rww", "const"];
 /// What may become of the PDOs that no list of an EDS file names.
 static UNLISTED: [&str; 2] = ["add", "leave"];
 
+/// The formats that a plan is exported in.
+static FORMATS: [&str; 2] = ["dbc", "cdcf"];
+
 /// The rate words that the command line takes.
 static RATES: [&str; 8] = ["10", "20", "50", "125", "250", "500", "800", "1000"];
 
@@ -174,6 +177,26 @@ fn report_command<'a>(alloc: Global) -> Result<Command<'a>, AllocError> {
         .arg(trace)
 }
 
+fn export_command<'a>(alloc: Global) -> Result<Command<'a>, AllocError> {
+    let format = Arg::new(alloc, "FORMAT")
+        .required(true)
+        .value_parser(FORMATS.as_slice())
+        .action(ArgAction::Set)
+        .help(
+            "A CAN database for all that reads a bus, or the concise DCF of each node for a manager of the network",
+        );
+    let out =
+        "The file of the database, or the folder, which has to be there, for node-005.cdcf and so on and master.csv";
+    Command::new(alloc, "export")
+        .about("Gives the plan of a network to other tools")
+        .after_help("Example: canplan export dbc nodes.csv pdos.csv plan.dbc")
+        .arg(format)?
+        .arg(operand(alloc, "NODES", "The table of nodes, as plan takes it"))?
+        .arg(operand(alloc, "PDOS", "The table of PDOs, as plan takes it"))?
+        .arg(operand(alloc, "OUT", out))?
+        .arg(explain_flag(alloc))
+}
+
 /// A word that answers a question, which may be left out.
 fn choice<'a>(alloc: Global, name: &'a str, help: &'a str) -> Arg<'a> {
     Arg::new(alloc, name)
@@ -267,6 +290,7 @@ pub fn command<'a>(alloc: Global) -> Result<Command<'a>, AllocError> {
     let command = with(command, run_command(alloc))?;
     let command = with(command, judge_command(alloc))?;
     let command = with(command, report_command(alloc))?;
+    let command = with(command, export_command(alloc))?;
     let command = with(command, tidy_command(alloc))?;
     with(command, explain_command(alloc))
 }

@@ -19,7 +19,7 @@ fn network_of<'a>(order: Order<'a>) -> Option<NetworkFiles<'a>> {
         Order::Boot { network, .. } => Some(network),
         Order::Judge { network, .. } => Some(network),
         Order::Run { network, .. } => Some(network),
-        Order::Report { network, .. } => Some(network),
+        Order::Report { network, .. } | Order::Export { network, .. } => Some(network),
         Order::Test { .. } | Order::Tidy(_) | Order::Explain { .. } => None,
     }
 }

@@ -1,0 +1,2 @@
+pub mod Concise
+pub mod Reading

@@ -1,0 +1,4 @@
+pub mod Signals
+pub mod Decoding
+pub mod Takers
+pub mod Bus
