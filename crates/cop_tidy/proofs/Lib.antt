@@ -1,3 +1,5 @@
 pub mod AcceptedLemmas
 pub mod KeptLemmas
+pub mod LineLemmas
 pub mod LoopLemmas
+pub mod StandingLemmas

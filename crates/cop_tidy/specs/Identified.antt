@@ -1,5 +1,5 @@
 -- PDOs that a dictionary can switch off.
-use Rattle.std.specs.Prelude.{ℕ, ◌≡◌, Bool, true, false, List, Option, Some, None, Ok, All}
+use Rattle.std.specs.Prelude.{ℕ, ◌≡◌, Bool, true, false, not, ◌||◌, List, Option, Some, None, Ok, All}
 use Rattle.cop_dict.specs.Types.{is_unsigned32}
 use Rattle.cop_dict.specs.Find.{Entry, entry_at}
 use Rattle.cop_dict.specs.Build.{built}
@@ -9,9 +9,12 @@ abbrev pub is_identifier : Option Entry → Bool
 is_identifier None = false
 is_identifier (Some entry) = is_unsigned32 entry.description.data_type
 
--- an entry of a PDO's communication record has an UNSIGNED32 beside it at sub 1
+-- an entry is of no PDO's communication record, or has an UNSIGNED32 beside it at sub 1
+abbrev pub identified : List Entry → Entry → Bool
+identified dict entry = not (is_record entry.index) || is_identifier (entry_at dict entry.index 1)
+
 abbrev pub IsIdentified : List Entry → Entry → Type 0
-IsIdentified dict entry = is_record entry.index ≡ true → is_identifier (entry_at dict entry.index 1) ≡ true
+IsIdentified dict entry = identified dict entry ≡ true
 
 -- in the dictionary of the text for a node each PDO's record that has an entry has an identifier
 abbrev pub AreIdentified : ℕ → List ℕ → Type 0

@@ -1,3 +1,4 @@
 pub mod Accepted
 pub mod Identified
 pub mod Kept
+pub mod Standing

@@ -1,10 +1,11 @@
 //! That the objects of an accepted text stay.
 
 ghost use Rattle.std.specs.Prelude.{◌≡◌, true, All, IfOk, IfSome, IfNone, Ok, List, MatchOption};
+ghost use Rattle.std.specs.List.{list_all};
 ghost use Rattle.cop_eds.specs.Reading.{reading};
 ghost use Rattle.cop_dict.specs.Find.{Entry, entry_at};
 ghost use Rattle.cop_dict.specs.Build.{built};
-ghost use Rattle.cop_tidy.specs.Identified.{is_identifier, IsIdentified};
+ghost use Rattle.cop_tidy.specs.Identified.{is_identifier, identified};
 ghost use Rattle.cop_tidy.specs.Kept.{is_record, is_mistyped, is_absent, is_alone, is_unidentified, IsKept, IsLike, Stays};
 
 use cop_change::TidyFault;
@@ -152,23 +153,20 @@ fn has_identifier(dict: &Dictionary, index: u16) -> bool
     }
 }
 
-/// Whether an entry of a PDO's communication record has an identifier beside it.
+/// Whether an entry is of no PDO's communication record, or has an identifier beside it.
 fn is_identified(dict: &Dictionary, entry: &Object) -> bool
-    ensures { result ≡ true → IsIdentified dict.now entry.now }
+    ensures { result ≡ identified dict.now entry.now }
 {
     !is_record(entry.index()) || has_identifier(dict, entry.index())
 }
 
 /// Whether each PDO's record that has an entry has an identifier.
 pub fn are_identified(dict: &Dictionary) -> bool
-    ensures { result ≡ true → All (IsIdentified dict.now) dict.now }
+    ensures { result ≡ list_all (identified dict.now) dict.now }
 {
-    for entry in dict.entries() {
-        if !is_identified(dict, entry) {
-            return false;
-        }
-    }
-    true
+    dict.entries()
+        .iter()
+        .all(|entry| is_identified(dict, entry))
 }
 
 /// The dictionary of a text for a node, where the strict reading takes it.

@@ -1,17 +1,15 @@
 //! A maker's text as one that the strict reading takes.
 
-ghost use Rattle.std.specs.Prelude.{◌≡◌, ◌≤◌, None, Some, Ok, All, IfOk, IfErr, IfSome, IsOk, OnOk, vec_len};
+ghost use Rattle.std.specs.Prelude.{◌≡◌, None, Some, IfOk, IfErr, OnOk, vec_len};
 ghost use Rattle.cop_change.specs.Applied.{applied};
-ghost use Rattle.cop_dict.specs.Build.{built};
 ghost use Rattle.cop_tidy.specs.Accepted.{IsAccepted};
-ghost use Rattle.cop_tidy.specs.Identified.{AreIdentified, IsIdentified};
+ghost use Rattle.cop_tidy.specs.Identified.{AreIdentified};
 ghost use Rattle.cop_tidy.specs.Kept.{Stays};
+ghost use Rattle.cop_tidy.specs.Standing.{IsReason, standing};
 
-use crate::hazards::first_hazard;
-use crate::keeping::{are_identified, stays};
+use crate::judging::{Left, judged};
+use crate::keeping::stays;
 use cop_change::{Change, Question, TextChange, TidyFault, Words, applied, refused};
-use cop_dict::{Dictionary, build};
-use cop_eds::{Eds, EdsFault, Refusal, parse};
 use cop_rewrite::row::{Row, rows_of};
 use cop_rewrite::{prepared, rewritten};
 use std::alloc::{AllocError, Global};
@@ -28,119 +26,6 @@ pub struct Tidied {
     pub changes: Vec<Change>,
     /// What stood against the text as it was given; nothing where it came back as it was.
     pub found: Option<Left>,
-}
-
-/// What stands against a text: the number of a refusal of the strict reading, below 80, or of a hazard, and the line.
-#[derive(Clone, Copy, Debug, PartialEq, Eq)]
-pub struct Left {
-    pub number: u8,
-    pub line: usize,
-}
-
-/// What a refusal of the strict reading leaves.
-fn left_of(refusal: Refusal) -> Left {
-    Left {
-        number: refusal.rule.number(),
-        line: refusal.line,
-    }
-}
-
-/// The dictionary of an accepted text for a node, or what stands against it.
-fn built_for(alloc: Global, eds: &Eds<'_>, node: u8) -> Result<Result<Dictionary, Left>, TidyFault>
-    ensures ok { IfOk result (λ r. IfOk r (λ dict. built eds.now node ≡ Ok dict)) }
-    ensures err { IfOk result (λ r. IfErr r (λ left. IsOk (built eds.now node) → ⊥)) }
-{
-    match build(alloc, eds, node) {
-        Ok(dict) => Ok(Ok(dict)),
-        Err(EdsFault::Refused(refusal)) => Ok(Err(left_of(refusal))),
-        Err(EdsFault::Memory) => Err(TidyFault::Memory),
-    }
-}
-
-/// The hazard of an accepted text.
-fn hazard_of(alloc: Global, eds: &Eds<'_>, words: &Words) -> Result<Option<Left>, AllocError>
-    ensures { IfOk result (λ found. IfSome found (λ left. 80 ≤ left.number)) }
-{
-    let rows = rows_of(alloc, eds.source())?;
-    let found = first_hazard(alloc, &rows, eds, words)?;
-    match found {
-        Some(hazard) => Ok(Some(Left {
-            number: hazard.number,
-            line: hazard.at.saturating_add(1),
-        })),
-        None => Ok(None),
-    }
-}
-
-/// The hazard that a PDO's record in a dictionary has no identifier.
-fn unidentified(dict: &Dictionary) -> Option<Left>
-    ensures none { result ≡ None → All (IsIdentified dict.now) dict.now }
-    ensures some { IfSome result (λ left. 80 ≤ left.number) }
-{
-    if are_identified(dict) {
-        None
-    } else {
-        Some(Left {
-            number: 81,
-            line: 0,
-        })
-    }
-}
-
-/// What stands against a text whose dictionaries for the first and for the last node are these.
-fn judged_built(
-    alloc: Global,
-    eds: &Eds<'_>,
-    first: &Dictionary,
-    last: &Dictionary,
-    words: &Words,
-) -> Result<Option<Left>, TidyFault>
-    ensures first { IfOk result (λ found. found ≡ None → All (IsIdentified first.now) first.now) }
-    ensures last { IfOk result (λ found. found ≡ None → All (IsIdentified last.now) last.now) }
-    ensures some { IfOk result (λ found. IfSome found (λ left. 80 ≤ left.number)) }
-{
-    let hazard = hazard_of(alloc, eds, words)?;
-    if hazard.is_some() {
-        return Ok(hazard);
-    }
-    match unidentified(first) {
-        Some(left) => Ok(Some(left)),
-        None => Ok(unidentified(last)),
-    }
-}
-
-/// What stands against a text that is read: a refusal of a dictionary's value, or a hazard.
-fn judged_eds(alloc: Global, eds: &Eds<'_>, words: &Words) -> Result<Option<Left>, TidyFault>
-    ensures accepted { IfOk result (λ found. found ≡ None → IsAccepted eds.now) }
-    ensures first { IfOk result (λ found. found ≡ None → AreIdentified 1 eds.now) }
-    ensures last { IfOk result (λ found. found ≡ None → AreIdentified 127 eds.now) }
-    ensures some { IfOk result (λ found. IfSome found (λ left. IsAccepted eds.now → 80 ≤ left.number)) }
-{
-    let _source = eds.source();
-    let first = match built_for(alloc, eds, 1)? {
-        Ok(dict) => dict,
-        Err(left) => return Ok(Some(left)),
-    };
-    let last = match built_for(alloc, eds, 127)? {
-        Ok(dict) => dict,
-        Err(left) => return Ok(Some(left)),
-    };
-    judged_built(alloc, eds, &first, &last, words)
-}
-
-/// What stands against a text: the first refusal of the strict reading, or a hazard.
-#[tactic(auto, using(crate::proofs::AcceptedLemmas::read_as_itself))]
-fn judged(alloc: Global, text: &[u8], words: &Words) -> Result<Option<Left>, TidyFault>
-    ensures accepted { IfOk result (λ found. found ≡ None → IsAccepted text.now) }
-    ensures first { IfOk result (λ found. found ≡ None → AreIdentified 1 text.now) }
-    ensures last { IfOk result (λ found. found ≡ None → AreIdentified 127 text.now) }
-    ensures some { IfOk result (λ found. IfSome found (λ left. IsAccepted text.now → 80 ≤ left.number)) }
-{
-    match parse(alloc, text) {
-        Ok(eds) => judged_eds(alloc, &eds, words),
-        Err(EdsFault::Refused(refusal)) => Ok(Some(left_of(refusal))),
-        Err(EdsFault::Memory) => Err(TidyFault::Memory),
-    }
 }
 
 /// The change of a row.
@@ -200,9 +85,7 @@ fn take_up(
     rows: &[Row<'_>],
     words: &Words,
 ) -> Result<(), TidyFault>
-    ensures accepted { OnOk result (IsAccepted new.now) }
-    ensures first_identified { OnOk result (AreIdentified 1 new.now) }
-    ensures last_identified { OnOk result (AreIdentified 127 new.now) }
+    ensures settled { OnOk result (standing words.now new.now ≡ None) }
     ensures first { OnOk result (Stays 1 old.now new.now) }
     ensures last { OnOk result (Stays 127 old.now new.now) }
 {
@@ -217,9 +100,7 @@ fn take_up(
 
 /// The text after the rules.
 fn mended(alloc: Global, source: &[u8], words: &Words, left: Left) -> Result<Tidied, TidyFault>
-    ensures accepted { IfOk result (λ t. IsAccepted t.text.items) }
-    ensures first_identified { IfOk result (λ t. AreIdentified 1 t.text.items) }
-    ensures last_identified { IfOk result (λ t. AreIdentified 127 t.text.items) }
+    ensures settled { IfOk result (λ t. standing words.now t.text.items ≡ None) }
     ensures found { IfOk result (λ t. t.found ≡ Some left) }
     ensures told { IfOk result (λ t. t.text.items ≡ applied t.base.items t.changes.items) }
     ensures base { IfOk result (λ t. vec_len t.text_changes ≡ 0 → t.base.items ≡ source.now) }
@@ -244,12 +125,6 @@ fn mended(alloc: Global, source: &[u8], words: &Words, left: Left) -> Result<Tid
 /// The text as it stands.
 #[tactic(auto, using(cop_change::proofs::ApplyLemmas::applied_nothing, crate::proofs::KeptLemmas::stays_of))]
 fn unchanged(alloc: Global, text: &[u8]) -> Result<Tidied, AllocError>
-    requires accepted { IsAccepted text.now }
-    requires first_identified { AreIdentified 1 text.now }
-    requires last_identified { AreIdentified 127 text.now }
-    ensures accepted { IfOk result (λ t. IsAccepted t.text.items) }
-    ensures first_identified { IfOk result (λ t. AreIdentified 1 t.text.items) }
-    ensures last_identified { IfOk result (λ t. AreIdentified 127 t.text.items) }
     ensures found { IfOk result (λ t. t.found ≡ None) }
     ensures changes { IfOk result (λ t. vec_len t.changes ≡ 0) }
     ensures text_changes { IfOk result (λ t. vec_len t.text_changes ≡ 0) }
@@ -270,8 +145,15 @@ fn unchanged(alloc: Global, text: &[u8]) -> Result<Tidied, AllocError>
 
 /// A maker's text as one that the strict reading takes, with the meaning that the maker had: the strict reading takes the
 /// result, and it is the text with exactly the changes that are told. A text against which nothing stands comes back byte
-/// for byte, and against one that the strict reading takes nothing stands but a hazard.
+/// for byte; nothing stands against a result, so that it comes back as it is with the same words. A text is refused only
+/// where something stands against it.
+#[tactic(auto, using(crate::proofs::StandingLemmas::accepted_of, crate::proofs::StandingLemmas::first_identified_of, crate::proofs::StandingLemmas::last_identified_of))]
 pub fn tidy(alloc: Global, text: &[u8], words: &Words) -> Result<Tidied, TidyFault>
+    // What stood against the text, and that nothing stands against the result.
+    ensures found { IfOk result (λ t. t.found ≡ standing words.now text.now) }
+    ensures settled { IfOk result (λ t. standing words.now t.text.items ≡ None) }
+    ensures reason { IfErr result (λ fault. IsReason fault (standing words.now text.now)) }
+
     ensures accepted { IfOk result (λ t. IsAccepted t.text.items) }
     ensures told { IfOk result (λ t. t.text.items ≡ applied t.base.items t.changes.items) }
     ensures base { IfOk result (λ t. vec_len t.text_changes ≡ 0 → t.base.items ≡ text.now) }
@@ -286,10 +168,15 @@ pub fn tidy(alloc: Global, text: &[u8], words: &Words) -> Result<Tidied, TidyFau
     ensures same { IfOk result (λ t. t.found ≡ None → t.text.items ≡ text.now) }
     ensures no_changes { IfOk result (λ t. t.found ≡ None → vec_len t.changes ≡ 0) }
     ensures no_text_changes { IfOk result (λ t. t.found ≡ None → vec_len t.text_changes ≡ 0) }
-    ensures hazard { IfOk result (λ t. IfSome t.found (λ left. IsAccepted text.now → 80 ≤ left.number)) }
 {
-    match judged(alloc, text, words)? {
+    let Ok(found) = judged(alloc, text, words) else {
+        return Err(TidyFault::Memory);
+    };
+    match found {
         Some(left) => mended(alloc, text, words, left),
-        None => Ok(unchanged(alloc, text)?),
+        None => match unchanged(alloc, text) {
+            Ok(tidied) => Ok(tidied),
+            Err(_) => Err(TidyFault::Memory),
+        },
     }
 }

@@ -1,5 +1,6 @@
 //! What a text leaves open, in words.
 
+use crate::meanings::put_meanings;
 use crate::telling::put_shown;
 use std::alloc::{AllocError, Global};
 
@@ -77,6 +78,9 @@ pub fn refusal_words(
         words.extend_from_slice(begin.as_bytes())?;
         put_shown(&mut words, text)?;
         words.push(b'\n')?;
+        if number == 78 {
+            put_meanings(alloc, &mut words, text)?;
+        }
     }
     words.extend_from_slice(question_words(number).as_bytes())?;
     Ok(words)

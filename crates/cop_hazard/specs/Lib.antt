@@ -1,0 +1,6 @@
+pub mod Stated
+pub mod Listed
+pub mod Spelled
+pub mod Records
+pub mod Compact
+pub mod Hazards

@@ -1,0 +1,45 @@
+-- The records of PDOs (CiA 301: RPDO at 1400h to 15FFh, TPDO at 1800h to 19FFh).
+use Rattle.std.specs.Prelude.{ℕ, Bool, false, ◌&&◌, ◌||◌, ◌/◌, ◌%◌, ◌==◌, not, nat_le, List, codes, if◌then◌else◌, Option, Some, None}
+use Rattle.std.specs.Option.{option_map_or}
+use Rattle.cop_eds.specs.declared.line.Kind.TheVariants.{Header}
+use Rattle.cop_eds.specs.declared.line.Line.{Line}
+use Rattle.cop_eds.specs.Text.{name_of}
+use Rattle.cop_eds.specs.Names.{code_of}
+use Rattle.cop_eds.specs.Lines.{text_of, is_kind}
+use Rattle.cop_eds.specs.Objects.{object_section}
+use Rattle.cop_hazard.specs.Stated.{stated}
+use Rattle.cop_hazard.specs.Listed.{names, is_listed}
+
+-- the index of a PDO's communication record
+abbrev pub is_record : ℕ → Bool
+is_record index = (nat_le 0x1400 index && nat_le index 0x15FF) || (nat_le 0x1800 index && nat_le index 0x19FF)
+
+-- the number of the object's section that a line begins
+abbrev pub begun : List ℕ → Line → Option ℕ
+begun text line = if is_kind line.kind Header then code_of (name_of (text_of text line)) else None
+
+-- the object's section of this number is of a PDO's communication record that no list names
+abbrev pub is_unlisted_code : List ℕ → ℕ → Bool
+is_unlisted_code text code = is_record (code / 257) && not (is_listed text (code / 257))
+
+-- hazard 80: the line begins a section of a PDO's communication record that no list names
+unfoldable pub is_unlisted : List ℕ → Line → Bool
+is_unlisted text line = option_map_or (is_unlisted_code text) (begun text line) false
+
+-- the DataType of a section is UNSIGNED32 (CiA 301: 0007h)
+abbrev pub is_unsigned : List ℕ → Option ℕ → Bool
+is_unsigned text None = false
+is_unsigned text (Some section) = names 7 (stated text section (codes "DataType"))
+
+-- the sub 1 of an index is an object of the type UNSIGNED32, as the COB-ID of a PDO is
+abbrev pub has_identifier : List ℕ → ℕ → Bool
+has_identifier text index = is_unsigned text (object_section text index 1)
+
+-- the number is that of the own section of a PDO's communication record that a list names and that has no identifier
+abbrev pub is_unidentified_code : List ℕ → ℕ → Bool
+is_unidentified_code text code =
+    (code % 257 == 0) && is_record (code / 257) && is_listed text (code / 257) && not (has_identifier text (code / 257))
+
+-- hazard 81: the line begins the own section of such a record
+unfoldable pub is_unidentified : List ℕ → Line → Bool
+is_unidentified text line = option_map_or (is_unidentified_code text) (begun text line) false

@@ -1,0 +1,96 @@
+//! The records of PDOs.
+
+ghost use Rattle.std.specs.Prelude.{◌≡◌, ◌≤◌, length};
+ghost use Rattle.cop_eds.specs.Lines.{IsInside};
+ghost use Rattle.cop_hazard.specs.Listed.{names, AreListed};
+ghost use Rattle.cop_hazard.specs.Records.{is_record, begun, is_unlisted_code, is_unlisted, is_unsigned, has_identifier, is_unidentified_code, is_unidentified};
+
+use crate::listed::is_listed;
+use crate::names::code_of;
+use crate::stated::stated;
+use crate::text::{name_of, text_of};
+use cop_eds::{Eds, Kind, Line};
+use std::collections::BTreeSet;
+
+/// Whether an index is of the communication record of a PDO.
+fn is_record(index: u64) -> bool
+    ensures { result ≡ is_record index }
+{
+    (0x1400 <= index && index <= 0x15FF) || (0x1800 <= index && index <= 0x19FF)
+}
+
+/// The number of the object's section that a line begins.
+fn begun(eds: &Eds<'_>, line: &Line) -> Option<u64>
+    requires { IsInside (length eds.now) line.now }
+    ensures { result ≡ begun eds.now line.now }
+{
+    match line.kind {
+        Kind::Header => code_of(name_of(text_of(eds, line))),
+        Kind::Pair | Kind::Other => None,
+    }
+}
+
+fn is_unlisted_code(eds: &Eds<'_>, indexes: &BTreeSet<u64>, code: u64) -> bool
+    requires { AreListed eds.now indexes.now }
+    ensures { result ≡ is_unlisted_code eds.now code }
+{
+    let index = code / 257;
+    is_record(index) && !is_listed(eds, indexes, index)
+}
+
+/// Whether a line begins a section of a PDO's communication record that no list names.
+#[tactic(auto, unfolding(crate::specs::Records::is_unlisted))]
+pub fn is_unlisted(eds: &Eds<'_>, indexes: &BTreeSet<u64>, line: &Line) -> bool
+    requires listed { AreListed eds.now indexes.now }
+    requires inside { IsInside (length eds.now) line.now }
+    ensures { result ≡ is_unlisted eds.now line.now }
+{
+    match begun(eds, line) {
+        Some(code) => is_unlisted_code(eds, indexes, code),
+        None => false,
+    }
+}
+
+/// Whether the DataType of a section is UNSIGNED32.
+fn is_unsigned(eds: &Eds<'_>, section: Option<usize>) -> bool
+    ensures { result ≡ is_unsigned eds.now section }
+{
+    match section {
+        Some(section) => match stated(eds, section, b"DataType") {
+            Some(number) => 7 == number,
+            None => false,
+        },
+        None => false,
+    }
+}
+
+/// Whether the sub 1 of an index is an object of the type UNSIGNED32.
+fn has_identifier(eds: &Eds<'_>, index: u16) -> bool
+    ensures { result ≡ has_identifier eds.now index }
+{
+    is_unsigned(eds, eds.object(index, 1))
+}
+
+fn is_unidentified_code(eds: &Eds<'_>, indexes: &BTreeSet<u64>, code: u64) -> bool
+    requires { AreListed eds.now indexes.now }
+    ensures { result ≡ is_unidentified_code eds.now code }
+{
+    let index = code / 257;
+    if code % 257 != 0 || !is_record(index) {
+        return false;
+    }
+    is_listed(eds, indexes, index) && !has_identifier(eds, index as u16)
+}
+
+/// Whether a line begins the own section of a PDO's communication record that a list names and that has no identifier.
+#[tactic(auto, unfolding(crate::specs::Records::is_unidentified))]
+pub fn is_unidentified(eds: &Eds<'_>, indexes: &BTreeSet<u64>, line: &Line) -> bool
+    requires listed { AreListed eds.now indexes.now }
+    requires inside { IsInside (length eds.now) line.now }
+    ensures { result ≡ is_unidentified eds.now line.now }
+{
+    match begun(eds, line) {
+        Some(code) => is_unidentified_code(eds, indexes, code),
+        None => false,
+    }
+}

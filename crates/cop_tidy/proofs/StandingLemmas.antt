@@ -1,0 +1,96 @@
+-- What follows where nothing stands against a text.
+use Rattle.std.proofs.Common.{◌≡◌, ℕ, ◌≤◌, Bool, true, false, cond, List, Option, Some, None, Result, Ok, Err, IsOk, IfSome, refl, sym, ◌∙◌, subst, lit≤, All}
+use Rattle.std.specs.List.{list_all}
+use Rattle.std.specs.Option.{option_map, option_or}
+use Rattle.std.proofs.lemmas.List.Sums.{AllPass-from_list_all, list_all-from_AllPass}
+use Rattle.cop_eds.specs.declared.fault.Refusal.{Refusal}
+use Rattle.cop_eds.specs.Reading.{reading}
+use Rattle.cop_dict.specs.Find.{Entry}
+use Rattle.cop_dict.specs.Build.{built}
+use Rattle.cop_change.specs.declared.words.Words.{Words}
+use Rattle.cop_hazard.specs.Hazards.{hazard_of}
+use Rattle.cop_tidy.specs.declared.judging.Left.{Left}
+use Rattle.cop_tidy.specs.Accepted.{IsAccepted}
+use Rattle.cop_tidy.specs.Identified.{identified, IsIdentified, AreIdentified}
+use Rattle.cop_tidy.specs.Standing.{is_leaving, left_at, unidentified, standing_built, standing_read, standing}
+use Rattle.cop_tidy.proofs.AcceptedLemmas.{read_as_itself}
+
+neither : {X : Type 0} (a b : Option X) → option_or a b ≡ None → (a ≡ None) × (b ≡ None)
+neither None b h = (refl, h)
+neither (Some x) b h = cc
+
+passed : (b : Bool) (left : Left) → cond b None (Some left) ≡ None → b ≡ true
+passed true left h = refl
+passed false left h = cc
+
+are_identified : (node : ℕ) (text : List ℕ) (dict : List Entry) → built text node ≡ Ok dict → unidentified dict ≡ None → AreIdentified node text
+are_identified node text dict e h other f =
+    let same : dict ≡ other = cc in
+    let P : List Entry → Type 0 = λ d. All (IsIdentified d) d in
+    subst P same (AllPass-from_list_all (identified dict) dict (passed (list_all (identified dict) dict) _ h))
+
+is_built : (node : ℕ) (text : List ℕ) (dict : List Entry) → built text node ≡ Ok dict → IsOk (built text node)
+is_built node text dict e = let P : Result (List Entry) Refusal → Type 0 = λ r. IsOk r in subst P (sym e) refl
+
+-- both dictionaries of the text are built, and their PDOs' records have identifiers
+pub record AreBuilt (text : List ℕ) : Type 0 where
+  pub first : IsOk (built text 1)
+  pub last : IsOk (built text 127)
+  pub first_identified : AreIdentified 1 text
+  pub last_identified : AreIdentified 127 text
+
+both_built : (is_left : Bool) (text : List ℕ) (first last : Result (List Entry) Refusal) → built text 1 ≡ first → built text 127 ≡ last
+    → standing_built is_left text first last ≡ None → AreBuilt text
+both_built is_left text (Err r) last e f h = cc
+both_built is_left text (Ok first) (Err r) e f h = cc
+both_built is_left text (Ok first) (Ok last) e f h =
+    let a = neither (option_map left_at (hazard_of is_left text)) (option_or (unidentified first) (unidentified last)) h in
+    let b = neither (unidentified first) (unidentified last) a.1 in
+    record {
+      first = is_built 1 text first e;
+      last = is_built 127 text last f;
+      first_identified = are_identified 1 text first e b.0;
+      last_identified = are_identified 127 text last f b.1;
+    }
+
+accepted_by : (is_left : Bool) (text : List ℕ) (r : Result (List ℕ) Refusal) → reading text ≡ r → standing_read is_left text r ≡ None → (reading text ≡ Ok text) × AreBuilt text
+accepted_by is_left text (Err e) g h = cc
+accepted_by is_left text (Ok x) g h =
+    let same : x ≡ text = read_as_itself text x g in
+    let read : reading text ≡ Ok text = cc in
+    (read, both_built is_left text (built text 1) (built text 127) refl refl h)
+
+pub accepted_of : (words : Words) (text : List ℕ) → standing words text ≡ None → IsAccepted text
+unfolding standing
+accepted_of words text h =
+    let a = accepted_by (is_leaving words) text (reading text) refl h in
+    record { read = a.0; first = a.1.first; last = a.1.last }
+
+pub first_identified_of : (words : Words) (text : List ℕ) → standing words text ≡ None → AreIdentified 1 text
+unfolding standing
+first_identified_of words text h = let a = accepted_by (is_leaving words) text (reading text) refl h in a.1.first_identified
+
+pub last_identified_of : (words : Words) (text : List ℕ) → standing words text ≡ None → AreIdentified 127 text
+unfolding standing
+last_identified_of words text h = let a = accepted_by (is_leaving words) text (reading text) refl h in a.1.last_identified
+
+-- nothing stands against a text that is accepted and has no hazard
+identified_none : (dict : List Entry) → All (IsIdentified dict) dict → unidentified dict ≡ None
+identified_none dict h = rw (list_all-from_AllPass (identified dict) dict h) refl
+
+none_built : (is_left : Bool) (text : List ℕ) (first last : Result (List Entry) Refusal) → IsOk first → IsOk last
+    → ((dict : List Entry) → first ≡ Ok dict → All (IsIdentified dict) dict) → ((dict : List Entry) → last ≡ Ok dict → All (IsIdentified dict) dict)
+    → hazard_of is_left text ≡ None → standing_built is_left text first last ≡ None
+none_built is_left text (Err r) last a b f l h = cc
+none_built is_left text (Ok first) (Err r) a b f l h = cc
+none_built is_left text (Ok first) (Ok last) a b f l h = rw (h, identified_none first (f first refl), identified_none last (l last refl)) refl
+
+none_read : (is_left : Bool) (text : List ℕ) (r : Result (List ℕ) Refusal) → r ≡ Ok text → standing_built is_left text (built text 1) (built text 127) ≡ None
+    → standing_read is_left text r ≡ None
+none_read is_left text r e h = rw e h
+
+pub none_stands : (words : Words) (text : List ℕ) → IsAccepted text → hazard_of (is_leaving words) text ≡ None → AreIdentified 1 text → AreIdentified 127 text
+    → standing words text ≡ None
+unfolding standing
+none_stands words text a h f l =
+    none_read (is_leaving words) text (reading text) a.read (none_built (is_leaving words) text (built text 1) (built text 127) a.first a.last f l h)

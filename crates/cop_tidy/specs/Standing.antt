@@ -1,0 +1,58 @@
+-- What stands against a text: the first refusal of the strict reading, or a hazard.
+use Rattle.std.specs.Prelude.{ℕ, ◌≡◌, Bool, true, false, List, Option, Some, None, IsSome, Result, Ok, Err, if◌then◌else◌}
+use Rattle.std.specs.List.{list_all}
+use Rattle.std.specs.Option.{option_map, option_or}
+use Rattle.cop_eds.specs.declared.fault.Refusal.{Refusal}
+use Rattle.cop_eds.specs.Rules.{number_of}
+use Rattle.cop_eds.specs.Reading.{reading}
+use Rattle.cop_dict.specs.Find.{Entry}
+use Rattle.cop_dict.specs.Build.{built}
+use Rattle.cop_change.specs.declared.words.Unlisted.{Unlisted}
+use Rattle.cop_change.specs.declared.words.Unlisted.TheVariants.{Add, Leave}
+use Rattle.cop_change.specs.declared.words.Words.{Words}
+use Rattle.cop_change.specs.declared.fault.TidyFault.{TidyFault}
+use Rattle.cop_change.specs.declared.fault.TidyFault.TheVariants.{Refused, Memory}
+use Rattle.cop_hazard.specs.declared.hazards.Hazard.{Hazard}
+use Rattle.cop_hazard.specs.Hazards.{hazard_of}
+use Rattle.cop_tidy.specs.declared.judging.Left.{Left}
+use Rattle.cop_tidy.specs.Identified.{identified}
+
+-- the choice is made to leave sections of PDOs as they are that no list names
+abbrev pub is_leave : Option Unlisted → Bool
+is_leave None = false
+is_leave (Some Add) = false
+is_leave (Some Leave) = true
+
+abbrev pub is_leaving : Words → Bool
+is_leaving words = is_leave words.unlisted
+
+-- what a refusal of the strict reading leaves
+abbrev pub left_of : Refusal → Left
+left_of refusal = record { number = number_of refusal.rule; line = refusal.line }
+
+abbrev pub left_at : Hazard → Left
+left_at hazard = record { number = hazard.number; line = hazard.line }
+
+-- hazard 81 of a dictionary: the record of a PDO in it has no identifier
+abbrev pub unidentified : List Entry → Option Left
+unidentified dict = if list_all (identified dict) dict then None else Some (record { number = 81; line = 0 })
+
+-- what stands against a text that is read, of which these are the dictionaries of the first and of the last node
+abbrev pub standing_built : Bool → List ℕ → Result (List Entry) Refusal → Result (List Entry) Refusal → Option Left
+standing_built is_left text (Err refusal) last = Some (left_of refusal)
+standing_built is_left text (Ok first) (Err refusal) = Some (left_of refusal)
+standing_built is_left text (Ok first) (Ok last) =
+    option_or (option_map left_at (hazard_of is_left text)) (option_or (unidentified first) (unidentified last))
+
+abbrev pub standing_read : Bool → List ℕ → Result (List ℕ) Refusal → Option Left
+standing_read is_left text (Err refusal) = Some (left_of refusal)
+standing_read is_left text (Ok same) = standing_built is_left text (built text 1) (built text 127)
+
+-- what stands against a text, where these choices are made; nothing against one that is accepted and has no hazard
+unfoldable pub standing : Words → List ℕ → Option Left
+standing words text = standing_read (is_leaving words) text (reading text)
+
+-- a text is refused for a reason: something stands against it
+abbrev pub IsReason : TidyFault → Option Left → Type 0
+IsReason Memory left = Unit {0}
+IsReason (Refused refusal) left = IsSome left
