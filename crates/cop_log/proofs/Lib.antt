@@ -1,0 +1,13 @@
+pub mod Counted
+pub mod Distance
+pub mod Bounded
+pub mod Convicts
+pub mod Watched
+pub mod Piled
+pub mod Named
+pub mod Stepped
+pub mod Sought
+pub mod Taken
+pub mod Answered
+pub mod CutLines
+pub mod BoundLemmas

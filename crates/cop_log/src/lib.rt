@@ -1,0 +1,33 @@
+//! Logs of a real bus, and what they show of a plan.
+#![tactic(auto)]
+
+mod anchors;
+mod answers;
+mod bounds;
+mod crowding;
+mod entries;
+mod faults;
+mod findings;
+mod laws;
+mod lines;
+mod measures;
+mod naming;
+mod reading;
+mod reports;
+mod told;
+mod watcher;
+mod watches;
+mod watching;
+
+pub use anchors::{Anchor, Pile};
+pub use answers::watch;
+pub use bounds::bounds_of;
+pub use entries::{Clock, Entry};
+pub use faults::{LineFault, LogFault};
+pub use findings::Finding;
+pub use laws::evidence_convicts;
+pub use lines::{back, front, line_in};
+pub use reading::read_log;
+pub use reports::watch_log;
+pub use told::Told;
+pub use watcher::Watcher;
