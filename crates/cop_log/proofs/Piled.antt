@@ -1,17 +1,14 @@
 -- How what was watched of the transfers goes on with the next entry.
-use Rattle.std.proofs.Common.{◌≡◌, ◌∙◌, ℕ, ◌+◌, ◌*◌, ◌^◌, ◌≤◌, ◌<◌, ◌⊎◌, inl, inr, List, ◌∷◌, [], zero, suc, length, refl, sym, ap, subst, arith, Bool, true, false, cond}
-use Rattle.std.specs.Prelude.{◌≢◌, ◌&&◌, Option, Some, None}
-use Rattle.std.specs.Option.{ForSome}
+use Rattle.std.proofs.Common.{◌≡◌, ℕ, ◌+◌, ◌*◌, ◌^◌, ◌≤◌, ◌<◌, inl, inr, List, suc, length, refl, sym, ap, subst, arith, Bool, true, false}
+use Rattle.std.specs.Prelude.{◌&&◌, Option, Some, None}
 use Rattle.std.proofs.lemmas.Bool.{cases_lt}
-use Rattle.cop_frame.specs.Rate.{ticks_of}
 use Rattle.cop_bus.specs.Run.{least_bits}
 use Rattle.cop_log.specs.declared.entries.Entry.{Entry}
 use Rattle.cop_log.specs.declared.entries.Clock.{Clock}
 use Rattle.cop_log.specs.declared.anchors.Pile.{Pile}
-use Rattle.cop_log.specs.declared.findings.Finding.{Finding}
 use Rattle.cop_log.specs.declared.findings.Finding.TheVariants.{Crowded}
-use Rattle.cop_log.specs.Log.{Terms, entry_at, stamp, most, least_of, IsFull, IsCrowded, IsEvidence}
-use Rattle.cop_log.specs.Watching.{IsPile, IsFullest, IsPiled, IsHeld, IsLoaded}
+use Rattle.cop_log.specs.Log.{entry_at, stamp, most, least_of, IsFull, IsCrowded, IsEvidence}
+use Rattle.cop_log.specs.Watching.{IsPile, IsFullest, IsHeld, IsLoaded}
 use Rattle.cop_log.proofs.Counted.{least-next}
 use Rattle.cop_log.proofs.Watched.{left_true}
 

@@ -1,5 +1,5 @@
 -- What a watcher knows once it has taken the next entry.
-use Rattle.std.proofs.Common.{◌≡◌, ◌∙◌, ℕ, ◌^◌, ◌<◌, List, zero, suc, length, replicate, refl, sym, ap, subst, arith, Bool, true, false, Option, Some, None}
+use Rattle.std.proofs.Common.{◌≡◌, ◌∙◌, ℕ, ◌^◌, ◌<◌, List, zero, suc, length, replicate, refl, sym, subst, Bool, true, false, Option, Some, None}
 use Rattle.std.specs.Prelude.{◌&&◌, is_none, IfNone, IfSome, slice_index_or}
 use Rattle.std.specs.Option.{ForSome}
 use Rattle.cop_frame.specs.Rate.{ticks_of}
@@ -9,7 +9,6 @@ use Rattle.cop_log.specs.declared.anchors.Anchor.{Anchor}
 use Rattle.cop_log.specs.declared.anchors.Pile.{Pile}
 use Rattle.cop_log.specs.declared.findings.Finding.{Finding}
 use Rattle.cop_log.specs.declared.naming.Naming.{Naming}
-use Rattle.cop_log.specs.declared.told.Told.{Told}
 use Rattle.cop_log.specs.declared.watcher.Placed.{Placed}
 use Rattle.cop_log.specs.Log.{Terms, IsEvidence, entry_at, stamp}
 use Rattle.cop_log.specs.Watching.{lane_of, IsWatched, AreWatched, Stands, IsNamed, IsTold, IsLoaded, tells_nothing}

@@ -1,13 +1,11 @@
 -- How what was watched of a stream goes on with the next entry.
-use Rattle.std.proofs.Common.{◌≡◌, ◌∙◌, ℕ, ◌+◌, ◌*◌, ◌^◌, ◌≤◌, ◌<◌, ◌⊎◌, inl, inr, List, ◌∷◌, [], zero, suc, length, refl, sym, ap, subst, arith, Bool, true, false, cond}
-use Rattle.std.specs.Prelude.{◌==◌, ◌≢◌, ◌&&◌, Option, Some, None}
-use Rattle.std.specs.Option.{ForSome}
+use Rattle.std.proofs.Common.{◌≡◌, ◌∙◌, ℕ, ◌+◌, ◌*◌, ◌≤◌, ◌<◌, inl, inr, List, suc, length, refl, sym, ap, subst, arith, Bool, true, false}
+use Rattle.std.specs.Prelude.{◌≢◌, ◌&&◌, Option, Some, None}
 use Rattle.std.proofs.lemmas.Bool.{cases_lt}
 use Rattle.cop_log.specs.declared.entries.Entry.{Entry}
 use Rattle.cop_log.specs.declared.anchors.Anchor.{Anchor}
-use Rattle.cop_log.specs.declared.findings.Finding.{Finding}
 use Rattle.cop_log.specs.declared.findings.Finding.TheVariants.{Soon}
-use Rattle.cop_log.specs.Log.{Terms, entry_at, stamp, most, count_of, Lane, IsLaneOf, IsNear, IsSoon, IsEvidence}
+use Rattle.cop_log.specs.Log.{entry_at, stamp, most, count_of, Lane, IsNear, IsSoon, IsEvidence}
 use Rattle.cop_log.specs.Watching.{IsAnchor, IsStrictest, IsAnchored, IsWatched, IsStep}
 use Rattle.cop_log.proofs.Counted.{count-own, count-other}
 

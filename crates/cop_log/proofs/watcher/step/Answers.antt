@@ -1,4 +1,4 @@
-use Rattle.std.proofs.Common.{◌≡◌, ◌∙◌, ◌<◌, set, sym, ap, subst}
+use Rattle.std.proofs.Common.{◌∙◌, set, sym, ap, subst}
 use Rattle.std.specs.Prelude.{IfSome, Some, None, slice_index_or}
 use Rattle.cop_log.specs.Watching.{lane_of, IsWatched}
 use Rattle.cop_log.specs.Watchers.{IsStepOfAll}
