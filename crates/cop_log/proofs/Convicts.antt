@@ -113,7 +113,7 @@ module _ (t : Terms) (until : ℕ) (run : List Instance) (log : List Entry) (bou
       let second = not_before p m o.there lane.bound o.bound j l soon.second in
       let slow = has.not_slow i j soon.ordered l in
       let near = subst (λ c. IsNear (record { stream = lane.stream; tau = ticks_of t.rate; bound = lane.bound; clock = c }) (stamp log i) (stamp log j) n) o.same_clock
-          (subst (λ t. IsNear (record { stream = lane.stream; tau = t; bound = lane.bound; clock = lane.clock }) (stamp log i) (stamp log j) n) o.tau soon.near) in
+      (subst (λ t. IsNear (record { stream = lane.stream; tau = t; bound = lane.bound; clock = lane.clock }) (stamp log i) (stamp log j) n) o.tau soon.near) in
       omega (arith, near, slow, far, first, second)
 
   -- transfers that do not fit

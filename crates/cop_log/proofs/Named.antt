@@ -61,13 +61,13 @@ module _ (streams : List Stream) (log : List Entry) (i : ℕ) (clean : Bool) whe
     none_strange = λ e j m a. elim (cases_lt j i) [
       | inl s ↦ w.none_strange e j s a
       | inr s ↦ (let q : j ≡ i = omega arith in
-        subst (λ j. IsStrange streams (entry_at log j)) q a k.0 k.1 k.2 (ap (λ (s : Stream). s.id) k.3 ∙ k.4))
+          subst (λ j. IsStrange streams (entry_at log j)) q a k.0 k.1 k.2 (ap (λ (s : Stream). s.id) k.3 ∙ k.4))
     ];
     none_misshapen = λ e j m a. elim (cases_lt j i) [
       | inl s ↦ w.none_misshapen e j s a
       | inr s ↦ (let q : j ≡ i = omega arith in
-        let k = subst (λ j. IsMisshapen streams (entry_at log j)) q a in
-        k.4.1 (All-contains (λ k. k.id ≡ (entry_at log i).id → k.bytes ≡ (entry_at log i).len) streams k.1 h (k.0, k.2, k.3) k.4.0))
+          let k = subst (λ j. IsMisshapen streams (entry_at log j)) q a in
+          k.4.1 (All-contains (λ k. k.id ≡ (entry_at log i).id → k.bytes ≡ (entry_at log i).len) streams k.1 h (k.0, k.2, k.3) k.4.0))
     ];
   }
 

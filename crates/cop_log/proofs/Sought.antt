@@ -34,8 +34,8 @@ no_bound t distinct id n e l none p k o same = elim (cases_lt p n) [
   | inr h ↦ elim (cases_lt n p) [
     | inl g ↦ apart (λ q. omega arith)
     | inr g ↦ (let q : n ≡ p = omega arith in
-      let bound : None ≡ Some k.bound = sym none ∙ (ap (λ n. slice_index_or t.bounds n None) q ∙ o.bound) in
-      absurd (cc))
+        let bound : None ≡ Some k.bound = sym none ∙ (ap (λ n. slice_index_or t.bounds n None) q ∙ o.bound) in
+        absurd (cc))
   ]
 ]
   where

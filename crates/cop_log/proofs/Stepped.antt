@@ -68,10 +68,10 @@ step_all t distinct log i l anchors clean p k o own anchor soon s w =
         | inr h ↦ elim (cases_lt p q) [
           | inl g ↦ other q m u (λ e. omega arith)
           | inr g ↦ (let e : q ≡ p = omega arith in
-            let v : IsLaneOf t p m = subst (λ q. IsLaneOf t q m) e u in
-            subst (λ q. IsWatched m log (suc i) (slice_index_or (set anchors p (Some anchor)) q None) (clean && is_none soon)) (sym e)
-            (subst (λ a. IsWatched m log (suc i) a (clean && is_none soon)) (sym (get_or-set_same anchors p (Some anchor) None within))
-            (subst (λ k. IsWatched k log (suc i) (Some anchor) (clean && is_none soon)) (one_lane t p k m o v) s.watched)))
+              let v : IsLaneOf t p m = subst (λ q. IsLaneOf t q m) e u in
+              subst (λ q. IsWatched m log (suc i) (slice_index_or (set anchors p (Some anchor)) q None) (clean && is_none soon)) (sym e)
+              (subst (λ a. IsWatched m log (suc i) a (clean && is_none soon)) (sym (get_or-set_same anchors p (Some anchor) None within))
+              (subst (λ k. IsWatched k log (suc i) (Some anchor) (clean && is_none soon)) (one_lane t p k m o v) s.watched)))
         ]
       ];
     }
