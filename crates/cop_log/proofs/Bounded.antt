@@ -1,12 +1,12 @@
 -- A stream that passes has its greatest response as a bound, whatever its deadline.
 use Rattle.std.proofs.Common.{◌≡◌, ◌∙◌, ℕ, ◌+◌, ◌-◌, ◌*◌, ◌≤◌, ◌<◌, List, refl, sym, ap, subst, arith, le_trans, le_of_eq}
-use Rattle.std.specs.Prelude.{Contains, All, filter, nat_lt, slice_get, Some}
+use Rattle.std.specs.Prelude.{All, filter, nat_lt, slice_get, Some}
 use Rattle.std.specs.Option.{ForSome, option_map_or}
 use Rattle.std.proofs.lemmas.List.Elements.{All-contains}
 use Rattle.cop_frame.specs.declared.rates.Rate.{Rate}
 use Rattle.cop_frame.specs.Rate.{ticks_of}
 use Rattle.cop_rta.specs.declared.streams.Stream.{Stream}
-use Rattle.cop_rta.specs.Test.{place_by_id, ahead_of, jitter_of, jitter_at as jitter_of_place, of_stream, cost_of, cost_at, period_at, busy_at, queueing_at, IsQueuedWithin as IsQueuedBy, IsResponse, Passes}
+use Rattle.cop_rta.specs.Test.{place_by_id, jitter_at as jitter_of_place, of_stream, cost_of, cost_at, period_at, busy_at, queueing_at, IsQueuedWithin as IsQueuedBy, IsResponse, Passes}
 use Rattle.cop_rta.specs.Jittered.{busy_by, queueing_by}
 use Rattle.cop_rta.specs.Verdict.{PassesBy}
 use Rattle.cop_rta.specs.Greatest.{AreSynced}

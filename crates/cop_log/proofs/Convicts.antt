@@ -1,20 +1,19 @@
 -- What is evident from a log speaks against each run that is said to have it.
-use Rattle.std.proofs.Common.{◌≡◌, ◌∙◌, ℕ, ◌+◌, ◌-◌, ◌*◌, ◌≤◌, ◌<◌, List, ◌∷◌, [], zero, suc, length, get_or, refl, sym, ap, subst, arith, Some, Bool, true, false, cond}
-use Rattle.std.specs.Prelude.{Contains, Any, ◌==◌, ◌≢◌, slice_get, slice_index_or, None}
+use Rattle.std.proofs.Common.{◌≡◌, ◌∙◌, ℕ, ◌+◌, ◌-◌, ◌*◌, ◌≤◌, ◌<◌, List, zero, suc, length, refl, sym, ap, subst, arith, Some, Bool, true, false, cond}
+use Rattle.std.specs.Prelude.{Contains, ◌==◌, ◌≢◌, slice_get, slice_index_or, None}
 use Rattle.std.specs.Option.{ForSome}
 use Rattle.std.proofs.lemmas.List.Elements.{All-contains}
 use Rattle.std.proofs.lemmas.Bool.Decides.{nat_tests}
-use Rattle.cop_frame.specs.declared.rates.Rate.{Rate}
 use Rattle.cop_frame.specs.Rate.{ticks_of}
 use Rattle.cop_rta.specs.declared.streams.Stream.{Stream}
 use Rattle.cop_rta.proofs.QueueLemmas.{ticks_pos}
-use Rattle.cop_bus.specs.Run.{Instance, IsLegal, IsRunAbove, jitter_at, least_bits}
+use Rattle.cop_bus.specs.Run.{Instance, IsRunAbove, jitter_at, least_bits}
 use Rattle.cop_bus.specs.Spread.{IsSpread}
 use Rattle.cop_bus.proofs.Sound.{in_streams}
 use Rattle.cop_log.specs.declared.entries.Entry.{Entry}
 use Rattle.cop_log.specs.declared.findings.Finding.{Finding}
 use Rattle.cop_log.specs.declared.findings.Finding.TheVariants.{Unknown, Length, Soon, Crowded}
-use Rattle.cop_log.specs.Log.{Terms, entry_at, IsOf, HasLog, AreBounded, IsRunWith, count_of, least_of, Lane, IsLaneOf, IsNear, IsSoon, IsCrowded, stamp, IsEvidence}
+use Rattle.cop_log.specs.Log.{Terms, entry_at, IsOf, HasLog, AreBounded, IsRunWith, count_of, least_of, Lane, IsLaneOf, IsNear, IsSoon, stamp, IsEvidence}
 use Rattle.cop_log.proofs.Counted.{count-next, count-own, least-next}
 use Rattle.cop_log.proofs.Bounded as Bounded
 use Rattle.cop_log.proofs.Distance as Distance
@@ -114,7 +113,7 @@ module _ (t : Terms) (until : ℕ) (run : List Instance) (log : List Entry) (bou
       let second = not_before p m o.there lane.bound o.bound j l soon.second in
       let slow = has.not_slow i j soon.ordered l in
       let near = subst (λ c. IsNear (record { stream = lane.stream; tau = ticks_of t.rate; bound = lane.bound; clock = c }) (stamp log i) (stamp log j) n) o.same_clock
-          (subst (λ t. IsNear (record { stream = lane.stream; tau = t; bound = lane.bound; clock = lane.clock }) (stamp log i) (stamp log j) n) o.tau soon.near) in
+      (subst (λ t. IsNear (record { stream = lane.stream; tau = t; bound = lane.bound; clock = lane.clock }) (stamp log i) (stamp log j) n) o.tau soon.near) in
       omega (arith, near, slow, far, first, second)
 
   -- transfers that do not fit

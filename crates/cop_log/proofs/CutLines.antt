@@ -1,5 +1,5 @@
 -- The first line of a text and what comes behind it.
-use Rattle.std.proofs.Common.{◌≡◌, ◌∙◌, ℕ, ◌+◌, ◌<◌, ◌≤◌, List, [], ◌∷◌, suc, zero, length, take, drop, refl, sym, ap, subst, arith, Bool, true, false, cond, add-one}
+use Rattle.std.proofs.Common.{◌≡◌, ◌∙◌, ℕ, ◌+◌, ◌<◌, ◌≤◌, List, [], ◌∷◌, suc, zero, length, take, drop, refl, sym, ap, subst, arith, Bool, true, false, cond}
 use Rattle.std.specs.Prelude.{◌==◌, Option, None, Some, Result, Ok, Err, IfSome, IsErrAnd}
 use Rattle.cop_table.specs.Reading.{◌>>=◌, Gives}
 use Rattle.cop_log.specs.declared.entries.Entry.{Entry}

@@ -1,6 +1,6 @@
 -- How far apart two transfers end in a legal run, and two of a stream whose instances are spread.
-use Rattle.std.proofs.Common.{◌≡◌, ◌∙◌, ℕ, ◌+◌, ◌*◌, ◌≤◌, ◌<◌, ◌⊎◌, inl, inr, List, get_or, refl, sym, ap, subst, arith, Some}
-use Rattle.std.specs.Prelude.{All, AllPairs, Contains}
+use Rattle.std.proofs.Common.{◌≡◌, ◌∙◌, ℕ, ◌+◌, ◌*◌, ◌≤◌, ◌<◌, inl, inr, List, sym, subst, arith, Some}
+use Rattle.std.specs.Prelude.{AllPairs, Contains}
 use Rattle.std.specs.Option.{ForSome}
 use Rattle.std.proofs.lemmas.List.Elements.{All-contains}
 use Rattle.std.proofs.Math.Nat.{mul-le-mul_right}
@@ -80,11 +80,11 @@ module _ (tau : ℕ) (streams : List Stream) (until : ℕ) (run : List Instance)
       | inr r ↦ elim r [
         | inl h ↦ (h.1 u v).period_apart
         | inr h ↦ (let s = h.0 (v ∙ sym u) a.0 a.1 in
-          let t : Some s.0 ≡ Some b.0 = sym s.1 ∙ b.1 in
-          let q : s.0 ≡ b.0 = cc in
-          let g = apart y z c d e f a b l in
-          let p = takes y c in
-          absurd (omega (arith, q, g, p, a.2, b.2, s.2)))
+            let t : Some s.0 ≡ Some b.0 = sym s.1 ∙ b.1 in
+            let q : s.0 ≡ b.0 = cc in
+            let g = apart y z c d e f a b l in
+            let p = takes y c in
+            absurd (omega (arith, q, g, p, a.2, b.2, s.2)))
       ]
     ]
 

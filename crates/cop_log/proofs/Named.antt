@@ -1,6 +1,6 @@
 -- Streams by identifier, and how what was said of names goes on with the next entry.
-use Rattle.std.proofs.Common.{◌≡◌, ◌∙◌, ℕ, ◌+◌, ◌<◌, ◌≤◌, inl, inr, List, [], ◌∷◌, suc, length, get_or, refl, sym, ap, subst, arith, Bool, true, false, cond, Option, Some, None}
-use Rattle.std.specs.Prelude.{◌==◌, ◌≢◌, ◌&&◌, option_map, All, Any, slice_get, is_none}
+use Rattle.std.proofs.Common.{◌≡◌, ◌∙◌, ℕ, ◌<◌, inl, inr, List, [], ◌∷◌, suc, length, get_or, refl, sym, ap, subst, arith, Bool, true, false, cond, Option, Some, None}
+use Rattle.std.specs.Prelude.{◌==◌, ◌≢◌, ◌&&◌, option_map, All, Any, is_none}
 use Rattle.std.specs.Option.{ForSome, option_map_or}
 use Rattle.std.specs.List.{AllByRecursion as Each}
 use Rattle.std.proofs.lemmas.Bool.{cases_lt}
@@ -12,7 +12,6 @@ use Rattle.cop_rta.specs.declared.streams.Stream.{Stream}
 use Rattle.cop_rta.specs.Streams.{place_of_id, AreDistinct}
 use Rattle.cop_rta.proofs.IdentifierLemmas.{place_has_id}
 use Rattle.cop_log.specs.declared.entries.Entry.{Entry}
-use Rattle.cop_log.specs.declared.findings.Finding.{Finding}
 use Rattle.cop_log.specs.declared.findings.Finding.TheVariants.{Unknown, Length}
 use Rattle.cop_log.specs.declared.naming.Naming.{Naming}
 use Rattle.cop_log.specs.declared.naming.Naming.TheVariants as naming
@@ -62,13 +61,13 @@ module _ (streams : List Stream) (log : List Entry) (i : ℕ) (clean : Bool) whe
     none_strange = λ e j m a. elim (cases_lt j i) [
       | inl s ↦ w.none_strange e j s a
       | inr s ↦ (let q : j ≡ i = omega arith in
-        subst (λ j. IsStrange streams (entry_at log j)) q a k.0 k.1 k.2 (ap (λ (s : Stream). s.id) k.3 ∙ k.4))
+          subst (λ j. IsStrange streams (entry_at log j)) q a k.0 k.1 k.2 (ap (λ (s : Stream). s.id) k.3 ∙ k.4))
     ];
     none_misshapen = λ e j m a. elim (cases_lt j i) [
       | inl s ↦ w.none_misshapen e j s a
       | inr s ↦ (let q : j ≡ i = omega arith in
-        let k = subst (λ j. IsMisshapen streams (entry_at log j)) q a in
-        k.4.1 (All-contains (λ k. k.id ≡ (entry_at log i).id → k.bytes ≡ (entry_at log i).len) streams k.1 h (k.0, k.2, k.3) k.4.0))
+          let k = subst (λ j. IsMisshapen streams (entry_at log j)) q a in
+          k.4.1 (All-contains (λ k. k.id ≡ (entry_at log i).id → k.bytes ≡ (entry_at log i).len) streams k.1 h (k.0, k.2, k.3) k.4.0))
     ];
   }
 

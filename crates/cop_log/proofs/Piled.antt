@@ -1,17 +1,14 @@
 -- How what was watched of the transfers goes on with the next entry.
-use Rattle.std.proofs.Common.{◌≡◌, ◌∙◌, ℕ, ◌+◌, ◌*◌, ◌^◌, ◌≤◌, ◌<◌, ◌⊎◌, inl, inr, List, ◌∷◌, [], zero, suc, length, refl, sym, ap, subst, arith, Bool, true, false, cond}
-use Rattle.std.specs.Prelude.{◌≢◌, ◌&&◌, Option, Some, None}
-use Rattle.std.specs.Option.{ForSome}
+use Rattle.std.proofs.Common.{◌≡◌, ℕ, ◌+◌, ◌*◌, ◌^◌, ◌≤◌, ◌<◌, inl, inr, List, suc, length, refl, sym, ap, subst, arith, Bool, true, false}
+use Rattle.std.specs.Prelude.{◌&&◌, Option, Some, None}
 use Rattle.std.proofs.lemmas.Bool.{cases_lt}
-use Rattle.cop_frame.specs.Rate.{ticks_of}
 use Rattle.cop_bus.specs.Run.{least_bits}
 use Rattle.cop_log.specs.declared.entries.Entry.{Entry}
 use Rattle.cop_log.specs.declared.entries.Clock.{Clock}
 use Rattle.cop_log.specs.declared.anchors.Pile.{Pile}
-use Rattle.cop_log.specs.declared.findings.Finding.{Finding}
 use Rattle.cop_log.specs.declared.findings.Finding.TheVariants.{Crowded}
-use Rattle.cop_log.specs.Log.{Terms, entry_at, stamp, most, least_of, IsFull, IsCrowded, IsEvidence}
-use Rattle.cop_log.specs.Watching.{IsPile, IsFullest, IsPiled, IsHeld, IsLoaded}
+use Rattle.cop_log.specs.Log.{entry_at, stamp, most, least_of, IsFull, IsCrowded, IsEvidence}
+use Rattle.cop_log.specs.Watching.{IsPile, IsFullest, IsHeld, IsLoaded}
 use Rattle.cop_log.proofs.Counted.{least-next}
 use Rattle.cop_log.proofs.Watched.{left_true}
 
@@ -37,8 +34,11 @@ module _ (tau : ℕ) (clock : Clock) (log : List Entry) (i : ℕ) (l : i < lengt
 
   -- the newest entry is as full as itself
   itself : IsFullest tau clock log i i → IsFullest tau clock log (suc i) i
-  itself h = λ a m. elim (cases_lt a i) [ inl s ↦ h a s | inr s ↦ (let r : i ≡ a = omega arith in
-      subst (λ a. most clock (stamp log a) + 1000000 * least_of tau log (suc i) ≤ most clock (stamp log i) + 1000000 * least_of tau log (suc a)) r (omega arith)) ]
+  itself h = λ a m. elim (cases_lt a i) [
+    | inl s ↦ h a s
+    | inr s ↦ (let r : i ≡ a = omega arith in
+        subst (λ a. most clock (stamp log a) + 1000000 * least_of tau log (suc i) ≤ most clock (stamp log i) + 1000000 * least_of tau log (suc a)) r (omega arith))
+  ]
 
   pub first : IsHeld tau clock log i None clean → IsLoaded tau clock log i clean fresh None
   first w =
@@ -77,10 +77,10 @@ module _ (tau : ℕ) (clock : Clock) (log : List Entry) (i : ℕ) (l : i < lengt
     fine far e a b n m c = elim (cases_lt b i) [
       | inl s ↦ w.none_crowded e a b n s c
       | inr s ↦ (let q : b ≡ i = omega arith in
-        let here = subst (λ b. IsCrowded tau clock log a b n) q c in
-        let sum : p.ticks + own + least_of tau log (suc p.from) ≡ least_of tau log (suc i) = (let d = grown-pile.counted in omega (arith, d, more)) in
-        let there = full p.from p.ticks own sum (w.fullest e p refl) a n here in
-        far (subst (IsFull clock p.at at) (sym more) (subst (λ f. IsFull clock f at (p.ticks + own)) (sym w.piled.stamped) (subst (λ u. IsFull clock (stamp log p.from) u (p.ticks + own)) (sym stamped) there))))
+          let here = subst (λ b. IsCrowded tau clock log a b n) q c in
+          let sum : p.ticks + own + least_of tau log (suc p.from) ≡ least_of tau log (suc i) = (let d = grown-pile.counted in omega (arith, d, more)) in
+          let there = full p.from p.ticks own sum (w.fullest e p refl) a n here in
+          far (subst (IsFull clock p.at at) (sym more) (subst (λ f. IsFull clock f at (p.ticks + own)) (sym w.piled.stamped) (subst (λ u. IsFull clock (stamp log p.from) u (p.ticks + own)) (sym stamped) there))))
     ]
 
     pub told : IsFull clock p.at at ticks → IsLoaded tau clock log i clean fresh (Some (Crowded p.from i))
@@ -111,10 +111,10 @@ module _ (tau : ℕ) (clock : Clock) (log : List Entry) (i : ℕ) (l : i < lengt
       fullest = λ e q s. let r : p.from ≡ q.from = cc in subst (IsFullest tau clock log (suc i)) r (λ a m. elim (cases_lt a i) [
         | inl t ↦ w.fullest e p refl a t
         | inr t ↦ (let z : i ≡ a = omega arith in
-          let u : most clock p.at ≡ most clock (stamp log p.from) = ap (most clock) w.piled.stamped in
-          let v : most clock at ≡ most clock (stamp log i) = ap (most clock) stamped in
-          let d = grown-pile.counted in
-          subst (λ a. most clock (stamp log a) + 1000000 * least_of tau log (suc p.from) ≤ most clock (stamp log p.from) + 1000000 * least_of tau log (suc a)) z (omega (arith, u, v, d, behind)))
+            let u : most clock p.at ≡ most clock (stamp log p.from) = ap (most clock) w.piled.stamped in
+            let v : most clock at ≡ most clock (stamp log i) = ap (most clock) stamped in
+            let d = grown-pile.counted in
+            subst (λ a. most clock (stamp log a) + 1000000 * least_of tau log (suc p.from) ≤ most clock (stamp log p.from) + 1000000 * least_of tau log (suc a)) z (omega (arith, u, v, d, behind)))
       ]);
       none_crowded = fine far;
     })

@@ -1,16 +1,14 @@
 -- The stream with a bound that has an identifier.
-use Rattle.std.proofs.Common.{◌≡◌, ◌∙◌, ℕ, ◌+◌, ◌≤◌, ◌<◌, inl, inr, List, [], ◌∷◌, zero, suc, length, get_or, refl, sym, ap, subst, arith, Option, Some, None}
-use Rattle.std.specs.Prelude.{◌≢◌, All, slice_get, slice_index_or}
+use Rattle.std.proofs.Common.{◌≡◌, ◌∙◌, ℕ, ◌≤◌, ◌<◌, inl, inr, List, [], ◌∷◌, zero, suc, length, get_or, refl, sym, ap, arith, Option, Some, None}
+use Rattle.std.specs.Prelude.{◌≢◌, slice_get, slice_index_or}
 use Rattle.std.proofs.lemmas.Bool.{cases_lt}
 use Rattle.std.proofs.lemmas.List.Elements.{All-contains}
 use Rattle.std.proofs.lemmas.Option.{slice_get_read}
-use Rattle.cop_frame.specs.declared.rates.Rate.{Rate}
 use Rattle.cop_frame.specs.Rate.{ticks_of}
 use Rattle.cop_rta.specs.declared.streams.Stream.{Stream}
 use Rattle.cop_rta.specs.Streams.{place_of_id, AreDistinct}
 use Rattle.cop_bus.proofs.Sound.{in_streams}
-use Rattle.cop_log.specs.declared.entries.Clock.{Clock}
-use Rattle.cop_log.specs.Log.{Terms, Lane, IsLaneOf}
+use Rattle.cop_log.specs.Log.{Terms}
 use Rattle.cop_log.specs.Watchers.{HasNoLane, HasLane}
 use Rattle.cop_log.proofs.Named.{nowhere, there}
 use Rattle.cop_log.proofs.Stepped.{other_id}
@@ -36,8 +34,8 @@ no_bound t distinct id n e l none p k o same = elim (cases_lt p n) [
   | inr h ↦ elim (cases_lt n p) [
     | inl g ↦ apart (λ q. omega arith)
     | inr g ↦ (let q : n ≡ p = omega arith in
-      let bound : None ≡ Some k.bound = sym none ∙ (ap (λ n. slice_index_or t.bounds n None) q ∙ o.bound) in
-      absurd (cc))
+        let bound : None ≡ Some k.bound = sym none ∙ (ap (λ n. slice_index_or t.bounds n None) q ∙ o.bound) in
+        absurd (cc))
   ]
 ]
   where

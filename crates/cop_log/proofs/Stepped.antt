@@ -1,18 +1,15 @@
 -- How what was watched for all goes on with the next entry.
-use Rattle.std.proofs.Common.{◌≡◌, ◌∙◌, ℕ, ◌+◌, ◌^◌, ◌≤◌, ◌<◌, inl, inr, List, [], ◌∷◌, suc, length, get_or, get_or-set_same, get_or-set_other, length-set, refl, sym, ap, subst, arith, Bool, true, false, cond, Option, Some, None}
-use Rattle.std.specs.Prelude.{◌≢◌, ◌&&◌, set, slice_get, slice_index_or, slice_set, is_none}
-use Rattle.std.specs.Option.{ForSome}
+use Rattle.std.proofs.Common.{◌≡◌, ◌∙◌, ℕ, ◌<◌, inl, inr, List, suc, length, get_or, get_or-set_same, get_or-set_other, length-set, refl, sym, ap, subst, arith, Bool, true, Option, Some, None}
+use Rattle.std.specs.Prelude.{◌≢◌, ◌&&◌, set, slice_get, slice_index_or, is_none}
 use Rattle.std.proofs.lemmas.Bool.{cases_lt}
 use Rattle.std.proofs.lemmas.Option.{slice_get_within, get_or_from_slice_get}
-use Rattle.cop_frame.specs.declared.rates.Rate.{Rate}
-use Rattle.cop_frame.specs.Rate.{ticks_of}
 use Rattle.cop_rta.specs.declared.streams.Stream.{Stream}
 use Rattle.cop_rta.specs.Streams.{AreDistinct}
 use Rattle.cop_log.specs.declared.entries.Entry.{Entry}
 use Rattle.cop_log.specs.declared.entries.Clock.{Clock}
 use Rattle.cop_log.specs.declared.anchors.Anchor.{Anchor}
 use Rattle.cop_log.specs.declared.findings.Finding.{Finding}
-use Rattle.cop_log.specs.Log.{Terms, Lane, IsLaneOf, IsEvidence, entry_at}
+use Rattle.cop_log.specs.Log.{Terms, Lane, IsLaneOf, entry_at}
 use Rattle.cop_log.specs.Watching.{AreWatched, IsWatched, IsStep}
 use Rattle.cop_log.specs.Watchers.{HasNoLane}
 use Rattle.cop_log.proofs.Watched.{skip, left_true, weaken as lower}
@@ -71,10 +68,10 @@ step_all t distinct log i l anchors clean p k o own anchor soon s w =
         | inr h ↦ elim (cases_lt p q) [
           | inl g ↦ other q m u (λ e. omega arith)
           | inr g ↦ (let e : q ≡ p = omega arith in
-            let v : IsLaneOf t p m = subst (λ q. IsLaneOf t q m) e u in
-            subst (λ q. IsWatched m log (suc i) (slice_index_or (set anchors p (Some anchor)) q None) (clean && is_none soon)) (sym e)
-            (subst (λ a. IsWatched m log (suc i) a (clean && is_none soon)) (sym (get_or-set_same anchors p (Some anchor) None within))
-            (subst (λ k. IsWatched k log (suc i) (Some anchor) (clean && is_none soon)) (one_lane t p k m o v) s.watched)))
+              let v : IsLaneOf t p m = subst (λ q. IsLaneOf t q m) e u in
+              subst (λ q. IsWatched m log (suc i) (slice_index_or (set anchors p (Some anchor)) q None) (clean && is_none soon)) (sym e)
+              (subst (λ a. IsWatched m log (suc i) a (clean && is_none soon)) (sym (get_or-set_same anchors p (Some anchor) None within))
+              (subst (λ k. IsWatched k log (suc i) (Some anchor) (clean && is_none soon)) (one_lane t p k m o v) s.watched)))
         ]
       ];
     }

@@ -1,5 +1,5 @@
 -- What a watcher knows once it has taken the next entry.
-use Rattle.std.proofs.Common.{◌≡◌, ◌∙◌, ℕ, ◌^◌, ◌<◌, List, zero, suc, length, replicate, refl, sym, ap, subst, arith, Bool, true, false, Option, Some, None}
+use Rattle.std.proofs.Common.{◌≡◌, ◌∙◌, ℕ, ◌^◌, ◌<◌, List, zero, suc, length, replicate, refl, sym, subst, Bool, true, false, Option, Some, None}
 use Rattle.std.specs.Prelude.{◌&&◌, is_none, IfNone, IfSome, slice_index_or}
 use Rattle.std.specs.Option.{ForSome}
 use Rattle.cop_frame.specs.Rate.{ticks_of}
@@ -9,7 +9,6 @@ use Rattle.cop_log.specs.declared.anchors.Anchor.{Anchor}
 use Rattle.cop_log.specs.declared.anchors.Pile.{Pile}
 use Rattle.cop_log.specs.declared.findings.Finding.{Finding}
 use Rattle.cop_log.specs.declared.naming.Naming.{Naming}
-use Rattle.cop_log.specs.declared.told.Told.{Told}
 use Rattle.cop_log.specs.declared.watcher.Placed.{Placed}
 use Rattle.cop_log.specs.Log.{Terms, IsEvidence, entry_at, stamp}
 use Rattle.cop_log.specs.Watching.{lane_of, IsWatched, AreWatched, Stands, IsNamed, IsTold, IsLoaded, tells_nothing}
@@ -43,11 +42,12 @@ module _ (t : Terms) (distinct : AreDistinct t.streams) (log : List Entry) (i : 
       IfNone placed (HasNoLane t (entry_at log i).id) → IfSome placed (λ x. HasLane t x.place (lane_of x.watch) (entry_at log i).id) →
       IfNone placed ((after ≡ anchors) × (soon ≡ None)) → IfSome placed (λ x. IsStepOfAll x (stamp log i) i anchors after soon) →
       AreWatched t log i anchors clean → ForSome soon (IsEvidence t log) × AreWatched t log (suc i) after (clean && is_none soon)
-  stepped anchors after soon None none some same step w =
-      (λ f e. (let q : None ≡ Some f = sym same.1 ∙ e in absurd (cc)),
-      subst (λ a. AreWatched t log (suc i) a (clean && is_none soon)) (sym same.0)
-      (subst (λ s. AreWatched t log (suc i) anchors (clean && is_none s)) (sym same.1)
-      (Stepped.weaken t log (suc i) anchors clean (clean && true) (left_true clean true) (Stepped.skip_all t log i l anchors clean none w))))
+  stepped anchors after soon None none some same step w = (
+    λ f e. (let q : None ≡ Some f = sym same.1 ∙ e in absurd (cc)),
+    subst (λ a. AreWatched t log (suc i) a (clean && is_none soon)) (sym same.0)
+        (subst (λ s. AreWatched t log (suc i) anchors (clean && is_none s)) (sym same.1)
+        (Stepped.weaken t log (suc i) anchors clean (clean && true) (left_true clean true) (Stepped.skip_all t log i l anchors clean none w))),
+  )
   stepped anchors after soon (Some x) none some same step w = step t log clean l short refl (sym some.1) some.0 distinct w
 
   taken_so : (anchors after : List (Option Anchor)) (pile : Option Pile) (next : Pile) (naming : Naming) (soon crowded : Option Finding) (placed : Option Placed) →
@@ -62,17 +62,18 @@ module _ (t : Terms) (distinct : AreDistinct t.streams) (log : List Entry) (i : 
       let s = stepped anchors after soon placed none some same step w.watched in
       let a = is_none (named_by naming i) in
       let b = is_none soon in
-      let d = is_none crowded in
-      (record {
-        named = Named.evident t log i l naming named;
-        soon = s.0;
-        crowded = λ f e. loaded.evident f e t refl refl;
-      },
-      record {
-        watched = Stepped.weaken t log (suc i) after (clean && b) (clean && (a && (b && d))) (second_of clean a b d) s.1;
-        held = Piled.weaken (ticks_of t.rate) t.clock log (suc i) (Some next) (clean && d) (clean && (a && (b && d))) (third_of clean a b d) loaded.held;
-        named = Named.weaken t.streams log (suc i) (clean && a) (clean && (a && (b && d))) (first_of clean a b d) (Named.named t.streams log i clean naming named w.named);
-      })
+      let d = is_none crowded in (
+        record {
+          named = Named.evident t log i l naming named;
+          soon = s.0;
+          crowded = λ f e. loaded.evident f e t refl refl;
+        },
+        record {
+          watched = Stepped.weaken t log (suc i) after (clean && b) (clean && (a && (b && d))) (second_of clean a b d) s.1;
+          held = Piled.weaken (ticks_of t.rate) t.clock log (suc i) (Some next) (clean && d) (clean && (a && (b && d))) (third_of clean a b d) loaded.held;
+          named = Named.weaken t.streams log (suc i) (clean && a) (clean && (a && (b && d))) (first_of clean a b d) (Named.named t.streams log i clean naming named w.named);
+        },
+      )
 
   pub taken : (anchors after : List (Option Anchor)) (pile : Option Pile) (next : Pile) (naming : Naming) (named soon crowded : Option Finding) (placed : Option Placed) (number : ℕ) (still : Bool) →
       named ≡ named_by naming i → number ≡ suc i → still ≡ (clean && tells_nothing (record { named = named; soon = soon; crowded = crowded })) →
@@ -84,7 +85,7 @@ module _ (t : Terms) (distinct : AreDistinct t.streams) (log : List Entry) (i : 
       IsTold t log (record { named = named; soon = soon; crowded = crowded }) × Stands t log number after (Some next) still
   taken anchors after pile next naming named soon crowded placed number still e f g is none some same step loaded w =
       let r = subst (λ n. IsTold t log (record { named = n; soon = soon; crowded = crowded }) × Stands t log (suc i) after (Some next) (clean && tells_nothing (record { named = n; soon = soon; crowded = crowded }))) (sym e)
-          (taken_so anchors after pile next naming soon crowded placed is none some same step loaded w) in
+      (taken_so anchors after pile next naming soon crowded placed is none some same step loaded w) in
       (r.0, subst (λ s. Stands t log number after (Some next) s) (sym g) (subst (λ n. Stands t log n after (Some next) (clean && tells_nothing (record { named = named; soon = soon; crowded = crowded }))) (sym f) r.1))
 
 pub begins : (t : Terms) (log : List Entry) (anchors : List (Option Anchor)) (clean : Bool) → length anchors ≡ length t.streams → ((p : ℕ) → slice_index_or anchors p None ≡ None) → Stands t log 0 anchors None clean

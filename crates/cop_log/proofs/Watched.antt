@@ -1,13 +1,11 @@
 -- How what was watched of a stream goes on with the next entry.
-use Rattle.std.proofs.Common.{◌≡◌, ◌∙◌, ℕ, ◌+◌, ◌*◌, ◌^◌, ◌≤◌, ◌<◌, ◌⊎◌, inl, inr, List, ◌∷◌, [], zero, suc, length, refl, sym, ap, subst, arith, Bool, true, false, cond}
-use Rattle.std.specs.Prelude.{◌==◌, ◌≢◌, ◌&&◌, Option, Some, None}
-use Rattle.std.specs.Option.{ForSome}
+use Rattle.std.proofs.Common.{◌≡◌, ◌∙◌, ℕ, ◌+◌, ◌*◌, ◌≤◌, ◌<◌, inl, inr, List, suc, length, refl, sym, ap, subst, arith, Bool, true, false}
+use Rattle.std.specs.Prelude.{◌≢◌, ◌&&◌, Option, Some, None}
 use Rattle.std.proofs.lemmas.Bool.{cases_lt}
 use Rattle.cop_log.specs.declared.entries.Entry.{Entry}
 use Rattle.cop_log.specs.declared.anchors.Anchor.{Anchor}
-use Rattle.cop_log.specs.declared.findings.Finding.{Finding}
 use Rattle.cop_log.specs.declared.findings.Finding.TheVariants.{Soon}
-use Rattle.cop_log.specs.Log.{Terms, entry_at, stamp, most, count_of, Lane, IsLaneOf, IsNear, IsSoon, IsEvidence}
+use Rattle.cop_log.specs.Log.{entry_at, stamp, most, count_of, Lane, IsNear, IsSoon, IsEvidence}
 use Rattle.cop_log.specs.Watching.{IsAnchor, IsStrictest, IsAnchored, IsWatched, IsStep}
 use Rattle.cop_log.proofs.Counted.{count-own, count-other}
 
@@ -108,8 +106,8 @@ module _ (k : Lane) (log : List Entry) (i : ℕ) (l : i < length log) (clean : B
     fine a w far e b c n m soon = elim (cases_lt c i) [
       | inl s ↦ w.none_soon e b c n s soon
       | inr s ↦ (let q : c ≡ i = omega arith in
-        let here = subst (λ c. IsSoon k log b c n) q soon in
-        far (subst (λ t. IsNear k a.at t a.count) (sym stamped) (strict a w.anchored (w.strictest e a refl) b n here)))
+          let here = subst (λ c. IsSoon k log b c n) q soon in
+          far (subst (λ t. IsNear k a.at t a.count) (sym stamped) (strict a w.anchored (w.strictest e a refl) b n here)))
     ]
 
     pub goes_on : (a : Anchor) (count : ℕ) → count ≡ a.count + 1 → IsWatched k log i (Some a) clean → (IsNear k a.at at a.count → ⊥) →
@@ -128,10 +126,10 @@ module _ (k : Lane) (log : List Entry) (i : ℕ) (l : i < length log) (clean : B
           strictest = λ e b s. let q : a.from ≡ b.from = cc in subst (IsStrictest k log (suc i)) q (λ c m g. elim (cases_lt c i) [
             | inl t ↦ w.strictest e a refl c t g
             | inr t ↦ (let r : i ≡ c = omega arith in
-              let p : (a.count + count_of k.stream.id log a.from) * k.stream.period ≡ count_of k.stream.id log i * k.stream.period = ap (λ c. c * k.stream.period) h.counted in
-              let u : most k.clock a.at ≡ most k.clock (stamp log a.from) = ap (most k.clock) h.stamped in
-              let v : most k.clock at ≡ most k.clock (stamp log i) = ap (most k.clock) stamped in
-              subst (λ c. most k.clock (stamp log c) + 1000000 * (count_of k.stream.id log a.from * k.stream.period) ≤ most k.clock (stamp log a.from) + 1000000 * (count_of k.stream.id log c * k.stream.period)) r (omega (arith, p, u, v, behind)))
+                let p : (a.count + count_of k.stream.id log a.from) * k.stream.period ≡ count_of k.stream.id log i * k.stream.period = ap (λ c. c * k.stream.period) h.counted in
+                let u : most k.clock a.at ≡ most k.clock (stamp log a.from) = ap (most k.clock) h.stamped in
+                let v : most k.clock at ≡ most k.clock (stamp log i) = ap (most k.clock) stamped in
+                subst (λ c. most k.clock (stamp log c) + 1000000 * (count_of k.stream.id log a.from * k.stream.period) ≤ most k.clock (stamp log a.from) + 1000000 * (count_of k.stream.id log c * k.stream.period)) r (omega (arith, p, u, v, behind)))
           ]);
           none_soon = λ e b c n m soon. fine a w far e b c n m soon;
         })
@@ -145,12 +143,12 @@ module _ (k : Lane) (log : List Entry) (i : ℕ) (l : i < length log) (clean : B
           anchored = fresh-anchor;
           strictest = λ e b s. let q : i ≡ b.from = cc in subst (IsStrictest k log (suc i)) q (λ c m g. elim (cases_lt c i) [
             | inl t ↦ (let z = w.strictest e a refl c t g in
-              let p : (a.count + count_of k.stream.id log a.from) * k.stream.period ≡ count_of k.stream.id log i * k.stream.period = ap (λ c. c * k.stream.period) h.counted in
-              let u : most k.clock a.at ≡ most k.clock (stamp log a.from) = ap (most k.clock) h.stamped in
-              let v : most k.clock at ≡ most k.clock (stamp log i) = ap (most k.clock) stamped in
-              omega (arith, p, u, v, ahead, z))
+                let p : (a.count + count_of k.stream.id log a.from) * k.stream.period ≡ count_of k.stream.id log i * k.stream.period = ap (λ c. c * k.stream.period) h.counted in
+                let u : most k.clock a.at ≡ most k.clock (stamp log a.from) = ap (most k.clock) h.stamped in
+                let v : most k.clock at ≡ most k.clock (stamp log i) = ap (most k.clock) stamped in
+                omega (arith, p, u, v, ahead, z))
             | inr t ↦ (let r : i ≡ c = omega arith in
-              subst (λ c. most k.clock (stamp log c) + 1000000 * (count_of k.stream.id log i * k.stream.period) ≤ most k.clock (stamp log i) + 1000000 * (count_of k.stream.id log c * k.stream.period)) r (omega arith))
+                subst (λ c. most k.clock (stamp log c) + 1000000 * (count_of k.stream.id log i * k.stream.period) ≤ most k.clock (stamp log i) + 1000000 * (count_of k.stream.id log c * k.stream.period)) r (omega arith))
           ]);
           none_soon = λ e b c n m soon. fine a w far e b c n m soon;
         })

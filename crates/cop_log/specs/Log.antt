@@ -1,6 +1,5 @@
 -- What a log of the bus says of the runs that it may be of. Moments of a run are in ticks of 250 ns, those of a log in microseconds.
-use Rattle.std.specs.Prelude.{◌≡◌, ◌≢◌, ℕ, ◌+◌, ◌-◌, ◌*◌, ◌^◌, ◌≤◌, ◌<◌, Bool, true, List, Option, Some, None, zero, suc, [], ◌∷◌, length, slice_index_or, slice_get, ◌==◌, Any, All, if◌then◌else◌}
-use Rattle.std.specs.Option.{ForSome}
+use Rattle.std.specs.Prelude.{◌≡◌, ◌≢◌, ℕ, ◌+◌, ◌-◌, ◌*◌, ◌≤◌, ◌<◌, List, Option, Some, None, zero, suc, [], ◌∷◌, length, slice_index_or, slice_get, ◌==◌, Any, All, if◌then◌else◌}
 use Rattle.cop_frame.specs.declared.rates.Rate.{Rate}
 use Rattle.cop_frame.specs.Rate.{ticks_of}
 use Rattle.cop_rta.specs.declared.streams.Stream.{Stream}
@@ -10,8 +9,6 @@ use Rattle.cop_rta.specs.Greatest.{AreSynced}
 use Rattle.cop_bus.specs.Run.{Instance, IsLegal, IsObeying, least_bits}
 use Rattle.cop_log.specs.declared.entries.Entry.{Entry}
 use Rattle.cop_log.specs.declared.entries.Clock.{Clock}
-use Rattle.cop_log.specs.declared.anchors.Anchor.{Anchor}
-use Rattle.cop_log.specs.declared.anchors.Pile.{Pile}
 use Rattle.cop_log.specs.declared.findings.Finding.{Finding}
 use Rattle.cop_log.specs.declared.findings.Finding.TheVariants.{Unknown, Length, Soon, Crowded}
 

@@ -1,5 +1,5 @@
 -- What a log says of the streams of a plan.
-use Rattle.std.specs.Prelude.{◌≡◌, ℕ, List, [], Option, Result, Ok, Err, IfSome}
+use Rattle.std.specs.Prelude.{◌≡◌, ℕ, List, [], Option, Ok, Err, IfSome}
 use Rattle.cop_frame.specs.declared.rates.Rate.{Rate}
 use Rattle.cop_rta.specs.declared.streams.Stream.{Stream}
 use Rattle.cop_rta.specs.Greatest.{AreSynced}
@@ -8,7 +8,7 @@ use Rattle.cop_log.specs.declared.entries.Entry.{Entry}
 use Rattle.cop_log.specs.declared.entries.Clock.{Clock}
 use Rattle.cop_log.specs.declared.faults.LogFault.{LogFault}
 use Rattle.cop_log.specs.declared.findings.Finding.{Finding}
-use Rattle.cop_log.specs.Log.{Terms, IsAnswer, IsRunWith}
+use Rattle.cop_log.specs.Log.{IsAnswer, IsRunWith}
 use Rattle.cop_log.specs.Reading.{log_in, fault_of_text}
 
 -- The text has a log, and what was found in it is evident by the responses of the streams; where nothing was found, nothing is evident.

@@ -1,7 +1,6 @@
 -- A log that is watched, entry by entry.
 use Rattle.std.specs.Prelude.{◌≡◌, ◌≢◌, ℕ, ◌+◌, ◌*◌, ◌^◌, ◌≤◌, ◌<◌, Bool, true, ◌&&◌, List, Option, Some, None, suc, length, slice_index_or, Any, All, is_none}
 use Rattle.std.specs.Option.{ForSome}
-use Rattle.cop_frame.specs.declared.rates.Rate.{Rate}
 use Rattle.cop_frame.specs.Rate.{ticks_of}
 use Rattle.cop_rta.specs.declared.streams.Stream.{Stream}
 use Rattle.cop_log.specs.declared.entries.Entry.{Entry}

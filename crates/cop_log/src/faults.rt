@@ -39,10 +39,7 @@ impl LineFault {
 #[derive(Clone, Copy, PartialEq, Eq, Debug, Drop, Error)]
 pub enum LogFault {
     #[error("line {number}: {fault}")]
-    Line {
-        number: u64,
-        fault: LineFault,
-    },
+    Line { number: u64, fault: LineFault },
     #[error("out of memory")]
     Memory,
 }

@@ -4,22 +4,11 @@
 #[derive(Clone, Copy, PartialEq, Eq, Debug)]
 pub enum Finding {
     /// The entry's identifier is none of the plan.
-    Unknown {
-        at: u64,
-    },
+    Unknown { at: u64 },
     /// The entry has another number of bytes than its stream.
-    Length {
-        at: u64,
-    },
+    Length { at: u64 },
     /// Two entries of a stream, so many instances apart, come too soon one after the other.
-    Soon {
-        from: u64,
-        to: u64,
-        count: u64,
-    },
+    Soon { from: u64, to: u64, count: u64 },
     /// The transfers after the first entry, up to the second, do not fit between them.
-    Crowded {
-        from: u64,
-        to: u64,
-    },
+    Crowded { from: u64, to: u64 },
 }

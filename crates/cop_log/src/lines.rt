@@ -141,11 +141,7 @@ fn entry_of(at: u64, id: u32, bytes: Option<u8>) -> Entry
     ensures { result ≡ entry_of at id bytes }
 {
     match bytes {
-        Some(len) => Entry {
-            at,
-            id,
-            len,
-        },
+        Some(len) => Entry { at, id, len },
         None => Entry {
             at,
             id: id | 1 << 30,

@@ -11,12 +11,7 @@ use crate::lines::{back, front, line_in};
 use std::alloc::Global;
 
 // Reads a line, which has a number, and puts its entry behind those before it.
-fn take_line(
-    number: u64,
-    channel: &[u8],
-    line: &[u8],
-    log: &mut Vec<Entry>,
-) -> Result<(), LogFault>
+fn take_line(number: u64, channel: &[u8], line: &[u8], log: &mut Vec<Entry>) -> Result<(), LogFault>
     ensures { Gives (λ _. log.new.items) fault_of_text result (with_line number log.old.items (line_in channel.now line.now)) }
 {
     match line_in(channel, line) {

@@ -214,13 +214,7 @@ impl<'a> Watcher<'a> {
         let number = self.number;
         let _distinct = self.streams.streams();
         let named = named(naming_of(self.streams, entry), number);
-        let placed = seek(
-            self.streams,
-            &self.bounds,
-            self.rate,
-            self.clock,
-            entry.id,
-        );
+        let placed = seek(self.streams, &self.bounds, self.rate, self.clock, entry.id);
         let soon = step(placed, entry.at, number, &mut self.anchors);
         let load = load_next(self.rate, self.clock, entry, number, self.pile);
         self.pile = Some(load.pile);

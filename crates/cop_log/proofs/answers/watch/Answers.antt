@@ -1,5 +1,5 @@
-use Rattle.std.proofs.Common.{◌≡◌, ◌∙◌, ◌<◌, ◌+◌, ◌^◌, length, sym, ap, subst, arith, true}
-use Rattle.std.specs.Prelude.{All, [], Some}
+use Rattle.std.proofs.Common.{◌≡◌, ◌∙◌, length, sym, ap, subst, arith}
+use Rattle.std.specs.Prelude.{All}
 use Rattle.std.proofs.lemmas.List.Elements.{All-nil}
 use Rattle.cop_log.specs.Log.{Terms, IsEvidence, entry_at}
 use Rattle.cop_log.specs.Watching.{IsTold, Stands}

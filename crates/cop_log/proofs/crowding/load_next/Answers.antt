@@ -1,5 +1,5 @@
-use Rattle.std.proofs.Common.{◌≡◌, ◌∙◌, ◌≤◌, ◌<◌, ◌+◌, ◌*◌, ◌^◌, ℕ, Bool, true, false, inl, inr, refl, sym, ap, subst, arith, List}
-use Rattle.std.specs.Prelude.{Some, None, suc, length}
+use Rattle.std.proofs.Common.{◌≡◌, ◌∙◌, ◌≤◌, ◌<◌, ◌+◌, ◌*◌, ◌^◌, ℕ, Bool, true, false, inl, inr, refl, sym, ap, subst, arith}
+use Rattle.std.specs.Prelude.{Some, None, length}
 use Rattle.std.proofs.lemmas.Bool.{cases_lt}
 use Rattle.cop_frame.specs.Rate.{ticks_of}
 use Rattle.cop_bus.specs.Run.{least_bits}

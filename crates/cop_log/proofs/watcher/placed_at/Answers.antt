@@ -1,4 +1,4 @@
-use Rattle.std.proofs.Common.{◌≡◌, ◌∙◌, ap, sym, subst, get_or}
+use Rattle.std.proofs.Common.{◌∙◌, ap, sym, subst, get_or}
 use Rattle.cop_rta.specs.Streams.{AreDistinct}
 use Rattle.cop_log.proofs.Sought.{no_bound, has_bound}
 use Rattle.cop_log.proofs.watcher.placed_at.Goals as goal

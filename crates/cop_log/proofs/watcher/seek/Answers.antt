@@ -1,4 +1,4 @@
-use Rattle.std.proofs.Common.{◌≡◌, ◌∙◌, sym, subst}
+use Rattle.std.proofs.Common.{◌∙◌, sym, subst}
 use Rattle.cop_log.specs.Watchers.{HasNoLane}
 use Rattle.cop_log.proofs.Sought.{none_there}
 use Rattle.cop_log.proofs.watcher.seek.Goals as goal

@@ -1,8 +1,7 @@
-use Rattle.std.proofs.Common.{◌≡◌, ◌≤◌, ◌<◌, ◌+◌, ◌*◌, ◌^◌, ℕ, Bool, true, false, inl, inr, refl, sym, subst, arith, List}
-use Rattle.std.specs.Prelude.{Some, None, suc, length}
+use Rattle.std.proofs.Common.{◌≡◌, ◌≤◌, ◌<◌, ◌+◌, ◌*◌, ℕ, Bool, true, false, inl, inr, subst, arith}
 use Rattle.std.proofs.lemmas.Bool.{cases_lt}
-use Rattle.cop_log.specs.Log.{stamp, entry_at, most}
-use Rattle.cop_log.specs.Watching.{IsWatched, IsStep, lane_of}
+use Rattle.cop_log.specs.Log.{most}
+use Rattle.cop_log.specs.Watching.{IsWatched, lane_of}
 use Rattle.cop_log.proofs.Watched.{first, told, goes_on, starts_again, few}
 use Rattle.cop_log.proofs.watching.watch_next.Goals as goal
 

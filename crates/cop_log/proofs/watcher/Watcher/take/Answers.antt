@@ -1,4 +1,4 @@
-use Rattle.std.proofs.Common.{◌≡◌, ◌∙◌, ◌<◌, ◌^◌, suc, sym, ap, subst, arith}
+use Rattle.std.proofs.Common.{◌∙◌, sym, ap, subst, arith}
 use Rattle.std.specs.Prelude.{◌&&◌, IfNone, IfSome}
 use Rattle.cop_rta.specs.Streams.{AreDistinct}
 use Rattle.cop_log.specs.declared.entries.Entry.{Entry}

@@ -1,0 +1,195 @@
+//! What is worth a word in a log, and breaks nothing: commands, boot-ups, emergencies and SDO aborts.
+
+use std::alloc::{AllocError, Global};
+
+/// How many words of a kind are kept.
+const MOST: u64 = 20;
+
+/// A frame that is told.
+#[derive(Clone, Copy)]
+enum Notice {
+    /// A command of the NMT master (CiA 301, 7.2.8.3.1).
+    Command {
+        command: u8,
+        node: u8,
+    },
+    /// A node has booted up (CiA 301, 7.2.8.3.3).
+    BootUp {
+        node: u8,
+    },
+    /// An emergency (CiA 301, 7.2.7).
+    Emergency {
+        node: u8,
+        code: u16,
+    },
+    /// An SDO transfer was aborted (CiA 301, 7.2.4.3.17).
+    Abort {
+        node: u8,
+        is_client: bool,
+        index: u16,
+        sub: u8,
+        code: u32,
+    },
+}
+
+/// What was noticed, the first of each kind.
+#[derive(Drop)]
+pub struct Notices {
+    kept: Vec<(u64, Notice)>,
+    counts: [u64; 4],
+}
+
+fn kind_of(notice: Notice) -> usize {
+    match notice {
+        Notice::Command { .. } => 0,
+        Notice::BootUp { .. } => 1,
+        Notice::Emergency { .. } => 2,
+        Notice::Abort { .. } => 3,
+    }
+}
+
+fn command_words(command: u8) -> &'static str {
+    match command {
+        1 => "start",
+        2 => "stop",
+        128 => "enter pre-operational",
+        129 => "reset node",
+        130 => "reset communication",
+        _ => "an unknown command",
+    }
+}
+
+/// The words of an abort code (CiA 301, table 22).
+fn abort_words(code: u32) -> &'static str {
+    match code {
+        0x05030000 => "toggle bit not alternated",
+        0x05040000 => "SDO protocol timed out",
+        0x05040001 => "command specifier not valid or unknown",
+        0x05040005 => "out of memory",
+        0x06010000 => "unsupported access to an object",
+        0x06010001 => "attempt to read a write only object",
+        0x06010002 => "attempt to write a read only object",
+        0x06020000 => "object does not exist in the object dictionary",
+        0x06040041 => "object cannot be mapped to the PDO",
+        0x06040042 =>
+            "the number and length of the objects to be mapped would exceed the PDO length",
+        0x06040043 => "general parameter incompatibility",
+        0x06040047 => "general internal incompatibility in the device",
+        0x06060000 => "access failed due to a hardware error",
+        0x06070010 => "data type does not match, length does not match",
+        0x06070012 => "data type does not match, length too high",
+        0x06070013 => "data type does not match, length too low",
+        0x06090011 => "sub-index does not exist",
+        0x06090030 => "invalid value for the parameter",
+        0x06090031 => "value of the parameter too high",
+        0x06090032 => "value of the parameter too low",
+        0x06090036 => "maximum value is less than minimum value",
+        0x060A0023 => "resource not available",
+        0x08000000 => "general error",
+        0x08000020 => "data cannot be transferred or stored to the application",
+        0x08000021 => "data cannot be transferred or stored because of local control",
+        0x08000022 => "data cannot be transferred or stored because of the present device state",
+        0x08000023 => "no object dictionary is present",
+        0x08000024 => "no data available",
+        _ => "a code of the device's maker",
+    }
+}
+
+/// What a frame of a node is, by its function code and its data.
+fn notice_of(function: u16, node: u8, data: &[u8]) -> Option<Notice> {
+    match (function, data) {
+        (0x000, [command, named, ..]) if node == 0 => Some(Notice::Command {
+            command: *command,
+            node: *named,
+        }),
+        (0x700, [0]) => Some(Notice::BootUp { node }),
+        (0x080, [low, high, ..]) if node != 0 => Some(Notice::Emergency {
+            node,
+            code: u16::from_le_bytes([*low, *high]),
+        }),
+        (0x580 | 0x600, [0x80, low, high, sub, a, b, c, d]) => Some(Notice::Abort {
+            node,
+            is_client: function == 0x600,
+            index: u16::from_le_bytes([*low, *high]),
+            sub: *sub,
+            code: u32::from_le_bytes([*a, *b, *c, *d]),
+        }),
+        _ => None,
+    }
+}
+
+fn write_notice(text: &mut String, line: u64, notice: Notice) -> Result<(), AllocError> {
+    match notice {
+        Notice::Command { command, node } => {
+            let words = command_words(command);
+            if node == 0 {
+                write!(text, "line {line}: NMT {words}, all nodes\n")
+            } else {
+                write!(text, "line {line}: NMT {words}, node {node}\n")
+            }
+        }
+        Notice::BootUp { node } => write!(text, "line {line}: node {node} boots up\n"),
+        Notice::Emergency { node, code } => {
+            write!(text, "line {line}: EMCY of node {node}, code {code:04X}h\n")
+        }
+        Notice::Abort {
+            node,
+            is_client,
+            index,
+            sub,
+            code,
+        } => {
+            let side = if is_client { "client" } else { "server" };
+            let words = abort_words(code);
+            write!(
+                text,
+                "line {line}: SDO abort by the {side} at node {node}, {index:04X}h sub {sub}, {code:08X}h: {words}\n"
+            )
+        }
+    }
+}
+
+/// Adds how many there are of a kind of which not all are kept.
+fn write_count(text: &mut String, words: &str, count: u64) -> Result<(), AllocError> {
+    if count > MOST {
+        write!(text, "{words} {count}\n")?;
+    }
+    Ok(())
+}
+
+impl Notices {
+    /// Nothing yet.
+    pub fn new(alloc: Global) -> Notices {
+        Notices {
+            kept: Vec::new(alloc),
+            counts: [0; 4],
+        }
+    }
+
+    /// Looks at a data frame with an 11-bit identifier.
+    pub fn note(&mut self, line: u64, id: u16, data: &[u8]) -> Result<(), AllocError> {
+        let Some(notice) = notice_of(id & 0x780, (id % 128) as u8, data) else {
+            return Ok(());
+        };
+        let Some(count) = self.counts.get_mut(kind_of(notice)) else {
+            return Ok(());
+        };
+        *count = count.saturating_add(1);
+        if *count <= MOST {
+            self.kept.push((line, notice))?;
+        }
+        Ok(())
+    }
+
+    /// Adds a line for each, and how many there are of each kind of which not all are kept.
+    pub fn write(&self, text: &mut String) -> Result<(), AllocError> {
+        for (line, notice) in &self.kept {
+            write_notice(text, *line, *notice)?;
+        }
+        let [commands, boot_ups, emergencies, aborts] = self.counts;
+        write_count(text, "NMT commands", commands)?;
+        write_count(text, "boot-ups", boot_ups)?;
+        write_count(text, "EMCYs", emergencies)?;
+        write_count(text, "SDO aborts", aborts)
+    }
+}

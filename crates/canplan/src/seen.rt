@@ -1,0 +1,94 @@
+//! What was seen of an identifier in a log.
+
+use cop_frame::Rate;
+use cop_rta::Stream;
+use std::alloc::AllocError;
+
+/// The frames of an identifier. Stamps and distances are in microseconds.
+#[derive(Clone, Copy)]
+pub struct Seen {
+    pub frames: u64,
+    pub first_line: u64,
+    pub first: u64,
+    pub last: u64,
+    pub least: u64,
+    pub greatest: u64,
+    /// The line of the frame that came after the greatest distance.
+    pub greatest_line: u64,
+    /// The bits that the frames have at least.
+    pub bits: u64,
+}
+
+impl Seen {
+    /// Nothing was seen yet.
+    pub const NOTHING: Seen = Seen {
+        frames: 0,
+        first_line: 0,
+        first: 0,
+        last: 0,
+        least: u64::MAX,
+        greatest: 0,
+        greatest_line: 0,
+        bits: 0,
+    };
+
+    /// One frame more was seen.
+    pub fn note(&mut self, line: u64, at: u64, len: u8) {
+        if self.frames == 0 {
+            self.first_line = line;
+            self.first = at;
+        } else {
+            let distance = at.saturating_sub(self.last);
+            self.least = self.least.min(distance);
+            if distance > self.greatest {
+                self.greatest = distance;
+                self.greatest_line = line;
+            }
+        }
+        self.last = at;
+        self.frames = self.frames.saturating_add(1);
+        self.bits = self.bits.saturating_add(47 + 8 * u64::from(len));
+    }
+
+    fn mean(&self) -> u64 {
+        match self
+            .last
+            .saturating_sub(self.first)
+            .checked_div(self.frames.saturating_sub(1))
+        {
+            Some(mean) => mean,
+            None => 0,
+        }
+    }
+
+    /// The share of the bus that the frames have at least in a time, in hundredths of a percent.
+    pub fn load(&self, rate: Rate, span: u64) -> u64 {
+        let ticks = u128::from(self.bits) * u128::from(rate.ticks_per_bit());
+        match (ticks * 2500).checked_div(u128::from(span)) {
+            Some(load) => u64::try_from(load).unwrap_or(u64::MAX),
+            None => 0,
+        }
+    }
+
+    /// Adds the line of the identifier of a stream of the plan.
+    pub fn write(
+        &self,
+        text: &mut String,
+        stream: &Stream,
+        rate: Rate,
+        span: u64,
+    ) -> Result<(), AllocError> {
+        let (id, frames) = (stream.id, self.frames);
+        let table = stream.period / 4;
+        if frames < 2 {
+            return write!(text, "{id:03X}h frames {frames} table {table}\n");
+        }
+        let (least, mean, greatest) = (self.least, self.mean(), self.greatest);
+        let load = self.load(rate, span);
+        let (whole, part) = (load / 100, load % 100);
+        write!(
+            text,
+            "{id:03X}h frames {frames} distance {least} {mean} {greatest} table {table} load {whole}.{part:02}%\n"
+        )
+    }
+}

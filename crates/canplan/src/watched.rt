@@ -1,0 +1,307 @@
+//! A log that is watched, line by line, and what is said of it at its end.
+
+ghost use Rattle.std.specs.Prelude.{◌≤◌};
+
+use crate::breaches::{Breaches, Scene};
+use crate::failures::Failure;
+use crate::noticed::Notices;
+use crate::seen::Seen;
+use cop_engine::Fault;
+use cop_log::{Clock, Entry, Finding, Told, Watcher, back, bounds_of, front, line_in};
+use cop_plan::Plan;
+use std::alloc::{AllocError, Global};
+use std::collections::BTreeMap;
+
+/// The number of the rule that a log has a line of the channel.
+const NO_LINE: u8 = 94;
+
+/// How many identifiers that no stream can have are counted each by itself.
+const MOST_OTHERS: usize = 1000;
+
+/// How many identifiers streams can have.
+const IDS: u16 = 2048;
+
+/// A log that is watched.
+#[derive(Drop)]
+pub struct Session<'a> {
+    alloc: Global,
+    plan: &'a Plan,
+    clock: Clock,
+    bounds: Vec<Option<u64>>,
+    watcher: Watcher<'a>,
+    // That of the first line, where none is wanted.
+    channel: Option<Vec<u8>>,
+    line: u64,
+    all: Seen,
+    // By identifier.
+    seen: Vec<Seen>,
+    others: BTreeMap<u32, Seen>,
+    // The lines from which the entries of each stream are counted, and all entries.
+    anchor_lines: Vec<u64>,
+    pile_line: u64,
+    breaches: Breaches,
+    notices: Notices,
+}
+
+fn refused(number: u8, place: u64) -> Failure {
+    Failure::from(Fault::Refused { number, place })
+}
+
+/// The bytes of the data of a line that was read.
+fn data_of(line: &[u8], body: &mut [u8; 8], len: u8) -> usize
+    ensures { result ≤ 8 }
+{
+    let frame = front(b' ', back(b' ', back(b' ', line)));
+    let digits = back(b'#', frame);
+    let len = usize::from(len).min(8);
+    if digits.len() != 2 * len {
+        return 0;
+    }
+    match hex::decode_to_slice(digits, &mut body[..len]) {
+        Ok(()) => len,
+        Err(_) => 0,
+    }
+}
+
+impl<'a> Session<'a> {
+    /// A log of no line yet.
+    pub fn new(
+        alloc: Global,
+        plan: &'a Plan,
+        clock: Clock,
+        channel: Option<&str>,
+    ) -> Result<Session<'a>, AllocError> {
+        let bounds = bounds_of(alloc, plan.streams(), plan.rate())?;
+        let own = bounds.clone()?;
+        let count = bounds.len();
+        let watcher = Watcher::new(alloc, plan.streams(), own, plan.rate(), clock)?;
+        let channel = match channel {
+            Some(name) => {
+                let mut bytes = Vec::new(alloc);
+                bytes.extend_from_slice(name.as_bytes())?;
+                Some(bytes)
+            }
+            None => None,
+        };
+        Ok(Session {
+            alloc,
+            plan,
+            clock,
+            bounds,
+            watcher,
+            channel,
+            line: 0,
+            all: Seen::NOTHING,
+            seen: vec![in alloc; Seen::NOTHING; usize::from(IDS)]?,
+            others: BTreeMap::new(alloc),
+            anchor_lines: vec![in alloc; 0; count]?,
+            pile_line: 0,
+            breaches: Breaches::new(alloc)?,
+            notices: Notices::new(alloc),
+        })
+    }
+
+    /// How many lines were taken.
+    pub fn lines(&self) -> u64 {
+        self.line
+    }
+
+    /// How many breaches there are.
+    pub fn breaches(&self) -> u64 {
+        self.breaches.count()
+    }
+
+    /// The place of the stream of an identifier.
+    fn place_of(&self, id: u32) -> Option<usize> {
+        match u16::try_from(id) {
+            Ok(id) => self.plan.streams().place_of(id),
+            Err(_) => None,
+        }
+    }
+
+    /// The lines of the channel of the first line are taken, where no channel is wanted.
+    fn choose_channel(&mut self, line: &[u8]) -> Result<(), AllocError> {
+        if self.channel.is_none() {
+            let mut bytes = Vec::new(self.alloc);
+            bytes.extend_from_slice(front(b' ', back(b' ', line)))?;
+            self.channel = Some(bytes);
+        }
+        Ok(())
+    }
+
+    /// Takes the next line.
+    pub fn take_line(&mut self, line: &[u8]) -> Result<(), Failure> {
+        self.line = self.line.saturating_add(1);
+        self.choose_channel(line)?;
+        let read = match &self.channel {
+            Some(channel) => line_in(channel, line),
+            None => Ok(None),
+        };
+        match read {
+            Ok(Some(entry)) => Ok(self.take_entry(&entry, line)?),
+            Ok(None) => Ok(()),
+            Err(fault) => Err(refused(fault.number(), self.line)),
+        }
+    }
+
+    fn take_entry(&mut self, entry: &Entry, line: &[u8]) -> Result<(), AllocError> {
+        self.count(entry)?;
+        let place = self.place_of(entry.id);
+        let scene = self.scene(entry, place);
+        let told = self.watcher.take(entry);
+        self.tell(&scene, &told)?;
+        self.remember(place);
+        let mut body = [0; 8];
+        let len = data_of(line, &mut body, entry.len);
+        match u16::try_from(entry.id) {
+            Ok(id) => self.notices.note(self.line, id, &body[..len]),
+            Err(_) => Ok(()),
+        }
+    }
+
+    /// Counts an entry.
+    fn count(&mut self, entry: &Entry) -> Result<(), AllocError> {
+        let line = self.line;
+        self.all.note(line, entry.at, entry.len);
+        if let Some(seen) = self.seen.get_mut(entry.id as usize) {
+            seen.note(line, entry.at, entry.len);
+            return Ok(());
+        }
+        let mut seen = match self.others.get(&entry.id) {
+            Some(seen) => *seen,
+            None => Seen::NOTHING,
+        };
+        if seen.frames > 0 || self.others.len() < MOST_OTHERS {
+            seen.note(line, entry.at, entry.len);
+            let _ = self.others.insert(entry.id, seen)?;
+        }
+        Ok(())
+    }
+
+    /// What is known before an entry is taken.
+    fn scene<'e>(&self, entry: &'e Entry, place: Option<usize>) -> Scene<'e> {
+        let mut scene = Scene {
+            line: self.line,
+            entry,
+            rate: self.plan.rate(),
+            clock: self.clock,
+            stream: None,
+            bound: None,
+            anchor: None,
+            anchor_line: 0,
+            pile: self.watcher.pile(),
+            pile_line: self.pile_line,
+        };
+        if let Some(place) = place {
+            scene.stream = self.plan.streams().streams().get(place).copied();
+            scene.bound = self.bounds.get(place).copied().flatten();
+            scene.anchor = self.watcher.anchor(place);
+            scene.anchor_line = self.anchor_lines.get(place).copied().unwrap_or(0);
+        }
+        scene
+    }
+
+    /// Tells what the entry shows.
+    fn tell(&mut self, scene: &Scene<'_>, told: &Told) -> Result<(), AllocError> {
+        let findings: [Option<Finding>; 3] = [told.named, told.soon, told.crowded];
+        for finding in findings {
+            if let Some(finding) = finding {
+                self.breaches.add(scene, finding)?;
+            }
+        }
+        Ok(())
+    }
+
+    /// Keeps the lines of the entries from which is counted.
+    fn remember(&mut self, place: Option<usize>) {
+        let own = self.watcher.number().saturating_sub(1);
+        if matches!(self.watcher.pile(), Some(pile) if pile.from == own) {
+            self.pile_line = self.line;
+        }
+        let Some(place) = place else {
+            return;
+        };
+        if matches!(self.watcher.anchor(place), Some(anchor) if anchor.from == own) {
+            if let Some(line) = self.anchor_lines.get_mut(place) {
+                *line = self.line;
+            }
+        }
+    }
+
+    /// Adds the lines of the streams, and of heartbeats that stayed away.
+    fn write_streams(&self, text: &mut String, span: u64) -> Result<(), AllocError> {
+        let rate = self.plan.rate();
+        for stream in self.plan.streams().streams() {
+            if let Some(seen) = self.seen.get(usize::from(stream.id)) {
+                seen.write(text, stream, rate, span)?;
+            }
+        }
+        Ok(())
+    }
+
+    fn write_heartbeats(&self, text: &mut String) -> Result<(), AllocError> {
+        for stream in self.plan.streams().streams() {
+            let (id, time) = (stream.id, stream.period / 4);
+            let Some(seen) = self.seen.get(usize::from(id)) else {
+                continue;
+            };
+            if id > 0x700 && id < 0x780 && seen.greatest > time.saturating_mul(2) {
+                let (line, away, node) = (seen.greatest_line, seen.greatest, id & 0x7F);
+                write!(
+                    text,
+                    "line {line}: the heartbeat of node {node} comes after {away} us, its time is {time} us\n"
+                )?;
+            }
+        }
+        Ok(())
+    }
+
+    fn write_unknown(&self, text: &mut String) -> Result<(), AllocError> {
+        for id in 0..IDS {
+            let Some(seen) = self.seen.get(usize::from(id)) else {
+                continue;
+            };
+            if seen.frames > 0 && !self.plan.streams().has_id(id) {
+                let (frames, line) = (seen.frames, seen.first_line);
+                write!(
+                    text,
+                    "unknown {id:03X}h frames {frames} first in line {line}\n"
+                )?;
+            }
+        }
+        for (id, seen) in self.others.iter() {
+            let (frames, line) = (seen.frames, seen.first_line);
+            write!(
+                text,
+                "unknown {id:08X}h frames {frames} first in line {line}\n"
+            )?;
+        }
+        Ok(())
+    }
+
+    /// What is said of the log, once all lines were taken.
+    pub fn finish(&self) -> Result<String, Failure> {
+        if self.all.frames == 0 {
+            return Err(refused(NO_LINE, 0));
+        }
+        let mut text = String::new(self.alloc);
+        let (frames, kbits) = (self.all.frames, self.plan.rate().kbits());
+        let span = self.all.last.saturating_sub(self.all.first);
+        let load = self.all.load(self.plan.rate(), span);
+        let (whole, part) = (load / 100, load % 100);
+        write!(
+            text,
+            "rate {kbits} frames {frames} time {span} us load {whole}.{part:02}%\n"
+        )?;
+        self.write_streams(&mut text, span)?;
+        self.write_unknown(&mut text)?;
+        self.write_heartbeats(&mut text)?;
+        self.notices.write(&mut text)?;
+        text.push_str(self.breaches.words())?;
+        match self.breaches.count() {
+            0 => text.push_str("keeps to the tables\n")?,
+            count => write!(text, "breaches {count}\n")?,
+        }
+        Ok(text)
+    }
+}

@@ -1,0 +1,156 @@
+#!/usr/bin/env python3
+"""Watches logs that are made of runs of the examples, and logs with a breach in them.
+
+    python3 tools/watch_logs.py [PROGRAM]
+
+Each example that has a plan is run by several seeds. The ends of the transfers, by a clock that is shaken and drifts within what is said
+on the command line, make a log as `candump -L` writes it: no breach may be found in it, nor in its middle third, nor where each tenth
+line is lost, nor where a second channel stands between. Then one breach of each kind is put in: it has to be found at its line. Last a
+log that is refused has to be refused by the number and at the place that it should.
+"""
+import os
+import random
+import subprocess
+import sys
+import tempfile
+
+HERE = os.path.dirname(os.path.dirname(os.path.realpath(__file__)))
+EXAMPLES = f"{HERE}/examples"
+PROGRAM = sys.argv[1] if len(sys.argv) > 1 else f"{HERE}/bin/canplan"
+NAMES = ("valve", "crane", "conveyor", "drives", "second-range")
+SEEDS = range(1, 6)
+UNTIL = 1500000
+
+# What the clock does, and what is said of it.
+SHAKE, DRIFT = 50, 60
+SAID = ("--error", "60", "--drift", "100")
+START = 1436509052000000
+
+
+def run(*words, text=None):
+    it = subprocess.run([PROGRAM, *words], capture_output=True, input=text)
+    return it.returncode, it.stdout.decode(), it.stderr.decode()
+
+
+def ends_of(trace):
+    """The identifier, the data and the microsecond of the end of each transfer of a trace."""
+    data, ends = {}, []
+    with open(trace) as file:
+        next(file)
+        for line in file:
+            kind, moment, number, _, _, body = line.rstrip("\n").split(",")
+            if kind == "queue":
+                data.setdefault(number, []).append(body)
+            elif kind == "end":
+                ends.append((int(number), data[number].pop(0), int(moment) / 4))
+    return ends
+
+
+def stamped(at):
+    return f"({at // 1000000}.{at % 1000000:06d})"
+
+
+def line_of(at, number, body, channel="can0"):
+    return f"{stamped(at)} {channel} {number:03X}#{body}"
+
+
+def log_of(ends, chance):
+    """The entries of a log: microsecond by the clock, identifier, data."""
+    drift = 1 + chance.uniform(-DRIFT, DRIFT) / 1000000
+    return [(START + int(end * drift + chance.uniform(0, SHAKE)), number, body) for number, body, end in ends]
+
+
+def lines_of(log):
+    return [line_of(*entry) for entry in log]
+
+
+def good_logs(log, chance):
+    """Logs in which nothing may be found, by their names."""
+    lines = lines_of(log)
+    yield "whole", lines
+    yield "middle", lines[len(lines) // 3:2 * len(lines) // 3]
+    yield "lost", [line for line in lines if chance.random() > 0.1]
+    mixed = []
+    for at, number, body in log:
+        mixed += [line_of(at, number, body), line_of(at, 0x7FF, "00", "can1")]
+    yield "mixed", mixed
+    yield "directed", [line + chance.choice(("", " R", " T")) for line in lines]
+
+
+def bad_logs(log, chance):
+    """Logs with a breach, by their names: the number of its line, and a word that is said of it."""
+    lines = lines_of(log)
+    n = chance.randrange(len(lines) // 4, len(lines) // 2)
+    at, number, body = log[n]
+
+    def put(line):
+        return lines[:n + 1] + [line] + lines[n + 1:]
+
+    yield "strange", put(line_of(at, 0x7C1, "00")), n + 2, "is of no sender"
+    yield "29 bits", put(f"{stamped(at)} can0 18FF1234#00"), n + 2, "of 29 bits"
+    yield "remote", put(f"{stamped(at)} can0 {number:03X}#R"), n + 2, "a remote frame"
+    yield "error", put(f"{stamped(at)} can0 20000080#0000000000000000"), n + 2, "an error frame"
+    longer = body + "00" if len(body) < 16 else body[:-2]
+    yield "length", lines[:n] + [line_of(at, number, longer)] + lines[n + 1:], n + 1, "bytes, and"
+    # A PDO that comes twice where no room is wanted on the bus: all that follows is later.
+    pdos = [k for k in range(n, len(log)) if 0x180 < log[k][1] < 0x580]
+    if pdos:
+        k = pdos[0]
+        gap = 700
+        later = [(at + gap, number, body) for at, number, body in log[k + 1:]]
+        twice = log[:k + 1] + [(log[k][0] + gap, log[k][1], log[k][2])] + later
+        yield "twice", lines_of(twice), k + 2, "after that of line"
+    # Stamps of a second are pressed into a tenth of it.
+    pressed = [(START + (at - START) // 10, number, body) for at, number, body in log]
+    yield "pressed", lines_of(pressed), None, "the transfers after line"
+
+
+def refused_logs(log):
+    """Logs that are refused: number and place."""
+    lines = lines_of(log[:20])
+    for number, line in ((90, lines[4] + " X"), (91, "x" + lines[4]), (91, lines[4].replace(".", ":", 1)), (92, lines[4].replace("can0 ", "can0 1", 1)),
+                         (93, lines[4] + "0"), (93, lines[4] + "0011223344556677")):
+        yield number, 5, lines[:4] + [line] + lines[5:]
+    yield 94, 0, []
+    yield 95, 5, lines[:4] + ["(" + "1" * 5000] + lines[5:]
+
+
+def watched(tables, lines, words=SAID):
+    return run("watch", *words, *tables, "-", text="".join(line + "\n" for line in lines).encode())
+
+
+def faults_of(name, seed, folder):
+    chance = random.Random(f"{name} {seed}")
+    tables = (f"{EXAMPLES}/{name}/nodes.csv", f"{EXAMPLES}/{name}/pdos.csv")
+    trace = f"{folder}/trace.csv"
+    run("run", "--seed", str(seed), "--until", str(UNTIL), *tables, trace)
+    log = log_of(ends_of(trace), chance)
+    for kind, lines in good_logs(log, chance):
+        status, out, err = watched(tables, lines)
+        if status != 0 or not out.endswith("keeps to the tables\n"):
+            yield f"{name} {seed} {kind}: status {status} {err} {[it for it in out.splitlines() if 'breaks' in it][:2]}"
+    for kind, lines, place, word in bad_logs(log, chance):
+        status, out, err = watched(tables, lines)
+        found = [it for it in out.splitlines() if word in it and (place is None or it.startswith(f"line {place}:"))]
+        if status != 3 or not found:
+            yield f"{name} {seed} {kind} at {place}: status {status} {err} {[it for it in out.splitlines() if 'breaks' in it][:2]}"
+    for number, place, lines in refused_logs(log):
+        status, out, err = watched(tables, lines)
+        if status != 3 or err.splitlines()[:1] != [f"canplan: refused {number} {place}"]:
+            yield f"{name} {seed} refused {number} {place}: status {status} {err}"
+
+
+def main():
+    faults = []
+    with tempfile.TemporaryDirectory() as folder:
+        for name in NAMES:
+            for seed in SEEDS:
+                faults += faults_of(name, seed, folder)
+    for fault in faults:
+        print(fault)
+    print(f"{len(NAMES) * len(SEEDS)} runs, {len(faults)} faults")
+    return 1 if faults else 0
+
+
+if __name__ == "__main__":
+    sys.exit(main())
