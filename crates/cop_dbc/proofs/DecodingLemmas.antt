@@ -1,5 +1,5 @@
 -- What is decoded of a signal is what its object has once the PDO is unpacked.
-use Rattle.std.proofs.Common.{◌≡◌, ◌+◌, ℕ, zero, suc, Bool, true, false, not, ◌&&◌, ◌||◌, ◌==◌, List, [], ◌∷◌, ◌++◌, take, drop, slice_get, All, Option, Some, None, option_map, refl, ap, sym, arith, ◌∙◌, true≢false, if◌then◌else◌}
+use Rattle.std.proofs.Common.{◌≡◌, ◌+◌, ℕ, zero, suc, Bool, true, false, not, ◌&&◌, ◌==◌, List, [], ◌∷◌, take, drop, slice_get, All, Option, Some, None, option_map, refl, ap, sym, arith, ◌∙◌, true≢false, if◌then◌else◌}
 use Rattle.std.specs.Option.{option_map_or}
 use Rattle.std.proofs.lemmas.Bool.{or_parts}
 use Rattle.std.proofs.lemmas.List.Elements.{All-head, All-tail}
@@ -15,7 +15,7 @@ use Rattle.cop_pdo.specs.Payload.{Layout, is_there, HasObjects}
 use Rattle.cop_pdo.specs.Bits.{bits_of_bytes, bytes_of_bits, bytes_for, received, unpacked, is_mapped, value_at}
 use Rattle.cop_pdo.proofs.UnpackLemmas.{received_there}
 use Rattle.cop_dbc.specs.declared.places.Signal.{Signal}
-use Rattle.cop_dbc.specs.Signals.{kind_at, signal_at, signals_from, signals_of}
+use Rattle.cop_dbc.specs.Signals.{kind_at, signals_from, signals_of}
 use Rattle.cop_dbc.specs.Decoding.{decoded, has_object}
 
 -- ---- lists

@@ -1,6 +1,5 @@
 -- The messages of a plan's bus.
 use Rattle.std.specs.Prelude.{ℕ, ◌%◌, Bool, false, ◌&&◌, ◌||◌, ◌==◌, nat_le, if◌then◌else◌, List, [], ◌∷◌, ◌++◌, get_or, Option, Some, None, option_map, Result, Ok, Err}
-use Rattle.cop_dict.specs.declared.mapping.Direction.{Direction}
 use Rattle.cop_dict.specs.declared.mapping.Direction.TheVariants as directions
 use Rattle.cop_dict.specs.declared.mapping.Mapped.{Mapped}
 use Rattle.cop_dict.specs.declared.mapping.MappingFault.{MappingFault}
