@@ -101,7 +101,7 @@ module _ (margin : ℕ) (streams lowered : List Stream) (is : AreLowered margin 
     pub obeying_lowered : All (IsObeying tau until run) streams → All (IsObeying tau until run) lowered
     obeying_lowered h k d low = obeys_same tau until run (get_or streams k d) (get_or lowered k d) (same_at k d low) (h k d (omega (arith, low, size)))
 
-  lowered_here : (p : ℕ) (k : Stream) → slice_get streams p ≡ Some k → (t : Stream) × (slice_get lowered p ≡ Some t) × (t.id ≡ k.id) × (t.deadline ≡ option_map (λ d. d - margin) k.deadline)
+  pub lowered_here : (p : ℕ) (k : Stream) → slice_get streams p ≡ Some k → (t : Stream) × (slice_get lowered p ≡ Some t) × (t.id ≡ k.id) × (t.deadline ≡ option_map (λ d. d - margin) k.deadline)
   lowered_here p k here =
       let inside : p < length streams = slice_get_within streams p k here in
       let low : p < length lowered = omega (arith, inside, size) in

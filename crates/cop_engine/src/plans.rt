@@ -4,8 +4,9 @@ ghost use Rattle.std.specs.Prelude.{◌≡◌, ◌≤◌, List, length, map, IfO
 ghost use Rattle.std.specs.String.{string_bytes};
 ghost use Rattle.cop_net.specs.Devices.{File};
 ghost use Rattle.cop_net.specs.Network.{Net};
-ghost use Rattle.cop_plan.specs.Plans.{IsOutcome, IsPlan};
-ghost use Rattle.cop_plan.specs.declared.assigning.Outcome.TheVariants.{Refused};
+ghost use Rattle.cop_plan.specs.Plans.{IsOutcome, IsPlan, IsChosenBy};
+ghost use Rattle.cop_plan.specs.declared.assigning.Outcome.TheVariants.{Planned, Refused};
+ghost use Rattle.cop_plan.specs.declared.choices.Choice.{Choice};
 ghost use Rattle.cop_engine.specs.Networks.{ExplainsNetwork};
 ghost use Rattle.cop_engine.specs.Dcfs.{HaveTexts};
 ghost use Rattle.cop_engine.specs.PlanTexts.{HasIdentifier};
@@ -50,7 +51,7 @@ fn planned_files(
 ) -> Result<Files, AllocError>
     requires plan { IsPlan network.now.equipment.rates network.now.set (length network.now.rows) plan.now }
     requires texts { HaveTexts eds_files.now network.now.nodes.devices }
-    ensures { IfOk result (AreFilesFor choice eds_files.now network.now) }
+    ensures { (choice : Choice) → IsChosenBy choice (Planned plan.now) → IfOk result (AreFilesFor choice eds_files.now network.now) }
 {
     Ok(Files {
         planned: true,
@@ -63,7 +64,7 @@ fn planned_files(
 /// The files where no rate passes.
 fn refused_files(alloc: Global, refusals: &[Refusal]) -> Result<Files, AllocError>
     requires { All (λ r. HasIdentifier r.cause) refusals.now }
-    ensures { (eds : List File) (net : Net) → IsOutcome net.equipment.rates net.set (length net.rows) (Refused refusals.now) → IfOk result (AreFilesFor choice eds net) }
+    ensures { (choice : Choice) (eds : List File) (net : Net) → IsOutcome net.equipment.rates net.set (length net.rows) (Refused refusals.now) → IfOk result (AreFilesFor choice eds net) }
 {
     Ok(Files {
         planned: false,

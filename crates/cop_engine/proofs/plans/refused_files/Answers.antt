@@ -3,5 +3,5 @@ use Rattle.cop_plan.specs.declared.assigning.Outcome.TheVariants.{Refused}
 use Rattle.cop_engine.proofs.plans.refused_files.Goals as goal
 
 pub returns : goal.returns
-returns c eds net refused =
-    record { outcome = Refused c.args.refusals.now; planned = refused; verdicts = []; judged = tt; is_plan = refl; plan = c.in_ok-refused_text.ensures; refusals = c.in_ok-write.ensures; dcf = c.new.ensures }
+returns c choice eds net refused =
+    record { outcome = Refused c.args.refusals.now; planned = refused; chosen = tt; verdicts = []; judged = tt; is_plan = refl; plan = c.in_ok-refused_text.ensures; refusals = c.in_ok-write.ensures; dcf = c.new.ensures }

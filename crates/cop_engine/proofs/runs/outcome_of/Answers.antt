@@ -22,5 +22,5 @@ returns-in_err-network c =
 
 pub returns : goal.returns
 returns c =
-    planned_network c.args.nodes.now c.args.pdos.now _ [] c.in_ok-nodes.nodes c.in_ok-pdos.pdos c.in_ok-network.network c.in_ok-plan.field-0 c.in_ok-nodes.ensures c.in_ok-pdos.ensures c.in_ok-network.ensures.exact c.in_ok-network.ensures.tables.0 c.in_ok-network.ensures.tables.1
-    (subst IsNetwork c.network-2.view_is c.network-2.invariant.0) c.in_ok-plan.ensures
+    planned_network c.args.choice c.args.nodes.now c.args.pdos.now _ [] c.in_ok-nodes.nodes c.in_ok-pdos.pdos c.in_ok-network.network c.in_ok-plan.field-0 c.in_ok-nodes.ensures c.in_ok-pdos.ensures c.in_ok-network.ensures.exact c.in_ok-network.ensures.tables.0 c.in_ok-network.ensures.tables.1
+    (subst IsNetwork c.network-2.view_is c.network-2.invariant.0) c.in_ok-plan.ensures.outcome c.in_ok-plan.ensures.choice
