@@ -8,7 +8,7 @@ use crate::judging::judge;
 use crate::notes::{check_notes, plan_notes};
 use crate::orders::{NetworkFiles, Order, Request};
 use crate::reporting::write_report;
-use crate::tidying::tidy_file;
+use crate::tidying::carry_tidy;
 use cop_engine::{
     Fault, Files, RunFault, boot_bytes, check_bytes, check_status, deliver, none_passes,
     outcome_of, plan_bytes, plan_status, run_plan, test_bytes, text_status,
@@ -226,7 +226,7 @@ pub fn carry_out(
             trace,
             out,
         } => write_report(rt, network, trace, out, inputs),
-        Order::Tidy(order) => tidy_file(rt, order, inputs),
+        Order::Tidy(order) => carry_tidy(rt, order, told, inputs),
         Order::Explain { number } => explain(rt, number),
     }
 }
