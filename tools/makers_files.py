@@ -7,7 +7,7 @@
 Each sample of crates/tidy_samples goes through `canplan tidy`: the text, the changes that are told and the status are as they are to be,
 `--check` tells the same and writes nothing, and what was written is not changed once more. What was accepted is then planned as the only
 device of a network, with its DCF file and its page: no plan ends in a refused EDS text. What is refused names a number that `explain`
-knows.
+knows. A folder is tried as a whole, too.
 
 With `bent` lines of the samples are cut, doubled, moved and changed, by a seed that is always the same: each text is refused or accepted,
 what was accepted is not changed once more, and no plan with it ends in a refused EDS text.
@@ -83,6 +83,31 @@ def of_sample(name, words):
         yield from of_plan(name, folder)
 
 
+def of_folder():
+    """What is wrong with the answers to a folder, of which one file is refused at last, and to names that no table of nodes takes."""
+    sample = f"{SAMPLES}/list-names-nothing"
+    with tempfile.TemporaryDirectory() as folder:
+        source, out = f"{folder}/in", f"{folder}/out"
+        os.mkdir(source)
+        os.mkdir(out)
+        write(f"{source}/valve.eds", bytes_of(f"{sample}/in.eds"))
+        write(f"{source}/readme.txt", b"of no concern")
+        told = b"".join(b"valve.eds: " + line + b"\n" for line in bytes_of(f"{sample}/told.txt").splitlines())
+        if run("tidy", source, out) != (0, told, b"") or os.listdir(out) != ["valve.eds"]:
+            yield "a folder: other answers"
+        elif bytes_of(f"{out}/valve.eds") != bytes_of(f"{sample}/out.eds"):
+            yield "a folder: another text"
+        os.remove(f"{out}/valve.eds")
+        write(f"{source}/other.eds", bytes_of(f"{SAMPLES}/octal-asked/in.eds"))
+        if run("tidy", source, out) != (3, told, b"canplan: refused 78 55 other.eds\n") or os.listdir(out):
+            yield "a folder with a file that is refused: other answers"
+        said = run("tidy", "--explain", f"{source}/other.eds", f"{out}/unit.eds")[2]
+        if b"by CiA 306 (octal) and" not in said:
+            yield f"octal or decimal: the meanings are not told: {said}"
+        if run("tidy", f"{source}/valve.eds", f"{out}/v=lve.eds") != (2, b"", b"canplan: usage\n"):
+            yield "a name that no table of nodes takes is taken"
+
+
 CHOICES = [[], [], ["--decimal"], ["--octal"], ["--access", "rw"], ["--unlisted", "add"], ["--unlisted", "leave"], ["--clamp"]]
 TAILS = [b" ; x", b" // y", b"\r", b"h", b'"', b"0"]
 VALUES = [b"", b"FFh", b"0377", b"-1", b"$NODEID+0x180", b"true", b"99999999999", b"NODEID"]
@@ -152,6 +177,7 @@ def main():
     for line in bytes_of(f"{SAMPLES}/list").decode().splitlines():
         name, _, word = line.partition(" ")
         found += of_sample(name, [word] if word else [])
+    found += of_folder()
     for words in (["tidy", "x.eds"], ["tidy", "--octal", "--decimal", "x.eds", "y.eds"], ["tidy", "--check", "x.eds", "y.eds"]):
         if run(*words)[0] != 2:
             found.append(f"{words} is understood")

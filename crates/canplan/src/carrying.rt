@@ -10,7 +10,7 @@ use crate::log_rules::log_rule_words;
 use crate::notes::{check_notes, plan_notes};
 use crate::orders::{NetworkFiles, Order, Request};
 use crate::reporting::write_report;
-use crate::tidying::tidy_file;
+use crate::tidying::carry_tidy;
 use crate::watching::watch_bus;
 use cop_engine::{
     Fault, Files, RunFault, boot_bytes, check_bytes, check_status, deliver, none_passes,
@@ -252,7 +252,7 @@ pub fn carry_out(
             network,
             out,
         } => export(rt, format, network, out, inputs),
-        Order::Tidy(order) => tidy_file(rt, order, inputs),
+        Order::Tidy(order) => carry_tidy(rt, order, told, inputs),
         Order::Watch(order) => watch_bus(rt, order, inputs),
         Order::Explain { number } => explain(rt, number),
     }

@@ -243,7 +243,7 @@ fn tidy_command<'a>(alloc: Global) -> Result<Command<'a>, AllocError> {
     let out = Arg::new(alloc, "OUT")
         .required_unless_present("check")?
         .action(ArgAction::Set)
-        .help("The file that the text is written to");
+        .help("The file, or the folder, that is written to");
     let check = choice(
         alloc,
         "check",
@@ -253,7 +253,7 @@ fn tidy_command<'a>(alloc: Global) -> Result<Command<'a>, AllocError> {
     let command = Command::new(alloc, "tidy")
         .about("Makes of an EDS file as makers ship it one that plan reads, and tells each change")
         .after_help("Example: canplan tidy unit.eds unit-tidy.eds")
-        .arg(operand(alloc, "IN", "The EDS file"))?
+        .arg(operand(alloc, "IN", "The EDS file, or a folder with EDS files"))?
         .arg(out)?
         .arg(check)?
         .arg(explain_flag(alloc))?;

@@ -1,0 +1,145 @@
+//! All EDS files of a folder, made such that plan reads them.
+
+use crate::failures::{Failure, Use, file_failure};
+use crate::files::{print, write_file};
+use crate::inputs::read_file;
+use crate::orders::TidyOrder;
+use crate::tidying::{Answer, answer_for, check_name, is_same};
+use cop_tidy::{Refusal, Tidied, refusal_words, told};
+use cop_words::line_at;
+use std::fs;
+use std::io::{self, Write};
+
+/// An EDS file of the folder, made one that plan reads.
+#[derive(Drop)]
+struct Mended {
+    name: String,
+    tidied: Tidied,
+}
+
+fn is_eds_name(name: &str) -> bool {
+    match name.as_bytes() {
+        [_, .., b'.', e, d, s] => [*e, *d, *s].eq_ignore_ascii_case(b"eds"),
+        _ => false,
+    }
+}
+
+/// The names of the EDS files of a folder, in their order.
+fn names_in(rt: &HostRuntime, folder: &str) -> io::Result<Vec<String>> {
+    let mut names = Vec::new(rt.alloc());
+    for entry in fs::read_dir(rt, folder)? {
+        let entry = entry?;
+        if is_eds_name(entry.file_name()) {
+            names.push(String::from_str(rt.alloc(), entry.file_name())?)?;
+        }
+    }
+    names.sort()?;
+    Ok(names)
+}
+
+/// Says of a file of the folder that it is refused, in words too where they are wanted.
+fn tell_refused(
+    rt: &HostRuntime,
+    name: &str,
+    text: &[u8],
+    refusal: Refusal,
+    is_explained: bool,
+) -> Result<(), Failure> {
+    let alloc = rt.alloc();
+    let (number, line) = (refusal.question.number(), refusal.line);
+    let fault = format!(in alloc; "canplan: refused {number} {line} {name}\n")?;
+    let _ = rt.stderr().write_all(fault.as_bytes());
+    if is_explained {
+        let found = line_at(text, line);
+        let words = refusal_words(
+            alloc,
+            name,
+            number,
+            line as u64,
+            found.map(|found| found.text),
+        )?;
+        let _ = rt.stderr().write_all(&words);
+    }
+    Ok(())
+}
+
+/// What becomes of the files of a folder; nothing of one that is refused, which is said.
+fn mend_files(
+    rt: &HostRuntime,
+    order: TidyOrder<'_>,
+    names: Vec<String>,
+    is_explained: bool,
+) -> Result<(Vec<Mended>, bool), Failure> {
+    let folder = order.input;
+    let mut files = Vec::new(rt.alloc());
+    let mut is_refused = false;
+    for name in names {
+        let path = format!(in rt.alloc(); "{folder}/{name}")?;
+        let text = read_file(rt, &path)?;
+        match answer_for(rt.alloc(), &text, &order.words)? {
+            Answer::Tidied(tidied) => files.push(Mended { name, tidied })?,
+            Answer::Refused(refusal) => {
+                is_refused = true;
+                tell_refused(rt, &name, &text, refusal, is_explained)?;
+            }
+        }
+    }
+    Ok((files, is_refused))
+}
+
+/// Tells the changes of a file, each with its name before it.
+fn tell_changes(rt: &HostRuntime, file: &Mended) -> Result<(), Failure> {
+    let words = told(rt.alloc(), &file.tidied)?;
+    let mut lines = Vec::new(rt.alloc());
+    for line in words.split(|byte| *byte == b'\n') {
+        if line.is_empty() {
+            continue;
+        }
+        lines.extend_from_slice(file.name.as_bytes())?;
+        lines.extend_from_slice(b": ")?;
+        lines.extend_from_slice(line)?;
+        lines.push(b'\n')?;
+    }
+    print(rt, &lines)
+}
+
+fn write_files(rt: &HostRuntime, folder: &str, files: &[Mended]) -> Result<(), Failure> {
+    for file in files {
+        let name = &file.name;
+        let path = format!(in rt.alloc(); "{folder}/{name}")?;
+        write_file(rt, &path, &file.tidied.text)?;
+    }
+    Ok(())
+}
+
+/// Makes of each EDS file of a folder one that plan reads, under its own name in another folder. Each change is told with the
+/// file's name. Where a file is refused, or has a name that the table of nodes does not take, nothing is written.
+pub fn tidy_folder(
+    rt: &HostRuntime,
+    order: TidyOrder<'_>,
+    is_explained: bool,
+) -> Result<u8, Failure> {
+    let names = match names_in(rt, order.input) {
+        Ok(names) => names,
+        Err(error) => return Err(file_failure(rt, order.input, Use::Read, &error)),
+    };
+    if order.out.is_some() {
+        for name in names.as_slice() {
+            check_name(rt.alloc(), name)?;
+        }
+    }
+    let (files, is_refused) = mend_files(rt, order, names, is_explained)?;
+    for file in files.as_slice() {
+        tell_changes(rt, file)?;
+    }
+    match order.out {
+        Some(out) if !is_refused => {
+            write_files(rt, out, &files)?;
+            Ok(0)
+        }
+        _ => {
+            let is_same = files.iter().all(|file| is_same(&file.tidied));
+            Ok(if is_same && !is_refused { 0 } else { 3 })
+        }
+    }
+}
