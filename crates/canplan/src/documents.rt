@@ -1,0 +1,219 @@
+//! Answers and faults as documents in JSON, on standard output.
+
+use crate::carrying::{carry_out, write_files};
+use crate::explaining::explain;
+use crate::failures::Failure;
+use crate::files::print;
+use crate::inputs::{Inputs, Texts, read_file, read_input};
+use crate::orders::{NetworkFiles, Order, Request};
+use cop_documents::{
+    Told, boot_document, check_document, fault_document, judge_document, plan_document,
+    test_document,
+};
+use cop_engine::{
+    Fault, boot_bytes, check_bytes, check_status, judge_bytes, message, plan_bytes, plan_status,
+    test_bytes, text_status,
+};
+use cop_frame::Rate;
+use cop_net::{PlanFault, Table, network, read_nodes, read_pdos};
+use cop_plan::plan;
+use std::alloc::{AllocError, Global};
+use std::str;
+
+/// Writes a document, and the end of its line.
+fn print_document(rt: &HostRuntime, document: &str) -> Result<(), Failure> {
+    print(rt, format!(in rt.alloc(); "{document}\n")?.as_bytes())
+}
+
+fn test(rt: &HostRuntime, rate: Rate, file: &str, inputs: &mut Inputs) -> Result<u8, Failure> {
+    inputs.other = read_input(rt, file)?;
+    let text = test_bytes(rt.alloc(), &inputs.other, rate)?;
+    print_document(rt, &test_document(rt.alloc(), rate.kbits(), &text)?)?;
+    Ok(0)
+}
+
+/// The document of a plan.
+fn planned(alloc: Global, texts: &Texts) -> Result<String, Fault> {
+    let nodes = read_nodes(alloc, &texts.nodes)?;
+    let pdos = read_pdos(alloc, &texts.pdos)?;
+    let network = network(alloc, &nodes, &pdos, &texts.eds_files)?;
+    let outcome = plan(alloc, &network)?;
+    Ok(plan_document(alloc, &network, &outcome)?)
+}
+
+fn plan_order(
+    rt: &HostRuntime,
+    network: NetworkFiles<'_>,
+    out: &str,
+    inputs: &mut Inputs,
+) -> Result<u8, Failure> {
+    inputs.network.read(rt, network)?;
+    let texts = &inputs.network;
+    let files = plan_bytes(rt.alloc(), &texts.nodes, &texts.pdos, &texts.eds_files)?;
+    let document = planned(rt.alloc(), texts)?;
+    write_files(rt, &files, out)?;
+    print_document(rt, &document)?;
+    Ok(plan_status(files.planned))
+}
+
+fn check(
+    rt: &HostRuntime,
+    network: NetworkFiles<'_>,
+    refusals: &str,
+    inputs: &mut Inputs,
+) -> Result<u8, Failure> {
+    inputs.network.read_tables(rt, network)?;
+    inputs.other = read_file(rt, refusals)?;
+    inputs.network.read_eds_files(rt, network)?;
+    let texts = &inputs.network;
+    let (text, all_hold) = check_bytes(
+        rt.alloc(),
+        &texts.nodes,
+        &texts.pdos,
+        &texts.eds_files,
+        &inputs.other,
+    )?;
+    print_document(rt, &check_document(rt.alloc(), &text)?)?;
+    Ok(check_status(all_hold))
+}
+
+fn boot(
+    rt: &HostRuntime,
+    seed: u64,
+    network: NetworkFiles<'_>,
+    inputs: &mut Inputs,
+) -> Result<u8, Failure> {
+    inputs.network.read(rt, network)?;
+    let texts = &inputs.network;
+    let text = boot_bytes(
+        rt.alloc(),
+        seed,
+        &texts.nodes,
+        &texts.pdos,
+        &texts.eds_files,
+    )?;
+    print_document(rt, &boot_document(rt.alloc(), &text)?)?;
+    Ok(text_status(&text))
+}
+
+fn judge(
+    rt: &HostRuntime,
+    network: NetworkFiles<'_>,
+    trace: &str,
+    inputs: &mut Inputs,
+) -> Result<u8, Failure> {
+    inputs.network.read_tables(rt, network)?;
+    inputs.other = read_file(rt, trace)?;
+    inputs.network.read_eds_files(rt, network)?;
+    let texts = &inputs.network;
+    let text = judge_bytes(
+        rt.alloc(),
+        &texts.nodes,
+        &texts.pdos,
+        &texts.eds_files,
+        &inputs.other,
+    )?;
+    print_document(rt, &judge_document(rt.alloc(), &text)?)?;
+    Ok(text_status(&text))
+}
+
+/// Carries a request out, and gives its answer as a document. A trace is read as a whole.
+pub fn carry_document(
+    rt: &HostRuntime,
+    request: Request<'_>,
+    inputs: &mut Inputs,
+) -> Result<u8, Failure> {
+    match request.order {
+        Order::Test { rate, file } => test(rt, rate, file, inputs),
+        Order::Plan { network, out } => plan_order(rt, network, out, inputs),
+        Order::Check { network, refusals } => check(rt, network, refusals, inputs),
+        Order::Boot { seed, network } => boot(rt, seed, network, inputs),
+        Order::Judge { network, trace } => judge(rt, network, trace, inputs),
+        _ => carry_out(rt, request, false, inputs),
+    }
+}
+
+/// The table that a network's refusal is of.
+fn table_of(alloc: Global, texts: &Texts) -> Option<Table> {
+    let nodes = match read_nodes(alloc, &texts.nodes) {
+        Ok(nodes) => nodes,
+        Err(PlanFault::Refused(refusal)) => return Some(refusal.table),
+        Err(PlanFault::Memory) => return None,
+    };
+    let pdos = match read_pdos(alloc, &texts.pdos) {
+        Ok(pdos) => pdos,
+        Err(PlanFault::Refused(refusal)) => return Some(refusal.table),
+        Err(PlanFault::Memory) => return None,
+    };
+    match network(alloc, &nodes, &pdos, &texts.eds_files) {
+        Err(PlanFault::Refused(refusal)) => Some(refusal.table),
+        _ => None,
+    }
+}
+
+/// The table that a rule is of, by its number.
+fn table_name(alloc: Global, number: u8, texts: &Texts) -> Option<&'static str> {
+    match number {
+        1..=6 => Some("streams"),
+        30..=36 => Some("refusals"),
+        60..=69 => Some("trace"),
+        40..=53 => match table_of(alloc, texts) {
+            Some(Table::Nodes) => Some("nodes"),
+            Some(Table::Pdos) => Some("pdos"),
+            None => None,
+        },
+        _ => None,
+    }
+}
+
+/// The column that the words on a fault name.
+fn column_of(words: &str) -> Option<&str> {
+    for line in words.lines() {
+        if let Some(rest) = line.strip_prefix("wanted in column ") {
+            return match rest.split_once(':') {
+                Some((column, _)) => Some(column),
+                None => None,
+            };
+        }
+    }
+    None
+}
+
+/// The document of a fault.
+fn fault_text(
+    rt: &HostRuntime,
+    order: Order<'_>,
+    inputs: &Inputs,
+    failure: &Failure,
+) -> Result<String, AllocError> {
+    let alloc = rt.alloc();
+    let said = explain(rt, order, inputs, failure)?;
+    let words = str::from_utf8(&said).unwrap_or("");
+    let line = message(alloc, &failure.fault)?;
+    let (number, record) = match failure.fault {
+        Fault::Refused { number, place } => (Some(number), Some(place)),
+        _ => (None, None),
+    };
+    let table = match number {
+        Some(number) => table_name(alloc, number, &inputs.network),
+        None => None,
+    };
+    fault_document(
+        alloc,
+        Told {
+            number,
+            table,
+            record,
+            column: column_of(words),
+            line: line.trim_end(),
+            words,
+        },
+    )
+}
+
+/// Writes a fault as a document, where there is memory for it.
+pub fn tell_document(rt: &HostRuntime, order: Order<'_>, inputs: &Inputs, failure: &Failure) {
+    if let Ok(document) = fault_text(rt, order, inputs, failure) {
+        let _ = print_document(rt, &document);
+    }
+}

@@ -1,0 +1,11 @@
+//! Answers as documents in JSON, for programs that read them.
+#![tactic(auto)]
+
+mod answers;
+mod faults;
+mod plans;
+mod values;
+
+pub use answers::{boot_document, check_document, judge_document, test_document};
+pub use faults::{Told, fault_document};
+pub use plans::plan_document;

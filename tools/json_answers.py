@@ -1,0 +1,117 @@
+#!/usr/bin/env python3
+"""Reads what the program answers with --json by Python's json, and compares it with docs/schema.json and with the lines.
+
+    python3 tools/json_answers.py
+
+Each example is planned, checked, booted and judged, and tables that are refused are tried: each answer is one document that meets
+the schema (Debian's python3-jsonschema), says what the lines say, and ends with their status.
+"""
+import csv
+import glob
+import json
+import os
+import subprocess
+import sys
+import tempfile
+
+import jsonschema
+
+from files import bytes_of, write
+
+HERE = os.path.dirname(os.path.dirname(os.path.realpath(__file__)))
+PROGRAM = os.environ.get("CANPLAN", f"{HERE}/bin/canplan")
+SCHEMA = json.loads(bytes_of(f"{HERE}/docs/schema.json"))
+
+
+def run(*words):
+    it = subprocess.run([PROGRAM, *words], capture_output=True, timeout=600)
+    return it.returncode, it.stdout.decode(), it.stderr.decode("latin-1")
+
+
+def answers(command, *words):
+    """The lines, the fault's line and the document of a call, whose status has to be the same."""
+    status, text, fault = run(command, *words)
+    other, document, said = run(command, "--json", *words)
+    assert status == other, f"{command}: {status} and {other}"
+    assert not said and document.endswith("\n") and document.count("\n") == 1, f"{command}: {document} {said}"
+    value = json.loads(document)
+    jsonschema.validate(value, SCHEMA)
+    return text.splitlines(), fault.splitlines(), value
+
+
+def plan(tables, out):
+    lines, _, value = answers("plan", *tables, out)
+    rows = list(csv.DictReader(open(tables[1], newline="", encoding="utf-8-sig")))
+    times = {(it["pdo"]["node"], it["pdo"]["tpdo"]): it["stream"] for it in value["pdos"]}
+    wanted = []
+    for row in rows if value["rate"] else []:
+        it = times[int(row["node"]), int(row["tpdo"])]
+        wanted.append(f"pdo {row['node']}.{row['tpdo']} id {it['id']:X}h response {it['response']['ticks']}")
+        assert it["response"]["us"] == it["response"]["ticks"] / 4 and it["deadline"]["us"] == int(row["deadline"])
+    assert lines[0] == (f"rate {value['rate']}" if value["rate"] else "no rate passes"), lines[0]
+    assert [it for it in lines if it.startswith("pdo ")] == wanted, wanted
+    assert [int(it.split()[1]) for it in lines if it.startswith("refused ")] == [it["rate"] for it in value["refused"]]
+    for line, one in zip([it.split() for it in lines if it.startswith("refused ")], value["refused"]):
+        assert "members" not in one["reason"] or line[2:] == ["members", str(len(one["reason"]["members"]))], line
+        assert "sdo" not in one["reason"] or line[2:] == ["sdo", f"{one['reason']['sdo']:X}"], line
+
+
+def example(folder):
+    tables = [f"{folder}/nodes.csv", f"{folder}/pdos.csv"]
+    with tempfile.TemporaryDirectory() as out:
+        plan(tables, out)
+        assert bytes_of(f"{out}/plan.txt") == bytes_of(f"{folder}/plan.txt")
+    lines, _, value = answers("check", *tables, f"{folder}/refusals.csv")
+    assert lines == [f"{it['rate']} {'holds' if it['holds'] else 'fails'}" for it in value["refusals"]], lines
+    lines, _, value = answers("boot", "--seed", "1", *tables)
+    assert lines == [f"node {it['node']} {it['state']}" for it in value["nodes"]] + ["started" if value["started"] else "not started"], lines
+    lines, _, value = answers("judge", *tables, f"{folder}/run.csv")
+    assert lines == [f"transfers {value['transfers']}", "on time"] and value["on_time"] and value["planned"], lines
+
+
+def streams():
+    lines, _, value = answers("test", "--rate", "125", f"{HERE}/examples/three-frames.csv")
+    for line, it in zip(lines, value["streams"], strict=True):
+        instance = "" if it["instance"] is None else f" {it['instance']}"
+        assert line == f"{it['id']:X}h {it['verdict']}{instance} {it['response']['ticks']}", line
+
+
+def faults():
+    """Refused inputs: each with its number, record, table and column."""
+    valve = f"{HERE}/examples/valve"
+    tables = [f"{valve}/nodes.csv", f"{valve}/pdos.csv"]
+    with tempfile.TemporaryDirectory() as out:
+        bad = f"{out}/bad.csv"
+        write(bad, bytes_of(tables[1]).replace(b"5,1,10000,", b"5,1,10 ms,"))
+        wanted = [
+            (["plan", tables[0], bad, out], (41, 1, "pdos", "period")),
+            (["boot", "--seed", "1", tables[1], tables[1]], (40, 0, "nodes", None)),
+            (["check", *tables, tables[0]], (31, 0, "refusals", None)),
+            (["judge", *tables, tables[0]], (69, 0, "trace", None)),
+            (["test", "--rate", "125", tables[0]], (1, 0, "streams", None)),
+            (["plan", f"{out}/none.csv", tables[1], out], (None, None, None, None)),
+        ]
+        for words, places in wanted:
+            _, said, value = answers(*words)
+            error = value["error"]
+            found = tuple(error[key] for key in ("number", "record", "table", "column"))
+            assert error["line"] == said[0] and error["words"], f"{words[0]}: {error}"
+            assert found == places, f"{words[0]}: {found}"
+
+
+def main():
+    wrong = 0
+    tries = [("streams", streams), ("faults", faults)]
+    tries += [(os.path.relpath(it, HERE), lambda it=it: example(it)) for it in sorted(glob.glob(f"{HERE}/examples/*/"))]
+    for name, attempt in tries:
+        try:
+            attempt()
+            print(f"{name}: ok")
+        except (AssertionError, jsonschema.ValidationError, ValueError, KeyError) as fault:
+            wrong += 1
+            print(f"{name}: {fault!r}")
+    return 1 if wrong else 0
+
+
+if __name__ == "__main__":
+    sys.exit(main())
