@@ -39,7 +39,7 @@ fn take_piece(session: &mut Session<'_>, begun: &mut Vec<u8>, piece: &[u8]) -> R
         keep(session, begun, &rest[..end])?;
         session.take_line(begun)?;
         begun.clear();
-        rest = &rest[end + 1..];
+        rest = &rest[end..][1..];
     }
     keep(session, begun, rest)
 }
