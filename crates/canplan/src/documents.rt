@@ -37,7 +37,7 @@ fn planned(alloc: Global, texts: &Texts) -> Result<String, Fault> {
     let nodes = read_nodes(alloc, &texts.nodes)?;
     let pdos = read_pdos(alloc, &texts.pdos)?;
     let network = network(alloc, &nodes, &pdos, &texts.eds_files)?;
-    let outcome = plan(alloc, &network, texts.choice)?;
+    let outcome = plan(alloc, &network)?;
     Ok(plan_document(alloc, &network, &outcome)?)
 }
 
@@ -49,13 +49,7 @@ fn plan_order(
 ) -> Result<u8, Failure> {
     inputs.network.read(rt, network)?;
     let texts = &inputs.network;
-    let files = plan_bytes(
-        rt.alloc(),
-        &texts.nodes,
-        &texts.pdos,
-        &texts.eds_files,
-        texts.choice,
-    )?;
+    let files = plan_bytes(rt.alloc(), &texts.nodes, &texts.pdos, &texts.eds_files)?;
     let document = planned(rt.alloc(), texts)?;
     write_files(rt, &files, out)?;
     print_document(rt, &document)?;
@@ -97,7 +91,6 @@ fn boot(
         &texts.nodes,
         &texts.pdos,
         &texts.eds_files,
-        texts.choice,
     )?;
     print_document(rt, &boot_document(rt.alloc(), &text)?)?;
     Ok(text_status(&text))
@@ -118,7 +111,6 @@ fn judge(
         &texts.nodes,
         &texts.pdos,
         &texts.eds_files,
-        texts.choice,
         &inputs.other,
     )?;
     print_document(rt, &judge_document(rt.alloc(), &text)?)?;

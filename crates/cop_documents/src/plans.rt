@@ -116,13 +116,9 @@ pub fn plan_document(
     let sync = sync_of(alloc, figures.sync)?;
     let pdos = pdos_of(alloc, network, &figures.pdos)?;
     let frames = frames_of(alloc, &figures.frames)?;
-    let margin = match outcome {
-        Outcome::Planned(plan) => time_if(alloc, plan.margin())?,
-        Outcome::Refused(_) => Value::Null,
-    };
     let loads = loads_of(alloc, &figures.loads)?;
     let refused = refused_of(alloc, network, &figures.refused)?;
-    json!(in alloc; {"command": "plan", "rate": rate, "pdos": pdos, "sync": sync, "sdo_frames": frames, "margin": margin, "loads": loads, "refused": refused})?.to_string(
+    json!(in alloc; {"command": "plan", "rate": rate, "pdos": pdos, "sync": sync, "sdo_frames": frames, "loads": loads, "refused": refused})?.to_string(
         alloc,
     )
 }
