@@ -48,7 +48,7 @@ fn tell(rt: &HostRuntime, notes: Result<Vec<u8>, Fault>) {
 }
 
 /// Writes the files of a plan into a folder, and removes those of an earlier plan that it has not.
-pub fn write_files(rt: &HostRuntime, files: &Files, out: &str) -> Result<(), Failure> {
+fn write_files(rt: &HostRuntime, files: &Files, out: &str) -> Result<(), Failure> {
     let mut folder = Folder {
         rt,
         path: out,

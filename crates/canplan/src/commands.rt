@@ -77,14 +77,6 @@ fn margin_flag<'a>(alloc: Global) -> Arg<'a> {
         )
 }
 
-/// The word that asks for a document.
-fn json_flag<'a>(alloc: Global) -> Arg<'a> {
-    Arg::new(alloc, "json")
-        .long("json")
-        .action(ArgAction::SetTrue)
-        .help("Answers by one document in JSON on standard output, also of a fault")
-}
-
 /// A subcommand on a network: its two tables.
 fn network_command<'a>(
     alloc: Global,
@@ -115,7 +107,6 @@ fn test_command<'a>(alloc: Global) -> Result<Command<'a>, AllocError> {
         .after_help("Example: canplan test --rate 125 streams.csv")
         .arg(rate)?
         .arg(operand(alloc, "FILE", file))?
-        .arg(json_flag(alloc))?
         .arg(explain_flag(alloc))
 }
 
@@ -126,7 +117,6 @@ fn plan_command<'a>(alloc: Global) -> Result<Command<'a>, AllocError> {
         "A folder, which has to be there, for plan.txt, refusals.csv and node-005.dcf and so on";
     network_command(alloc, "plan", about)?
         .after_help("Example: canplan plan nodes.csv pdos.csv out")
-        .arg(json_flag(alloc))?
         .arg(operand(alloc, "OUT", out))
 }
 
@@ -134,7 +124,6 @@ fn check_command<'a>(alloc: Global) -> Result<Command<'a>, AllocError> {
     let about = "Checks of each refusal that no choice of identifiers passes at its rate";
     network_command(alloc, "check", about)?
         .after_help("Example: canplan check nodes.csv pdos.csv out/refusals.csv")
-        .arg(json_flag(alloc))?
         .arg(operand(alloc, "REFUSALS", "A refusal file of plan"))
 }
 
@@ -142,7 +131,6 @@ fn boot_command<'a>(alloc: Global) -> Result<Command<'a>, AllocError> {
     let about = "Boots the planned devices over a simulated bus, each frame delivered in its turn";
     network_command(alloc, "boot", about)?
         .after_help("Example: canplan boot --seed 1 nodes.csv pdos.csv")
-        .arg(json_flag(alloc))?
         .arg(number(alloc, "seed", u64::MAX, "The number that draws the turns"))
 }
 
@@ -167,7 +155,6 @@ fn judge_command<'a>(alloc: Global) -> Result<Command<'a>, AllocError> {
         "Judges a trace of the bus by the plan of a network",
     )?
     .after_help("Example: canplan judge nodes.csv pdos.csv trace.csv")
-    .arg(json_flag(alloc))?
     .arg(operand(
         alloc,
         "TRACE",
