@@ -6,12 +6,10 @@ use crate::failures::{Failure, Use, file_failure};
 use crate::files::{Folder, print, remove_earlier};
 use crate::inputs::{Inputs, read_file, read_input};
 use crate::judging::judge;
-use crate::log_rules::log_rule_words;
 use crate::notes::{check_notes, plan_notes};
 use crate::orders::{NetworkFiles, Order, Request};
 use crate::reporting::write_report;
 use crate::tidying::carry_tidy;
-use crate::watching::watch_bus;
 use cop_engine::{
     Fault, Files, RunFault, boot_bytes, check_bytes, check_status, deliver, none_passes,
     outcome_of, plan_bytes, plan_status, run_plan, test_bytes, text_status,
@@ -211,11 +209,6 @@ fn explain(rt: &HostRuntime, number: u8) -> Result<u8, Failure> {
     } else {
         words.as_slice()
     };
-    let words = if words.is_empty() {
-        log_rule_words(number).as_bytes()
-    } else {
-        words
-    };
     if words.is_empty() {
         return Err(Failure::from(Fault::Usage));
     }
@@ -253,7 +246,6 @@ pub fn carry_out(
             out,
         } => export(rt, format, network, out, inputs),
         Order::Tidy(order) => carry_tidy(rt, order, told, inputs),
-        Order::Watch(order) => watch_bus(rt, order, inputs),
         Order::Explain { number } => explain(rt, number),
     }
 }

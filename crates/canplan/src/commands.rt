@@ -10,9 +10,6 @@ pub const MOST_UNTIL: u64 = 1000000000;
 /// The greatest number of a rule.
 const MOST_RULE: u64 = 255;
 
-/// The greatest error of a log's clock, in microseconds and in parts in a million.
-const MOST_CLOCK: u64 = 1000000;
-
 /// The accesses that objects of an EDS file may have.
 static ACCESSES: [&str; 6] = ["ro", "wo", "rw", "rwr", "rww", "const"];
 
@@ -32,7 +29,7 @@ const AFTER: &str = "With no words: canplan test --rate 125 -
 Statuses:
   0  done
   2  the words are not understood
-  3  an input is refused (canplan: refused NUMBER PLACE), a refusal fails, a run is given up, or a log breaks the tables
+  3  an input is refused (canplan: refused NUMBER PLACE), a refusal fails, or a run is given up
   4  no rate passes
   5  a file cannot be read or written, or is above 64 MiB
   6  out of memory
@@ -260,35 +257,6 @@ fn tidy_command<'a>(alloc: Global) -> Result<Command<'a>, AllocError> {
     with_choices(alloc, command)
 }
 
-/// What is taken of the clock of a log.
-fn clock_choice<'a>(alloc: Global, name: &'a str, unit: &'a str, help: &'a str) -> Arg<'a> {
-    Arg::new(alloc, name)
-        .long(name)
-        .value_name(unit)
-        .value_parser(ValueParser::unsigned(0, MOST_CLOCK))
-        .action(ArgAction::Set)
-        .help(help)
-}
-
-fn watch_command<'a>(alloc: Global) -> Result<Command<'a>, AllocError> {
-    let about = "Reads a log of a real bus, and says whether it keeps to the tables";
-    let error = "By how much distances of two stamps are wrong at most; 1000 where it is left out";
-    let drift =
-        "By how many parts in a million the clock is wrong at most; 200 where it is left out";
-    let log = "The log, as candump -L writes it; - is standard input";
-    let channel = Arg::new(alloc, "channel")
-        .long("channel")
-        .value_name("NAME")
-        .action(ArgAction::Set)
-        .help("The channel whose lines are taken; that of the first line where it is left out");
-    network_command(alloc, "watch", about)?
-        .after_help("Example: candump -L can0 | canplan watch nodes.csv pdos.csv -")
-        .arg(operand(alloc, "LOG", log))?
-        .arg(clock_choice(alloc, "error", "US", error))?
-        .arg(clock_choice(alloc, "drift", "PPM", drift))?
-        .arg(channel)
-}
-
 fn explain_command<'a>(alloc: Global) -> Result<Command<'a>, AllocError> {
     let number = Arg::new(alloc, "NUMBER")
         .required(true)
@@ -324,6 +292,5 @@ pub fn command<'a>(alloc: Global) -> Result<Command<'a>, AllocError> {
     let command = with(command, report_command(alloc))?;
     let command = with(command, export_command(alloc))?;
     let command = with(command, tidy_command(alloc))?;
-    let command = with(command, watch_command(alloc))?;
     with(command, explain_command(alloc))
 }

@@ -2,7 +2,6 @@
 
 use crate::failures::Failure;
 use crate::inputs::{Inputs, beside};
-use crate::log_rules::log_rule_words;
 use crate::orders::{NetworkFiles, Order};
 use crate::tidying::mend_words;
 use cop_engine::Fault;
@@ -21,7 +20,6 @@ fn network_of<'a>(order: Order<'a>) -> Option<NetworkFiles<'a>> {
         Order::Judge { network, .. } => Some(network),
         Order::Run { network, .. } => Some(network),
         Order::Report { network, .. } | Order::Export { network, .. } => Some(network),
-        Order::Watch(order) => Some(order.network),
         Order::Test { .. } | Order::Tidy(_) | Order::Explain { .. } => None,
     }
 }
@@ -36,21 +34,6 @@ fn file_of<'a>(order: Order<'a>, number: u8) -> Option<&'a str> {
         Order::Report { trace, .. } if number >= 60 => trace,
         _ => None,
     }
-}
-
-/// Whether a rule is about the log that is watched, whose line the failure has in words.
-fn is_of_log(order: Order<'_>, number: u8) -> bool {
-    matches!(order, Order::Watch(_)) && number >= 90
-}
-
-/// What is said of a line of a log that is refused.
-fn log_words(alloc: Global, number: u8, line: u64) -> Result<Vec<u8>, AllocError> {
-    let mut words = Vec::new(alloc);
-    if line > 0 {
-        words.extend_from_slice(format!(in alloc; "line {line} of the log\n")?.as_bytes())?;
-    }
-    words.extend_from_slice(log_rule_words(number).as_bytes())?;
-    Ok(words)
 }
 
 /// What is said of the network that was read.
@@ -95,9 +78,6 @@ fn refused(
 ) -> Result<Vec<u8>, AllocError> {
     if let Order::Tidy(order) = order {
         return refused_text(alloc, order.input, &inputs.other, number, place);
-    }
-    if is_of_log(order, number) {
-        return log_words(alloc, number, place);
     }
     if let Some(name) = file_of(order, number) {
         let source = Source {
