@@ -1,5 +1,5 @@
 -- What follows where nothing stands against a text.
-use Rattle.std.proofs.Common.{◌≡◌, ℕ, ◌≤◌, Bool, true, false, cond, List, Option, Some, None, Result, Ok, Err, IsOk, IfSome, refl, sym, ◌∙◌, subst, lit≤, All}
+use Rattle.std.proofs.Common.{◌≡◌, ℕ, ◌≤◌, Bool, true, false, cond, List, Option, Some, None, Result, Ok, Err, IsOk, IfSome, refl, sym, ◌∙◌, subst, arith, All}
 use Rattle.std.specs.List.{list_all}
 use Rattle.std.specs.Option.{option_map, option_or}
 use Rattle.std.proofs.lemmas.List.Sums.{AllPass-from_list_all, list_all-from_AllPass}
@@ -8,7 +8,8 @@ use Rattle.cop_eds.specs.Reading.{reading}
 use Rattle.cop_dict.specs.Find.{Entry}
 use Rattle.cop_dict.specs.Build.{built}
 use Rattle.cop_change.specs.declared.words.Words.{Words}
-use Rattle.cop_hazard.specs.Hazards.{hazard_of}
+use Rattle.cop_hazard.specs.declared.hazards.Hazard.{Hazard}
+use Rattle.cop_hazard.specs.Hazards.{hazard_at, hazard_of}
 use Rattle.cop_tidy.specs.declared.judging.Left.{Left}
 use Rattle.cop_tidy.specs.Accepted.{IsAccepted}
 use Rattle.cop_tidy.specs.Identified.{identified, IsIdentified, AreIdentified}
@@ -94,3 +95,45 @@ pub none_stands : (words : Words) (text : List ℕ) → IsAccepted text → haza
 unfolding standing
 none_stands words text a h f l =
     none_read (is_leaving words) text (reading text) a.read (none_built (is_leaving words) text (built text 1) (built text 127) a.first a.last f l h)
+
+-- ---- against an accepted text nothing stands but a hazard
+
+either : {X : Type 0} (P : X → Type 0) (a b : Option X) → IfSome a P → IfSome b P → IfSome (option_or a b) P
+either P None b h g = g
+either P (Some x) b h g = h
+
+least_at : (number : ℕ) (o : Option ℕ) → 80 ≤ number → IfSome (hazard_at number o) (λ hazard. 80 ≤ hazard.number)
+least_at number None le = tt
+least_at number (Some line) le = le
+
+least_of : (is_left : Bool) (text : List ℕ) → IfSome (hazard_of is_left text) (λ hazard. 80 ≤ hazard.number)
+unfolding hazard_of
+least_of is_left text =
+    let P : Hazard → Type 0 = λ hazard. 80 ≤ hazard.number in
+    either P _ _ (least_at 80 _ (omega arith)) (either P _ _ (least_at 81 _ (omega arith)) (either P _ _ (least_at 82 _ (omega arith))
+    (either P _ _ (least_at 83 _ (omega arith)) (least_at 84 _ (omega arith)))))
+
+left_least : (o : Option Hazard) → IfSome o (λ hazard. 80 ≤ hazard.number) → IfSome (option_map left_at o) (λ left. 80 ≤ left.number)
+left_least None h = tt
+left_least (Some hazard) h = h
+
+by_test : (b : Bool) → IfSome (cond b None (Some (record { number = 81; line = 0 }))) (λ (left : Left). 80 ≤ left.number)
+by_test true = tt
+by_test false = omega arith
+
+hazards_built : (is_left : Bool) (text : List ℕ) (first last : Result (List Entry) Refusal) → IsOk first → IsOk last → IfSome (standing_built is_left text first last) (λ left. 80 ≤ left.number)
+hazards_built is_left text (Err r) last f l = absurd (cc)
+hazards_built is_left text (Ok first) (Err r) f l = absurd (cc)
+hazards_built is_left text (Ok first) (Ok last) f l =
+    let P : Left → Type 0 = λ left. 80 ≤ left.number in
+    either P _ _ (left_least (hazard_of is_left text) (least_of is_left text))
+    (either P _ _ (by_test (list_all (identified first) first)) (by_test (list_all (identified last) last)))
+
+pub hazards_alone : (words : Words) (text : List ℕ) → IsAccepted text → IfSome (standing words text) (λ left. 80 ≤ left.number)
+unfolding standing
+hazards_alone words text a = rw a.read (hazards_built (is_leaving words) text (built text 1) (built text 127) a.first a.last)
+
+-- the same of what was found
+pub found_hazard : (words : Words) (text : List ℕ) (found : Option Left) → found ≡ standing words text → IfSome found (λ left. IsAccepted text → 80 ≤ left.number)
+found_hazard words text None e = tt
+found_hazard words text (Some left) e = λ a. subst (λ (o : Option Left). IfSome o (λ left. 80 ≤ left.number)) (sym e) (hazards_alone words text a)

@@ -1,8 +1,9 @@
 //! What stands against a text.
 
-ghost use Rattle.std.specs.Prelude.{◌≡◌, IfOk, IfErr};
+ghost use Rattle.std.specs.Prelude.{◌≡◌, ◌≤◌, IfOk, IfErr, IfSome};
 ghost use Rattle.std.specs.Option.{option_map};
 ghost use Rattle.cop_dict.specs.Build.{built};
+ghost use Rattle.cop_tidy.specs.Accepted.{IsAccepted};
 ghost use Rattle.cop_tidy.specs.Standing.{is_leaving, left_at, left_of, standing, standing_built, unidentified};
 ghost use Rattle.cop_hazard.specs.Hazards.{hazard_of};
 
@@ -109,9 +110,9 @@ fn judged_eds(alloc: Global, eds: &Eds<'_>, words: &Words) -> Result<Option<Left
     judged_built(alloc, eds, &first, &last, words)
 }
 
-/// What stands against a text: the first refusal of the strict reading, or a hazard.
+/// What stands against a text, by the strict reading of it.
 #[tactic(auto, using(crate::proofs::AcceptedLemmas::read_as_itself), unfolding(crate::specs::Standing::standing))]
-pub fn judged(alloc: Global, text: &[u8], words: &Words) -> Result<Option<Left>, AllocError>
+fn judged_text(alloc: Global, text: &[u8], words: &Words) -> Result<Option<Left>, AllocError>
     ensures { IfOk result (λ found. found ≡ standing words.now text.now) }
 {
     match parse(alloc, text) {
@@ -119,4 +120,15 @@ pub fn judged(alloc: Global, text: &[u8], words: &Words) -> Result<Option<Left>,
         Err(EdsFault::Refused(refusal)) => Ok(Some(left_of(refusal))),
         Err(EdsFault::Memory) => Err(AllocError),
     }
+}
+
+/// What stands against a text: the first refusal of the strict reading, or a hazard. Against one that is accepted nothing stands but
+/// a hazard.
+#[tactic(auto, using(crate::proofs::StandingLemmas::found_hazard))]
+pub fn judged(alloc: Global, text: &[u8], words: &Words) -> Result<Option<Left>, AllocError>
+    ensures found { IfOk result (λ found. found ≡ standing words.now text.now) }
+    ensures hazard { IfOk result (λ found. IfSome found (λ left. IsAccepted text.now → 80 ≤ left.number)) }
+{
+    let found = judged_text(alloc, text, words)?;
+    Ok(found)
 }

@@ -1,6 +1,6 @@
 //! A maker's text as one that the strict reading takes.
 
-ghost use Rattle.std.specs.Prelude.{◌≡◌, None, Some, IfOk, IfErr, OnOk, vec_len};
+ghost use Rattle.std.specs.Prelude.{◌≡◌, ◌≤◌, None, Some, IfOk, IfErr, IfSome, OnOk, vec_len};
 ghost use Rattle.cop_change.specs.Applied.{applied};
 ghost use Rattle.cop_tidy.specs.Accepted.{IsAccepted};
 ghost use Rattle.cop_tidy.specs.Identified.{AreIdentified};
@@ -151,6 +151,7 @@ fn unchanged(alloc: Global, text: &[u8]) -> Result<Tidied, AllocError>
 pub fn tidy(alloc: Global, text: &[u8], words: &Words) -> Result<Tidied, TidyFault>
     // What stood against the text, and that nothing stands against the result.
     ensures found { IfOk result (λ t. t.found ≡ standing words.now text.now) }
+    ensures hazard { IfOk result (λ t. IfSome t.found (λ left. IsAccepted text.now → 80 ≤ left.number)) }
     ensures settled { IfOk result (λ t. standing words.now t.text.items ≡ None) }
     ensures reason { IfErr result (λ fault. IsReason fault (standing words.now text.now)) }
 
