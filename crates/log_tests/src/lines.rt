@@ -5,51 +5,50 @@ use std::test::Fail;
 
 const LINE: &[u8] = b"(1436509052.249713) can0 181#0011223344556677";
 
+// The stamp of the lines, in microseconds.
+const AT: u64 = 1436509052249713;
+
+// Channels, lines, and what is read of them: identifiers have bit 31 of 29 bits, and bit 30 of remote frames.
+const ENTRIES: &[(&[u8], &[u8], u32, u8)] = &[
+    (b"can0", LINE, 0x181, 8),
+    (b"vcan0", b"(1436509052.249713) vcan0 181# T", 0x181, 0),
+    (b"can0", b"(1436509052.249713) can0 181#R8", 0x40000181, 0),
+    (
+        b"can0",
+        b"(1436509052.249713) can0 00000181#00",
+        0x80000181,
+        1,
+    ),
+];
+
 #[test]
 fn an_entry_is_read(rt: HostRuntime) -> Result<(), Fail> {
-    let at = 1436509052249713;
-    let plain = Entry {
-        at,
-        id: 0x181,
-        len: 8,
-    };
-    assert!(rt; line_in(b"can0", LINE) == Ok(Some(plain)));
+    for row in ENTRIES {
+        let (channel, line, id, len) = *row;
+        assert!(rt; line_in(channel, line) == Ok(Some(Entry { at: AT, id, len })));
+    }
     assert!(rt; line_in(b"can1", LINE) == Ok(None));
-    let directed = b"(1436509052.249713) vcan0 181# T";
-    let empty = Entry {
-        at,
-        id: 0x181,
-        len: 0,
-    };
-    assert!(rt; line_in(b"vcan0", directed) == Ok(Some(empty)));
-    let remote = b"(1436509052.249713) can0 181#R8";
-    let asked = Entry {
-        at,
-        id: 0x40000181,
-        len: 0,
-    };
-    assert!(rt; line_in(b"can0", remote) == Ok(Some(asked)));
-    let long = b"(1436509052.249713) can0 00000181#00";
-    let extended = Entry {
-        at,
-        id: 0x80000181,
-        len: 1,
-    };
-    assert!(rt; line_in(b"can0", long) == Ok(Some(extended)));
     Ok(())
 }
 
+const WRONG: &[(&[u8], LineFault, u8)] = &[
+    (b"(1436509052.249713) can0 181#00 X", LineFault::Form, 90),
+    (b"(1436509052.24971) can0 181#00", LineFault::Stamp, 91),
+    (
+        b"(1436509052.249713) can0 1810#00",
+        LineFault::Identifier,
+        92,
+    ),
+    (b"(1436509052.249713) can0 181#000", LineFault::Data, 93),
+];
+
 #[test]
 fn a_wrong_line_is_told(rt: HostRuntime) -> Result<(), Fail> {
-    let words = b"(1436509052.249713) can0 181#00 X";
-    assert!(rt; line_in(b"can0", words) == Err(LineFault::Form));
-    let stamp = b"(1436509052.24971) can0 181#00";
-    assert!(rt; line_in(b"can0", stamp) == Err(LineFault::Stamp));
-    let identifier = b"(1436509052.249713) can0 1810#00";
-    assert!(rt; line_in(b"can0", identifier) == Err(LineFault::Identifier));
-    let data = b"(1436509052.249713) can0 181#000";
-    assert!(rt; line_in(b"can0", data) == Err(LineFault::Data));
-    assert!(rt; LineFault::Form.number() == 90 && LineFault::Data.number() == 93);
+    for row in WRONG {
+        let (line, fault, number) = *row;
+        assert!(rt; line_in(b"can0", line) == Err(fault));
+        assert!(rt; fault.number() == number);
+    }
     Ok(())
 }
 
