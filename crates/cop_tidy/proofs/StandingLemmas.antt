@@ -9,7 +9,9 @@ use Rattle.cop_dict.specs.Find.{Entry}
 use Rattle.cop_dict.specs.Build.{built}
 use Rattle.cop_change.specs.declared.words.Words.{Words}
 use Rattle.cop_hazard.specs.declared.hazards.Hazard.{Hazard}
-use Rattle.cop_hazard.specs.Hazards.{hazard_at, hazard_of}
+use Rattle.cop_hazard.specs.declared.tests.Test.TheVariants as tests
+use Rattle.cop_hazard.specs.Compact.{implicit_line}
+use Rattle.cop_hazard.specs.Hazards.{first_line, unlisted_line, beyond_line, hazard_at, hazard_of}
 use Rattle.cop_tidy.specs.declared.judging.Left.{Left}
 use Rattle.cop_tidy.specs.Accepted.{IsAccepted}
 use Rattle.cop_tidy.specs.Identified.{identified, IsIdentified, AreIdentified}
@@ -106,12 +108,18 @@ least_at : (number : ℕ) (o : Option ℕ) → 80 ≤ number → IfSome (hazard_
 least_at number None le = tt
 least_at number (Some line) le = le
 
+least_of_five : (a b c d e : Option ℕ)
+    → IfSome (option_or (hazard_at 80 a) (option_or (hazard_at 81 b) (option_or (hazard_at 82 c) (option_or (hazard_at 83 d) (hazard_at 84 e))))) (λ hazard. 80 ≤ hazard.number)
+least_of_five (Some x) b c d e = omega arith
+least_of_five None (Some x) c d e = omega arith
+least_of_five None None (Some x) d e = omega arith
+least_of_five None None None (Some x) e = omega arith
+least_of_five None None None None e = least_at 84 e (omega arith)
+
 least_of : (is_left : Bool) (text : List ℕ) → IfSome (hazard_of is_left text) (λ hazard. 80 ≤ hazard.number)
 unfolding hazard_of
 least_of is_left text =
-    let P : Hazard → Type 0 = λ hazard. 80 ≤ hazard.number in
-    either P _ _ (least_at 80 _ (omega arith)) (either P _ _ (least_at 81 _ (omega arith)) (either P _ _ (least_at 82 _ (omega arith))
-    (either P _ _ (least_at 83 _ (omega arith)) (least_at 84 _ (omega arith)))))
+    least_of_five (unlisted_line is_left text) (first_line text tests.Unidentified) (implicit_line text) (beyond_line text) (first_line text tests.Unseen)
 
 left_least : (o : Option Hazard) → IfSome o (λ hazard. 80 ≤ hazard.number) → IfSome (option_map left_at o) (λ left. 80 ≤ left.number)
 left_least None h = tt
@@ -126,8 +134,9 @@ hazards_built is_left text (Err r) last f l = absurd (cc)
 hazards_built is_left text (Ok first) (Err r) f l = absurd (cc)
 hazards_built is_left text (Ok first) (Ok last) f l =
     let P : Left → Type 0 = λ left. 80 ≤ left.number in
-    either P _ _ (left_least (hazard_of is_left text) (least_of is_left text))
-    (either P _ _ (by_test (list_all (identified first) first)) (by_test (list_all (identified last) last)))
+    either P (option_map left_at (hazard_of is_left text)) (option_or (unidentified first) (unidentified last))
+    (left_least (hazard_of is_left text) (least_of is_left text))
+    (either P (unidentified first) (unidentified last) (by_test (list_all (identified first) first)) (by_test (list_all (identified last) last)))
 
 pub hazards_alone : (words : Words) (text : List ℕ) → IsAccepted text → IfSome (standing words text) (λ left. 80 ≤ left.number)
 unfolding standing
