@@ -1,9 +1,10 @@
 //! What each subcommand does.
 
 use crate::commands::MOST_UNTIL;
+use crate::earlier::{NodeFiles, remove_earlier};
 use crate::exporting::export;
 use crate::failures::{Failure, Use, file_failure};
-use crate::files::{Folder, print, remove_earlier};
+use crate::files::{Folder, print};
 use crate::inputs::{Inputs, read_file, read_input};
 use crate::judging::judge;
 use crate::log_rules::log_rule_words;
@@ -14,30 +15,31 @@ use crate::tidying::carry_tidy;
 use crate::watching::watch_bus;
 use cop_engine::{
     Fault, Files, RunFault, boot_bytes, check_bytes, check_status, deliver, none_passes,
-    outcome_of, plan_bytes, plan_status, run_plan, test_bytes, text_status,
+    outcome_of, plan_bytes, plan_status, run_plan, test_bytes, test_status, text_status,
 };
 use cop_frame::Rate;
 use cop_plan::{Outcome, Plan};
 use cop_tidy::question_words;
 use cop_words::{late_words, rule_words};
+use std::alloc::{AllocError, Global};
 use std::fs::File;
 use std::io::{BufWriter, Write};
 
-/// The test of the streams of a table. What does not pass is told in words where that is wanted.
+/// The test of the streams of a table. What does not pass is told in words where that is wanted: whether all pass.
 fn test(
     rt: &HostRuntime,
     rate: Rate,
     file: &str,
     explain: bool,
     inputs: &mut Inputs,
-) -> Result<u8, Failure> {
+) -> Result<bool, Failure> {
     inputs.other = read_input(rt, file)?;
-    let text = test_bytes(rt.alloc(), &inputs.other, rate)?;
+    let (text, all_pass) = test_bytes(rt.alloc(), &inputs.other, rate)?;
     print(rt, &text)?;
     if explain {
         let _ = rt.stderr().write_all(&late_words(rt.alloc(), &text)?);
     }
-    Ok(0)
+    Ok(all_pass)
 }
 
 /// Says what is to be said of an answer, where there was memory for it.
@@ -45,6 +47,15 @@ fn tell(rt: &HostRuntime, notes: Result<Vec<u8>, Fault>) {
     if let Ok(words) = notes {
         let _ = rt.stderr().write_all(&words);
     }
+}
+
+/// The names of the DCF files of a plan.
+fn dcf_names(alloc: Global, files: &Files) -> Result<Vec<String>, AllocError> {
+    let mut names = Vec::new(alloc);
+    for file in files.dcf.as_slice() {
+        names.push(String::from_str(alloc, file.name())?)?;
+    }
+    Ok(names)
 }
 
 /// Writes the files of a plan into a folder, and removes those of an earlier plan that it has not.
@@ -55,10 +66,15 @@ pub fn write_files(rt: &HostRuntime, files: &Files, out: &str) -> Result<(), Fai
         failure: None,
     };
     let _ = deliver(files, &mut folder);
-    match folder.failure {
-        Some(failure) => Err(failure),
-        None => remove_earlier(rt, out, files),
+    if let Some(failure) = folder.failure {
+        return Err(failure);
     }
+    let names = dcf_names(rt.alloc(), files)?;
+    let written = NodeFiles {
+        ending: ".dcf",
+        names: &names,
+    };
+    remove_earlier(rt, out, written)
 }
 
 /// The plan of a network: it is printed, and then written into a folder.
@@ -231,7 +247,10 @@ pub fn carry_out(
     inputs: &mut Inputs,
 ) -> Result<u8, Failure> {
     match request.order {
-        Order::Test { rate, file } => test(rt, rate, file, request.explain, inputs),
+        Order::Test { rate, file, strict } => {
+            let all_pass = test(rt, rate, file, request.explain, inputs)?;
+            Ok(test_status(all_pass || !strict))
+        }
         Order::Plan { network, out } => plan(rt, network, out, told, inputs),
         Order::Check { network, refusals } => check(rt, network, refusals, told, inputs),
         Order::Boot { seed, network } => boot(rt, seed, network, inputs),

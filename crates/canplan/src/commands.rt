@@ -85,6 +85,14 @@ fn json_flag<'a>(alloc: Global) -> Arg<'a> {
         .help("Answers by one document in JSON on standard output, also of a fault")
 }
 
+/// The word by which what is not as wanted is a failure.
+fn strict_flag<'a>(alloc: Global, help: &'a str) -> Arg<'a> {
+    Arg::new(alloc, "strict")
+        .long("strict")
+        .action(ArgAction::SetTrue)
+        .help(help)
+}
+
 /// A subcommand on a network: its two tables.
 fn network_command<'a>(
     alloc: Global,
@@ -115,6 +123,7 @@ fn test_command<'a>(alloc: Global) -> Result<Command<'a>, AllocError> {
         .after_help("Example: canplan test --rate 125 streams.csv")
         .arg(rate)?
         .arg(operand(alloc, "FILE", file))?
+        .arg(strict_flag(alloc, "Ends with status 3 where a stream does not pass"))?
         .arg(json_flag(alloc))?
         .arg(explain_flag(alloc))
 }
@@ -210,6 +219,7 @@ fn export_command<'a>(alloc: Global) -> Result<Command<'a>, AllocError> {
         .arg(operand(alloc, "NODES", "The table of nodes, as plan takes it"))?
         .arg(operand(alloc, "PDOS", "The table of PDOs, as plan takes it"))?
         .arg(operand(alloc, "OUT", out))?
+        .arg(margin_flag(alloc))?
         .arg(explain_flag(alloc))
 }
 

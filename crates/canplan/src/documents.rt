@@ -12,7 +12,7 @@ use cop_documents::{
 };
 use cop_engine::{
     Fault, boot_bytes, check_bytes, check_status, judge_bytes, message, plan_bytes, plan_status,
-    test_bytes, text_status,
+    test_bytes, test_status, text_status,
 };
 use cop_frame::Rate;
 use cop_net::{PlanFault, Table, network, read_nodes, read_pdos};
@@ -25,11 +25,11 @@ fn print_document(rt: &HostRuntime, document: &str) -> Result<(), Failure> {
     print(rt, format!(in rt.alloc(); "{document}\n")?.as_bytes())
 }
 
-fn test(rt: &HostRuntime, rate: Rate, file: &str, inputs: &mut Inputs) -> Result<u8, Failure> {
+fn test(rt: &HostRuntime, rate: Rate, file: &str, inputs: &mut Inputs) -> Result<bool, Failure> {
     inputs.other = read_input(rt, file)?;
-    let text = test_bytes(rt.alloc(), &inputs.other, rate)?;
+    let (text, all_pass) = test_bytes(rt.alloc(), &inputs.other, rate)?;
     print_document(rt, &test_document(rt.alloc(), rate.kbits(), &text)?)?;
-    Ok(0)
+    Ok(all_pass)
 }
 
 /// The document of a plan.
@@ -132,7 +132,10 @@ pub fn carry_document(
     inputs: &mut Inputs,
 ) -> Result<u8, Failure> {
     match request.order {
-        Order::Test { rate, file } => test(rt, rate, file, inputs),
+        Order::Test { rate, file, strict } => {
+            let all_pass = test(rt, rate, file, inputs)?;
+            Ok(test_status(all_pass || !strict))
+        }
         Order::Plan { network, out } => plan_order(rt, network, out, inputs),
         Order::Check { network, refusals } => check(rt, network, refusals, inputs),
         Order::Boot { seed, network } => boot(rt, seed, network, inputs),

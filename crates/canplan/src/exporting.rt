@@ -3,6 +3,7 @@
 ghost use Rattle.std.specs.Prelude.{length};
 ghost use Rattle.cop_plan.specs.Plans.{IsPlan};
 
+use crate::earlier::{NodeFiles, remove_earlier};
 use crate::failures::Failure;
 use crate::files::{print, write_file};
 use crate::inputs::Inputs;
@@ -72,7 +73,7 @@ fn put(rt: &HostRuntime, folder: &str, name: &str, bytes: &[u8]) -> Result<(), F
     write_file(rt, &path, bytes)
 }
 
-/// Writes the concise DCF of a device, and adds what a manager is told of it.
+/// Writes the concise DCF of a device, and adds what a manager is told of it: its name.
 fn put_device(
     rt: &HostRuntime,
     network: &Network<'_>,
@@ -80,7 +81,7 @@ fn put_device(
     row: &DeviceRow,
     folder: &str,
     told: &mut String,
-) -> Result<(), Failure>
+) -> Result<String, Failure>
     requires { IsPlan network.now.equipment.rates network.now.set (length network.now.rows) plan.now }
 {
     let settings = settings(rt.alloc(), plan, network, row.node)?;
@@ -88,10 +89,11 @@ fn put_device(
     let name = cdcf_name(rt.alloc(), row.node)?;
     put(rt, folder, &name, &bytes)?;
     push_told(told, row, &name, settings.len())?;
-    Ok(())
+    Ok(name)
 }
 
-/// Writes the concise DCF of each device into a folder, and what a manager is told. Once a file cannot be written, no other is.
+/// Writes the concise DCF of each device into a folder, and what a manager is told. Once a file cannot be written, no other is. Those
+/// of nodes that the network has not, which are of an earlier plan, are removed.
 fn write_cdcf(
     rt: &HostRuntime,
     network: &Network<'_>,
@@ -101,11 +103,17 @@ fn write_cdcf(
     requires { IsPlan network.now.equipment.rates network.now.set (length network.now.rows) plan.now }
 {
     let mut told = String::from_str(rt.alloc(), MASTER_COLUMNS)?;
+    let mut names = Vec::new(rt.alloc());
     for row in network.devices() {
-        put_device(rt, network, plan, row, folder, &mut told)?;
+        names.push(put_device(rt, network, plan, row, folder, &mut told)?)?;
     }
     told.push_str(BOOT_TIME)?;
-    put(rt, folder, "master.csv", told.as_bytes())
+    put(rt, folder, "master.csv", told.as_bytes())?;
+    let written = NodeFiles {
+        ending: ".cdcf",
+        names: &names,
+    };
+    remove_earlier(rt, folder, written)
 }
 
 /// Writes a plan.

@@ -1,4 +1,4 @@
-//! The files that the program writes and removes.
+//! The files that the program writes.
 
 use crate::failures::{Failure, Use, file_failure};
 use cop_engine::{Files, Outlet};
@@ -103,65 +103,4 @@ impl Outlet for Folder<'_> {
     fn failed(&self) -> bool {
         self.failure.is_some()
     }
-}
-
-/// Removes a regular file or a link, where one has the name.
-fn remove(rt: &HostRuntime, path: &str) -> io::Result<()> {
-    match fs::symlink_metadata(rt, path) {
-        Ok(found) if found.is_file() || found.is_symlink() => fs::remove_file(rt, path),
-        Ok(_) => Ok(()),
-        Err(error) if error.kind() == ErrorKind::NotFound => Ok(()),
-        Err(error) => Err(error),
-    }
-}
-
-/// Whether a plan has a DCF file of this name.
-fn has_dcf(files: &Files, name: &str) -> bool {
-    files.dcf.as_slice().iter().any(|file| file.name() == name)
-}
-
-/// Whether a file's name is that of the DCF file of some node.
-fn is_dcf_name(name: &str) -> bool {
-    let Some(rest) = name.strip_prefix("node-") else {
-        return false;
-    };
-    let Some(node) = rest.strip_suffix(".dcf") else {
-        return false;
-    };
-    let is_number = node.len() == 3 && node.bytes().all(|digit| digit.is_ascii_digit());
-    is_number && node >= "001" && node <= "127"
-}
-
-/// Removes the file of a name from the folder of a plan, where it is a DCF file of an earlier plan.
-fn remove_if_earlier(
-    rt: &HostRuntime,
-    folder: &str,
-    name: &str,
-    files: &Files,
-) -> Result<(), Failure> {
-    if !is_dcf_name(name) || has_dcf(files, name) {
-        return Ok(());
-    }
-    let path = format!(in rt.alloc(); "{folder}/{name}")?;
-    match remove(rt, &path) {
-        Ok(()) => Ok(()),
-        Err(error) => Err(file_failure(rt, &path, Use::Remove, &error)),
-    }
-}
-
-/// Removes from the folder of a plan the DCF files of the nodes that it has none for, which are of an earlier plan.
-pub fn remove_earlier(rt: &HostRuntime, folder: &str, files: &Files) -> Result<(), Failure> {
-    let entries = match fs::read_dir(rt, folder) {
-        Ok(entries) => entries,
-        Err(error) => return Err(file_failure(rt, folder, Use::Read, &error)),
-    };
-    for entry in entries {
-        match entry {
-            Ok(entry) => remove_if_earlier(rt, folder, entry.file_name(), files)?,
-            // No plan gave such a name.
-            Err(error) if error.kind() == ErrorKind::InvalidFilename => {}
-            Err(error) => return Err(file_failure(rt, folder, Use::Read, &error)),
-        }
-    }
-    Ok(())
 }

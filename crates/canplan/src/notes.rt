@@ -5,14 +5,30 @@ ghost use Rattle.cop_plan.specs.Plans.{IsOutcome};
 
 use crate::inputs::{Inputs, Texts};
 use cop_engine::Fault;
-use cop_figures::figures_of;
+use cop_figures::{Figures, figures_of};
 use cop_net::{Network, NodeTable, network, read_nodes, read_pdos};
 use cop_plan::{Outcome, plan};
 use cop_warn::warnings_of;
-use cop_words::{refused_words, uncovered_words, warning_words};
+use cop_words::{margin_words, refused_words, uncovered_words, warning_words};
 use std::alloc::{AllocError, Global};
 
-/// Why each rate is refused, and the warnings.
+/// What limits the margin of a plan, where its identifiers were chosen by it.
+fn limits(
+    alloc: Global,
+    network: &Network<'_>,
+    outcome: &Outcome,
+    figures: &Figures,
+) -> Result<Vec<u8>, AllocError> {
+    match outcome {
+        Outcome::Planned(plan) => match plan.margin() {
+            Some(margin) => margin_words(alloc, network, figures, margin),
+            None => Ok(Vec::new(alloc)),
+        },
+        Outcome::Refused(_) => Ok(Vec::new(alloc)),
+    }
+}
+
+/// Why each rate is refused, what limits a margin, and the warnings.
 fn outcome_notes(
     alloc: Global,
     nodes: &NodeTable,
@@ -23,12 +39,13 @@ fn outcome_notes(
 {
     let figures = figures_of(alloc, network, outcome)?;
     let mut words = refused_words(alloc, network, &figures.refused)?;
+    words.extend_from_slice(&limits(alloc, network, outcome, &figures)?)?;
     let warnings = warnings_of(alloc, nodes, network)?;
     words.extend_from_slice(&warning_words(alloc, network, &warnings)?)?;
     Ok(words)
 }
 
-/// What is said of a plan: why each rate is refused, and what is worth a look before one relies on it.
+/// What is said of a plan: why each rate is refused, what limits its margin, and what is worth a look before one relies on it.
 pub fn plan_notes(alloc: Global, texts: &Texts) -> Result<Vec<u8>, Fault> {
     let nodes = read_nodes(alloc, &texts.nodes)?;
     let pdos = read_pdos(alloc, &texts.pdos)?;

@@ -9,6 +9,7 @@ use Rattle.cop_rta.specs.Streams.{AreDistinct}
 use Rattle.cop_rta.proofs.StreamLemmas.{streams_same}
 use Rattle.cop_cert.specs.declared.refusals.Refusal.{Refusal}
 use Rattle.cop_cert.specs.Format.{text_of}
+use Rattle.cop_engine.proofs.LawLemmas.{all_same}
 use Rattle.cop_rows.specs.declared.pdo_table.PdoRow.{PdoRow}
 use Rattle.cop_net.specs.Devices.{File}
 use Rattle.cop_net.specs.declared.faults.Refusal as net
@@ -95,12 +96,6 @@ answers_same streams pdos (r ∷ rs) xs ys x y =
     let other = y.each k inside (get_or (r ∷ rs) k r) here in
     bool_same (get_or xs k false) (get_or ys k false) (λ h. other.1 (mine.0 h)) (λ h. mine.1 (other.0 h)))
 
-all_same : (xs ys : List Bool) (a b : Bool) → xs ≡ ys → (IsTrue a ↔ All (λ answer. answer ≡ true) xs) → (IsTrue b ↔ All (λ answer. answer ≡ true) ys) → a ≡ b
-all_same xs ys true true e x y = refl
-all_same xs ys false false e x y = refl
-all_same xs ys true false e x y = sym (y.1 (subst (λ (l : List Bool). All (λ answer. answer ≡ true) l) e (x.0 refl)))
-all_same xs ys false true e x y = x.1 (subst (λ (l : List Bool). All (λ answer. answer ≡ true) l) (sym e) (y.0 refl))
-
 pub one_check : (nodes pdos : List ℕ) (eds : List File) (text lines others : List ℕ) (all each : Bool) → IsCheckOf nodes pdos eds text lines all → IsCheckOf nodes pdos eds text others each → (lines ≡ others) × (all ≡ each)
 one_check nodes pdos eds text lines others all each x y =
     let found : x.found ≡ y.found = ok_once (network_in nodes pdos eds) x.found y.found x.read y.read in
@@ -113,4 +108,4 @@ one_check nodes pdos eds text lines others all each x y =
     let mine : AreChecked y.streams (length y.found.rows) y.refusals x.answered.answers (length y.refusals) = subst (λ (rs : List Refusal). AreChecked y.streams (length y.found.rows) rs x.answered.answers (length rs)) refusals over in
     let answers : x.answered.answers ≡ y.answered.answers = answers_same y.streams (length y.found.rows) y.refusals x.answered.answers y.answered.answers mine y.answered.checked in
     let text : lines_below (check_line_at x.refusals x.answered.answers) (length x.refusals) ≡ lines_below (check_line_at y.refusals y.answered.answers) (length y.refusals) = rw (refusals, answers) refl in
-    (x.answered.lines_are ∙ text ∙ sym y.answered.lines_are, all_same x.answered.answers y.answered.answers all each answers x.answered.all_hold y.answered.all_hold)
+    (x.answered.lines_are ∙ text ∙ sym y.answered.lines_are, all_same (λ answer. answer ≡ true) x.answered.answers y.answered.answers all each answers x.answered.all_hold y.answered.all_hold)

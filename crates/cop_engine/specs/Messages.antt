@@ -29,6 +29,10 @@ message_of faults.Memory = codes "canplan: memory\n"
 abbrev pub plan_status_of : Bool → ℕ
 plan_status_of planned = if planned then 0 else 4
 
+-- the status after a test of which each stream is wanted to pass: 3 where one does not
+abbrev pub test_status_of : Bool → ℕ
+test_status_of all_pass = if all_pass then 0 else 3
+
 -- the status after a check: 3 where some refusal fails
 abbrev pub check_status_of : Bool → ℕ
 check_status_of all_hold = if all_hold then 0 else 3

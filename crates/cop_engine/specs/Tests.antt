@@ -1,12 +1,12 @@
 -- The test of the streams of a table.
-use Rattle.std.specs.Prelude.{◌≡◌, ℕ, ◌<◌, List, length, map, get_or, Ok, Err}
+use Rattle.std.specs.Prelude.{◌≡◌, ◌↔◌, ℕ, ◌<◌, Bool, IsTrue, List, length, map, get_or, All, Ok, Err}
 use Rattle.cop_frame.specs.declared.rates.Rate.{Rate}
 use Rattle.cop_rta.specs.declared.streams.Stream.{Stream}
 use Rattle.cop_rta.specs.declared.verdicts.Verdict.{Verdict}
 use Rattle.cop_rta.specs.declared.verdicts.Verdict.TheVariants.{Long}
 use Rattle.cop_rta.specs.declared.tables.Refusal.{Refusal}
 use Rattle.cop_rta.specs.Test.{place_by_id}
-use Rattle.cop_rta.specs.Verdict.{IsJudged}
+use Rattle.cop_rta.specs.Verdict.{IsJudged, IsPass}
 use Rattle.cop_rta.specs.Entries.{entry_of}
 use Rattle.cop_rta.specs.Tables.{streams_of, number_of_rule}
 use Rattle.cop_engine.specs.declared.faults.Fault.{Fault}
@@ -22,13 +22,14 @@ abbrev pub AreVerdicts : Rate → List Stream → List Verdict → ℕ → Type 
 AreVerdicts rate streams verdicts count =
     (length verdicts ≡ count) × ((i : ℕ) → i < count → IsVerdict rate streams i (get_or verdicts i Long))
 
--- the lines of the verdicts of a table's streams
-pub record IsReport (rate : Rate) (text out : List ℕ) : Type 0 where
+-- the lines of the verdicts of a table's streams, and whether all streams pass
+pub record IsReport (rate : Rate) (text out : List ℕ) (all : Bool) : Type 0 where
   pub streams : List Stream
   pub read : streams_of text ≡ Ok (map entry_of streams)
   pub verdicts : List Verdict
   pub judged : AreVerdicts rate streams verdicts (length streams)
   pub lines : out ≡ lines_below (line_at streams verdicts) 2048
+  pub all_pass : IsTrue all ↔ All IsPass verdicts
 
 -- why there is none
 abbrev pub Explains : List ℕ → Fault → Type 0

@@ -20,7 +20,7 @@ use cop_sim::play_is_one;
 
 /// The bytes of a table and a rate have one report.
 pub fn one_report()
-    ensures { (rate : Rate) (text a b : List ℕ) → IsReport rate text a → IsReport rate text b → a ≡ b }
+    ensures { (rate : Rate) (text a b : List ℕ) (c d : Bool) → IsReport rate text a c → IsReport rate text b d → (a ≡ b) × (c ≡ d) }
 {}
 
 /// The bytes of tables and EDS files and the choice of identifiers have one plan: its files are a function of them.

@@ -29,7 +29,7 @@ pub use judgements::{judge_bytes, judge_outcome, judge_pieces, none_passes};
 pub use laws::{
     one_check, one_judgement, one_plan, one_report, one_run, plan_is_used, planned_refusals_hold,
 };
-pub use messages::{check_status, message, plan_status, rate_of, text_status};
+pub use messages::{check_status, message, plan_status, rate_of, test_status, text_status};
 pub use outlets::{Outlet, deliver};
 pub use plans::{Files, plan_bytes};
 pub use runs::{outcome_of, run_bytes};

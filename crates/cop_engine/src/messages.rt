@@ -3,7 +3,7 @@
 ghost use Rattle.std.specs.Prelude.{◌≡◌, MatchOption, IfOk};
 ghost use Rattle.std.specs.String.{string_bytes};
 ghost use Rattle.cop_frame.specs.declared.rates.Rate.{Rate};
-ghost use Rattle.cop_engine.specs.Messages.{refusal_message, message_of, plan_status_of, check_status_of, text_status_of, IsRateWord};
+ghost use Rattle.cop_engine.specs.Messages.{refusal_message, message_of, plan_status_of, test_status_of, check_status_of, text_status_of, IsRateWord};
 
 use crate::faults::Fault;
 use cop_frame::Rate;
@@ -35,6 +35,13 @@ pub fn plan_status(planned: bool) -> u8
     ensures { result ≡ plan_status_of planned }
 {
     if planned { 0 } else { 4 }
+}
+
+/// The status after a test of which each stream is wanted to pass: 0 where all do, else 3.
+pub fn test_status(all_pass: bool) -> u8
+    ensures { result ≡ test_status_of all_pass }
+{
+    if all_pass { 0 } else { 3 }
 }
 
 /// The status after a check: 0 where all refusals hold, else 3.

@@ -1,6 +1,7 @@
 //! The test of the streams of a table.
 
-ghost use Rattle.std.specs.Prelude.{◌≡◌, ◌<◌, ◌≤◌, ℕ, length, IfOk, MatchResult, get_or};
+ghost use Rattle.std.specs.Prelude.{◌≡◌, ◌↔◌, ◌<◌, ◌≤◌, ℕ, All, IsTrue, length, IfOk, MatchResult, get_or};
+ghost use Rattle.cop_rta.specs.Verdict.{IsPass};
 ghost use Rattle.cop_engine.specs.Tests.{AreVerdicts, IsReport, Explains};
 
 use crate::faults::Fault;
@@ -24,9 +25,18 @@ pub(crate) fn judge_first(
     Ok(verdicts)
 }
 
-/// The test of the streams of a table at a rate: a line for each stream, by rising identifier.
-pub fn test_bytes(alloc: Global, bytes: &[u8], rate: Rate) -> Result<Vec<u8>, Fault>
-    ensures { MatchResult result (λ out. IsReport rate bytes.now out.items) (λ fault. Explains bytes.now fault) }
+/// Whether all streams pass.
+fn all_pass(verdicts: &[Verdict]) -> bool
+    ensures { IsTrue result ↔ All IsPass verdicts.now }
+{
+    verdicts
+        .iter()
+        .all(|verdict| matches!(verdict, Verdict::Pass { .. }))
+}
+
+/// The test of the streams of a table at a rate: a line for each stream, by rising identifier, and whether all pass.
+pub fn test_bytes(alloc: Global, bytes: &[u8], rate: Rate) -> Result<(Vec<u8>, bool), Fault>
+    ensures { MatchResult result (λ found. IsReport rate bytes.now found.0.items found.1) (λ fault. Explains bytes.now fault) }
 {
     let set = match read_streams(alloc, bytes) {
         Ok(set) => set,
@@ -39,5 +49,5 @@ pub fn test_bytes(alloc: Global, bytes: &[u8], rate: Rate) -> Result<Vec<u8>, Fa
         Err(TableFault::Memory) => return Err(Fault::Memory),
     };
     let verdicts = judge_first(alloc, &set, rate, set.len())?;
-    Ok(report(alloc, &set, &verdicts)?)
+    Ok((report(alloc, &set, &verdicts)?, all_pass(&verdicts)))
 }

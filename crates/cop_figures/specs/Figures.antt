@@ -1,5 +1,5 @@
 -- The numbers of a report.
-use Rattle.std.specs.Prelude.{◌≡◌, List, [], map, slice_get, Some, None, All}
+use Rattle.std.specs.Prelude.{ℕ, ◌≡◌, ◌-◌, List, [], map, slice_get, Option, Some, None, unwrap_or, All}
 use Rattle.cop_rta.specs.Test.{place_by_id}
 use Rattle.cop_rta.specs.Verdict.{PassesBy}
 use Rattle.cop_net.specs.Network.{Net}
@@ -11,6 +11,10 @@ use Rattle.cop_figures.specs.declared.figures.Figures.{Figures}
 use Rattle.cop_figures.specs.Loads.{AreLoads}
 use Rattle.cop_figures.specs.Frames.{sync_times, AreFrames, TellsWhy}
 use Rattle.cop_figures.specs.Reasons.{AreReasons}
+
+-- what a deadline leaves behind the greatest response
+abbrev pub left_of : Option ℕ → ℕ → ℕ
+left_of deadline response = unwrap_or deadline 0 - response
 
 -- a PDO of a plan: its stream under the plan's identifier, and its greatest response by the response-time test
 pub record IsTimed (plan : PlanValue) (t : PdoTimes) : Type 0 where

@@ -6,6 +6,7 @@ ghost use Rattle.cop_rta.specs.Test.{place_by_id};
 ghost use Rattle.cop_rta.specs.Verdict.{IsJudged, PassesBy};
 ghost use Rattle.cop_cert.specs.Assignments.{id_at, IsTested};
 ghost use Rattle.cop_plan.specs.Values.{HaveIds, id_of};
+ghost use Rattle.cop_figures.specs.Figures.{left_of};
 ghost use Rattle.cop_figures.specs.Frames.{sync_times, AreFrames};
 
 use crate::refused::frame_of;
@@ -37,6 +38,18 @@ pub struct FrameTimes {
     /// What the response-time test says of it where all PDOs are above it. Where it fails there, the PDOs that can wait have
     /// identifiers below it.
     pub below_all: Verdict,
+}
+
+impl FrameTimes {
+    /// What is left between the greatest response and the deadline, in ticks of 250 ns.
+    pub fn left(&self) -> u64
+        ensures { result ≡ left_of self.now.stream.deadline self.now.response }
+    {
+        self.stream
+            .deadline
+            .unwrap_or(0)
+            .saturating_sub(self.response)
+    }
 }
 
 /// SYNC under a plan, where it is sent and its busy time is within the horizon.

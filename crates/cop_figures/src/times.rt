@@ -5,7 +5,7 @@ ghost use Rattle.cop_rta.specs.declared.verdicts.Verdict.TheVariants.{Long};
 ghost use Rattle.cop_rta.specs.Test.{place_by_id};
 ghost use Rattle.cop_rta.specs.Verdict.{IsJudged, IsPass, PassesBy};
 ghost use Rattle.cop_plan.specs.Planned.{IsPlanned};
-ghost use Rattle.cop_figures.specs.Figures.{IsTimed, AreTimes};
+ghost use Rattle.cop_figures.specs.Figures.{left_of, IsTimed, AreTimes};
 
 use cop_plan::Plan;
 use cop_rta::{Stream, Verdict};
@@ -20,6 +20,18 @@ pub struct PdoTimes {
     pub stream: Stream,
     /// Its greatest response: from the event, which for a synchronous PDO is SYNC's, to the end of the transfer.
     pub response: u64,
+}
+
+impl PdoTimes {
+    /// What is left between the greatest response and the deadline, in ticks of 250 ns.
+    pub fn left(&self) -> u64
+        ensures { result ≡ left_of self.now.stream.deadline self.now.response }
+    {
+        self.stream
+            .deadline
+            .unwrap_or(0)
+            .saturating_sub(self.response)
+    }
 }
 
 /// The greatest response of a stream that passes.

@@ -77,7 +77,7 @@ fn push_frame(
         is_tightest: false,
     };
     let (deadline, response) = (Micros(bar.deadline), Micros(bar.response));
-    let margin = Micros(bar.deadline.saturating_sub(bar.response));
+    let margin = Micros(frame.left());
     write!(
         page,
         "<td class=\"n\">{deadline}</td><td class=\"n\">{response}</td><td class=\"wide\">{bar}</td><td class=\"n\">{margin}</td></tr>\n"

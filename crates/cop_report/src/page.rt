@@ -10,8 +10,9 @@ use crate::nodes::push_nodes;
 use crate::pdos::{push_pdos, tightest};
 use crate::premises::{push_inputs, push_premises};
 use crate::rates::{push_loads, push_rates};
+use crate::senders::fixed_sender;
 use crate::style::STYLE;
-use crate::units::{Count, Micros, Percent};
+use crate::units::{Count, Identifier, Micros, Percent};
 use cop_figures::{Figures, Timeline};
 use cop_net::Network;
 use cop_plan::Outcome;
@@ -90,13 +91,7 @@ fn push_tightest(
     let Some(row) = network.rows().get(times.pdo) else {
         return Ok(());
     };
-    let margin = Micros(
-        times
-            .stream
-            .deadline
-            .unwrap_or(0)
-            .saturating_sub(times.response),
-    );
+    let margin = Micros(times.left());
     let pdo = sent_by(network, row);
     write!(
         page,
@@ -173,9 +168,41 @@ fn push_contents(page: &mut String, report: Report<'_, '_>) -> Result<(), AllocE
     page.push_str("</nav>\n")
 }
 
-/// Adds how much each deadline has left, where the identifiers were chosen by it.
-fn push_margin(page: &mut String, outcome: &Outcome) -> Result<(), AllocError> {
-    let Outcome::Planned(plan) = outcome else {
+/// Adds the PDOs that keep no more of their deadlines than a margin, in ticks.
+fn push_limiting_pdos(
+    page: &mut String,
+    network: &Network<'_>,
+    figures: &Figures,
+    margin: u64,
+) -> Result<(), AllocError> {
+    for times in figures.pdos.iter().filter(|times| times.left() <= margin) {
+        if let Some(row) = network.rows().get(times.pdo) {
+            let id = Identifier(times.stream.id);
+            let pdo = sent_by(network, row);
+            write!(page, "<li><a href=\"#pdo-{id}\">{pdo}</a></li>\n")?;
+        }
+    }
+    Ok(())
+}
+
+/// Adds the SDO frames that keep no more of their deadlines than a margin, in ticks.
+fn push_limiting_frames(
+    page: &mut String,
+    network: &Network<'_>,
+    figures: &Figures,
+    margin: u64,
+) -> Result<(), AllocError> {
+    for frame in figures.frames.iter().filter(|frame| frame.left() <= margin) {
+        let id = Identifier(frame.stream.id);
+        let sender = fixed_sender(network, frame.stream.id);
+        write!(page, "<li>{id}, {sender}</li>\n")?;
+    }
+    Ok(())
+}
+
+/// Adds how much each deadline has left, where the identifiers were chosen by it, and what has no more.
+fn push_margin(page: &mut String, report: Report<'_, '_>) -> Result<(), AllocError> {
+    let Outcome::Planned(plan) = report.outcome else {
         return Ok(());
     };
     let Some(ticks) = plan.margin() else {
@@ -185,8 +212,11 @@ fn push_margin(page: &mut String, outcome: &Outcome) -> Result<(), AllocError> {
     write!(
         page,
         "<p>Every PDO, and every SDO frame with a deadline, keeps at least {margin} µs of its deadline in every run. \
-No other identifiers at this rate leave all of them more.</p>\n"
-    )
+No other identifiers at this rate leave all of them more. These have no more than that:</p>\n<ul>\n"
+    )?;
+    push_limiting_pdos(page, report.network, report.figures, ticks)?;
+    push_limiting_frames(page, report.network, report.figures, ticks)?;
+    page.push_str("</ul>\n")
 }
 
 /// Adds the sections that a plan alone has.
@@ -217,7 +247,7 @@ fn push_page(page: &mut String, alloc: Global, report: Report<'_, '_>) -> Result
     page.push_str("</style>\n</head>\n<body>\n<main>\n")?;
     push_header(page, report.network, report.figures)?;
     push_contents(page, report)?;
-    push_margin(page, report.outcome)?;
+    push_margin(page, report)?;
     push_rates(page, report.network, report.figures)?;
     push_loads(page, report.figures)?;
     push_plan(page, alloc, report)?;

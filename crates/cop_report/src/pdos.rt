@@ -99,8 +99,7 @@ fn push_number(
 
 /// Adds the response of a PDO against its deadline.
 fn push_margin(page: &mut String, times: &PdoTimes, is_tightest: bool) -> Result<(), AllocError> {
-    let deadline = deadline_of(times);
-    let left = deadline.saturating_sub(times.response);
+    let (deadline, left) = (deadline_of(times), times.left());
     let bar = ResponseBar {
         response: times.response,
         deadline,

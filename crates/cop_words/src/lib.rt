@@ -6,6 +6,7 @@ mod columns;
 mod devices;
 mod explanations;
 mod mappings;
+mod margins;
 mod networks;
 mod paces;
 mod pdos;
@@ -19,6 +20,7 @@ mod words;
 
 pub use columns::{header, header_with_deadline, wanted};
 pub use explanations::{Explanation, RULE_WORDS, explained};
+pub use margins::margin_words;
 pub use networks::{Network, network_words};
 pub use places::{Place, line_at, record_at};
 pub use refusals::{refused_words, uncovered_words};

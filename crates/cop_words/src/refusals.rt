@@ -10,7 +10,7 @@ use cop_rta::Verdict;
 use std::alloc::{AllocError, Global};
 
 /// Ticks of 250 ns in microseconds.
-fn micros(alloc: Global, ticks: u64) -> Result<String, AllocError> {
+pub(crate) fn micros(alloc: Global, ticks: u64) -> Result<String, AllocError> {
     let (whole, rest) = (ticks / 4, ticks % 4);
     let part = match rest {
         0 => "",

@@ -34,33 +34,44 @@ pub(crate) fn refused<T: Drop>(answer: Result<T, Fault>) -> Result<Option<(u8, u
 
 #[test]
 fn reports(rt: HostRuntime) -> Result<(), Fail> {
-    let cases: &[(&[u8], Rate, &[u8])] = &[
+    let cases: &[(&[u8], Rate, &[u8], bool)] = &[
         (
             THREE_FRAMES,
             Rate::Kbit125,
             b"181h pass 8000\n182h pass 12000\n183h late 1 14000\n",
+            false,
         ),
         (
             b"id,bytes,period,jitter,deadline\n0x181,8,100,0,\n",
             Rate::Kbit1000,
             b"181h long\n",
+            false,
         ),
         // The lines stand by rising identifier, whatever the order of the records.
         (
             b"id,bytes,period,jitter,deadline\n\"386\",8,100000,0,1080\r\n385,8,100000,0,1079\r\n",
             Rate::Kbit125,
             b"181h late 0 8640\n182h late 0 8640\n",
+            false,
         ),
         (
             b"\xEF\xBB\xBFid,bytes,period,jitter,deadline\n0x181,8,1000,2500,2635\n",
             Rate::Kbit1000,
             b"181h pass 10540\n",
+            true,
         ),
-        (b"id,bytes,period,jitter,deadline\n", Rate::Kbit125, b""),
+        (
+            b"id,bytes,period,jitter,deadline\n",
+            Rate::Kbit125,
+            b"",
+            true,
+        ),
     ];
     for case in cases {
-        let (text, rate, want) = *case;
-        assert!(rt; test_bytes(rt.alloc(), text, rate)?.as_slice() == want);
+        let (text, rate, want, wanted) = *case;
+        let (lines, all_pass) = test_bytes(rt.alloc(), text, rate)?;
+        assert!(rt; lines.as_slice() == want);
+        assert!(rt; all_pass == wanted);
     }
     Ok(())
 }

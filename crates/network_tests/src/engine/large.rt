@@ -31,7 +31,7 @@ fn streams(alloc: Global, count: u16) -> Result<String, AllocError> {
 #[test]
 fn eleven_hundred_streams_and_one_more(rt: HostRuntime) -> Result<(), Fail> {
     let most = streams(rt.alloc(), 1100)?;
-    let report = test_bytes(rt.alloc(), most.as_bytes(), Rate::Kbit1000)?;
+    let (report, _) = test_bytes(rt.alloc(), most.as_bytes(), Rate::Kbit1000)?;
     let lines = report.iter().filter(|byte| **byte == b'\n').count();
     assert!(rt; lines == 1100);
     let more = streams(rt.alloc(), 1101)?;

@@ -1,0 +1,59 @@
+//! What is said of a plan whose identifiers leave each deadline the greatest margin.
+
+use crate::mappings::pdo_name;
+use crate::refusals::micros;
+use cop_dict::Direction;
+use cop_figures::{Figures, FrameTimes, PdoTimes};
+use cop_net::{DevicePdo, Network};
+use std::alloc::{AllocError, Global};
+
+/// What a PDO has, by its name.
+fn pdo_words(alloc: Global, network: &Network<'_>, times: &PdoTimes) -> Result<String, AllocError> {
+    let Some(row) = network.rows().get(times.pdo) else {
+        return Ok(String::new(alloc));
+    };
+    let pdo = DevicePdo {
+        direction: Direction::Transmit,
+        node: row.node,
+        number: row.tpdo,
+    };
+    let (name, left) = (pdo_name(alloc, pdo)?, micros(alloc, times.left())?);
+    format!(in alloc; "the margin is limited by {name}, which has {left} us left\n")
+}
+
+/// What an SDO frame has.
+fn frame_words(alloc: Global, times: &FrameTimes) -> Result<String, AllocError> {
+    let (id, left) = (times.stream.id, micros(alloc, times.left())?);
+    format!(in alloc;
+        "the margin is limited by the SDO frame {id:03X}h, which has {left} us left\n"
+    )
+}
+
+/// Adds what is said of the SDO frames that have no more than a margin.
+fn push_frames(
+    words: &mut Vec<u8>,
+    alloc: Global,
+    frames: &[FrameTimes],
+    margin: u64,
+) -> Result<(), AllocError> {
+    for times in frames.iter().filter(|times| times.left() <= margin) {
+        words.extend_from_slice(frame_words(alloc, times)?.as_bytes())?;
+    }
+    Ok(())
+}
+
+/// What limits the margin of a plan, a line each: the PDOs, and the SDO frames with deadlines, that have no more than it left, which is
+/// in ticks of 250 ns.
+pub fn margin_words(
+    alloc: Global,
+    network: &Network<'_>,
+    figures: &Figures,
+    margin: u64,
+) -> Result<Vec<u8>, AllocError> {
+    let mut words = Vec::new(alloc);
+    for times in figures.pdos.iter().filter(|times| times.left() <= margin) {
+        words.extend_from_slice(pdo_words(alloc, network, times)?.as_bytes())?;
+    }
+    push_frames(&mut words, alloc, &figures.frames, margin)?;
+    Ok(words)
+}
