@@ -5,7 +5,8 @@
 
 Makes COUNT random tables of up to five PDOs of one device (100 where nothing is said). The rate has to be the slowest of the device's at
 which some order passes the response-time test (Davis et al. 2007), computed here for each order, and the margin the greatest least
-one of all orders there. `plan` without the word has to give the same rate.
+one of all orders there. With `--explain` the PDOs that limit it have to be told: those that have just so much left. `plan` without the
+word has to give the same rate.
 """
 import itertools
 import os
@@ -99,6 +100,16 @@ def planned(folder, *words):
     return int(rate[1]), int(margin[1]) if margin else None
 
 
+def tell_limits(folder, streams):
+    """Whether the PDOs that are told as limiting the margin are those that have no more left."""
+    done = called("plan", "--margin", "--explain", f"{folder}/nodes.csv", f"{folder}/pdos.csv", f"{folder}/out")
+    margin = int(re.search(r"^margin (\d+)$", done.stdout, re.M)[1])
+    response = {int(tpdo): int(needed) for tpdo, needed in re.findall(r"^pdo 1\.(\d+) id \S+ response (\d+)$", done.stdout, re.M)}
+    wanted = {s["tpdo"] for s in streams if s["deadline"] - response[s["tpdo"]] == margin}
+    told = re.findall(r"^the margin is limited by TPDO (\d+) of node 1, which has (\S+) us left$", done.stderr, re.M)
+    return {int(tpdo) for tpdo, _ in told} == wanted and wanted and all(4 * float(left) == margin for _, left in told)
+
+
 def bytes_by_tpdo(folder):
     """How many bytes each TPDO has, by the CAN database of a plan of all of them."""
     rows = "".join(f"1,{tpdo},1000000,0,1000000,\n" for tpdo in range(1, 6))
@@ -141,7 +152,9 @@ def main():
             plain = planned(folder)
             assert found == wanted, (number, streams, found, wanted)
             assert (plain and plain[0]) == (found and found[0]), (number, streams, plain, found)
-            told += found is not None
+            if found is not None:
+                assert tell_limits(folder, streams), (number, streams)
+                told += 1
     print(f"ok: {count} tables, {told} of them with a plan")
 
 
