@@ -10,7 +10,7 @@ use crate::judging::judge;
 use crate::log_rules::log_rule_words;
 use crate::notes::{check_notes, plan_notes};
 use crate::orders::{NetworkFiles, Order, Request};
-use crate::reporting::write_report;
+use crate::reporting::{Shown, write_report};
 use crate::tidying::carry_tidy;
 use crate::watching::watch_bus;
 use cop_engine::{
@@ -264,8 +264,12 @@ pub fn carry_out(
         Order::Report {
             network,
             trace,
+            log,
             out,
-        } => write_report(rt, network, trace, out, inputs),
+        } => {
+            let shown = Shown { trace, log };
+            write_report(rt, network, shown, out, inputs)
+        }
         Order::Export {
             format,
             network,

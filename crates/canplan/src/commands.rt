@@ -192,14 +192,21 @@ fn report_command<'a>(alloc: Global) -> Result<Command<'a>, AllocError> {
         .value_name("TRACE")
         .action(ArgAction::Set)
         .help("A trace of the bus, as judge takes it: the page shows the bus over time, too");
-    network_command(alloc, "report", about)?
+    let log = Arg::new(alloc, "log")
+        .long("log")
+        .value_name("LOG")
+        .action(ArgAction::Set)
+        .help("A log of the machine's bus, as watch takes it: the page shows what it shows, too");
+    let command = network_command(alloc, "report", about)?
         .after_help("Example: canplan report nodes.csv pdos.csv report.html")
         .arg(operand(
             alloc,
             "OUT",
             "The file that the page is written to, in HTML",
         ))?
-        .arg(trace)
+        .arg(trace)?
+        .arg(log)?;
+    with_log_words(alloc, command)
 }
 
 fn export_command<'a>(alloc: Global) -> Result<Command<'a>, AllocError> {
@@ -293,23 +300,30 @@ fn clock_choice<'a>(alloc: Global, name: &'a str, unit: &'a str, help: &'a str) 
         .help(help)
 }
 
-fn watch_command<'a>(alloc: Global) -> Result<Command<'a>, AllocError> {
-    let about = "Reads a log of a real bus, and says whether it keeps to the tables";
-    let error = "By how much distances of two stamps are wrong at most; 1000 where it is left out";
+/// The words that say what is taken of a log.
+fn with_log_words<'a>(alloc: Global, command: Command<'a>) -> Result<Command<'a>, AllocError> {
+    let error =
+        "By how much distances of two stamps of the log are wrong at most; 1000 where it is left out";
     let drift =
-        "By how many parts in a million the clock is wrong at most; 200 where it is left out";
-    let log = "The log, as candump -L writes it; - is standard input";
+        "By how many parts in a million its clock is wrong at most; 200 where it is left out";
     let channel = Arg::new(alloc, "channel")
         .long("channel")
         .value_name("NAME")
         .action(ArgAction::Set)
         .help("The channel whose lines are taken; that of the first line where it is left out");
-    network_command(alloc, "watch", about)?
-        .after_help("Example: candump -L can0 | canplan watch nodes.csv pdos.csv -")
-        .arg(operand(alloc, "LOG", log))?
+    command
         .arg(clock_choice(alloc, "error", "US", error))?
         .arg(clock_choice(alloc, "drift", "PPM", drift))?
         .arg(channel)
+}
+
+fn watch_command<'a>(alloc: Global) -> Result<Command<'a>, AllocError> {
+    let about = "Reads a log of a real bus, and says whether it keeps to the tables";
+    let log = "The log, as candump -L writes it; - is standard input";
+    let command = network_command(alloc, "watch", about)?
+        .after_help("Example: candump -L can0 | canplan watch nodes.csv pdos.csv -")
+        .arg(operand(alloc, "LOG", log))?;
+    with_log_words(alloc, command)
 }
 
 fn explain_command<'a>(alloc: Global) -> Result<Command<'a>, AllocError> {

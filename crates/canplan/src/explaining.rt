@@ -33,14 +33,14 @@ fn file_of<'a>(order: Order<'a>, number: u8) -> Option<&'a str> {
         Order::Test { file, .. } => Some(file),
         Order::Check { refusals, .. } if number < 40 => Some(refusals),
         Order::Judge { trace, .. } if number >= 60 => Some(trace),
-        Order::Report { trace, .. } if number >= 60 => trace,
+        Order::Report { trace, .. } if number >= 60 && number < 90 => trace,
         _ => None,
     }
 }
 
 /// Whether a rule is about the log that is watched, whose line the failure has in words.
 fn is_of_log(order: Order<'_>, number: u8) -> bool {
-    matches!(order, Order::Watch(_)) && number >= 90
+    number >= 90 && matches!(order, Order::Watch(_) | Order::Report { log: Some(_), .. })
 }
 
 /// What is said of a line of a log that is refused.

@@ -1,6 +1,7 @@
 //! Why an order is not carried out, with what the system says of a file.
 
 use cop_engine::Fault;
+use cop_logbook::BookFault;
 use cop_net::PlanFault;
 use std::alloc::{AllocError, AllocFailed};
 use std::io;
@@ -37,6 +38,18 @@ impl<T: Drop> From<AllocFailed<T>> for Failure {
 impl From<PlanFault> for Failure {
     fn from(fault: PlanFault) -> Failure {
         Failure::from(Fault::from(fault))
+    }
+}
+
+impl From<BookFault> for Failure {
+    fn from(fault: BookFault) -> Failure {
+        Failure::from(match fault {
+            BookFault::Refused { number, line } => Fault::Refused {
+                number,
+                place: line,
+            },
+            BookFault::Memory => Fault::Memory,
+        })
     }
 }
 

@@ -1,4 +1,4 @@
-//! The page that shows the plan of a network, and what a trace tells of it.
+//! The page that shows the plan of a network, and what a trace and a log tell of it.
 
 ghost use Rattle.std.specs.Prelude.{length};
 ghost use Rattle.cop_plan.specs.Plans.{IsOutcome};
@@ -7,20 +7,30 @@ use crate::failures::Failure;
 use crate::files::write_file;
 use crate::inputs::{Inputs, beside, read_file};
 use crate::judging::judge_inputs;
-use crate::orders::NetworkFiles;
+use crate::orders::{NetworkFiles, WatchOrder};
+use crate::watching::watched;
 use cop_engine::{Fault, plan_status};
 use cop_figures::{Timeline, figures_of, timeline_of};
+use cop_logbook::Logbook;
 use cop_net::{Network, network, read_nodes, read_pdos};
 use cop_plan::{Outcome, plan};
 use cop_report::{Input, Report, page_of};
 use std::alloc::AllocError;
 
+/// What a page shows of the bus beside the plan.
+#[derive(Clone, Copy)]
+pub struct Shown<'a> {
+    /// The name of a trace.
+    pub trace: Option<&'a str>,
+    /// A log of the machine's bus.
+    pub log: Option<WatchOrder<'a>>,
+}
+
 /// The files that a page is made of.
 #[derive(Clone, Copy)]
 struct Sources<'a> {
     network: NetworkFiles<'a>,
-    /// The name of the trace that is shown.
-    trace: Option<&'a str>,
+    shown: Shown<'a>,
     inputs: &'a Inputs,
 }
 
@@ -56,7 +66,7 @@ fn inputs<'a>(
         name: sources.network.pdos,
         size: sources.inputs.network.pdos.len(),
     })?;
-    if let Some(name) = sources.trace {
+    if let Some(name) = sources.shown.trace {
         inputs.push(Input {
             name,
             size: sources.inputs.other.len(),
@@ -77,11 +87,23 @@ fn timeline(
     let Outcome::Planned(plan) = outcome else {
         return Ok(None);
     };
-    if sources.trace.is_none() {
+    if sources.shown.trace.is_none() {
         return Ok(None);
     }
     let timeline = timeline_of(rt.alloc(), plan, &sources.inputs.other)?;
     Ok(Some(timeline))
+}
+
+/// What a log shows. Where no rate passes it is not looked at.
+fn log_book<'p>(
+    rt: &HostRuntime,
+    sources: Sources<'_>,
+    outcome: &'p Outcome,
+) -> Result<Option<Logbook<'p>>, Failure> {
+    match (sources.shown.log, outcome) {
+        (Some(order), Outcome::Planned(plan)) => Ok(Some(watched(rt, order, plan)?)),
+        _ => Ok(None),
+    }
 }
 
 /// The text of a page.
@@ -91,10 +113,11 @@ fn page_text(
     network: &Network<'_>,
     outcome: &Outcome,
     timeline: Option<&Timeline>,
-) -> Result<String, Fault>
+) -> Result<String, Failure>
     requires { IsOutcome network.now.equipment.rates network.now.set (length network.now.rows) outcome.now }
 {
     let figures = figures_of(rt.alloc(), network, outcome)?;
+    let book = log_book(rt, sources, outcome)?;
     let opened = opened(rt, sources)?;
     let inputs = inputs(rt, sources, &opened)?;
     let report = Report {
@@ -102,6 +125,7 @@ fn page_text(
         outcome,
         figures: &figures,
         timeline,
+        log: book.as_ref(),
         inputs: &inputs,
     };
     Ok(page_of(rt.alloc(), report)?)
@@ -113,7 +137,7 @@ fn outcome_page(
     sources: Sources<'_>,
     network: &Network<'_>,
     outcome: &Outcome,
-) -> Result<Page, Fault>
+) -> Result<Page, Failure>
     requires { IsOutcome network.now.equipment.rates network.now.set (length network.now.rows) outcome.now }
 {
     let timeline = timeline(rt, sources, outcome)?;
@@ -130,14 +154,14 @@ fn network_page(
     rt: &HostRuntime,
     sources: Sources<'_>,
     network: &Network<'_>,
-) -> Result<Page, Fault> {
+) -> Result<Page, Failure> {
     let choice = sources.inputs.network.choice;
     let outcome = plan(rt.alloc(), network, choice)?;
     outcome_page(rt, sources, network, &outcome)
 }
 
 /// The page of the network that the files make.
-fn sources_page(rt: &HostRuntime, sources: Sources<'_>) -> Result<Page, Fault> {
+fn sources_page(rt: &HostRuntime, sources: Sources<'_>) -> Result<Page, Failure> {
     let texts = &sources.inputs.network;
     let nodes = read_nodes(rt.alloc(), &texts.nodes)?;
     let pdos = read_pdos(rt.alloc(), &texts.pdos)?;
@@ -155,22 +179,23 @@ fn write_page(rt: &HostRuntime, sources: Sources<'_>, out: &str) -> Result<u8, F
     Ok(plan_status(page.planned))
 }
 
-/// The page that shows the plan of a network, and the bus over time where there is a trace: it is written into a file.
+/// The page that shows the plan of a network, the bus over time where there is a trace, and what a log shows where there is one: it is
+/// written into a file.
 pub fn write_report(
     rt: &HostRuntime,
     network: NetworkFiles<'_>,
-    trace: Option<&str>,
+    shown: Shown<'_>,
     out: &str,
     inputs: &mut Inputs,
 ) -> Result<u8, Failure> {
     inputs.network.read_tables(rt, network)?;
-    if let Some(name) = trace {
+    if let Some(name) = shown.trace {
         inputs.other = read_file(rt, name)?;
     }
     inputs.network.read_eds_files(rt, network)?;
     let sources = Sources {
         network,
-        trace,
+        shown,
         inputs,
     };
     write_page(rt, sources, out)

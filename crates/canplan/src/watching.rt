@@ -4,9 +4,9 @@ use crate::failures::{Failure, Use, file_failure};
 use crate::files::print;
 use crate::inputs::{Inputs, open_file};
 use crate::orders::WatchOrder;
-use crate::watched::Session;
 use cop_engine::{Fault, none_passes, outcome_of};
 use cop_log::Clock;
+use cop_logbook::Logbook;
 use cop_plan::{Outcome, Plan};
 use memchr::memchr;
 use std::io::Read;
@@ -21,11 +21,11 @@ const MOST_LINE: usize = 4096;
 const LONG_LINE: u8 = 95;
 
 /// Keeps what was read of a line that goes on in the next piece.
-fn keep(session: &Session<'_>, begun: &mut Vec<u8>, more: &[u8]) -> Result<(), Failure> {
+fn keep(book: &Logbook<'_>, begun: &mut Vec<u8>, more: &[u8]) -> Result<(), Failure> {
     if more.len() > MOST_LINE || begun.len() > MOST_LINE - more.len() {
         return Err(Failure::from(Fault::Refused {
             number: LONG_LINE,
-            place: session.lines().saturating_add(1),
+            place: book.lines().saturating_add(1),
         }));
     }
     begun.extend_from_slice(more)?;
@@ -33,15 +33,15 @@ fn keep(session: &Session<'_>, begun: &mut Vec<u8>, more: &[u8]) -> Result<(), F
 }
 
 /// Takes the lines that end in a piece, the first of which may have begun before it.
-fn take_piece(session: &mut Session<'_>, begun: &mut Vec<u8>, piece: &[u8]) -> Result<(), Failure> {
+fn take_piece(book: &mut Logbook<'_>, begun: &mut Vec<u8>, piece: &[u8]) -> Result<(), Failure> {
     let mut rest = piece;
     while let Some(end) = memchr(b'\n', rest) {
-        keep(session, begun, &rest[..end])?;
-        session.take_line(begun)?;
+        keep(book, begun, &rest[..end])?;
+        book.take_line(begun)?;
         begun.clear();
         rest = &rest[end..][1..];
     }
-    keep(session, begun, rest)
+    keep(book, begun, rest)
 }
 
 /// Takes all lines that a reader has left. The last one may lack its end.
@@ -49,7 +49,7 @@ fn take_lines<R: Read + Drop>(
     rt: &HostRuntime,
     name: &str,
     mut reader: R,
-    session: &mut Session<'_>,
+    book: &mut Logbook<'_>,
 ) -> Result<(), Failure> {
     let mut piece = vec![in rt.alloc(); 0; PIECE]?;
     let mut begun = Vec::new(rt.alloc());
@@ -61,29 +61,40 @@ fn take_lines<R: Read + Drop>(
         if len == 0 {
             break;
         }
-        take_piece(session, &mut begun, &piece[..len])?;
+        take_piece(book, &mut begun, &piece[..len])?;
     }
     if begun.is_empty() {
         Ok(())
     } else {
-        session.take_line(&begun)
+        Ok(book.take_line(&begun)?)
     }
 }
 
-fn watch_by(rt: &HostRuntime, order: WatchOrder<'_>, plan: &Plan) -> Result<u8, Failure> {
+/// The log of an order, watched by a plan.
+pub fn watched<'p>(
+    rt: &HostRuntime,
+    order: WatchOrder<'_>,
+    plan: &'p Plan,
+) -> Result<Logbook<'p>, Failure> {
     let clock = Clock {
         error: order.error,
         drift: order.drift,
     };
-    let mut session = Session::new(rt.alloc(), plan, clock, order.channel)?;
+    let mut book = Logbook::new(rt.alloc(), plan, clock, order.channel)?;
     if order.log == "-" {
-        take_lines(rt, "-", rt.stdin(), &mut session)?;
+        take_lines(rt, "-", rt.stdin(), &mut book)?;
     } else {
         let file = open_file(rt, order.log)?;
-        take_lines(rt, order.log, file, &mut session)?;
+        take_lines(rt, order.log, file, &mut book)?;
     }
-    print(rt, session.finish()?.as_bytes())?;
-    Ok(if session.breaches() == 0 { 0 } else { 3 })
+    Ok(book)
+}
+
+/// Says what a log shows, and gives the status.
+fn watch_by(rt: &HostRuntime, order: WatchOrder<'_>, plan: &Plan) -> Result<u8, Failure> {
+    let book = watched(rt, order, plan)?;
+    print(rt, book.finish()?.as_bytes())?;
+    Ok(if book.breaches() == 0 { 0 } else { 3 })
 }
 
 /// Watches a log by the plan of a network, and says what it shows. Memory does not grow with the log.

@@ -5,6 +5,7 @@ mod bars;
 mod bus;
 mod devices;
 mod frames;
+mod log;
 mod nodes;
 mod page;
 mod pdos;

@@ -6,6 +6,7 @@ ghost use Rattle.cop_plan.specs.Plans.{IsOutcome};
 use crate::bus::push_bus;
 use crate::devices::sent_by;
 use crate::frames::push_frames;
+use crate::log::push_log;
 use crate::nodes::push_nodes;
 use crate::pdos::{push_pdos, tightest};
 use crate::premises::{push_inputs, push_premises};
@@ -14,6 +15,7 @@ use crate::senders::fixed_sender;
 use crate::style::STYLE;
 use crate::units::{Count, Identifier, Micros, Percent};
 use cop_figures::{Figures, Timeline};
+use cop_logbook::Logbook;
 use cop_net::Network;
 use cop_plan::Outcome;
 use std::alloc::{AllocError, Global};
@@ -26,13 +28,14 @@ pub struct Input<'a> {
 }
 
 /// What a page is made of: a network, what the planner answers for it, the numbers of that, what a trace tells of the bus under
-/// the plan if one is to be shown, and the files that were read.
+/// the plan if one is to be shown, a log that was watched by the plan if there is one, and the files that were read.
 #[derive(Clone, Copy)]
 pub struct Report<'a, 'n> {
     pub network: &'a Network<'n>,
     pub outcome: &'a Outcome,
     pub figures: &'a Figures,
     pub timeline: Option<&'a Timeline>,
+    pub log: Option<&'a Logbook<'a>>,
     pub inputs: &'a [Input<'a>],
 }
 
@@ -162,6 +165,7 @@ fn push_contents(page: &mut String, report: Report<'_, '_>) -> Result<(), AllocE
         "bus",
         "Bus over time",
     )?;
+    push_link(page, is_planned && report.log.is_some(), "log", "The log")?;
     push_link(page, is_planned, "nodes", "Nodes")?;
     push_link(page, is_planned, "premises", "On the machine")?;
     push_link(page, true, "files", "Files")?;
@@ -228,6 +232,9 @@ fn push_plan(page: &mut String, alloc: Global, report: Report<'_, '_>) -> Result
         push_frames(page, report.network, report.figures)?;
         if let Some(timeline) = report.timeline {
             push_bus(page, report.network, plan, timeline)?;
+        }
+        if let Some(log) = report.log {
+            push_log(page, report.network, log)?;
         }
         push_nodes(page, alloc, report.network, plan)?;
         push_premises(page)?;

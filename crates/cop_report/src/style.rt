@@ -33,6 +33,7 @@ nav { display: flex; flex-wrap: wrap; gap: .3rem 1.1rem; margin-top: 1rem; }
 .n { text-align: right; font-variant-numeric: tabular-nums; }
 .wide { min-width: 6rem; width: 30%; } #pdos .wide { width: 8%; }
 #pdos small { display: block; } #pdos td:nth-child(2) { white-space: normal; min-width: 10rem; }
+.spread { display: block; width: 100%; min-width: 7rem; height: 1.6rem; } .loads { display: block; width: 100%; height: 6rem; }
 .bar { display: block; width: 100%; height: .7rem; border-radius: 3px; }
 .track { fill: var(--track); } .pdo { fill: var(--pdo); background: var(--pdo); } .fixed { fill: var(--fixed); background: var(--fixed); }
 .tight { fill: var(--tight); }

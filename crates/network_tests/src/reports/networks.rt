@@ -142,6 +142,7 @@ fn page<'a>(
             outcome,
             figures,
             timeline,
+            log: None,
             inputs: INPUTS,
         },
     )

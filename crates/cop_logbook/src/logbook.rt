@@ -3,10 +3,10 @@
 ghost use Rattle.std.specs.Prelude.{◌≤◌};
 
 use crate::breaches::{Breaches, Scene};
-use crate::failures::Failure;
+use crate::loads::Loads;
 use crate::noticed::Notices;
-use crate::seen::Seen;
-use cop_engine::Fault;
+use crate::seen::{Seen, least_bits_of};
+use crate::spread::Spread;
 use cop_log::{Clock, Entry, Finding, Told, Watcher, back, bounds_of, front, line_in};
 use cop_plan::Plan;
 use std::alloc::{AllocError, Global};
@@ -21,9 +21,24 @@ const MOST_OTHERS: usize = 1000;
 /// How many identifiers streams can have.
 const IDS: u16 = 2048;
 
+/// Why a log is not watched on.
+#[derive(Clone, Copy, Debug, PartialEq, Eq)]
+pub enum BookFault {
+    /// The number of the rule that is broken, and the line, from 1; 0 where no line is of the channel.
+    Refused { number: u8, line: u64 },
+    /// There is not enough memory.
+    Memory,
+}
+
+impl From<AllocError> for BookFault {
+    fn from(_error: AllocError) -> BookFault {
+        BookFault::Memory
+    }
+}
+
 /// A log that is watched.
 #[derive(Drop)]
-pub struct Session<'a> {
+pub struct Logbook<'a> {
     alloc: Global,
     plan: &'a Plan,
     clock: Clock,
@@ -33,18 +48,16 @@ pub struct Session<'a> {
     channel: Option<Vec<u8>>,
     line: u64,
     all: Seen,
-    // By identifier.
+    // By identifier, and of each stream how its frames are spread.
     seen: Vec<Seen>,
+    spreads: Vec<Spread>,
+    loads: Loads,
     others: BTreeMap<u32, Seen>,
     // The lines from which the entries of each stream are counted, and all entries.
     anchor_lines: Vec<u64>,
     pile_line: u64,
     breaches: Breaches,
     notices: Notices,
-}
-
-fn refused(number: u8, place: u64) -> Failure {
-    Failure::from(Fault::Refused { number, place })
 }
 
 /// The bytes of the data of a line that was read.
@@ -63,14 +76,14 @@ fn data_of(line: &[u8], body: &mut [u8; 8], len: u8) -> usize
     }
 }
 
-impl<'a> Session<'a> {
+impl<'a> Logbook<'a> {
     /// A log of no line yet.
     pub fn new(
         alloc: Global,
         plan: &'a Plan,
         clock: Clock,
         channel: Option<&str>,
-    ) -> Result<Session<'a>, AllocError> {
+    ) -> Result<Logbook<'a>, AllocError> {
         let bounds = bounds_of(alloc, plan.streams(), plan.rate())?;
         let own = bounds.clone()?;
         let count = bounds.len();
@@ -83,7 +96,7 @@ impl<'a> Session<'a> {
             }
             None => None,
         };
-        Ok(Session {
+        Ok(Logbook {
             alloc,
             plan,
             clock,
@@ -93,6 +106,8 @@ impl<'a> Session<'a> {
             line: 0,
             all: Seen::NOTHING,
             seen: vec![in alloc; Seen::NOTHING; usize::from(IDS)]?,
+            spreads: vec![in alloc; Spread::NOTHING; count]?,
+            loads: Loads::new(alloc)?,
             others: BTreeMap::new(alloc),
             anchor_lines: vec![in alloc; 0; count]?,
             pile_line: 0,
@@ -109,6 +124,36 @@ impl<'a> Session<'a> {
     /// How many breaches there are.
     pub fn breaches(&self) -> u64 {
         self.breaches.count()
+    }
+
+    /// The words of the breaches that are told, a line each.
+    pub fn words(&self) -> &str {
+        self.breaches.words()
+    }
+
+    /// What was seen of all identifiers.
+    pub fn all(&self) -> &Seen {
+        &self.all
+    }
+
+    /// What was seen of an identifier that a stream can have.
+    pub fn seen(&self, id: u16) -> Option<&Seen> {
+        self.seen.get(usize::from(id))
+    }
+
+    /// How the frames of the stream at a place of the plan are spread.
+    pub fn spread_of(&self, place: usize) -> Option<&Spread> {
+        self.spreads.get(place)
+    }
+
+    /// The bus over the time of the log.
+    pub fn loads(&self) -> &Loads {
+        &self.loads
+    }
+
+    /// The plan that the log is watched by.
+    pub fn plan(&self) -> &Plan {
+        self.plan
     }
 
     /// The place of the stream of an identifier.
@@ -130,7 +175,7 @@ impl<'a> Session<'a> {
     }
 
     /// Takes the next line.
-    pub fn take_line(&mut self, line: &[u8]) -> Result<(), Failure> {
+    pub fn take_line(&mut self, line: &[u8]) -> Result<(), BookFault> {
         self.line = self.line.saturating_add(1);
         self.choose_channel(line)?;
         let read = match &self.channel {
@@ -140,13 +185,16 @@ impl<'a> Session<'a> {
         match read {
             Ok(Some(entry)) => Ok(self.take_entry(&entry, line)?),
             Ok(None) => Ok(()),
-            Err(fault) => Err(refused(fault.number(), self.line)),
+            Err(fault) => Err(BookFault::Refused {
+                number: fault.number(),
+                line: self.line,
+            }),
         }
     }
 
     fn take_entry(&mut self, entry: &Entry, line: &[u8]) -> Result<(), AllocError> {
-        self.count(entry)?;
         let place = self.place_of(entry.id);
+        self.count(entry, place)?;
         let scene = self.scene(entry, place);
         let told = self.watcher.take(entry);
         self.tell(&scene, &told)?;
@@ -159,20 +207,40 @@ impl<'a> Session<'a> {
         }
     }
 
-    /// Counts an entry.
-    fn count(&mut self, entry: &Entry) -> Result<(), AllocError> {
+    /// Counts an entry, whose identifier's stream is at this place.
+    fn count(&mut self, entry: &Entry, place: Option<usize>) -> Result<(), AllocError> {
         let line = self.line;
-        self.all.note(line, entry.at, entry.len);
-        if let Some(seen) = self.seen.get_mut(entry.id as usize) {
-            seen.note(line, entry.at, entry.len);
-            return Ok(());
+        let _ = self.all.note(line, entry.at, entry.len);
+        self.loads.note(entry.at, least_bits_of(entry.len));
+        let Some(seen) = self.seen.get_mut(entry.id as usize) else {
+            return self.count_other(entry);
+        };
+        let distance = seen.note(line, entry.at, entry.len);
+        if let (Some(place), Some(distance)) = (place, distance) {
+            self.spread(place, distance);
         }
+        Ok(())
+    }
+
+    /// Counts the distance of two frames of a stream.
+    fn spread(&mut self, place: usize, distance: u64) {
+        let Some(stream) = self.plan.streams().streams().get(place) else {
+            return;
+        };
+        let period = stream.period / 4;
+        if let Some(spread) = self.spreads.get_mut(place) {
+            spread.note(distance, period);
+        }
+    }
+
+    /// Counts an entry whose identifier no stream can have.
+    fn count_other(&mut self, entry: &Entry) -> Result<(), AllocError> {
         let mut seen = match self.others.get(&entry.id) {
             Some(seen) => *seen,
             None => Seen::NOTHING,
         };
         if seen.frames > 0 || self.others.len() < MOST_OTHERS {
-            seen.note(line, entry.at, entry.len);
+            let _ = seen.note(self.line, entry.at, entry.len);
             let _ = self.others.insert(entry.id, seen)?;
         }
         Ok(())
@@ -280,13 +348,16 @@ impl<'a> Session<'a> {
     }
 
     /// What is said of the log, once all lines were taken.
-    pub fn finish(&self) -> Result<String, Failure> {
+    pub fn finish(&self) -> Result<String, BookFault> {
         if self.all.frames == 0 {
-            return Err(refused(NO_LINE, 0));
+            return Err(BookFault::Refused {
+                number: NO_LINE,
+                line: 0,
+            });
         }
         let mut text = String::new(self.alloc);
         let (frames, kbits) = (self.all.frames, self.plan.rate().kbits());
-        let span = self.all.last.saturating_sub(self.all.first);
+        let span = self.all.span();
         let load = self.all.load(self.plan.rate(), span);
         let (whole, part) = (load / 100, load % 100);
         write!(

@@ -1,8 +1,17 @@
 //! What was seen of an identifier in a log.
 
+ghost use Rattle.std.specs.Prelude.{◌≡◌, ◌+◌, ◌*◌};
+
 use cop_frame::Rate;
 use cop_rta::Stream;
 use std::alloc::AllocError;
+
+/// How many bits a frame of so many bytes has at least (CiA 301: a data frame, its space after it counted).
+pub(crate) fn least_bits_of(len: u8) -> u64
+    ensures { result ≡ 47 + 8 * len }
+{
+    47 + 8 * u64::from(len)
+}
 
 /// The frames of an identifier. Stamps and distances are in microseconds.
 #[derive(Clone, Copy)]
@@ -32,30 +41,40 @@ impl Seen {
         bits: 0,
     };
 
-    /// One frame more was seen.
-    pub fn note(&mut self, line: u64, at: u64, len: u8) {
-        if self.frames == 0 {
+    /// One frame more was seen: its distance from the one before, where there is one.
+    pub(crate) fn note(&mut self, line: u64, at: u64, len: u8) -> Option<u64> {
+        let distance = if self.frames == 0 {
             self.first_line = line;
             self.first = at;
+            None
         } else {
-            let distance = at.saturating_sub(self.last);
-            self.least = self.least.min(distance);
-            if distance > self.greatest {
-                self.greatest = distance;
-                self.greatest_line = line;
-            }
+            Some(at.saturating_sub(self.last))
+        };
+        if let Some(distance) = distance {
+            self.note_distance(line, distance);
         }
         self.last = at;
         self.frames = self.frames.saturating_add(1);
-        self.bits = self.bits.saturating_add(47 + 8 * u64::from(len));
+        self.bits = self.bits.saturating_add(least_bits_of(len));
+        distance
     }
 
-    fn mean(&self) -> u64 {
-        match self
-            .last
-            .saturating_sub(self.first)
-            .checked_div(self.frames.saturating_sub(1))
-        {
+    fn note_distance(&mut self, line: u64, distance: u64) {
+        self.least = self.least.min(distance);
+        if distance > self.greatest {
+            self.greatest = distance;
+            self.greatest_line = line;
+        }
+    }
+
+    /// The time from the first frame to the last.
+    pub fn span(&self) -> u64 {
+        self.last.saturating_sub(self.first)
+    }
+
+    /// The mean distance, 0 where there are not two frames.
+    pub fn mean(&self) -> u64 {
+        match self.span().checked_div(self.frames.saturating_sub(1)) {
             Some(mean) => mean,
             None => 0,
         }
@@ -71,7 +90,7 @@ impl Seen {
     }
 
     /// Adds the line of the identifier of a stream of the plan.
-    pub fn write(
+    pub(crate) fn write(
         &self,
         text: &mut String,
         stream: &Stream,

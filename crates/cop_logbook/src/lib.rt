@@ -1,0 +1,15 @@
+//! What a log of a real bus shows that is watched line by line by a plan: the frames of each identifier and how they are spread, what is
+//! worth a word, and each breach with its arithmetic.
+#![tactic(auto)]
+
+mod breaches;
+mod loads;
+mod logbook;
+mod noticed;
+mod seen;
+mod spread;
+
+pub use loads::{Loads, PARTS};
+pub use logbook::{BookFault, Logbook};
+pub use seen::Seen;
+pub use spread::{STEPS, Spread};
