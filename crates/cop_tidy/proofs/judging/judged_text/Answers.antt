@@ -5,7 +5,7 @@ use Rattle.cop_change.specs.declared.words.Words.{Words}
 use Rattle.cop_tidy.specs.declared.judging.Left.{Left}
 use Rattle.cop_tidy.specs.Standing.{is_leaving, standing_built, standing}
 use Rattle.cop_tidy.proofs.AcceptedLemmas.{read_as_itself}
-use Rattle.cop_tidy.proofs.judging.judged.Goals as goal
+use Rattle.cop_tidy.proofs.judging.judged_text.Goals as goal
 
 stands : (words : Words) (text x : List ℕ) (found : Option Left) → reading text ≡ Ok x
     → found ≡ standing_built (is_leaving words) x (built x 1) (built x 127) → found ≡ standing words text
