@@ -1,5 +1,6 @@
 //! What each subcommand does.
 
+use crate::checking::{Wanted, check};
 use crate::commands::MOST_UNTIL;
 use crate::earlier::{NodeFiles, remove_earlier};
 use crate::exporting::export;
@@ -8,14 +9,14 @@ use crate::files::{Folder, print};
 use crate::inputs::{Inputs, read_file, read_input};
 use crate::judging::judge;
 use crate::log_rules::log_rule_words;
-use crate::notes::{check_notes, plan_notes};
+use crate::notes::plan_notes;
 use crate::orders::{NetworkFiles, Order, Request};
 use crate::reporting::{Shown, write_report};
 use crate::tidying::carry_tidy;
 use crate::watching::watch_bus;
 use cop_engine::{
-    Fault, Files, RunFault, boot_bytes, check_bytes, check_status, deliver, none_passes,
-    outcome_of, plan_bytes, plan_status, run_plan, test_bytes, test_status, text_status,
+    Fault, Files, RunFault, boot_bytes, deliver, none_passes, outcome_of, plan_bytes, plan_status,
+    run_plan, test_bytes, test_status, text_status,
 };
 use cop_frame::Rate;
 use cop_plan::{Outcome, Plan};
@@ -43,7 +44,7 @@ fn test(
 }
 
 /// Says what is to be said of an answer, where there was memory for it.
-fn tell(rt: &HostRuntime, notes: Result<Vec<u8>, Fault>) {
+pub fn tell(rt: &HostRuntime, notes: Result<Vec<u8>, Fault>) {
     if let Ok(words) = notes {
         let _ = rt.stderr().write_all(&words);
     }
@@ -100,32 +101,6 @@ fn plan(
         tell(rt, plan_notes(rt.alloc(), texts));
     }
     Ok(plan_status(files.planned))
-}
-
-/// The check of a refusal file against a network.
-fn check(
-    rt: &HostRuntime,
-    network: NetworkFiles<'_>,
-    refusals: &str,
-    told: bool,
-    inputs: &mut Inputs,
-) -> Result<u8, Failure> {
-    inputs.network.read_tables(rt, network)?;
-    inputs.other = read_file(rt, refusals)?;
-    inputs.network.read_eds_files(rt, network)?;
-    let texts = &inputs.network;
-    let (text, all_hold) = check_bytes(
-        rt.alloc(),
-        &texts.nodes,
-        &texts.pdos,
-        &texts.eds_files,
-        &inputs.other,
-    )?;
-    print(rt, &text)?;
-    if told {
-        tell(rt, check_notes(rt.alloc(), inputs, refusals));
-    }
-    Ok(check_status(all_hold))
 }
 
 /// The boot of a network by its plan, by the turns that a seed draws.
@@ -252,7 +227,14 @@ pub fn carry_out(
             Ok(test_status(all_pass || !strict))
         }
         Order::Plan { network, out } => plan(rt, network, out, told, inputs),
-        Order::Check { network, refusals } => check(rt, network, refusals, told, inputs),
+        Order::Check {
+            network,
+            refusals,
+            strict,
+        } => {
+            let wanted = Wanted { told, strict };
+            check(rt, network, refusals, wanted, inputs)
+        }
         Order::Boot { seed, network } => boot(rt, seed, network, inputs),
         Order::Judge { network, trace } => judge(rt, network, trace, inputs),
         Order::Run {

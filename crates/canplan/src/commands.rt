@@ -144,6 +144,10 @@ fn check_command<'a>(alloc: Global) -> Result<Command<'a>, AllocError> {
     network_command(alloc, "check", about)?
         .after_help("Example: canplan check nodes.csv pdos.csv out/refusals.csv")
         .arg(json_flag(alloc))?
+        .arg(strict_flag(
+            alloc,
+            "Ends with status 4 where a rate that the plan refuses has no refusal in the file",
+        ))?
         .arg(operand(alloc, "REFUSALS", "A refusal file of plan"))
 }
 

@@ -1,6 +1,7 @@
 //! Answers and faults as documents in JSON, on standard output.
 
 use crate::carrying::{carry_out, write_files};
+use crate::checking::{checked, read_for_check};
 use crate::explaining::explain;
 use crate::failures::Failure;
 use crate::files::print;
@@ -11,8 +12,8 @@ use cop_documents::{
     test_document,
 };
 use cop_engine::{
-    Fault, boot_bytes, check_bytes, check_status, judge_bytes, message, plan_bytes, plan_status,
-    test_bytes, test_status, text_status,
+    Fault, boot_bytes, judge_bytes, message, plan_bytes, plan_status, test_bytes, test_status,
+    text_status,
 };
 use cop_frame::Rate;
 use cop_net::{PlanFault, Table, network, read_nodes, read_pdos};
@@ -66,21 +67,13 @@ fn check(
     rt: &HostRuntime,
     network: NetworkFiles<'_>,
     refusals: &str,
+    strict: bool,
     inputs: &mut Inputs,
 ) -> Result<u8, Failure> {
-    inputs.network.read_tables(rt, network)?;
-    inputs.other = read_file(rt, refusals)?;
-    inputs.network.read_eds_files(rt, network)?;
-    let texts = &inputs.network;
-    let (text, all_hold) = check_bytes(
-        rt.alloc(),
-        &texts.nodes,
-        &texts.pdos,
-        &texts.eds_files,
-        &inputs.other,
-    )?;
+    read_for_check(rt, network, refusals, inputs)?;
+    let (text, status) = checked(rt.alloc(), inputs, strict)?;
     print_document(rt, &check_document(rt.alloc(), &text)?)?;
-    Ok(check_status(all_hold))
+    Ok(status)
 }
 
 fn boot(
@@ -137,7 +130,11 @@ pub fn carry_document(
             Ok(test_status(all_pass || !strict))
         }
         Order::Plan { network, out } => plan_order(rt, network, out, inputs),
-        Order::Check { network, refusals } => check(rt, network, refusals, inputs),
+        Order::Check {
+            network,
+            refusals,
+            strict,
+        } => check(rt, network, refusals, strict, inputs),
         Order::Boot { seed, network } => boot(rt, seed, network, inputs),
         Order::Judge { network, trace } => judge(rt, network, trace, inputs),
         _ => carry_out(rt, request, false, inputs),

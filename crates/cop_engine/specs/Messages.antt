@@ -37,6 +37,10 @@ test_status_of all_pass = if all_pass then 0 else 3
 abbrev pub check_status_of : Bool → ℕ
 check_status_of all_hold = if all_hold then 0 else 3
 
+-- the status after a check that wants a refusal of each rate which the plan refuses: 3 where some refusal fails, 4 where one is wanting
+abbrev pub strict_check_status_of : Bool → Bool → ℕ
+strict_check_status_of all_hold covers = if all_hold then plan_status_of covers else check_status_of all_hold
+
 -- the status after a text of an answer: 4 where it says that no rate passes
 abbrev pub text_status_of : List ℕ → ℕ
 text_status_of text = if bytes_eq text none_passes then 4 else 0

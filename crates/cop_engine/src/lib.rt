@@ -3,6 +3,7 @@
 
 mod boots;
 mod checks;
+mod coverings;
 mod dcfs;
 mod faults;
 mod guarantee;
@@ -21,6 +22,7 @@ mod turns;
 
 pub use boots::boot_bytes;
 pub use checks::check_bytes;
+pub use coverings::covers_slower;
 pub use dcfs::DcfFile;
 pub use faults::{Fault, status};
 pub use guarantee::{dcf_round_trip, judged_on_time, planner_guarantee};
@@ -29,7 +31,9 @@ pub use judgements::{judge_bytes, judge_outcome, judge_pieces, none_passes};
 pub use laws::{
     one_check, one_judgement, one_plan, one_report, one_run, plan_is_used, planned_refusals_hold,
 };
-pub use messages::{check_status, message, plan_status, rate_of, test_status, text_status};
+pub use messages::{
+    check_status, message, plan_status, rate_of, strict_check_status, test_status, text_status,
+};
 pub use outlets::{Outlet, deliver};
 pub use plans::{Files, plan_bytes};
 pub use runs::{outcome_of, run_bytes};

@@ -3,7 +3,7 @@
 ghost use Rattle.std.specs.Prelude.{◌≡◌, MatchOption, IfOk};
 ghost use Rattle.std.specs.String.{string_bytes};
 ghost use Rattle.cop_frame.specs.declared.rates.Rate.{Rate};
-ghost use Rattle.cop_engine.specs.Messages.{refusal_message, message_of, plan_status_of, test_status_of, check_status_of, text_status_of, IsRateWord};
+ghost use Rattle.cop_engine.specs.Messages.{refusal_message, message_of, plan_status_of, test_status_of, check_status_of, strict_check_status_of, text_status_of, IsRateWord};
 
 use crate::faults::Fault;
 use cop_frame::Rate;
@@ -49,6 +49,18 @@ pub fn check_status(all_hold: bool) -> u8
     ensures { result ≡ check_status_of all_hold }
 {
     if all_hold { 0 } else { 3 }
+}
+
+/// The status after a check that wants a refusal of each rate which the plan refuses: 3 where some refusal fails, else 4 where one is
+/// wanting, else 0.
+pub fn strict_check_status(all_hold: bool, covers: bool) -> u8
+    ensures { result ≡ strict_check_status_of all_hold covers }
+{
+    if all_hold {
+        plan_status(covers)
+    } else {
+        check_status(all_hold)
+    }
 }
 
 /// The status after a text of an answer: 4 where it says that no rate passes, else 0.

@@ -124,7 +124,6 @@ fn judged_text(alloc: Global, text: &[u8], words: &Words) -> Result<Option<Left>
 
 /// What stands against a text: the first refusal of the strict reading, or a hazard. Against one that is accepted nothing stands but
 /// a hazard.
-#[tactic(auto, using(crate::proofs::StandingLemmas::found_hazard))]
 pub fn judged(alloc: Global, text: &[u8], words: &Words) -> Result<Option<Left>, AllocError>
     ensures found { IfOk result (λ found. found ≡ standing words.now text.now) }
     ensures hazard { IfOk result (λ found. IfSome found (λ left. IsAccepted text.now → 80 ≤ left.number)) }

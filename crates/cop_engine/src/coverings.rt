@@ -1,0 +1,50 @@
+//! Whether a refusal file refuses each rate that a plan refuses.
+
+ghost use Rattle.std.specs.Prelude.{◌≡◌, ◌↔◌, IfOk, IsTrue};
+ghost use Rattle.cop_engine.specs.PlanTexts.{refusals_of};
+ghost use Rattle.cop_engine.specs.Coverings.{IsCovered, AreCovered, CoversNetwork};
+
+use cop_cert::Refusal;
+use cop_frame::Rate;
+use cop_net::Network;
+use cop_plan::{Choice, Outcome, plan};
+use std::alloc::{AllocError, Global};
+
+/// Whether some refusal is of a rate.
+fn is_covered(refusals: &[Refusal], rate: Rate) -> bool
+    ensures { IsTrue result ↔ IsCovered refusals.now rate }
+{
+    refusals.iter().any(|refusal| refusal.rate == rate)
+}
+
+/// Whether some refusal is of the rate of each that is wanted.
+fn are_covered(refusals: &[Refusal], wanted: &[Refusal]) -> bool
+    ensures { IsTrue result ↔ AreCovered refusals.now wanted.now }
+{
+    wanted
+        .iter()
+        .all(|refusal| is_covered(refusals, refusal.rate))
+}
+
+/// The refusals of what the planner answers.
+fn refusals_in(outcome: &Outcome) -> &[Refusal]
+    ensures { result.now ≡ refusals_of outcome.now }
+{
+    match outcome {
+        Outcome::Planned(plan) => plan.refusals(),
+        Outcome::Refused(refusals) => refusals.as_slice(),
+    }
+}
+
+/// Whether some refusal is of each rate that the plan of a network refuses: of each candidate below its rate, or of each candidate where
+/// no rate passes. Whether the refusals hold is another matter. `Err` is want of memory.
+pub fn covers_slower(
+    alloc: Global,
+    network: &Network<'_>,
+    refusals: &[Refusal],
+) -> Result<bool, AllocError>
+    ensures { IfOk result (CoversNetwork network.now refusals.now) }
+{
+    let outcome = plan(alloc, network, Choice::Order)?;
+    Ok(are_covered(refusals, refusals_in(&outcome)))
+}
