@@ -76,7 +76,7 @@ fn plan(
         &texts.nodes,
         &texts.pdos,
         &texts.eds_files,
-        texts.choice,
+        &texts.asked,
     )?;
     print(rt, &files.plan)?;
     write_files(rt, &files, out)?;
@@ -100,6 +100,7 @@ fn check(
     let texts = &inputs.network;
     let (text, all_hold) = check_bytes(
         rt.alloc(),
+        &texts.asked.rates,
         &texts.nodes,
         &texts.pdos,
         &texts.eds_files,
@@ -127,7 +128,7 @@ fn boot(
         &texts.nodes,
         &texts.pdos,
         &texts.eds_files,
-        texts.choice,
+        &texts.asked,
     )?;
     print(rt, &text)?;
     Ok(text_status(&text))
@@ -196,7 +197,7 @@ fn run(
         &texts.nodes,
         &texts.pdos,
         &texts.eds_files,
-        texts.choice,
+        &texts.asked,
     )?;
     let text = run_outcome(rt, &outcome, numbers, trace)?;
     print(rt, &text)?;

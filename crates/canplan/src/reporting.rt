@@ -102,6 +102,7 @@ fn page_text(
         outcome,
         figures: &figures,
         timeline,
+        are_rates_listed: sources.network.rates.are_listed(),
         inputs: &inputs,
     };
     Ok(page_of(rt.alloc(), report)?)
@@ -131,7 +132,7 @@ fn network_page(
     sources: Sources<'_>,
     network: &Network<'_>,
 ) -> Result<Page, Fault> {
-    let choice = sources.inputs.network.choice;
+    let choice = sources.inputs.network.asked.choice;
     let outcome = plan(rt.alloc(), network, choice)?;
     outcome_page(rt, sources, network, &outcome)
 }
@@ -141,7 +142,13 @@ fn sources_page(rt: &HostRuntime, sources: Sources<'_>) -> Result<Page, Fault> {
     let texts = &sources.inputs.network;
     let nodes = read_nodes(rt.alloc(), &texts.nodes)?;
     let pdos = read_pdos(rt.alloc(), &texts.pdos)?;
-    let network = network(rt.alloc(), &nodes, &pdos, &texts.eds_files)?;
+    let network = network(
+        rt.alloc(),
+        &texts.asked.rates,
+        &nodes,
+        &pdos,
+        &texts.eds_files,
+    )?;
     network_page(rt, sources, &network)
 }
 
