@@ -93,7 +93,7 @@ fn plan(
         &texts.nodes,
         &texts.pdos,
         &texts.eds_files,
-        texts.choice,
+        &texts.asked,
     )?;
     print(rt, &files.plan)?;
     write_files(rt, &files, out)?;
@@ -118,7 +118,7 @@ fn boot(
         &texts.nodes,
         &texts.pdos,
         &texts.eds_files,
-        texts.choice,
+        &texts.asked,
     )?;
     print(rt, &text)?;
     Ok(text_status(&text))
@@ -187,7 +187,7 @@ fn run(
         &texts.nodes,
         &texts.pdos,
         &texts.eds_files,
-        texts.choice,
+        &texts.asked,
     )?;
     let text = run_outcome(rt, &outcome, numbers, trace)?;
     print(rt, &text)?;

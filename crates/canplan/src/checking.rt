@@ -23,7 +23,7 @@ pub struct Wanted {
 fn covers(alloc: Global, texts: &Texts, refusals: &[u8]) -> Result<bool, Fault> {
     let nodes = read_nodes(alloc, &texts.nodes)?;
     let pdos = read_pdos(alloc, &texts.pdos)?;
-    let network = network(alloc, &nodes, &pdos, &texts.eds_files)?;
+    let network = network(alloc, &texts.asked.rates, &nodes, &pdos, &texts.eds_files)?;
     let refusals = cop_cert::read(alloc, refusals)?;
     Ok(covers_slower(alloc, &network, refusals.as_slice())?)
 }
@@ -33,6 +33,7 @@ pub fn checked(alloc: Global, inputs: &Inputs, strict: bool) -> Result<(Vec<u8>,
     let texts = &inputs.network;
     let (text, all_hold) = check_bytes(
         alloc,
+        &texts.asked.rates,
         &texts.nodes,
         &texts.pdos,
         &texts.eds_files,

@@ -77,6 +77,17 @@ fn margin_flag<'a>(alloc: Global) -> Arg<'a> {
         )
 }
 
+/// The word that lists the rates that the plan may have.
+fn rates_choice<'a>(alloc: Global) -> Arg<'a> {
+    Arg::new(alloc, "rates")
+        .long("rates")
+        .value_name("LIST")
+        .value_delimiter(',')
+        .value_parser(RATES.as_slice())
+        .action(ArgAction::Set)
+        .help("The rates in kbit/s that the plan may have, as 250,500; all where it is left out")
+}
+
 /// The word that asks for a document.
 fn json_flag<'a>(alloc: Global) -> Arg<'a> {
     Arg::new(alloc, "json")
@@ -106,6 +117,7 @@ fn network_command<'a>(
         .about(about)
         .arg(operand(alloc, "NODES", nodes))?
         .arg(operand(alloc, "PDOS", pdos))?
+        .arg(rates_choice(alloc))?
         .arg(margin_flag(alloc))?
         .arg(explain_flag(alloc))
 }
@@ -231,6 +243,7 @@ fn export_command<'a>(alloc: Global) -> Result<Command<'a>, AllocError> {
         .arg(operand(alloc, "PDOS", "The table of PDOs, as plan takes it"))?
         .arg(operand(alloc, "OUT", out))?
         .arg(margin_flag(alloc))?
+        .arg(rates_choice(alloc))?
         .arg(explain_flag(alloc))
 }
 

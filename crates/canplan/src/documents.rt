@@ -37,8 +37,8 @@ fn test(rt: &HostRuntime, rate: Rate, file: &str, inputs: &mut Inputs) -> Result
 fn planned(alloc: Global, texts: &Texts) -> Result<String, Fault> {
     let nodes = read_nodes(alloc, &texts.nodes)?;
     let pdos = read_pdos(alloc, &texts.pdos)?;
-    let network = network(alloc, &nodes, &pdos, &texts.eds_files)?;
-    let outcome = plan(alloc, &network, texts.choice)?;
+    let network = network(alloc, &texts.asked.rates, &nodes, &pdos, &texts.eds_files)?;
+    let outcome = plan(alloc, &network, texts.asked.choice)?;
     Ok(plan_document(alloc, &network, &outcome)?)
 }
 
@@ -55,7 +55,7 @@ fn plan_order(
         &texts.nodes,
         &texts.pdos,
         &texts.eds_files,
-        texts.choice,
+        &texts.asked,
     )?;
     let document = planned(rt.alloc(), texts)?;
     write_files(rt, &files, out)?;
@@ -90,7 +90,7 @@ fn boot(
         &texts.nodes,
         &texts.pdos,
         &texts.eds_files,
-        texts.choice,
+        &texts.asked,
     )?;
     print_document(rt, &boot_document(rt.alloc(), &text)?)?;
     Ok(text_status(&text))
@@ -111,7 +111,7 @@ fn judge(
         &texts.nodes,
         &texts.pdos,
         &texts.eds_files,
-        texts.choice,
+        &texts.asked,
         &inputs.other,
     )?;
     print_document(rt, &judge_document(rt.alloc(), &text)?)?;
@@ -153,7 +153,7 @@ fn table_of(alloc: Global, texts: &Texts) -> Option<Table> {
         Err(PlanFault::Refused(refusal)) => return Some(refusal.table),
         Err(PlanFault::Memory) => return None,
     };
-    match network(alloc, &nodes, &pdos, &texts.eds_files) {
+    match network(alloc, &texts.asked.rates, &nodes, &pdos, &texts.eds_files) {
         Err(PlanFault::Refused(refusal)) => Some(refusal.table),
         _ => None,
     }

@@ -70,6 +70,7 @@ fn refused_network(
             text: &texts.pdos,
         },
         eds_files: &texts.eds_files,
+        wanted: &texts.asked.rates,
     };
     network_words(alloc, network)
 }

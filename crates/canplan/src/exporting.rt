@@ -139,7 +139,7 @@ fn export_network(
     network: &Network<'_>,
     target: Target<'_>,
 ) -> Result<u8, Failure> {
-    match plan(rt.alloc(), network, inputs.network.choice)? {
+    match plan(rt.alloc(), network, inputs.network.asked.choice)? {
         Outcome::Planned(plan) => {
             write_plan(rt, inputs, network, &plan, target)?;
             Ok(0)
@@ -165,6 +165,12 @@ pub fn export(
     let texts = &inputs.network;
     let nodes = read_nodes(rt.alloc(), &texts.nodes)?;
     let pdos = read_pdos(rt.alloc(), &texts.pdos)?;
-    let network = network(rt.alloc(), &nodes, &pdos, &texts.eds_files)?;
+    let network = network(
+        rt.alloc(),
+        &texts.asked.rates,
+        &nodes,
+        &pdos,
+        &texts.eds_files,
+    )?;
     export_network(rt, inputs, &network, Target { format, out })
 }

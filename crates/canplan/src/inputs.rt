@@ -3,8 +3,8 @@
 use crate::failures::{Failure, Use, file_failure};
 use crate::orders::NetworkFiles;
 use cop_engine::read_all;
-use cop_net::{NodeTable, read_nodes};
-use cop_plan::Choice;
+use cop_net::{NodeTable, all_rates, read_nodes};
+use cop_plan::{Asked, Choice};
 use std::alloc::{AllocError, Global};
 use std::collections::BTreeSet;
 use std::fs::File;
@@ -17,8 +17,8 @@ pub struct Texts {
     pub pdos: Vec<u8>,
     /// The EDS files by their names, each once.
     pub eds_files: Vec<(String, Vec<u8>)>,
-    /// What the identifiers are chosen by.
-    pub choice: Choice,
+    /// What is asked of the plan.
+    pub asked: Asked,
 }
 
 /// All that was read for an order.
@@ -37,7 +37,10 @@ impl Inputs {
                 nodes: Vec::new(alloc),
                 pdos: Vec::new(alloc),
                 eds_files: Vec::new(alloc),
-                choice: Choice::Order,
+                asked: Asked {
+                    rates: all_rates(),
+                    choice: Choice::Order,
+                },
             },
             other: Vec::new(alloc),
         }
@@ -119,7 +122,10 @@ impl Texts {
     ) -> Result<(), Failure> {
         self.nodes = read_file(rt, files.nodes)?;
         self.pdos = read_file(rt, files.pdos)?;
-        self.choice = files.choice;
+        self.asked = Asked {
+            rates: files.rates.set(),
+            choice: files.choice,
+        };
         Ok(())
     }
 

@@ -15,7 +15,7 @@ pub fn judge_inputs(rt: &HostRuntime, inputs: &Inputs) -> Result<u8, Failure> {
         &texts.nodes,
         &texts.pdos,
         &texts.eds_files,
-        texts.choice,
+        &texts.asked,
         &inputs.other,
     )?;
     print(rt, &text)?;
@@ -36,7 +36,7 @@ fn judge_file(
         &texts.nodes,
         &texts.pdos,
         &texts.eds_files,
-        texts.choice,
+        &texts.asked,
     )?;
     let text = match judge_pieces(rt.alloc(), &outcome, file) {
         Some(text) => text,

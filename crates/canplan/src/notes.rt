@@ -49,8 +49,8 @@ fn outcome_notes(
 pub fn plan_notes(alloc: Global, texts: &Texts) -> Result<Vec<u8>, Fault> {
     let nodes = read_nodes(alloc, &texts.nodes)?;
     let pdos = read_pdos(alloc, &texts.pdos)?;
-    let network = network(alloc, &nodes, &pdos, &texts.eds_files)?;
-    let outcome = plan(alloc, &network, texts.choice)?;
+    let network = network(alloc, &texts.asked.rates, &nodes, &pdos, &texts.eds_files)?;
+    let outcome = plan(alloc, &network, texts.asked.choice)?;
     Ok(outcome_notes(alloc, &nodes, &network, &outcome)?)
 }
 
@@ -59,7 +59,7 @@ pub fn check_notes(alloc: Global, inputs: &Inputs, name: &str) -> Result<Vec<u8>
     let texts = &inputs.network;
     let nodes = read_nodes(alloc, &texts.nodes)?;
     let pdos = read_pdos(alloc, &texts.pdos)?;
-    let network = network(alloc, &nodes, &pdos, &texts.eds_files)?;
+    let network = network(alloc, &texts.asked.rates, &nodes, &pdos, &texts.eds_files)?;
     let refusals = cop_cert::read(alloc, &inputs.other)?;
     Ok(uncovered_words(alloc, name, &network, refusals.as_slice())?)
 }

@@ -126,6 +126,7 @@ fn page_text(
         figures: &figures,
         timeline,
         log: book.as_ref(),
+        are_rates_listed: sources.network.rates.are_listed(),
         inputs: &inputs,
     };
     Ok(page_of(rt.alloc(), report)?)
@@ -155,7 +156,7 @@ fn network_page(
     sources: Sources<'_>,
     network: &Network<'_>,
 ) -> Result<Page, Failure> {
-    let choice = sources.inputs.network.choice;
+    let choice = sources.inputs.network.asked.choice;
     let outcome = plan(rt.alloc(), network, choice)?;
     outcome_page(rt, sources, network, &outcome)
 }
@@ -165,7 +166,13 @@ fn sources_page(rt: &HostRuntime, sources: Sources<'_>) -> Result<Page, Failure>
     let texts = &sources.inputs.network;
     let nodes = read_nodes(rt.alloc(), &texts.nodes)?;
     let pdos = read_pdos(rt.alloc(), &texts.pdos)?;
-    let network = network(rt.alloc(), &nodes, &pdos, &texts.eds_files)?;
+    let network = network(
+        rt.alloc(),
+        &texts.asked.rates,
+        &nodes,
+        &pdos,
+        &texts.eds_files,
+    )?;
     network_page(rt, sources, &network)
 }
 

@@ -110,7 +110,7 @@ pub fn watch_bus(
         &texts.nodes,
         &texts.pdos,
         &texts.eds_files,
-        texts.choice,
+        &texts.asked,
     )?;
     match &outcome {
         Outcome::Planned(plan) => watch_by(rt, order, plan),

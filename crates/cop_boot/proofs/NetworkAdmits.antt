@@ -6,6 +6,7 @@ use Rattle.std.specs.List.{list_any}
 use Rattle.std.proofs.lemmas.Bool.{or_parts}
 use Rattle.std.proofs.lemmas.Bool.Decides.{nat_tests}
 use Rattle.std.proofs.lemmas.List.Elements.{All-nil, All-cons, All-append, All-head, All-tail}
+use Rattle.cop_frame.specs.declared.rates.Rate.{Rate}
 use Rattle.cop_dict.specs.declared.abort.Abort.{Abort}
 use Rattle.cop_dict.specs.declared.mapping.Direction.TheVariants as directions
 use Rattle.cop_dict.specs.Find.{Entry, entry_at, unsigned32_of, IsSorted}
@@ -219,10 +220,10 @@ record IsTravelled (net : Net) : Type 0 where
   found : folded (pdo_added net.equipment.devices (said net)) no_traffic net.rows ≡ Ok traffic
   settled : all_settable net.nodes.frames traffic.used 0 net.equipment.devices ≡ Ok tt
 
-travelled : (net : Net) (files : List File) → network_of net.nodes net.rows files ≡ Ok (accepted net) → IsTravelled net
+travelled : (net : Net) (wanted : List Rate) (files : List File) → network_of wanted net.nodes net.rows files ≡ Ok (accepted net) → IsTravelled net
 unfolding streams_of pdos_of
-travelled net files made =
-    let s = (equipped net.nodes net.rows files (accepted net) made).streams in
+travelled net wanted files made =
+    let s = (equipped wanted net.nodes net.rows files (accepted net) made).streams in
     let p = bind_ok (pdos_of net.equipment.devices (said net) net.rows) _ (accepted net).streams s in
     let q = bind_ok (all_settable net.nodes.frames p.0.used 0 net.equipment.devices) _ (accepted net).streams p.2 in
     record { traffic = p.0; found = p.1; settled = q.1 }
@@ -233,15 +234,15 @@ no_devices (suc n) zero = refl
 no_devices (suc n) (suc k) = no_devices n k
 
 -- a node that has a device has a row
-row_of_device : (files : List File) (rows : List DeviceRow) (equipment : Equipment) (node : ℕ) (own : Device) → devices_of files rows ≡ Ok equipment → get_or equipment.devices node None ≡ Some own
+row_of_device : (wanted : List Rate) (files : List File) (rows : List DeviceRow) (equipment : Equipment) (node : ℕ) (own : Device) → devices_of wanted files rows ≡ Ok equipment → get_or equipment.devices node None ≡ Some own
     → (row : DeviceRow) × (find (λ row. row.node == node) rows ≡ Some row)
 unfolding devices_of
-row_of_device files rows equipment node own h there = by_row (find (λ row. row.node == node) rows) refl
+row_of_device wanted files rows equipment node own h there = by_row (find (λ row. row.node == node) rows) refl
   where
     by_row : (o : Option DeviceRow) → find (λ row. row.node == node) rows ≡ o → (row : DeviceRow) × (find (λ row. row.node == node) rows ≡ Some row)
     by_row (Some row) e = (row, e)
     by_row None e =
-        let absent : get_or equipment.devices node None ≡ None = others files node rows no_device equipment h e ∙ no_devices 128 node in
+        let absent : get_or equipment.devices node None ≡ None = others files node rows (no_device wanted) equipment h e ∙ no_devices 128 node in
         let clash : ◌≡◌ {A = Option Device} (Some own) None = sym there ∙ absent in
         absurd (cc)
 
@@ -254,22 +255,22 @@ module _ (net : Net) (is : IsNetwork net) (ids : List ℕ) (range : All IsPdoId 
       by_device (Some d) e h = (d, e, cc)
 
   own_row : (row : DeviceRow) × (find (λ row. row.node == node) net.nodes.devices ≡ Some row)
-  own_row = row_of_device is.files net.nodes.devices net.equipment node own_device.0 (equipped net.nodes net.rows is.files (accepted net) is.made).devices own_device.1
+  own_row = row_of_device is.wanted is.files net.nodes.devices net.equipment node own_device.0 (equipped is.wanted net.nodes net.rows is.files (accepted net) is.made).devices own_device.1
 
   described : IsDevice is.files net.equipment.devices node own_row.0
-  described = device net is.files is.made is.nodes node own_row.0 own_row.1
+  described = device net is.wanted is.files is.made is.nodes node own_row.0 own_row.1
 
   same : described.entries ≡ entries
   unfolding described
   same =
-      let both : ◌≡◌ {A = Option (List Entry)} (Some described.entries) (Some entries) = sym (dictionary net is.files is.made is.nodes node own_row.0 own_row.1) ∙ its in
+      let both : ◌≡◌ {A = Option (List Entry)} (Some described.entries) (Some entries) = sym (dictionary net is.wanted is.files is.made is.nodes node own_row.0 own_row.1) ∙ its in
       cc
 
   sorted : IsSorted entries
   sorted = subst IsSorted same (built_sorted described.text node described.entries described.described)
 
   moves : IsTravelled net
-  moves = travelled net is.files is.made
+  moves = travelled net is.wanted is.files is.made
 
   -- a usable record of the node is usable in its dictionary
   usable_here : (index : ℕ) (u : IsUsableAt net.equipment.devices node index) → is_usable entries index (ranges_where u.second) ≡ true
@@ -310,7 +311,7 @@ module _ (net : Net) (is : IsNetwork net) (ids : List ℕ) (range : All IsPdoId 
     sorted = sorted;
     used = used_takes;
     unused = unused_goes_off;
-    beats = subst (λ (d : List Entry). beats d (heartbeat_of net.nodes.frames node) ≡ true) same (beating net is.files is.made is.nodes node own_row.0 own_row.1);
+    beats = subst (λ (d : List Entry). beats d (heartbeat_of net.nodes.frames node) ≡ true) same (beating net is.wanted is.files is.made is.nodes node own_row.0 own_row.1);
   }
 
   -- and a reset leaves them as they were built

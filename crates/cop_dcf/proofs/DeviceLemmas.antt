@@ -175,23 +175,23 @@ settable_in frames rows equipment made h =
     (p.0.used, q.1)
 
 -- the equipment of a network
-pub record IsEquipped (nodes : NodeLists) (rows : List PdoRow) (files : List File) (made : Accepted) : Type 0 where
-  pub devices : devices_of files nodes.devices ≡ Ok made.equipment
+pub record IsEquipped (wanted : List Rate) (nodes : NodeLists) (rows : List PdoRow) (files : List File) (made : Accepted) : Type 0 where
+  pub devices : devices_of wanted files nodes.devices ≡ Ok made.equipment
   pub streams : streams_of nodes.frames rows made.equipment ≡ Ok made.streams
 
-pub equipped : (nodes : NodeLists) (rows : List PdoRow) (files : List File) (made : Accepted) → network_of nodes rows files ≡ Ok made → IsEquipped nodes rows files made
+pub equipped : (wanted : List Rate) (nodes : NodeLists) (rows : List PdoRow) (files : List File) (made : Accepted) → network_of wanted nodes rows files ≡ Ok made → IsEquipped wanted nodes rows files made
 unfolding network_of
-equipped nodes rows files made ok =
-    let p = bind_ok (devices_of files nodes.devices) _ made ok in
+equipped wanted nodes rows files made ok =
+    let p = bind_ok (devices_of wanted files nodes.devices) _ made ok in
     let q = bind_ok (streams_of nodes.frames rows p.0) _ made p.2 in
     let whole : ◌≡◌ {A = Result Accepted Refusal} (Ok (record { equipment = p.0; streams = q.0 })) (Ok made) = q.2 in
     let same : record { equipment = p.0; streams = q.0 } ≡ made = cc in
-    subst (IsEquipped nodes rows files) same (record { devices = p.1; streams = q.1 })
+    subst (IsEquipped wanted nodes rows files) same (record { devices = p.1; streams = q.1 })
 
-module _ (net : Net) (files : List File) (made : network_of net.nodes net.rows files ≡ Ok (accepted net)) (table : IsNodeTable net.nodes) (node : ℕ) (row : DeviceRow)
+module _ (net : Net) (wanted : List Rate) (files : List File) (made : network_of wanted net.nodes net.rows files ≡ Ok (accepted net)) (table : IsNodeTable net.nodes) (node : ℕ) (row : DeviceRow)
     (own : find (λ row. row.node == node) net.nodes.devices ≡ Some row) where
-  equipment : IsEquipped net.nodes net.rows files (accepted net)
-  equipment = equipped net.nodes net.rows files (accepted net) made
+  equipment : IsEquipped wanted net.nodes net.rows files (accepted net)
+  equipment = equipped wanted net.nodes net.rows files (accepted net) made
 
   node_is : row.node ≡ node
   node_is = sections_equal row.node node (found_test (λ r. r.node == node) net.nodes.devices row own)
@@ -206,8 +206,8 @@ module _ (net : Net) (files : List File) (made : network_of net.nodes net.rows f
   pub device : IsDevice files net.equipment.devices node row
   unfolding devices_of Apart
   device =
-      device_there files node row net.nodes.devices no_device net.equipment table.one_device
-      (let size : length no_device.devices ≡ 128 = length-replicate {A = Option Device} 128 None in omega (arith, low, size)) equipment.devices own
+      device_there files node row net.nodes.devices (no_device wanted) net.equipment table.one_device
+      (let size : length (no_device wanted).devices ≡ 128 = length-replicate {A = Option Device} 128 None in omega (arith, low, size)) equipment.devices own
 
   pub dictionary : dictionary_of net node ≡ Some device.entries
   dictionary = ap (option_map (λ (d : Device). d.dictionary)) device.device
@@ -234,12 +234,12 @@ module _ (net : Net) (files : List File) (made : network_of net.nodes net.rows f
   network_round ids rate small name eds_name short =
       round device.text (node_settings net ids node) node row.name rate row.eds device.entries device.accepted device.described (numbers ids small) name eds_name (let l = low in omega (arith, l)) short
 
-pub node_round : (net : Net) (files : List File) (ids : List ℕ) (rate : Rate) (node : ℕ) (row : DeviceRow) → network_of net.nodes net.rows files ≡ Ok (accepted net) → IsNodeTable net.nodes
+pub node_round : (net : Net) (wanted : List Rate) (files : List File) (ids : List ℕ) (rate : Rate) (node : ℕ) (row : DeviceRow) → network_of wanted net.nodes net.rows files ≡ Ok (accepted net) → IsNodeTable net.nodes
     → find (λ row. row.node == node) net.nodes.devices ≡ Some row → All (λ id. id < 2 ^ 11) ids → IsTrue (is_name row.name) → IsTrue (is_name row.eds) → IsNodeReadAgain net files ids rate node row
-node_round net files ids rate node row made table own small name eds_name = record {
-  text = (device net files made table node row own).text;
-  there = (device net files made table node row own).there;
-  dict = (device net files made table node row own).entries;
-  dictionary = dictionary net files made table node row own;
-  again = network_round net files made table node row own ids rate small name eds_name;
+node_round net wanted files ids rate node row made table own small name eds_name = record {
+  text = (device net wanted files made table node row own).text;
+  there = (device net wanted files made table node row own).there;
+  dict = (device net wanted files made table node row own).entries;
+  dictionary = dictionary net wanted files made table node row own;
+  again = network_round net wanted files made table node row own ids rate small name eds_name;
 }

@@ -37,5 +37,5 @@ pub fn round_trip()
 /// The same of a node of a network that some tables and EDS files make: its dictionary is planned where the PDOs have these
 /// identifiers.
 pub fn node_round_trip()
-    ensures { (net : Net) (files : List File) (ids : List ℕ) (rate : Rate) (node : ℕ) (row : DeviceRow) → network_of net.nodes net.rows files ≡ Ok (accepted net) → IsNodeTable net.nodes → find (λ row. row.node == node) net.nodes.devices ≡ Some row → All (λ id. id < 2 ^ 11) ids → IsTrue (is_name row.name) → IsTrue (is_name row.eds) → IsNodeReadAgain net files ids rate node row }
+    ensures { (net : Net) (wanted : List Rate) (files : List File) (ids : List ℕ) (rate : Rate) (node : ℕ) (row : DeviceRow) → network_of wanted net.nodes net.rows files ≡ Ok (accepted net) → IsNodeTable net.nodes → find (λ row. row.node == node) net.nodes.devices ≡ Some row → All (λ id. id < 2 ^ 11) ids → IsTrue (is_name row.name) → IsTrue (is_name row.eds) → IsNodeReadAgain net files ids rate node row }
 {}

@@ -3,6 +3,7 @@ use Rattle.std.proofs.Common.{◌≡◌, ℕ, ◌+◌, Bool, true, false, cond, 
 use Rattle.std.proofs.lemmas.List.{append-nil}
 use Rattle.std.proofs.lemmas.List.Elements.{All-nil, All-cons, All-head, All-tail}
 use Rattle.std.specs.Option.{option_to_list}
+use Rattle.cop_frame.specs.declared.rates.Rate.{Rate}
 use Rattle.cop_table.specs.Reading.{◌>>=◌}
 use Rattle.cop_eds.specs.Reading.{reading}
 use Rattle.cop_rows.specs.declared.node_table.DeviceRow.{DeviceRow}
@@ -43,11 +44,11 @@ rows_texts files (row ∷ rows) found more h =
     All-cons (HasText files) row rows (row_text files found p.0 row p.1) (rows_texts files rows p.0 more p.2)
 
 -- the devices of a network have texts
-pub have_texts : (nodes : NodeLists) (rows : List PdoRow) (files : List File) (made : Accepted) → network_of nodes rows files ≡ Ok made → HaveTexts files nodes.devices
+pub have_texts : (wanted : List Rate) (nodes : NodeLists) (rows : List PdoRow) (files : List File) (made : Accepted) → network_of wanted nodes rows files ≡ Ok made → HaveTexts files nodes.devices
 unfolding network_of devices_of
-have_texts nodes rows files made ok =
-    let p = bind_ok (devices_of files nodes.devices) (λ equipment. streams_of nodes.frames rows equipment >>= λ streams. Ok (record { equipment = equipment; streams = streams })) made ok in
-    rows_texts files nodes.devices no_device p.0 p.1
+have_texts wanted nodes rows files made ok =
+    let p = bind_ok (devices_of wanted files nodes.devices) (λ equipment. streams_of nodes.frames rows equipment >>= λ streams. Ok (record { equipment = equipment; streams = streams })) made ok in
+    rows_texts files nodes.devices (no_device wanted) p.0 p.1
 
 found_row : (rows : List DeviceRow) (p : DeviceRow → Bool) (P : DeviceRow → Type 0) (row : DeviceRow) → All P rows → find p rows ≡ Some row → P row
 found_row [] p P row all e = cc

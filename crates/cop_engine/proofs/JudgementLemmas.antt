@@ -25,7 +25,7 @@ use Rattle.cop_net.specs.Tables.{in_table}
 use Rattle.cop_plan.specs.Values.{PlanValue}
 use Rattle.cop_plan.specs.Plans.{IsOutcome, IsChosenBy}
 use Rattle.cop_plan.specs.declared.assigning.Outcome.{Outcome}
-use Rattle.cop_plan.specs.declared.choices.Choice.{Choice}
+use Rattle.cop_plan.specs.declared.choices.Asked.{Asked}
 use Rattle.cop_plan.specs.declared.assigning.Outcome.TheVariants.{Planned, Refused}
 use Rattle.cop_engine.specs.declared.faults.Fault.{Fault}
 use Rattle.cop_engine.specs.declared.faults.Fault.TheVariants as faults
@@ -37,7 +37,7 @@ use Rattle.cop_engine.specs.Judgements.{IsJudged, IsCleared, IsJudgedBy, Explain
 use Rattle.cop_engine.proofs.GuaranteeLemmas.{all_kept}
 use Rattle.cop_engine.proofs.NetworkLemmas.{network_found}
 
-module _ (choice : Choice) (nodes pdos : List ℕ) (eds : List File) (plan : PlanValue) (n : IsPlannedNetwork choice nodes pdos eds (Planned plan)) where
+module _ (asked : Asked) (nodes pdos : List ℕ) (eds : List File) (plan : PlanValue) (n : IsPlannedNetwork asked nodes pdos eds (Planned plan)) where
   pub none_late : (until : ℕ) (steps : List Step) → IsLegalTrace (ticks_of plan.rate) plan.streams until steps → first_late (ticks_of plan.rate) plan.streams until steps ≡ None
   none_late until steps legal = none-found (ticks_of plan.rate) plan.streams until steps all (length steps) 0 (omega arith)
     where
@@ -58,9 +58,9 @@ module _ (choice : Choice) (nodes pdos : List ℕ) (eds : List File) (plan : Pla
   on_time_says : (trace text : List ℕ) → IsJudged plan.rate plan.streams trace text → SaysOnTime (Planned plan) trace text
   on_time_says trace text j = (j.told, j.read, j.text_is ∙ ap (judged_text (transfers_in j.told.steps)) (none_late j.told.until j.told.steps j.legal))
 
-pub says_on_time : (choice : Choice) (nodes pdos : List ℕ) (eds : List File) (trace text : List ℕ) (outcome : Outcome) → IsPlannedNetwork choice nodes pdos eds outcome → IsJudgedBy outcome trace text → SaysOnTime outcome trace text
-says_on_time choice nodes pdos eds trace text (Planned plan) n j = on_time_says choice nodes pdos eds plan n trace text j
-says_on_time choice nodes pdos eds trace text (Refused refusals) n j = j
+pub says_on_time : (asked : Asked) (nodes pdos : List ℕ) (eds : List File) (trace text : List ℕ) (outcome : Outcome) → IsPlannedNetwork asked nodes pdos eds outcome → IsJudgedBy outcome trace text → SaysOnTime outcome trace text
+says_on_time asked nodes pdos eds trace text (Planned plan) n j = on_time_says asked nodes pdos eds plan n trace text j
+says_on_time asked nodes pdos eds trace text (Refused refusals) n j = j
 
 -- ---- what is seen while a trace is read
 
@@ -103,23 +103,23 @@ lawful_gives rate streams left count (Ok text) o legal h e is = rw e (cleared_wi
 lawful_gives rate streams left count (Err fault) o legal h e is = rw e tt
 
 pub cleared_gives : (plan : PlanValue) (left : Option (List ℕ)) (r : Option (Vec ℕ)) → IfSome r (λ text. HoldsOfAll left (λ trace. IsCleared plan.rate plan.streams trace text.items))
-    → IfSome r (λ text. (choice : Choice) (nodes pdos : List ℕ) (eds : List File) → IsPlannedNetwork choice nodes pdos eds (Planned plan) → HoldsOfAll left (λ trace. IsJudgement choice nodes pdos eds trace text.items))
+    → IfSome r (λ text. (asked : Asked) (nodes pdos : List ℕ) (eds : List File) → IsPlannedNetwork asked nodes pdos eds (Planned plan) → HoldsOfAll left (λ trace. IsJudgement asked nodes pdos eds trace text.items))
 cleared_gives plan left None h = h
-cleared_gives plan left (Some text) h = λ choice nodes pdos eds n. record {
+cleared_gives plan left (Some text) h = λ asked nodes pdos eds n. record {
   bytes = h.bytes;
   all = h.all;
-  holds = record { outcome = Planned plan; network = n; judged = cleared_judged choice nodes pdos eds plan n h.bytes text.items h.holds };
+  holds = record { outcome = Planned plan; network = n; judged = cleared_judged asked nodes pdos eds plan n h.bytes text.items h.holds };
 }
 
 -- what is said of every trace
 said_of_all : (outcome : Outcome) (left : Option (List ℕ)) (text : List ℕ) → ((trace : List ℕ) → IsJudgedBy outcome trace text)
-    → (choice : Choice) (nodes pdos : List ℕ) (eds : List File) → IsPlannedNetwork choice nodes pdos eds outcome → HoldsOfAll left (λ trace. IsJudgement choice nodes pdos eds trace text)
-said_of_all outcome None text j choice nodes pdos eds n = record { bytes = []; all = tt; holds = record { outcome = outcome; network = n; judged = j [] } }
-said_of_all outcome (Some xs) text j choice nodes pdos eds n = record { bytes = xs; all = refl; holds = record { outcome = outcome; network = n; judged = j xs } }
+    → (asked : Asked) (nodes pdos : List ℕ) (eds : List File) → IsPlannedNetwork asked nodes pdos eds outcome → HoldsOfAll left (λ trace. IsJudgement asked nodes pdos eds trace text)
+said_of_all outcome None text j asked nodes pdos eds n = record { bytes = []; all = tt; holds = record { outcome = outcome; network = n; judged = j [] } }
+said_of_all outcome (Some xs) text j asked nodes pdos eds n = record { bytes = xs; all = refl; holds = record { outcome = outcome; network = n; judged = j xs } }
 
 pub said_gives : {E : Type 0} (outcome : Outcome) (said : List ℕ) (left : Option (List ℕ)) (r : Result (Vec ℕ) E) (o : Option (Vec ℕ)) → ((trace : List ℕ) → IsJudgedBy outcome trace said)
     → o ≡ result_ok r → IfOk r (λ text. text.items ≡ said)
-    → IfSome o (λ text. (choice : Choice) (nodes pdos : List ℕ) (eds : List File) → IsPlannedNetwork choice nodes pdos eds outcome → HoldsOfAll left (λ trace. IsJudgement choice nodes pdos eds trace text.items))
+    → IfSome o (λ text. (asked : Asked) (nodes pdos : List ℕ) (eds : List File) → IsPlannedNetwork asked nodes pdos eds outcome → HoldsOfAll left (λ trace. IsJudgement asked nodes pdos eds trace text.items))
 said_gives outcome said left (Ok text) o j e is = rw e (said_of_all outcome left text.items (λ trace. subst (IsJudgedBy outcome trace) (sym is) (j trace)))
 said_gives outcome said left (Err fault) o j e is = rw e tt
 
@@ -129,20 +129,20 @@ of_known xs holds_of h = subst holds_of h.all h.holds
 
 -- ---- what each reading gives
 
-pub of_network : (choice : Choice) (nodes pdos : List ℕ) (files : List File) (trace : List ℕ) (fault : Fault) → ExplainsNetwork nodes pdos files fault → ExplainsJudgement choice nodes pdos files trace fault
-of_network choice nodes pdos files trace (faults.Refused number place) e = inl e
-of_network choice nodes pdos files trace faults.Simulation e = e
-of_network choice nodes pdos files trace (faults.File name) e = e
-of_network choice nodes pdos files trace faults.Usage e = e
-of_network choice nodes pdos files trace faults.Memory e = tt
+pub of_network : (asked : Asked) (nodes pdos : List ℕ) (files : List File) (trace : List ℕ) (fault : Fault) → ExplainsNetwork asked.rates nodes pdos files fault → ExplainsJudgement asked nodes pdos files trace fault
+of_network asked nodes pdos files trace (faults.Refused number place) e = inl e
+of_network asked nodes pdos files trace faults.Simulation e = e
+of_network asked nodes pdos files trace (faults.File name) e = e
+of_network asked nodes pdos files trace faults.Usage e = e
+of_network asked nodes pdos files trace faults.Memory e = tt
 
-module _ (choice : Choice) (nodes pdos : List ℕ) (files : List File) (trace : List ℕ) where
+module _ (asked : Asked) (nodes pdos : List ℕ) (files : List File) (trace : List ℕ) where
   -- the plan of the network that was read
   pub planned_network : (n : NodeLists) (rows : List PdoRow) (network : Net) (outcome : Outcome) → in_table Nodes (nodes_of nodes) ≡ Ok n → in_table Pdos (pdos_of pdos) ≡ Ok rows
-      → network_of n rows files ≡ Ok (accepted network) → network.nodes ≡ n → network.rows ≡ rows → IsNetwork network → IsOutcome network.equipment.rates network.set (length network.rows) outcome → IsChosenBy choice outcome → IsPlannedNetwork choice nodes pdos files outcome
+      → network_of asked.rates n rows files ≡ Ok (accepted network) → network.nodes ≡ n → network.rows ≡ rows → IsNetwork network → IsOutcome network.equipment.rates network.set (length network.rows) outcome → IsChosenBy asked.choice outcome → IsPlannedNetwork asked nodes pdos files outcome
   planned_network n rows network outcome read also e of same is planned chosen = record {
     found = record { nodes = n; rows = rows; network = accepted network };
-    read = network_found nodes pdos files n rows network read also e;
+    read = network_found asked.rates nodes pdos files n rows network read also e;
     streams = network.set;
     streams_are = refl;
     network = rw (of, same) at is;
@@ -150,13 +150,13 @@ module _ (choice : Choice) (nodes pdos : List ℕ) (files : List File) (trace : 
     chosen = chosen;
   }
 
-  pub judged_gives : (plan : PlanValue) (r : Result (Vec ℕ) Fault) → IsPlannedNetwork choice nodes pdos files (Planned plan)
+  pub judged_gives : (plan : PlanValue) (r : Result (Vec ℕ) Fault) → IsPlannedNetwork asked nodes pdos files (Planned plan)
       → MatchResult r (λ text. IsCleared plan.rate plan.streams trace text.items) (λ fault. ExplainsTrace plan.rate plan.streams trace fault)
-      → MatchResult r (λ text. IsJudgement choice nodes pdos files trace text.items) (λ fault. ExplainsJudgement choice nodes pdos files trace fault)
-  judged_gives plan (Ok text) n h = record { outcome = Planned plan; network = n; judged = cleared_judged choice nodes pdos files plan n trace text.items h }
+      → MatchResult r (λ text. IsJudgement asked nodes pdos files trace text.items) (λ fault. ExplainsJudgement asked nodes pdos files trace fault)
+  judged_gives plan (Ok text) n h = record { outcome = Planned plan; network = n; judged = cleared_judged asked nodes pdos files plan n trace text.items h }
   judged_gives plan (Err fault) n h = go fault h
     where
-      go : (fault : Fault) → ExplainsTrace plan.rate plan.streams trace fault → ExplainsJudgement choice nodes pdos files trace fault
+      go : (fault : Fault) → ExplainsTrace plan.rate plan.streams trace fault → ExplainsJudgement asked nodes pdos files trace fault
       go (faults.Refused number place) h = inr (plan, n, h)
       go faults.Simulation h = h
       go (faults.File name) h = h

@@ -1,5 +1,6 @@
 -- What the files say, from what each reading gives.
 use Rattle.std.proofs.Common.{◌≡◌, ℕ, zero, suc, ◌<◌, ◌≤◌, List, [], ◌∷◌, length, slice_get, Some, Ok, Err, Result, IfSome, MatchResult, Bool, inl, inr, refl, sym, subst, arith}
+use Rattle.cop_frame.specs.declared.rates.Rate.{Rate}
 use Rattle.cop_rta.specs.declared.streams.Stream.{Stream}
 use Rattle.cop_cert.proofs.CauseLemmas.{refusal_rules_out}
 use Rattle.std.specs.Result.{IsErrAnd}
@@ -15,7 +16,7 @@ use Rattle.cop_net.specs.Faults.{refusal}
 use Rattle.cop_net.specs.Tables.{in_table}
 use Rattle.cop_net.specs.Network.{Net, Accepted, IsNetwork, accepted, network_of}
 use Rattle.cop_engine.specs.declared.faults.Fault.{Fault}
-use Rattle.cop_plan.specs.declared.choices.Choice.{Choice}
+use Rattle.cop_plan.specs.declared.choices.Asked.{Asked}
 use Rattle.cop_engine.specs.declared.plans.Files.{Files}
 use Rattle.cop_cert.specs.declared.faults.CertFault.{CertFault}
 use Rattle.cop_cert.specs.declared.faults.CertFault.TheVariants as cert
@@ -38,57 +39,44 @@ at_inside [] k x h = cc
 at_inside (y ∷ ys) zero x h = omega arith
 at_inside (y ∷ ys) (suc k) x h = let below = at_inside ys k x h in omega (arith, below)
 
-module _ (nodes pdos : List ℕ) (files : List File) where
+module _ (wanted : List Rate) (nodes pdos : List ℕ) (files : List File) where
   -- the table of nodes is refused
-  pub nodes_explain : (fault : PlanFault) → IfSome (refusal fault) (λ r. in_table Nodes (nodes_of nodes) ≡ Err r) → ExplainsNetwork nodes pdos files (fault_of fault)
+  pub nodes_explain : (fault : PlanFault) → IfSome (refusal fault) (λ r. in_table Nodes (nodes_of nodes) ≡ Err r) → ExplainsNetwork wanted nodes pdos files (fault_of fault)
   unfolding network_in
   nodes_explain (Refused r) e = (r, rw e refl, refl, refl)
   nodes_explain Memory e = tt
 
   -- that of PDOs is
   pub pdos_explain : (n : NodeLists) (fault : PlanFault) → in_table Nodes (nodes_of nodes) ≡ Ok n → IfSome (refusal fault) (λ r. in_table Pdos (pdos_of pdos) ≡ Err r)
-      → ExplainsNetwork nodes pdos files (fault_of fault)
+      → ExplainsNetwork wanted nodes pdos files (fault_of fault)
   unfolding network_in
   pdos_explain n (Refused r) read e = (r, rw (read, e) refl, refl, refl)
   pdos_explain n Memory read e = tt
 
   -- the network is
   pub network_explains : (n : NodeLists) (rows : List PdoRow) (fault : PlanFault) → in_table Nodes (nodes_of nodes) ≡ Ok n → in_table Pdos (pdos_of pdos) ≡ Ok rows
-      → IfSome (refusal fault) (λ r. network_of n rows files ≡ Err r) → ExplainsNetwork nodes pdos files (fault_of fault)
+      → IfSome (refusal fault) (λ r. network_of wanted n rows files ≡ Err r) → ExplainsNetwork wanted nodes pdos files (fault_of fault)
   unfolding network_in
   network_explains n rows (Refused r) read also e = (r, rw (read, also, e) refl, refl, refl)
   network_explains n rows Memory read also e = tt
 
   network_read : (n : NodeLists) (rows : List PdoRow) (a : Accepted) → in_table Nodes (nodes_of nodes) ≡ Ok n → in_table Pdos (pdos_of pdos) ≡ Ok rows
-      → network_of n rows files ≡ Ok a → network_in nodes pdos files ≡ Ok (record { nodes = n; rows = rows; network = a })
+      → network_of wanted n rows files ≡ Ok a → network_in wanted nodes pdos files ≡ Ok (record { nodes = n; rows = rows; network = a })
   unfolding network_in
   network_read n rows a read also e = rw (read, also, e) refl
 
   pub network_found : (n : NodeLists) (rows : List PdoRow) (network : Net) → in_table Nodes (nodes_of nodes) ≡ Ok n → in_table Pdos (pdos_of pdos) ≡ Ok rows
-      → network_of n rows files ≡ Ok (accepted network) → network_in nodes pdos files ≡ Ok (record { nodes = n; rows = rows; network = accepted network })
+      → network_of wanted n rows files ≡ Ok (accepted network) → network_in wanted nodes pdos files ≡ Ok (record { nodes = n; rows = rows; network = accepted network })
   network_found n rows network read also e = network_read n rows (accepted network) read also e
 
-  -- the files of the network's plan are those of the files
-  pub files_are : (choice : Choice) (n : NodeLists) (rows : List PdoRow) (network : Net) (made : Files) → in_table Nodes (nodes_of nodes) ≡ Ok n → in_table Pdos (pdos_of pdos) ≡ Ok rows
-      → network_of n rows files ≡ Ok (accepted network) → network.nodes ≡ n → network.rows ≡ rows → IsNetwork network → AreFilesFor choice files network made → AreFilesOf choice nodes pdos files made
-  files_are choice n rows network made read also e of same is planned = record {
-    found = record { nodes = n; rows = rows; network = accepted network };
-    read = network_read n rows (accepted network) read also e;
-    streams = network.set;
-    streams_are = refl;
-    begins = rw same at is.streams;
-    network = rw (of, same) at is;
-    planned = rw (of, same) at planned;
-  }
-
   -- a fault of the network explains why there is no check
-  pub of_network : (text : List ℕ) (fault : PlanFault) → ExplainsNetwork nodes pdos files (fault_of fault) → ExplainsCheck nodes pdos files text (fault_of fault)
+  pub of_network : (text : List ℕ) (fault : PlanFault) → ExplainsNetwork wanted nodes pdos files (fault_of fault) → ExplainsCheck wanted nodes pdos files text (fault_of fault)
   of_network text (Refused r) e = inl e
   of_network text Memory e = tt
 
   -- one of the refusal file does
-  pub refusals_explain : (text : List ℕ) (found : Found) (fault : CertFault) → network_in nodes pdos files ≡ Ok found → IfSome (breach_of fault) (λ b. refusals_of text ≡ Err b)
-      → ExplainsCheck nodes pdos files text (fault_of_refusals fault)
+  pub refusals_explain : (text : List ℕ) (found : Found) (fault : CertFault) → network_in wanted nodes pdos files ≡ Ok found → IfSome (breach_of fault) (λ b. refusals_of text ≡ Err b)
+      → ExplainsCheck wanted nodes pdos files text (fault_of_refusals fault)
   refusals_explain text found (cert.Refused b) read e = inr (found, read, b, e, refl, refl)
   refusals_explain text found cert.Memory read e = tt
 
@@ -100,8 +88,8 @@ module _ (nodes pdos : List ℕ) (files : List File) where
 
   -- the check of the network's refusals is that of the files
   pub check_is : (n : NodeLists) (rows : List PdoRow) (network : Net) (text lines : List ℕ) (refusals : List refused.Refusal) (all : Bool)
-      → in_table Nodes (nodes_of nodes) ≡ Ok n → in_table Pdos (pdos_of pdos) ≡ Ok rows → network_of n rows files ≡ Ok (accepted network) → network.rows ≡ rows → refusals_of text ≡ Ok refusals
-      → AreLinesOf network.set (length network.rows) refusals lines all → IsNetwork network → IsCheckOf nodes pdos files text lines all
+      → in_table Nodes (nodes_of nodes) ≡ Ok n → in_table Pdos (pdos_of pdos) ≡ Ok rows → network_of wanted n rows files ≡ Ok (accepted network) → network.rows ≡ rows → refusals_of text ≡ Ok refusals
+      → AreLinesOf network.set (length network.rows) refusals lines all → IsNetwork network → IsCheckOf wanted nodes pdos files text lines all
   check_is n rows network text lines refusals all read also e same told answered is = record {
     found = record { nodes = n; rows = rows; network = accepted network };
     read = network_read n rows (accepted network) read also e;
@@ -112,3 +100,17 @@ module _ (nodes pdos : List ℕ) (files : List File) where
     answered = rw same at answered;
     rules_out = rule_out network.set (length rows) refusals (rw same at answered).answers (rw same at is.streams.count) (rw same at answered).checked;
   }
+
+-- the files of the network's plan are those of the files
+pub files_are : (asked : Asked) (nodes pdos : List ℕ) (files : List File) (n : NodeLists) (rows : List PdoRow) (network : Net) (made : Files) → in_table Nodes (nodes_of nodes) ≡ Ok n
+    → in_table Pdos (pdos_of pdos) ≡ Ok rows → network_of asked.rates n rows files ≡ Ok (accepted network) → network.nodes ≡ n → network.rows ≡ rows → IsNetwork network
+    → AreFilesFor asked.choice files network made → AreFilesOf asked nodes pdos files made
+files_are asked nodes pdos files n rows network made read also e of same is planned = record {
+  found = record { nodes = n; rows = rows; network = accepted network };
+  read = network_found asked.rates nodes pdos files n rows network read also e;
+  streams = network.set;
+  streams_are = refl;
+  begins = rw same at is.streams;
+  network = rw (of, same) at is;
+  planned = rw (of, same) at planned;
+}

@@ -2,6 +2,7 @@
 use Rattle.std.proofs.Common.{◌≡◌, ◌≢◌, ◌↔◌, ℕ, ◌<◌, Bool, true, false, List, [], ◌∷◌, length, map, get_or, slice_get, All, AllPairs, IfOk, IsTrue, Some, Ok, Result, refl, sym, ap, ◌∙◌, subst, arith}
 use Rattle.std.proofs.lemmas.List.{ext_get_or, get_or-map, length-map}
 use Rattle.std.proofs.lemmas.Option.{slice_get-get_or}
+use Rattle.cop_frame.specs.declared.rates.Rate.{Rate}
 use Rattle.cop_rta.specs.declared.streams.Stream.{Stream}
 use Rattle.cop_rta.specs.declared.verdicts.Verdict.{Verdict}
 use Rattle.cop_rta.specs.Entries.{Entry, entry_of}
@@ -20,6 +21,7 @@ use Rattle.cop_plan.specs.Orders.{HasPdos}
 use Rattle.cop_plan.specs.declared.assigning.Outcome.{Outcome}
 use Rattle.cop_plan.specs.declared.assigning.Outcome.TheVariants.{Planned, Refused}
 use Rattle.cop_plan.specs.declared.choices.Choice.{Choice}
+use Rattle.cop_plan.specs.declared.choices.Asked.{Asked}
 use Rattle.cop_plan.proofs.OutcomeOnce.{outcome_once}
 use Rattle.cop_engine.specs.declared.plans.Files.{Files}
 use Rattle.cop_engine.specs.Reports.{lines_below}
@@ -42,7 +44,7 @@ distinct_entries streams apart i j d lt inside same =
 -- no two streams of a network have one identifier
 network_distinct : (n : Net) → IsNetwork n → AreDistinct n.set
 network_distinct n is =
-    let one : AreOneSet (map entry_of n.set) = subst (λ (r : Result Accepted net.Refusal). IfOk r (λ made. AreOneSet made.streams)) is.made (accepted_one_set n.nodes n.rows is.files is.nodes is.rows) in
+    let one : AreOneSet (map entry_of n.set) = subst (λ (r : Result Accepted net.Refusal). IfOk r (λ made. AreOneSet made.streams)) is.made (accepted_one_set is.wanted n.nodes n.rows is.files is.nodes is.rows) in
     distinct_entries n.set one.apart
 
 pub has_pdos : (n : Net) → IsNetwork n → HasPdos n.set (length n.rows)
@@ -68,14 +70,14 @@ ok_once {A} {E} r a b x y =
     let both : ◌≡◌ {A = Result A E} (Ok a) (Ok b) = sym x ∙ y in
     cc
 
-pub one_plan : (choice : Choice) (nodes pdos : List ℕ) (eds : List File) (a b : Files) → AreFilesOf choice nodes pdos eds a → AreFilesOf choice nodes pdos eds b → SameFiles a b
-one_plan choice nodes pdos eds a b x y =
-    let found : x.found ≡ y.found = ok_once (network_in nodes pdos eds) x.found y.found x.read y.read in
+pub one_plan : (asked : Asked) (nodes pdos : List ℕ) (eds : List File) (a b : Files) → AreFilesOf asked nodes pdos eds a → AreFilesOf asked nodes pdos eds b → SameFiles a b
+one_plan asked nodes pdos eds a b x y =
+    let found : x.found ≡ y.found = ok_once (network_in asked.rates nodes pdos eds) x.found y.found x.read y.read in
     let entries : map entry_of x.streams ≡ map entry_of y.streams = x.streams_are ∙ ap (λ (f : Found). f.network.streams) found ∙ sym y.streams_are in
     let streams : x.streams ≡ y.streams = streams_same x.streams y.streams entries in
     let net : net_of x.found x.streams ≡ net_of y.found y.streams = ap (λ (f : Found). net_of f x.streams) found ∙ ap (net_of y.found) streams in
-    let mine : AreFilesFor choice eds (net_of y.found y.streams) a = subst (λ (n : Net). AreFilesFor choice eds n a) net x.planned in
-    files_same choice eds (net_of y.found y.streams) a b (has_pdos (net_of y.found y.streams) y.network) mine y.planned
+    let mine : AreFilesFor asked.choice eds (net_of y.found y.streams) a = subst (λ (n : Net). AreFilesFor asked.choice eds n a) net x.planned in
+    files_same asked.choice eds (net_of y.found y.streams) a b (has_pdos (net_of y.found y.streams) y.network) mine y.planned
 
 -- ---- checks
 
@@ -96,9 +98,9 @@ answers_same streams pdos (r ∷ rs) xs ys x y =
     let other = y.each k inside (get_or (r ∷ rs) k r) here in
     bool_same (get_or xs k false) (get_or ys k false) (λ h. other.1 (mine.0 h)) (λ h. mine.1 (other.0 h)))
 
-pub one_check : (nodes pdos : List ℕ) (eds : List File) (text lines others : List ℕ) (all each : Bool) → IsCheckOf nodes pdos eds text lines all → IsCheckOf nodes pdos eds text others each → (lines ≡ others) × (all ≡ each)
-one_check nodes pdos eds text lines others all each x y =
-    let found : x.found ≡ y.found = ok_once (network_in nodes pdos eds) x.found y.found x.read y.read in
+pub one_check : (wanted : List Rate) (nodes pdos : List ℕ) (eds : List File) (text lines others : List ℕ) (all each : Bool) → IsCheckOf wanted nodes pdos eds text lines all → IsCheckOf wanted nodes pdos eds text others each → (lines ≡ others) × (all ≡ each)
+one_check wanted nodes pdos eds text lines others all each x y =
+    let found : x.found ≡ y.found = ok_once (network_in wanted nodes pdos eds) x.found y.found x.read y.read in
     let entries : map entry_of x.streams ≡ map entry_of y.streams = x.streams_are ∙ ap (λ (f : Found). f.network.streams) found ∙ sym y.streams_are in
     let streams : x.streams ≡ y.streams = streams_same x.streams y.streams entries in
     let refusals : x.refusals ≡ y.refusals = ok_once _ x.refusals y.refusals x.refusals_are y.refusals_are in

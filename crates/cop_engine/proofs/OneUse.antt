@@ -18,6 +18,7 @@ use Rattle.cop_plan.specs.Plans.{IsOutcome, IsPlan, IsChosenBy}
 use Rattle.cop_plan.specs.Values.{PlanValue}
 use Rattle.cop_plan.specs.declared.assigning.Outcome.{Outcome}
 use Rattle.cop_plan.specs.declared.choices.Choice.{Choice}
+use Rattle.cop_plan.specs.declared.choices.Asked.{Asked}
 use Rattle.cop_plan.specs.declared.assigning.Outcome.TheVariants.{Planned, Refused}
 use Rattle.cop_sim.specs.Play.{Actor, streams_of, IsPlay}
 use Rattle.cop_engine.specs.declared.plans.Files.{Files}
@@ -34,21 +35,21 @@ abbrev OneOutcome : Type 0
 OneOutcome = (rates : List Rate) (streams : List Stream) (pdos : ℕ) (choice : Choice) (a b : Outcome) → HasPdos streams pdos → IsOutcome rates streams pdos a → IsOutcome rates streams pdos b
     → IsChosenBy choice a → IsChosenBy choice b → a ≡ b
 
-module _ (one : OneOutcome) (choice : Choice) (nodes pdos : List ℕ) (eds : List File) where
+module _ (one : OneOutcome) (asked : Asked) (nodes pdos : List ℕ) (eds : List File) where
   -- a network has one outcome
-  pub network_once : (a b : Outcome) → IsPlannedNetwork choice nodes pdos eds a → IsPlannedNetwork choice nodes pdos eds b → a ≡ b
+  pub network_once : (a b : Outcome) → IsPlannedNetwork asked nodes pdos eds a → IsPlannedNetwork asked nodes pdos eds b → a ≡ b
   network_once a b x y =
-      let found : x.found ≡ y.found = ok_once (network_in nodes pdos eds) x.found y.found x.read y.read in
+      let found : x.found ≡ y.found = ok_once (network_in asked.rates nodes pdos eds) x.found y.found x.read y.read in
       let entries : map entry_of x.streams ≡ map entry_of y.streams = x.streams_are ∙ ap (λ (f : Found). f.network.streams) found ∙ sym y.streams_are in
       let streams : x.streams ≡ y.streams = streams_same x.streams y.streams entries in
       let there : IsOutcome y.found.network.equipment.rates x.streams (length y.found.rows) a = subst (λ (f : Found). IsOutcome f.network.equipment.rates x.streams (length f.rows) a) found x.planned in
       let mine : IsOutcome y.found.network.equipment.rates y.streams (length y.found.rows) a = subst (λ (s : List Stream). IsOutcome y.found.network.equipment.rates s (length y.found.rows) a) streams there in
-      one y.found.network.equipment.rates y.streams (length y.found.rows) choice a b (has_pdos (net_of y.found y.streams) y.network) mine y.planned x.chosen y.chosen
+      one y.found.network.equipment.rates y.streams (length y.found.rows) asked.choice a b (has_pdos (net_of y.found y.streams) y.network) mine y.planned x.chosen y.chosen
 
-  of_files : (files : Files) → (f : AreFilesOf choice nodes pdos eds files) → IsPlannedNetwork choice nodes pdos eds f.planned.outcome
+  of_files : (files : Files) → (f : AreFilesOf asked nodes pdos eds files) → IsPlannedNetwork asked nodes pdos eds f.planned.outcome
   of_files files f = record { found = f.found; read = f.read; streams = f.streams; streams_are = f.streams_are; network = f.network; planned = f.planned.planned; chosen = f.planned.chosen }
 
-  of_boot : (seed : ℕ) (text : List ℕ) → (b : IsBootOf choice seed nodes pdos eds text) → IsPlannedNetwork choice nodes pdos eds b.outcome
+  of_boot : (seed : ℕ) (text : List ℕ) → (b : IsBootOf asked seed nodes pdos eds text) → IsPlannedNetwork asked nodes pdos eds b.outcome
   unfolding network_in
   of_boot seed text b = record {
     found = record { nodes = b.net.nodes; rows = b.net.rows; network = accepted b.net };
@@ -60,10 +61,10 @@ module _ (one : OneOutcome) (choice : Choice) (nodes pdos : List ℕ) (eds : Lis
     chosen = b.chosen;
   }
 
-  pub plan_used : (files : Files) (outcome : Outcome) → (f : AreFilesOf choice nodes pdos eds files) → IsPlannedNetwork choice nodes pdos eds outcome → outcome ≡ f.planned.outcome
+  pub plan_used : (files : Files) (outcome : Outcome) → (f : AreFilesOf asked nodes pdos eds files) → IsPlannedNetwork asked nodes pdos eds outcome → outcome ≡ f.planned.outcome
   plan_used files outcome f x = network_once outcome f.planned.outcome x (of_files files f)
 
-  pub plan_booted : (seed : ℕ) (files : Files) (text : List ℕ) → (f : AreFilesOf choice nodes pdos eds files) → (b : IsBootOf choice seed nodes pdos eds text) → b.outcome ≡ f.planned.outcome
+  pub plan_booted : (seed : ℕ) (files : Files) (text : List ℕ) → (f : AreFilesOf asked nodes pdos eds files) → (b : IsBootOf asked seed nodes pdos eds text) → b.outcome ≡ f.planned.outcome
   plan_booted seed files text f b = network_once b.outcome f.planned.outcome (of_boot seed text b) (of_files files f)
 
   -- a trace has one judgement by an outcome
@@ -73,7 +74,7 @@ module _ (one : OneOutcome) (choice : Choice) (nodes pdos : List ℕ) (eds : Lis
       x.text_is ∙ ap (λ (t : Told). judged_text (transfers_in t.steps) (first_late (ticks_of plan.rate) plan.streams t.until t.steps)) told ∙ sym y.text_is
   judged_once (Refused refusals) trace text other x y = x ∙ sym y
 
-  pub one_judgement : (trace text other : List ℕ) → IsJudgement choice nodes pdos eds trace text → IsJudgement choice nodes pdos eds trace other → text ≡ other
+  pub one_judgement : (trace text other : List ℕ) → IsJudgement asked nodes pdos eds trace text → IsJudgement asked nodes pdos eds trace other → text ≡ other
   one_judgement trace text other x y =
       let mine : IsJudgedBy y.outcome trace text = subst (λ (o : Outcome). IsJudgedBy o trace text) (network_once x.outcome y.outcome x.network y.network) x.judged in
       judged_once y.outcome trace text other mine y.judged
@@ -101,10 +102,10 @@ module _ (play : OnePlay) where
       run_once plan seed until text trace other another (apart rates streams pdos plan has planned) x y
   run_by_once rates streams pdos (Refused refusals) seed until text trace other another apart has planned x y = (x.0 ∙ sym y.0, x.1 ∙ sym y.1)
 
-  pub one_run : OneOutcome → AreApart → (choice : Choice) (nodes pdos : List ℕ) (eds : List File) (seed until : ℕ) (text trace other another : List ℕ)
-      → IsNetworkRun choice nodes pdos eds seed until text trace → IsNetworkRun choice nodes pdos eds seed until other another → (text ≡ other) × (trace ≡ another)
-  one_run one apart choice nodes pdos eds seed until text trace other another x y =
-      let same : x.outcome ≡ y.outcome = network_once one choice nodes pdos eds x.outcome y.outcome x.network y.network in
+  pub one_run : OneOutcome → AreApart → (asked : Asked) (nodes pdos : List ℕ) (eds : List File) (seed until : ℕ) (text trace other another : List ℕ)
+      → IsNetworkRun asked nodes pdos eds seed until text trace → IsNetworkRun asked nodes pdos eds seed until other another → (text ≡ other) × (trace ≡ another)
+  one_run one apart asked nodes pdos eds seed until text trace other another x y =
+      let same : x.outcome ≡ y.outcome = network_once one asked nodes pdos eds x.outcome y.outcome x.network y.network in
       let mine : IsRunBy y.outcome seed until text trace = subst (λ (o : Outcome). IsRunBy o seed until text trace) same x.run in
       let n = y.network in
       run_by_once n.found.network.equipment.rates n.streams (length n.found.rows) y.outcome seed until text trace other another apart (has_pdos (net_of n.found n.streams) n.network) n.planned mine y.run

@@ -8,6 +8,7 @@ use Rattle.cop_dict.specs.declared.mapping.MappingFault.{MappingFault}
 use Rattle.cop_dict.specs.Mapping.{total_bits}
 use Rattle.cop_pdo.specs.Bits.{bytes_for}
 use Rattle.cop_pdo.specs.Payload.{Layout, payload_of}
+use Rattle.cop_frame.specs.declared.rates.Rate.{Rate}
 use Rattle.cop_rta.specs.Entries.{Entry, entry_of}
 use Rattle.cop_rows.specs.declared.pdo_table.PdoRow.{PdoRow}
 use Rattle.cop_rows.specs.declared.node_table.FrameRow.{FrameRow}
@@ -188,10 +189,10 @@ streams_are frames rows equipment streams ok =
       each = of_row equipment.devices signals rows p.0 p.1;
     }
 
-network_parts : (nodes : NodeLists) (rows : List PdoRow) (files : List File) (made : Accepted) → network_of nodes rows files ≡ Ok made → streams_of nodes.frames rows made.equipment ≡ Ok made.streams
+network_parts : (wanted : List Rate) (nodes : NodeLists) (rows : List PdoRow) (files : List File) (made : Accepted) → network_of wanted nodes rows files ≡ Ok made → streams_of nodes.frames rows made.equipment ≡ Ok made.streams
 unfolding network_of
-network_parts nodes rows files made ok =
-    let p = bind_ok (devices_of files nodes.devices) _ made ok in
+network_parts wanted nodes rows files made ok =
+    let p = bind_ok (devices_of wanted files nodes.devices) _ made ok in
     let q = bind_ok (streams_of nodes.frames rows p.0) _ made p.2 in
     let whole : ◌≡◌ {A = Result Accepted Refusal} (Ok (record { equipment = p.0; streams = q.0 })) (Ok made) = q.2 in
     let same : record { equipment = p.0; streams = q.0 } ≡ made = cc in
@@ -199,7 +200,7 @@ network_parts nodes rows files made ok =
 
 module _ (net : Net) (is : IsNetwork net) where
   pub network_streams : AreStreamsOf net.nodes.frames net.rows net.equipment (map entry_of net.set)
-  network_streams = streams_are net.nodes.frames net.rows net.equipment (map entry_of net.set) (network_parts net.nodes net.rows is.files (accepted net) is.made)
+  network_streams = streams_are net.nodes.frames net.rows net.equipment (map entry_of net.set) (network_parts is.wanted net.nodes net.rows is.files (accepted net) is.made)
 
   pub row_stream : (k : ℕ) (row : PdoRow) → slice_get net.rows k ≡ Some row → IsRowStream (signals_of net.nodes.frames (length net.rows)) net.equipment.devices k row (map entry_of net.set)
   row_stream k row there =

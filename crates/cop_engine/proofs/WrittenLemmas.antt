@@ -29,7 +29,7 @@ use Rattle.cop_plan.specs.declared.assigning.Outcome.TheVariants.{Planned, Refus
 use Rattle.cop_plan.proofs.WritableLemmas.{refusals_writable}
 use Rattle.cop_engine.specs.declared.faults.Fault.{Fault}
 use Rattle.cop_engine.specs.declared.faults.Fault.TheVariants as faults
-use Rattle.cop_plan.specs.declared.choices.Choice.{Choice}
+use Rattle.cop_plan.specs.declared.choices.Asked.{Asked}
 use Rattle.cop_engine.specs.declared.plans.Files.{Files}
 use Rattle.cop_engine.specs.Networks.{Found, network_in}
 use Rattle.cop_engine.specs.PlanTexts.{refusals_of}
@@ -64,12 +64,12 @@ table_few text found h =
     let p = bind_ok (rows_in text) _ found h in
     from_few 1 [] found p.0 (omega arith) p.2
 
-pub few_rows : (nodes pdos : List ℕ) (files : List File) (found : Found) → network_in nodes pdos files ≡ Ok found → length found.rows ≤ 512
+pub few_rows : (wanted : List Rate) (nodes pdos : List ℕ) (files : List File) (found : Found) → network_in wanted nodes pdos files ≡ Ok found → length found.rows ≤ 512
 unfolding network_in
-few_rows nodes pdos files found ok =
+few_rows wanted nodes pdos files found ok =
     let p = bind_ok (in_table Nodes (nodes_of nodes)) _ found ok in
     let q = bind_ok (in_table Pdos (pdos_of pdos)) _ found p.2 in
-    let r = bind_ok (network_of p.0 q.0 files) _ found q.2 in
+    let r = bind_ok (network_of wanted p.0 q.0 files) _ found q.2 in
     let whole : ◌≡◌ {A = Result Found net.Refusal} (Ok (record { nodes = p.0; rows = q.0; network = r.0 })) (Ok found) = r.2 in
     let same : record { nodes = p.0; rows = q.0; network = r.0 } ≡ found = cc in
     subst (λ (f : Found). length f.rows ≤ 512) same (table_few pdos q.0 (was_in_table Pdos (pdos_of pdos) q.0 q.1))
@@ -96,17 +96,17 @@ all_answered streams pdos (r ∷ rs) answers checked all = λ k d below.
     any_default : (answers : List Bool) (k : ℕ) (d : Bool) → k < length answers → get_or answers k false ≡ true → get_or answers k d ≡ true
     any_default answers k d below h = grind (arith, h, below, slice_get-get_or answers k d below, slice_get-get_or answers k false below)
 
-module _ (choice : Choice) (nodes pdos : List ℕ) (eds : List File) (files : Files) (f : AreFilesOf choice nodes pdos eds files) where
+module _ (asked : Asked) (nodes pdos : List ℕ) (eds : List File) (files : Files) (f : AreFilesOf asked nodes pdos eds files) where
   -- the refusal file is read as the refusals of the outcome
   pub read_again : cert.refusals_of files.refusals.items ≡ Ok (refusals_of f.planned.outcome)
   read_again =
       rw f.planned.refusals
       (written_is_read (refusals_of f.planned.outcome)
-      (outcome_writable f.found.network.equipment.rates f.streams (length f.found.rows) f.planned.outcome f.begins.count (few_rows nodes pdos eds f.found f.read) f.planned.planned))
+      (outcome_writable f.found.network.equipment.rates f.streams (length f.found.rows) f.planned.outcome f.begins.count (few_rows asked.rates nodes pdos eds f.found f.read) f.planned.planned))
 
-  pub all_hold : (lines : List ℕ) (all : Bool) → IsCheckOf nodes pdos eds files.refusals.items lines all → all ≡ true
+  pub all_hold : (lines : List ℕ) (all : Bool) → IsCheckOf asked.rates nodes pdos eds files.refusals.items lines all → all ≡ true
   all_hold lines all c =
-      let found : f.found ≡ c.found = ok_once (network_in nodes pdos eds) f.found c.found f.read c.read in
+      let found : f.found ≡ c.found = ok_once (network_in asked.rates nodes pdos eds) f.found c.found f.read c.read in
       let entries : map entry_of f.streams ≡ map entry_of c.streams = f.streams_are ∙ ap (λ (x : Found). x.network.streams) found ∙ sym c.streams_are in
       let streams : f.streams ≡ c.streams = streams_same f.streams c.streams entries in
       let count : length f.found.rows ≡ length c.found.rows = ap (λ (x : Found). length x.rows) found in
@@ -121,7 +121,7 @@ module _ (choice : Choice) (nodes pdos : List ℕ) (eds : List File) (files : Fi
       c.answered.all_hold.1 (all_answered c.streams (length c.found.rows) c.refusals c.answered.answers c.answered.checked mine)
 
   -- nothing but want of memory keeps the check from reading it
-  pub only_memory : (fault : Fault) → ExplainsCheck nodes pdos eds files.refusals.items fault → fault ≡ faults.Memory
+  pub only_memory : (fault : Fault) → ExplainsCheck asked.rates nodes pdos eds files.refusals.items fault → fault ≡ faults.Memory
   only_memory (faults.Refused number place) (inl h) = let r = h in let clash = r.1 in let read = f.read in cc
   only_memory (faults.Refused number place) (inr h) = let b = h in let clash = b.3 in let read = read_again in cc
   only_memory (faults.File name) h = absurd h

@@ -14,6 +14,7 @@ use Rattle.cop_net.specs.Tables.{in_table}
 use Rattle.cop_net.specs.Network.{Net, IsNetwork, accepted, network_of}
 use Rattle.cop_plan.specs.declared.assigning.Outcome.{Outcome}
 use Rattle.cop_plan.specs.declared.choices.Choice.{Choice}
+use Rattle.cop_plan.specs.declared.choices.Asked.{Asked}
 use Rattle.cop_plan.specs.declared.assigning.Outcome.TheVariants.{Planned, Refused}
 use Rattle.cop_plan.specs.Plans.{IsOutcome, IsChosenBy}
 use Rattle.cop_dcf.specs.Settings.{dictionary_of, node_settings}
@@ -101,13 +102,13 @@ abbrev pub IsBootOfNetwork : Choice → ℕ → Net → List ℕ → Type 0
 IsBootOfNetwork choice seed net text = (outcome : Outcome) × IsOutcome net.equipment.rates net.set (length net.rows) outcome × IsChosenBy choice outcome × IsBootedBy seed net outcome text
 
 -- the boot of the network that the tables and the EDS files say, by its plan
-pub record IsBootOf (choice : Choice) (seed : ℕ) (nodes pdos : List ℕ) (eds : List File) (text : List ℕ) : Type 0 where
+pub record IsBootOf (asked : Asked) (seed : ℕ) (nodes pdos : List ℕ) (eds : List File) (text : List ℕ) : Type 0 where
   pub net : Net
   pub network : IsNetwork net
   pub node_table : in_table Nodes (nodes_of nodes) ≡ Ok net.nodes
   pub pdo_table : in_table Pdos (pdos_of pdos) ≡ Ok net.rows
-  pub read : network_of net.nodes net.rows eds ≡ Ok (accepted net)
+  pub read : network_of asked.rates net.nodes net.rows eds ≡ Ok (accepted net)
   pub outcome : Outcome
   pub planned : IsOutcome net.equipment.rates net.set (length net.rows) outcome
-  pub chosen : IsChosenBy choice outcome
+  pub chosen : IsChosenBy asked.choice outcome
   pub booted : IsBootedBy seed net outcome text

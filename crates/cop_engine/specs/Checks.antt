@@ -1,6 +1,7 @@
 -- The check of a refusal file.
 use Rattle.std.specs.Prelude.{◌≡◌, ◌↔◌, ℕ, ◌<◌, ◌⊎◌, List, [], ◌++◌, Bool, true, false, codes, decimal, length, map, get_or, slice_get, All, IsTrue, Ok, Err, Some}
 use Rattle.std.specs.Option.{option_map_or}
+use Rattle.cop_frame.specs.declared.rates.Rate.{Rate}
 use Rattle.cop_frame.specs.Rate.{kbits_of}
 use Rattle.cop_rta.specs.declared.streams.Stream.{Stream}
 use Rattle.cop_rta.specs.Entries.{entry_of}
@@ -47,9 +48,9 @@ RuleOut streams pdos refusals answers =
     (k : ℕ) (r : Refusal) → slice_get refusals k ≡ Some r → get_or answers k false ≡ true → NoAssignmentPasses r.rate streams pdos
 
 -- A refusal file against the network that the tables and the EDS files say: a line for each refusal, and whether all hold.
-pub record IsCheckOf (nodes pdos : List ℕ) (eds : List File) (text : List ℕ) (lines : List ℕ) (all : Bool) : Type 0 where
+pub record IsCheckOf (wanted : List Rate) (nodes pdos : List ℕ) (eds : List File) (text : List ℕ) (lines : List ℕ) (all : Bool) : Type 0 where
   pub found : Found
-  pub read : network_in nodes pdos eds ≡ Ok found
+  pub read : network_in wanted nodes pdos eds ≡ Ok found
   pub streams : List Stream
   pub streams_are : map entry_of streams ≡ found.network.streams
   pub refusals : List Refusal
@@ -58,11 +59,11 @@ pub record IsCheckOf (nodes pdos : List ℕ) (eds : List File) (text : List ℕ)
   pub rules_out : RuleOut streams (length found.rows) refusals answered.answers
 
 -- why there is none: the network, or else the refusal file
-abbrev pub ExplainsCheck : List ℕ → List ℕ → List File → List ℕ → Fault → Type 0
-ExplainsCheck nodes pdos files text (faults.Refused number place) =
-    ((r : net.Refusal) × (network_in nodes pdos files ≡ Err r) × (number ≡ number_of_rule r.rule) × (place ≡ r.place))
-    ⊎ ((found : Found) × (network_in nodes pdos files ≡ Ok found) × (b : Breach) × (refusals_of text ≡ Err b) × (number ≡ breaches.number_of_rule b.rule) × (place ≡ b.place))
-ExplainsCheck nodes pdos files text faults.Simulation = ⊥
-ExplainsCheck nodes pdos files text (faults.File name) = ⊥
-ExplainsCheck nodes pdos files text faults.Usage = ⊥
-ExplainsCheck nodes pdos files text faults.Memory = Unit {0}
+abbrev pub ExplainsCheck : List Rate → List ℕ → List ℕ → List File → List ℕ → Fault → Type 0
+ExplainsCheck wanted nodes pdos files text (faults.Refused number place) =
+    ((r : net.Refusal) × (network_in wanted nodes pdos files ≡ Err r) × (number ≡ number_of_rule r.rule) × (place ≡ r.place))
+    ⊎ ((found : Found) × (network_in wanted nodes pdos files ≡ Ok found) × (b : Breach) × (refusals_of text ≡ Err b) × (number ≡ breaches.number_of_rule b.rule) × (place ≡ b.place))
+ExplainsCheck wanted nodes pdos files text faults.Simulation = ⊥
+ExplainsCheck wanted nodes pdos files text (faults.File name) = ⊥
+ExplainsCheck wanted nodes pdos files text faults.Usage = ⊥
+ExplainsCheck wanted nodes pdos files text faults.Memory = Unit {0}

@@ -17,7 +17,7 @@ use Rattle.cop_net.specs.Signals.{sync_of}
 use Rattle.cop_plan.specs.Values.{PlanValue, id_of, margin_of}
 use Rattle.cop_plan.specs.Plans.{IsPlan, AreAllRefused}
 use Rattle.cop_plan.specs.declared.assigning.Outcome.{Outcome}
-use Rattle.cop_plan.specs.declared.choices.Choice.{Choice}
+use Rattle.cop_plan.specs.declared.choices.Asked.{Asked}
 use Rattle.cop_plan.specs.declared.assigning.Outcome.TheVariants.{Planned, Refused}
 use Rattle.cop_sim.specs.Guarantee.{IsRunOf}
 use Rattle.cop_net.specs.Devices.{File}
@@ -86,7 +86,7 @@ pub record MeetsDeadlines (found : Found) (plan : PlanValue) : Type 0 where
   pub no_other : (f : ℕ) (k : Stream) → length found.rows ≤ f → slice_get plan.streams f ≡ Some k → (row : FrameRow) × Contains found.nodes.frames row × (row.period ≢ 0) × IsFrameOf plan row k
   pub frames_on_time : (row : FrameRow) (d : ℕ) → Contains found.nodes.frames row → row.deadline ≡ Some d → AreOnTimeIn plan (base_of row.kind + row.node) (ticks d - margin_of plan)
 
--- The plan has the slowest rate that all devices support and at which some assignment of identifiers passes the
+-- The plan has the slowest candidate, of the rates that are wanted and that all devices support, at which some assignment of identifiers passes the
 -- response-time test, it passes there, and each slower rate has a refusal that holds; and its PDOs and SDO frames meet their
 -- deadlines. Where there is none, no assignment passes at any rate, and each has such a refusal.
 abbrev pub IsGuaranteed : Found → List Stream → Outcome → Type 0
@@ -94,6 +94,6 @@ IsGuaranteed found streams (Planned plan) = IsPlan found.network.equipment.rates
 IsGuaranteed found streams (Refused refusals) = AreAllRefused found.network.equipment.rates streams (length found.rows) refusals
 
 -- the files of the plan of the network that the tables and the EDS files say, with what the plan guarantees
-pub record AreGuaranteedFiles (choice : Choice) (nodes pdos : List ℕ) (eds : List File) (files : Files) : Type 0 where
-  pub exact : AreFilesOf choice nodes pdos eds files
+pub record AreGuaranteedFiles (asked : Asked) (nodes pdos : List ℕ) (eds : List File) (files : Files) : Type 0 where
+  pub exact : AreFilesOf asked nodes pdos eds files
   pub guaranteed : IsGuaranteed exact.found exact.streams exact.planned.outcome

@@ -17,7 +17,7 @@ use Rattle.cop_net.specs.Faults.{number_of_rule}
 use Rattle.cop_plan.specs.Values.{PlanValue}
 use Rattle.cop_plan.specs.Plans.{IsOutcome, IsChosenBy}
 use Rattle.cop_plan.specs.declared.assigning.Outcome.{Outcome}
-use Rattle.cop_plan.specs.declared.choices.Choice.{Choice}
+use Rattle.cop_plan.specs.declared.choices.Asked.{Asked}
 use Rattle.cop_plan.specs.declared.assigning.Outcome.TheVariants.{Planned, Refused}
 use Rattle.cop_engine.specs.declared.faults.Fault.{Fault}
 use Rattle.cop_engine.specs.declared.faults.Fault.TheVariants as faults
@@ -72,30 +72,30 @@ IsJudgedBy (Planned plan) trace text = IsJudged plan.rate plan.streams trace tex
 IsJudgedBy (Refused refusals) trace text = text ≡ none_passes
 
 -- the network that the tables and the EDS files say, and its plan
-pub record IsPlannedNetwork (choice : Choice) (nodes pdos : List ℕ) (eds : List File) (outcome : Outcome) : Type 0 where
+pub record IsPlannedNetwork (asked : Asked) (nodes pdos : List ℕ) (eds : List File) (outcome : Outcome) : Type 0 where
   pub found : Found
-  pub read : network_in nodes pdos eds ≡ Ok found
+  pub read : network_in asked.rates nodes pdos eds ≡ Ok found
   pub streams : List Stream
   pub streams_are : map entry_of streams ≡ found.network.streams
   pub network : IsNetwork (net_of found streams)
   pub planned : IsOutcome found.network.equipment.rates streams (length found.rows) outcome
-  pub chosen : IsChosenBy choice outcome
+  pub chosen : IsChosenBy asked.choice outcome
 
 -- the judgement of a trace by the plan of the network that the files say
-pub record IsJudgement (choice : Choice) (nodes pdos : List ℕ) (eds : List File) (trace text : List ℕ) : Type 0 where
+pub record IsJudgement (asked : Asked) (nodes pdos : List ℕ) (eds : List File) (trace text : List ℕ) : Type 0 where
   pub outcome : Outcome
-  pub network : IsPlannedNetwork choice nodes pdos eds outcome
+  pub network : IsPlannedNetwork asked nodes pdos eds outcome
   pub judged : IsJudgedBy outcome trace text
 
 -- why there is none: the network, or else the trace
-abbrev pub ExplainsJudgement : Choice → List ℕ → List ℕ → List File → List ℕ → Fault → Type 0
-ExplainsJudgement choice nodes pdos files trace (faults.Refused number place) =
-    ((r : net.Refusal) × (network_in nodes pdos files ≡ Err r) × (number ≡ number_of_rule r.rule) × (place ≡ r.place))
-    ⊎ ((plan : PlanValue) × IsPlannedNetwork choice nodes pdos files (Planned plan) × ExplainsTrace plan.rate plan.streams trace (faults.Refused number place))
-ExplainsJudgement choice nodes pdos files trace faults.Simulation = ⊥
-ExplainsJudgement choice nodes pdos files trace (faults.File name) = ⊥
-ExplainsJudgement choice nodes pdos files trace faults.Usage = ⊥
-ExplainsJudgement choice nodes pdos files trace faults.Memory = Unit {0}
+abbrev pub ExplainsJudgement : Asked → List ℕ → List ℕ → List File → List ℕ → Fault → Type 0
+ExplainsJudgement asked nodes pdos files trace (faults.Refused number place) =
+    ((r : net.Refusal) × (network_in asked.rates nodes pdos files ≡ Err r) × (number ≡ number_of_rule r.rule) × (place ≡ r.place))
+    ⊎ ((plan : PlanValue) × IsPlannedNetwork asked nodes pdos files (Planned plan) × ExplainsTrace plan.rate plan.streams trace (faults.Refused number place))
+ExplainsJudgement asked nodes pdos files trace faults.Simulation = ⊥
+ExplainsJudgement asked nodes pdos files trace (faults.File name) = ⊥
+ExplainsJudgement asked nodes pdos files trace faults.Usage = ⊥
+ExplainsJudgement asked nodes pdos files trace faults.Memory = Unit {0}
 
 -- what the judgement says: that no instance is late
 abbrev pub SaysOnTime : Outcome → List ℕ → List ℕ → Type 0

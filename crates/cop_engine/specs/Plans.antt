@@ -9,6 +9,7 @@ use Rattle.cop_net.specs.Devices.{File}
 use Rattle.cop_net.specs.Network.{Net, BeginsWith, IsNetwork}
 use Rattle.cop_plan.specs.declared.assigning.Outcome.{Outcome}
 use Rattle.cop_plan.specs.declared.choices.Choice.{Choice}
+use Rattle.cop_plan.specs.declared.choices.Asked.{Asked}
 use Rattle.cop_plan.specs.declared.assigning.Outcome.TheVariants.{Planned, Refused}
 use Rattle.cop_plan.specs.Plans.{IsOutcome, IsChosenBy}
 use Rattle.cop_plan.specs.Values.{PlanValue}
@@ -40,12 +41,12 @@ pub record AreFilesFor (choice : Choice) (eds : List File) (net : Net) (files : 
   pub refusals : files.refusals.items ≡ text_of (refusals_of outcome)
   pub dcf : files.dcf ≡ dcfs_of eds net outcome
 
--- the files of the network that the tables and the EDS files say, whose first streams are the PDOs
-pub record AreFilesOf (choice : Choice) (nodes pdos : List ℕ) (eds : List File) (files : Files) : Type 0 where
+-- the files of what is asked of the network that the tables and the EDS files say, whose first streams are the PDOs
+pub record AreFilesOf (asked : Asked) (nodes pdos : List ℕ) (eds : List File) (files : Files) : Type 0 where
   pub found : Found
-  pub read : network_in nodes pdos eds ≡ Ok found
+  pub read : network_in asked.rates nodes pdos eds ≡ Ok found
   pub streams : List Stream
   pub streams_are : map entry_of streams ≡ found.network.streams
   pub begins : BeginsWith (length found.rows) streams
   pub network : IsNetwork (net_of found streams)
-  pub planned : AreFilesFor choice eds (net_of found streams) files
+  pub planned : AreFilesFor asked.choice eds (net_of found streams) files

@@ -9,7 +9,7 @@ use Rattle.cop_net.specs.Devices.{File}
 use Rattle.cop_net.specs.Fixed.{ticks}
 use Rattle.cop_plan.specs.Values.{PlanValue}
 use Rattle.cop_plan.specs.declared.assigning.Outcome.{Outcome}
-use Rattle.cop_plan.specs.declared.choices.Choice.{Choice}
+use Rattle.cop_plan.specs.declared.choices.Asked.{Asked}
 use Rattle.cop_plan.specs.declared.assigning.Outcome.TheVariants.{Planned, Refused}
 use Rattle.cop_sim.specs.declared.faults.SimFault.{SimFault}
 use Rattle.cop_sim.specs.declared.faults.SimFault.TheVariants as simulator
@@ -51,18 +51,18 @@ IsRunBy (Planned plan) seed until text trace = IsRun plan seed until text (Some 
 IsRunBy (Refused refusals) seed until text trace = (text ≡ none_passes) × (trace ≡ [])
 
 -- the run of the network that the files say
-pub record IsNetworkRun (choice : Choice) (nodes pdos : List ℕ) (eds : List File) (seed until : ℕ) (text trace : List ℕ) : Type 0 where
+pub record IsNetworkRun (asked : Asked) (nodes pdos : List ℕ) (eds : List File) (seed until : ℕ) (text trace : List ℕ) : Type 0 where
   pub outcome : Outcome
-  pub network : IsPlannedNetwork choice nodes pdos eds outcome
+  pub network : IsPlannedNetwork asked nodes pdos eds outcome
   pub run : IsRunBy outcome seed until text trace
 
 -- why there is none: the network, or else its run
-abbrev pub ExplainsNetworkRun : Choice → List ℕ → List ℕ → List File → ℕ → ℕ → Fault → Type 0
-ExplainsNetworkRun choice nodes pdos files seed until (faults.Refused number place) = ExplainsNetwork nodes pdos files (faults.Refused number place)
-ExplainsNetworkRun choice nodes pdos files seed until faults.Simulation = (plan : PlanValue) × IsPlannedNetwork choice nodes pdos files (Planned plan) × IsBacklogged plan seed until
-ExplainsNetworkRun choice nodes pdos files seed until (faults.File name) = ⊥
-ExplainsNetworkRun choice nodes pdos files seed until faults.Usage = ⊥
-ExplainsNetworkRun choice nodes pdos files seed until faults.Memory = Unit {0}
+abbrev pub ExplainsNetworkRun : Asked → List ℕ → List ℕ → List File → ℕ → ℕ → Fault → Type 0
+ExplainsNetworkRun asked nodes pdos files seed until (faults.Refused number place) = ExplainsNetwork asked.rates nodes pdos files (faults.Refused number place)
+ExplainsNetworkRun asked nodes pdos files seed until faults.Simulation = (plan : PlanValue) × IsPlannedNetwork asked nodes pdos files (Planned plan) × IsBacklogged plan seed until
+ExplainsNetworkRun asked nodes pdos files seed until (faults.File name) = ⊥
+ExplainsNetworkRun asked nodes pdos files seed until faults.Usage = ⊥
+ExplainsNetworkRun asked nodes pdos files seed until faults.Memory = Unit {0}
 
 -- a writer into memory fails for want of memory alone
 abbrev pub fault_of_run : RunFault → Fault

@@ -18,7 +18,7 @@ use cop_boot::{Device, End, Manager, run_schedule};
 use cop_dcf::{Setting, settings};
 use cop_dict::{Dictionary, Object};
 use cop_net::{Network, network, read_nodes, read_pdos};
-use cop_plan::{Choice, Outcome, Plan, plan};
+use cop_plan::{Asked, Choice, Outcome, Plan, plan};
 use std::alloc::{AllocError, Global};
 use std::collections::BTreeMap;
 
@@ -199,12 +199,12 @@ pub fn boot_bytes(
     nodes: &[u8],
     pdos: &[u8],
     eds_files: &[(String, Vec<u8>)],
-    choice: Choice,
+    asked: &Asked,
 ) -> Result<Vec<u8>, Fault>
-    ensures { MatchResult result (λ text. IsBootOf choice seed nodes.now pdos.now (map (λ f. record { name = string_bytes f.0; text = f.1.items }) eds_files.now) text.items) (λ fault. ExplainsNetwork nodes.now pdos.now (map (λ f. record { name = string_bytes f.0; text = f.1.items }) eds_files.now) fault) }
+    ensures { MatchResult result (λ text. IsBootOf asked.now seed nodes.now pdos.now (map (λ f. record { name = string_bytes f.0; text = f.1.items }) eds_files.now) text.items) (λ fault. ExplainsNetwork asked.now.rates nodes.now pdos.now (map (λ f. record { name = string_bytes f.0; text = f.1.items }) eds_files.now) fault) }
 {
     let nodes = read_nodes(alloc, nodes)?;
     let pdos = read_pdos(alloc, pdos)?;
-    let network = network(alloc, &nodes, &pdos, eds_files)?;
-    Ok(boot_of(alloc, seed, &network, choice)?)
+    let network = network(alloc, &asked.rates, &nodes, &pdos, eds_files)?;
+    Ok(boot_of(alloc, seed, &network, asked.choice)?)
 }

@@ -8,6 +8,7 @@ ghost use Rattle.cop_engine.specs.Checks.{said, check_line, check_line_at, AreCh
 use crate::faults::Fault;
 use crate::reports::push_number;
 use cop_cert::{Refusal, check, read};
+use cop_frame::RateSet;
 use cop_net::{Network, network, read_nodes, read_pdos};
 use cop_rta::StreamSet;
 use std::alloc::{AllocError, Global};
@@ -84,16 +85,17 @@ fn checked(
 /// hold. Otherwise the first rule that the network breaks, or else that the file breaks, or want of memory.
 pub fn check_bytes(
     alloc: Global,
+    wanted: &RateSet,
     nodes: &[u8],
     pdos: &[u8],
     eds_files: &[(String, Vec<u8>)],
     refusals: &[u8],
 ) -> Result<(Vec<u8>, bool), Fault>
-    ensures { MatchResult result (λ found. IsCheckOf nodes.now pdos.now (map (λ f. record { name = string_bytes f.0; text = f.1.items }) eds_files.now) refusals.now found.0.items found.1) (λ fault. ExplainsCheck nodes.now pdos.now (map (λ f. record { name = string_bytes f.0; text = f.1.items }) eds_files.now) refusals.now fault) }
+    ensures { MatchResult result (λ found. IsCheckOf wanted.now nodes.now pdos.now (map (λ f. record { name = string_bytes f.0; text = f.1.items }) eds_files.now) refusals.now found.0.items found.1) (λ fault. ExplainsCheck wanted.now nodes.now pdos.now (map (λ f. record { name = string_bytes f.0; text = f.1.items }) eds_files.now) refusals.now fault) }
 {
     let nodes = read_nodes(alloc, nodes)?;
     let pdos = read_pdos(alloc, pdos)?;
-    let network = network(alloc, &nodes, &pdos, eds_files)?;
+    let network = network(alloc, wanted, &nodes, &pdos, eds_files)?;
     let refusals = read(alloc, refusals)?;
     Ok(checked(alloc, &network, &refusals)?)
 }

@@ -3,7 +3,7 @@
 ghost use Rattle.std.specs.Prelude.{◌≡◌, ℕ, List, map, None, IfOk, IfSome, MatchResult};
 ghost use Rattle.std.specs.String.{string_bytes};
 ghost use Rattle.cop_net.specs.Devices.{File};
-ghost use Rattle.cop_plan.specs.declared.choices.Choice.{Choice};
+ghost use Rattle.cop_plan.specs.declared.choices.Asked.{Asked};
 ghost use Rattle.cop_watch.specs.Pieces.{HoldsOfAll};
 ghost use Rattle.cop_engine.specs.Judgements.{transfers_in, judged_text, none_passes, IsCleared, ExplainsTrace, IsPlannedNetwork, IsJudgement, ExplainsJudgement};
 
@@ -11,7 +11,7 @@ use crate::faults::Fault;
 use crate::reports::push_number;
 use crate::runs::outcome_of;
 use cop_bus::{Step, clean_is_legal, judge, read_trace};
-use cop_plan::{Choice, Outcome, Plan};
+use cop_plan::{Asked, Outcome, Plan};
 use cop_watch::sent_if_lawful;
 use std::alloc::{AllocError, Global};
 use std::io::Read;
@@ -75,8 +75,8 @@ fn judged(alloc: Global, plan: &Plan, trace: &[u8]) -> Result<Vec<u8>, Fault>
 /// pieces that it breaks no rule. Memory does not grow with the trace. Where there is none, nothing is known of the trace:
 /// a rule may be broken, or it cannot be read, or it has what is rare in a trace, and [`judge_outcome`] judges it.
 pub fn judge_pieces<R: Read + Drop>(alloc: Global, outcome: &Outcome, reader: R) -> Option<Vec<u8>>
-    ensures { IfSome result (λ text. (choice : Choice) (nodes pdos : List ℕ) (eds : List File) → IsPlannedNetwork choice nodes pdos eds outcome.now
-        → HoldsOfAll (R.remaining reader) (λ trace. IsJudgement choice nodes pdos eds trace text.items)) }
+    ensures { IfSome result (λ text. (asked : Asked) (nodes pdos : List ℕ) (eds : List File) → IsPlannedNetwork asked nodes pdos eds outcome.now
+        → HoldsOfAll (R.remaining reader) (λ trace. IsJudgement asked nodes pdos eds trace text.items)) }
 {
     match outcome {
         Outcome::Planned(plan) => cleared(alloc, plan, reader),
@@ -87,8 +87,8 @@ pub fn judge_pieces<R: Read + Drop>(alloc: Global, outcome: &Outcome, reader: R)
 /// The judgement of a trace by what the planner answers for a network, as [`judge_bytes`] gives it of the network's files. The steps of
 /// the trace are kept.
 pub fn judge_outcome(alloc: Global, outcome: &Outcome, trace: &[u8]) -> Result<Vec<u8>, Fault>
-    ensures { (choice : Choice) (nodes pdos : List ℕ) (eds : List File) → IsPlannedNetwork choice nodes pdos eds outcome.now
-        → MatchResult result (λ text. IsJudgement choice nodes pdos eds trace.now text.items) (λ fault. ExplainsJudgement choice nodes pdos eds trace.now fault) }
+    ensures { (asked : Asked) (nodes pdos : List ℕ) (eds : List File) → IsPlannedNetwork asked nodes pdos eds outcome.now
+        → MatchResult result (λ text. IsJudgement asked nodes pdos eds trace.now text.items) (λ fault. ExplainsJudgement asked nodes pdos eds trace.now fault) }
 {
     match outcome {
         Outcome::Planned(plan) => judged(alloc, plan, trace),
@@ -105,12 +105,12 @@ pub fn judge_bytes(
     nodes: &[u8],
     pdos: &[u8],
     eds_files: &[(String, Vec<u8>)],
-    choice: Choice,
+    asked: &Asked,
     trace: &[u8],
 ) -> Result<Vec<u8>, Fault>
-    ensures { MatchResult result (λ text. IsJudgement choice nodes.now pdos.now (map (λ f. record { name = string_bytes f.0; text = f.1.items }) eds_files.now) trace.now text.items) (λ fault. ExplainsJudgement choice nodes.now pdos.now (map (λ f. record { name = string_bytes f.0; text = f.1.items }) eds_files.now) trace.now fault) }
+    ensures { MatchResult result (λ text. IsJudgement asked.now nodes.now pdos.now (map (λ f. record { name = string_bytes f.0; text = f.1.items }) eds_files.now) trace.now text.items) (λ fault. ExplainsJudgement asked.now nodes.now pdos.now (map (λ f. record { name = string_bytes f.0; text = f.1.items }) eds_files.now) trace.now fault) }
 {
-    let outcome = outcome_of(alloc, nodes, pdos, eds_files, choice)?;
+    let outcome = outcome_of(alloc, nodes, pdos, eds_files, asked)?;
     match judge_pieces(alloc, &outcome, trace) {
         Some(text) => Ok(text),
         None => judge_outcome(alloc, &outcome, trace),

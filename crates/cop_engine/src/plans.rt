@@ -19,7 +19,7 @@ use crate::plan_texts::{planned_text, refused_text};
 use crate::tests_of_streams::judge_first;
 use cop_cert::{Items, Refusal, write};
 use cop_net::{EdsFiles, Network, network_of_files, read_nodes, read_pdos};
-use cop_plan::{Choice, Outcome, Plan, plan};
+use cop_plan::{Asked, Choice, Outcome, Plan, plan};
 use std::alloc::{AllocError, Global};
 
 /// What `plan` gives: the text of the plan, the refusal file, and the DCF file of each device.
@@ -91,8 +91,8 @@ fn files_of(
 }
 
 #[tactic(auto, using(crate::proofs::DcfLemmas::have_texts))]
-/// The plan of a network, from its tables and its EDS files: a table of nodes, a table of PDOs, and the EDS files by the
-/// names that the devices give. Otherwise the first rule that they break, or want of memory.
+/// The plan that is asked of a network, from its tables and its EDS files: a table of nodes, a table of PDOs, and the EDS
+/// files by the names that the devices give. Otherwise the first rule that they break, or want of memory.
 ///
 /// What the files guarantee is told at [`planner_guarantee`](crate::planner_guarantee).
 pub fn plan_bytes(
@@ -100,13 +100,13 @@ pub fn plan_bytes(
     nodes: &[u8],
     pdos: &[u8],
     eds_files: &[(String, Vec<u8>)],
-    choice: Choice,
+    asked: &Asked,
 ) -> Result<Files, Fault>
-    ensures { MatchResult result (AreGuaranteedFiles choice nodes.now pdos.now (map (λ f. record { name = string_bytes f.0; text = f.1.items }) eds_files.now)) (λ fault. ExplainsNetwork nodes.now pdos.now (map (λ f. record { name = string_bytes f.0; text = f.1.items }) eds_files.now) fault) }
+    ensures { MatchResult result (AreGuaranteedFiles asked.now nodes.now pdos.now (map (λ f. record { name = string_bytes f.0; text = f.1.items }) eds_files.now)) (λ fault. ExplainsNetwork asked.now.rates nodes.now pdos.now (map (λ f. record { name = string_bytes f.0; text = f.1.items }) eds_files.now) fault) }
 {
     let nodes = read_nodes(alloc, nodes)?;
     let pdos = read_pdos(alloc, pdos)?;
     let eds_files = EdsFiles::new(alloc, eds_files)?;
-    let network = network_of_files(alloc, &nodes, &pdos, &eds_files)?;
-    Ok(files_of(alloc, &network, &eds_files, choice)?)
+    let network = network_of_files(alloc, &asked.rates, &nodes, &pdos, &eds_files)?;
+    Ok(files_of(alloc, &network, &eds_files, asked.choice)?)
 }

@@ -10,7 +10,7 @@ use crate::faults::Fault;
 use crate::judgements::none_passes;
 use crate::seeded_runs::{RunFault, run_plan};
 use cop_net::{network, read_nodes, read_pdos};
-use cop_plan::{Choice, Outcome, plan};
+use cop_plan::{Asked, Outcome, plan};
 use std::alloc::Global;
 
 impl From<RunFault> for Fault {
@@ -31,14 +31,14 @@ pub fn outcome_of(
     nodes: &[u8],
     pdos: &[u8],
     eds_files: &[(String, Vec<u8>)],
-    choice: Choice,
+    asked: &Asked,
 ) -> Result<Outcome, Fault>
-    ensures { MatchResult result (λ outcome. IsPlannedNetwork choice nodes.now pdos.now (map (λ f. record { name = string_bytes f.0; text = f.1.items }) eds_files.now) outcome) (λ fault. ExplainsNetwork nodes.now pdos.now (map (λ f. record { name = string_bytes f.0; text = f.1.items }) eds_files.now) fault) }
+    ensures { MatchResult result (λ outcome. IsPlannedNetwork asked.now nodes.now pdos.now (map (λ f. record { name = string_bytes f.0; text = f.1.items }) eds_files.now) outcome) (λ fault. ExplainsNetwork asked.now.rates nodes.now pdos.now (map (λ f. record { name = string_bytes f.0; text = f.1.items }) eds_files.now) fault) }
 {
     let nodes = read_nodes(alloc, nodes)?;
     let pdos = read_pdos(alloc, pdos)?;
-    let network = network(alloc, &nodes, &pdos, eds_files)?;
-    Ok(plan(alloc, &network, choice)?)
+    let network = network(alloc, &asked.rates, &nodes, &pdos, eds_files)?;
+    Ok(plan(alloc, &network, asked.choice)?)
 }
 
 /// The text and the trace of the seeded run of a network up to so many microseconds. Where no rate passes that is said,
@@ -51,12 +51,12 @@ pub fn run_bytes(
     nodes: &[u8],
     pdos: &[u8],
     eds_files: &[(String, Vec<u8>)],
-    choice: Choice,
+    asked: &Asked,
 ) -> Result<(Vec<u8>, Vec<u8>), Fault>
     requires { until ≤ 1000000000 }
-    ensures { MatchResult result (λ r. IsNetworkRun choice nodes.now pdos.now (map (λ f. record { name = string_bytes f.0; text = f.1.items }) eds_files.now) seed until r.0.items r.1.items) (λ fault. ExplainsNetworkRun choice nodes.now pdos.now (map (λ f. record { name = string_bytes f.0; text = f.1.items }) eds_files.now) seed until fault) }
+    ensures { MatchResult result (λ r. IsNetworkRun asked.now nodes.now pdos.now (map (λ f. record { name = string_bytes f.0; text = f.1.items }) eds_files.now) seed until r.0.items r.1.items) (λ fault. ExplainsNetworkRun asked.now nodes.now pdos.now (map (λ f. record { name = string_bytes f.0; text = f.1.items }) eds_files.now) seed until fault) }
 {
-    match outcome_of(alloc, nodes, pdos, eds_files, choice)? {
+    match outcome_of(alloc, nodes, pdos, eds_files, asked)? {
         Outcome::Planned(plan) => Ok(run_plan(alloc, &plan, seed, until, Vec::new(alloc))?),
         Outcome::Refused(_) => Ok((none_passes(alloc)?, Vec::new(alloc))),
     }

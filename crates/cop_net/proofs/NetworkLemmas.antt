@@ -5,6 +5,7 @@ use Rattle.std.proofs.lemmas.Option.{slice_get-map}
 use Rattle.std.proofs.lemmas.List.{length-map}
 use Rattle.std.proofs.Math.ListN.{get_or-append}
 use Rattle.std.proofs.Math.Seq.{get_or-append_right}
+use Rattle.cop_frame.specs.declared.rates.Rate.{Rate}
 use Rattle.cop_rows.specs.declared.node_table.DeviceRow.{DeviceRow}
 use Rattle.cop_rows.specs.declared.node_table.FrameRow.{FrameRow}
 use Rattle.cop_rows.specs.declared.node_table.FrameKind.{FrameKind}
@@ -143,21 +144,21 @@ network_streams frames rows equipment set h le ok =
     )
 
 -- what the devices and the streams make
-pub made : (nodes : NodeLists) (rows : List PdoRow) (files : List File) (equipment : Equipment) (set : List Stream) → devices_of files nodes.devices ≡ Ok equipment
+pub made : (wanted : List Rate) (nodes : NodeLists) (rows : List PdoRow) (files : List File) (equipment : Equipment) (set : List Stream) → devices_of wanted files nodes.devices ≡ Ok equipment
     → streams_of nodes.frames rows equipment ≡ Ok (map entry_of set)
-    → network_of nodes rows files ≡ Ok (accepted (record { nodes = nodes; rows = rows; equipment = equipment; set = set }))
+    → network_of wanted nodes rows files ≡ Ok (accepted (record { nodes = nodes; rows = rows; equipment = equipment; set = set }))
 unfolding network_of
-made nodes rows files equipment set devices streams = rw (devices, streams) refl
+made wanted nodes rows files equipment set devices streams = rw (devices, streams) refl
 
 streams_one_set : (frames : List FrameRow) (rows : List PdoRow) (equipment : Equipment) (streams : List Entry) → All IsTimed frames → length rows ≤ 512
     → streams_of frames rows equipment ≡ Ok streams → AreOneSet streams
 streams_one_set frames rows equipment streams h le ok =
     let s = streams_are frames rows equipment streams ok in subst AreOneSet (sym s.3) (one_set_all s.0 frames s.1 (omega (arith, s.2, le)) h)
 
-one_set_made : (nodes : NodeLists) (rows : List PdoRow) (files : List File) (made : Accepted) → IsNodeTable nodes → length rows ≤ 512 → network_of nodes rows files ≡ Ok made → AreOneSet made.streams
+one_set_made : (wanted : List Rate) (nodes : NodeLists) (rows : List PdoRow) (files : List File) (made : Accepted) → IsNodeTable nodes → length rows ≤ 512 → network_of wanted nodes rows files ≡ Ok made → AreOneSet made.streams
 unfolding network_of
-one_set_made nodes rows files made table le ok =
-    let p = bind_ok (devices_of files nodes.devices) _ made ok in
+one_set_made wanted nodes rows files made table le ok =
+    let p = bind_ok (devices_of wanted files nodes.devices) _ made ok in
     let q = bind_ok (streams_of nodes.frames rows p.0) _ made p.2 in
     let whole : ◌≡◌ {A = Result Accepted Refusal} (Ok (record { equipment = p.0; streams = q.0 })) (Ok made) = q.2 in
     let same : record { equipment = p.0; streams = q.0 } ≡ made = cc in
@@ -168,6 +169,6 @@ of_accepted P (Ok x) h = h x refl
 of_accepted P (Err e) h = tt
 
 -- one set can have the streams of each network that is accepted
-pub accepted_one_set : (nodes : NodeLists) (rows : List PdoRow) (files : List File) → IsNodeTable nodes → IsPdoTable rows → IfOk (network_of nodes rows files) (λ made. AreOneSet made.streams)
-accepted_one_set nodes rows files table pdos =
-    of_accepted (λ made. AreOneSet made.streams) (network_of nodes rows files) (λ made ok. one_set_made nodes rows files made table pdos.count ok)
+pub accepted_one_set : (wanted : List Rate) (nodes : NodeLists) (rows : List PdoRow) (files : List File) → IsNodeTable nodes → IsPdoTable rows → IfOk (network_of wanted nodes rows files) (λ made. AreOneSet made.streams)
+accepted_one_set wanted nodes rows files table pdos =
+    of_accepted (λ made. AreOneSet made.streams) (network_of wanted nodes rows files) (λ made ok. one_set_made wanted nodes rows files made table pdos.count ok)

@@ -147,3 +147,23 @@ no_member (x ∷ rates) h = absurd (h x (0, zero-lt-suc _, refl))
 pub has_one : (rates : List Rate) (o : Option Rate) → IfSome o (Contains rates) → IfNone o ((r : Rate) → Contains rates r → ⊥) → is_some o ≡ is_some_rate (in_order rates)
 has_one rates (Some r) member absent = sym (some_member (in_order rates) r ((same_members rates r).1 member))
 has_one rates None member absent = sym (no_member (in_order rates) (λ r h. absent r ((same_members rates r).0 h)))
+
+-- one set has one order
+pub same_order : (old new : List Rate) → ((r : Rate) → Contains new r ↔ Contains old r) → in_order new ≡ in_order old
+unfolding in_order
+same_order old new h = by_test (has_rate new) (has_rate old)
+    (λ r. one_answer (has_rate new r) (has_rate old r) (λ e. of_it old r ((h r).0 (in_it new r e)), λ e. of_it new r ((h r).1 (in_it old r e)))) all_rates
+  where
+    one_answer : (a b : Bool) → (a ≡ true) ↔ (b ≡ true) → a ≡ b
+    one_answer true true h = refl
+    one_answer true false h = absurd (let e = h.0 refl in cc)
+    one_answer false true h = absurd (let e = h.1 refl in cc)
+    one_answer false false h = refl
+
+    by_test : (p q : Rate → Bool) → ((r : Rate) → p r ≡ q r) → (xs : List Rate) → filter p xs ≡ filter q xs
+    by_test p q h [] = refl
+    by_test p q h (x ∷ xs) = rw h (ap (λ ys. cond (q x) (x ∷ ys) ys) (by_test p q h xs))
+
+-- what is in a set and in itself
+pub in_both : (rates both : List Rate) → ((r : Rate) → Contains both r ↔ (Contains rates r × Contains rates r)) → (r : Rate) → Contains both r ↔ Contains rates r
+in_both rates both h r = (λ c. ((h r).0 c).0, λ c. (h r).1 (c, c))

@@ -3,7 +3,6 @@ use Rattle.std.specs.Prelude.{ℕ, Bool, false, List, replicate, slice_set, find
 use Rattle.std.specs.List.{filter}
 use Rattle.std.specs.Str.{bytes_eq}
 use Rattle.cop_frame.specs.declared.rates.Rate.{Rate}
-use Rattle.cop_frame.specs.RateSet.{all_rates}
 use Rattle.cop_eds.specs.declared.fault.Refusal as eds
 use Rattle.cop_eds.specs.Reading.{reading}
 use Rattle.cop_eds.specs.Rates.{support_of}
@@ -15,6 +14,7 @@ use Rattle.cop_net.specs.declared.faults.Refusal.{Refusal}
 use Rattle.cop_net.specs.declared.faults.Rule.TheVariants as rules
 use Rattle.cop_net.specs.declared.devices.Device.{Device}
 use Rattle.cop_net.specs.Faults.{at_node}
+use Rattle.cop_net.specs.Rates.{in_order}
 use Rattle.cop_net.specs.Steps.{folded}
 
 -- a file that is handed in
@@ -53,13 +53,14 @@ is_supported (Err _) = false
 abbrev pub supports : List ℕ → Rate → Bool
 supports text rate = is_supported (support_of text rate)
 
--- the devices by their nodes, from 0 to 127, and the rates that all of them support, the slowest first
+-- the devices by their nodes, from 0 to 127, and the candidates: the rates that are wanted and that all of them support, the slowest first
 pub record Equipment : Type 0 where
   pub devices : List (Option Device)
   pub rates : List Rate
 
-abbrev pub no_device : Equipment
-no_device = record { devices = replicate 128 None; rates = all_rates }
+-- no device: each rate that is wanted
+abbrev pub no_device : List Rate → Equipment
+no_device wanted = record { devices = replicate 128 None; rates = in_order wanted }
 
 -- one device more
 abbrev pub with_device : Equipment → DeviceRow → List ℕ → List Entry → Equipment
@@ -76,6 +77,6 @@ described found row text = entries_of row.place row.node text >>= λ entries. Ok
 abbrev pub device_added : (List ℕ → Option (List ℕ)) → Equipment → DeviceRow → Result Equipment Refusal
 device_added texts found row = text_read texts row.place row.eds >>= described found row
 
--- the devices of the rows, or the first refusal by record
-unfoldable pub devices_of : List File → List DeviceRow → Result Equipment Refusal
-devices_of files rows = folded (device_added (text_of files)) no_device rows
+-- the devices of the rows and the candidates of the rates that are wanted, or the first refusal by record
+unfoldable pub devices_of : List Rate → List File → List DeviceRow → Result Equipment Refusal
+devices_of wanted files rows = folded (device_added (text_of files)) (no_device wanted) rows

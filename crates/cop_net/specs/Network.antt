@@ -2,6 +2,7 @@
 use Rattle.std.specs.Prelude.{◌≡◌, ◌<◌, ◌≤◌, ◌⊎◌, ℕ, ◌+◌, map, length, find, slice_get, IsSome, option_and_then, Bool, true, false, not, ◌&&◌, List, [], ◌∷◌, ◌++◌, Option, Some, None, if◌then◌else◌, Result, Ok}
 use Rattle.std.specs.List.{list_any}
 use Rattle.std.specs.Option.{option_map_or}
+use Rattle.cop_frame.specs.declared.rates.Rate.{Rate}
 use Rattle.cop_dict.specs.Find as dictionary
 use Rattle.cop_rows.specs.declared.node_table.FrameRow.{FrameRow}
 use Rattle.cop_rows.specs.declared.pdo_table.PdoRow.{PdoRow}
@@ -48,7 +49,7 @@ unfoldable pub all_settable : List FrameRow → List Used → ℕ → List (Opti
 all_settable frames used node [] = Ok tt
 all_settable frames used node (device ∷ devices) = settable frames used node device >>= λ _. all_settable frames used (node + 1) devices
 
--- some rate is supported by all devices
+-- some rate that is wanted is supported by all devices
 abbrev pub with_rate : Bool → Result (Unit {0}) Refusal
 with_rate false = at_node rules.NoRate 0
 with_rate true = Ok tt
@@ -61,15 +62,15 @@ streams_of frames rows equipment = do
   _ ← with_rate (is_some_rate equipment.rates)
   Ok (traffic.streams ++ fixed_streams frames)
 
--- what is accepted: the devices by their nodes and the rates that all of them support, and the streams
+-- what is accepted: the devices by their nodes and the candidates, and the streams
 pub record Accepted : Type 0 where
   pub equipment : Equipment
   pub streams : List Entry
 
--- the network, or the first rule that it breaks
-unfoldable pub network_of : NodeLists → List PdoRow → List File → Result Accepted Refusal
-network_of nodes rows files = do
-  equipment ← devices_of files nodes.devices
+-- the network whose plan may have the rates that are wanted, or the first rule that it breaks
+unfoldable pub network_of : List Rate → NodeLists → List PdoRow → List File → Result Accepted Refusal
+network_of wanted nodes rows files = do
+  equipment ← devices_of wanted files nodes.devices
   streams ← streams_of nodes.frames rows equipment
   Ok (record { equipment = equipment; streams = streams })
 
@@ -102,10 +103,11 @@ pub record BeginsWith (pdos : ℕ) (streams : List Stream) : Type 0 where
   pub outside_second : (k : ℕ) → pdos ≤ k → k < length streams → IsOutside second_range (of_stream (λ s. s.id) streams k)
   pub dated : (k : ℕ) → pdos ≤ k → k < length streams → IsSome (deadline_at streams k) → IsSdo (of_stream (λ s. s.id) streams k)
 
--- what holds of each network: it is what its tables and some files make
+-- what holds of each network: it is what its tables, some files and some rates that are wanted make
 pub record IsNetwork (n : Net) : Type 0 where
+  pub wanted : List Rate
   pub files : List File
-  pub made : network_of n.nodes n.rows files ≡ Ok (accepted n)
+  pub made : network_of wanted n.nodes n.rows files ≡ Ok (accepted n)
   pub nodes : IsNodeTable n.nodes
   pub rows : IsPdoTable n.rows
   pub streams : BeginsWith (length n.rows) n.set

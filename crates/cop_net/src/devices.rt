@@ -13,7 +13,7 @@ ghost use Rattle.cop_net.specs.declared.faults.PlanFault.TheVariants.{Refused};
 ghost use Rattle.cop_net.specs.Devices.{no_device, described, entries_of};
 
 use crate::faults::{PlanFault, Refusal, Rule, Table};
-use crate::rates::{all_rates, supported};
+use crate::rates::{same, supported};
 use cop_dict::{Blueprint, Dictionary};
 use cop_eds::EdsFault;
 use cop_frame::RateSet;
@@ -28,7 +28,7 @@ pub struct Device {
     pub dictionary: Dictionary,
 }
 
-/// The devices by their nodes, and the rates that all of them support.
+/// The devices by their nodes, and the candidates: the rates that are wanted and that all of them support.
 #[derive(Drop)]
 pub struct Devices {
     // One place for each node from 0 to 127.
@@ -75,9 +75,9 @@ fn dictionary_of(
 }
 
 impl Devices {
-    /// No device, and all rates.
-    pub fn new(alloc: Global) -> Result<Devices, PlanFault>
-        ensures { Gives (λ d. d) refusal result (Ok no_device) }
+    /// No device, and each rate that is wanted.
+    pub fn new(alloc: Global, wanted: &RateSet) -> Result<Devices, PlanFault>
+        ensures { Gives (λ d. d) refusal result (Ok (no_device wanted.now)) }
     {
         let mut devices = Vec::new(alloc);
         for _node in 0..128u8 {
@@ -85,7 +85,7 @@ impl Devices {
         }
         Ok(Devices {
             devices,
-            rates: all_rates(),
+            rates: same(wanted),
         })
     }
 
@@ -116,15 +116,14 @@ impl Devices {
         self.devices.len() as u8
     }
 
-    /// The rates that all devices support.
+    /// The candidates.
     pub fn rates(&self) -> RateSet
         ensures { (rate : Rate) → Contains result rate ↔ Contains self.now.rates rate }
     {
-        // A set has no copy: what is in it and in itself is that set.
-        self.rates.both(&self.rates)
+        same(&self.rates)
     }
 
-    /// Whether some rate is supported by all devices.
+    /// Whether there is a candidate.
     pub fn has_rate(&self) -> bool
         ensures { result ≡ is_some_rate self.now.rates }
     {

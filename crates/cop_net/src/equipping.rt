@@ -8,6 +8,7 @@ ghost use Rattle.cop_net.specs.Devices.{text_of, device_added, devices_of};
 use crate::devices::{Devices, refused};
 use crate::eds_files::EdsFiles;
 use crate::faults::PlanFault;
+use cop_frame::RateSet;
 use cop_rows::DeviceRow;
 use std::alloc::Global;
 
@@ -29,12 +30,17 @@ fn add_row(
 }
 
 #[tactic(auto, unfolding(crate::specs::Devices::devices_of))]
-/// The devices of the rows, or the first refusal by record.
-pub fn equip(alloc: Global, rows: &[DeviceRow], files: &EdsFiles<'_>) -> Result<Devices, PlanFault>
+/// The devices of the rows and the candidates of the rates that are wanted, or the first refusal by record.
+pub fn equip(
+    alloc: Global,
+    wanted: &RateSet,
+    rows: &[DeviceRow],
+    files: &EdsFiles<'_>,
+) -> Result<Devices, PlanFault>
     requires { All (λ row. row.node ≤ 127) rows.now }
-    ensures { Gives (λ d. d) refusal result (devices_of files.now rows.now) }
+    ensures { Gives (λ d. d) refusal result (devices_of wanted.now files.now rows.now) }
 {
-    let mut devices = Devices::new(alloc)?;
+    let mut devices = Devices::new(alloc, wanted)?;
     for row in rows {
         add_row(alloc, &mut devices, files, row)?;
     }

@@ -25,4 +25,5 @@ pub use eds_files::EdsFiles;
 pub use faults::{DevicePdo, PlanFault, ReceiveFault, Refusal, Rule, SyncFault, Table};
 pub use making::{network, network_of_files};
 pub use networks::Network;
+pub use rates::all_rates;
 pub use tables::{read_nodes, read_pdos};

@@ -21,6 +21,7 @@ use crate::networks::Network;
 use crate::pdos::find_pdos;
 use crate::signals::Signals;
 use crate::strays::{check_devices, refused};
+use cop_frame::RateSet;
 use cop_rows::{DeviceRow, FrameRow, NodeTable, PdoRow, PdoTable};
 use cop_rta::StreamSet;
 use std::alloc::Global;
@@ -70,6 +71,7 @@ fn streams_of(
 /// The network of the tables, by the rows that are in them.
 fn network_of_rows<'a>(
     alloc: Global,
+    wanted: &RateSet,
     nodes: &'a NodeTable,
     pdos: &'a PdoTable,
     frames: &'a [FrameRow],
@@ -78,11 +80,11 @@ fn network_of_rows<'a>(
 ) -> Result<Network<'a>, PlanFault>
     requires frames { (frames.now ≡ nodes.now.frames) × IsNodeTable nodes.now × All IsTimed frames.now }
     requires rows { (rows.now ≡ pdos.now) × IsPdoTable pdos.now }
-    ensures exact { Gives accepted refusal result (network_of nodes.now pdos.now files.now) }
-    ensures one_set { IfOk (network_of nodes.now pdos.now files.now) (λ made. AreOneSet made.streams) }
+    ensures exact { Gives accepted refusal result (network_of wanted.now nodes.now pdos.now files.now) }
+    ensures one_set { IfOk (network_of wanted.now nodes.now pdos.now files.now) (λ made. AreOneSet made.streams) }
     ensures tables { IfOk result (λ n. (n.nodes ≡ nodes.now) × (n.rows ≡ pdos.now)) }
 {
-    let devices = equip(alloc, device_rows(nodes), files)?;
+    let devices = equip(alloc, wanted, device_rows(nodes), files)?;
     let frames = Frames::new(frames);
     let set = streams_of(alloc, &frames, rows, &devices)?;
     Ok(Network {
@@ -94,37 +96,47 @@ fn network_of_rows<'a>(
     })
 }
 
-/// The network of the tables and of EDS files that are read. Otherwise the first rule that is broken: of the devices by
-/// record (43); then of the PDOs by record (45, the TPDO's 46, 47, 53, and of each consumer in turn 48 and 46); then of the
-/// devices by node (51, 50); then 52. The streams of a network that breaks no rule are apart and few enough for one set,
+/// The network of the tables and of EDS files that are read, whose plan may have the rates that are wanted. Otherwise the
+/// first rule that is broken: of the devices by record (43); then of the PDOs by record (45, the TPDO's 46, 47, 53, and of
+/// each consumer in turn 48 and 46); then of the devices by node (51, 50); then 52. The streams of a network that breaks no rule are apart and few enough for one set,
 /// which so refuses none of them.
 pub fn network_of_files<'a>(
     alloc: Global,
+    wanted: &RateSet,
     nodes: &'a NodeTable,
     pdos: &'a PdoTable,
     files: &EdsFiles<'_>,
 ) -> Result<Network<'a>, PlanFault>
-    ensures exact { Gives accepted refusal result (network_of nodes.now pdos.now files.now) }
-    ensures one_set { IfOk (network_of nodes.now pdos.now files.now) (λ made. AreOneSet made.streams) }
+    ensures exact { Gives accepted refusal result (network_of wanted.now nodes.now pdos.now files.now) }
+    ensures one_set { IfOk (network_of wanted.now nodes.now pdos.now files.now) (λ made. AreOneSet made.streams) }
     ensures tables { IfOk result (λ n. (n.nodes ≡ nodes.now) × (n.rows ≡ pdos.now)) }
 {
-    network_of_rows(alloc, nodes, pdos, frame_rows(nodes), pdos.rows(), files)
+    network_of_rows(
+        alloc,
+        wanted,
+        nodes,
+        pdos,
+        frame_rows(nodes),
+        pdos.rows(),
+        files,
+    )
 }
 
 #[tactic(auto, using(crate::proofs::NetworkLemmas::accepted_one_set))]
-/// The network of the tables and of the EDS files, which have names and texts; of two files with one name the first counts.
-/// It is [`network_of_files`] of those that are read.
+/// The network of the tables and of the EDS files, which have names and texts, whose plan may have the rates that are
+/// wanted; of two files with one name the first counts. It is [`network_of_files`] of those that are read.
 pub fn network<'a>(
     alloc: Global,
+    wanted: &RateSet,
     nodes: &'a NodeTable,
     pdos: &'a PdoTable,
     files: &[(String, Vec<u8>)],
 ) -> Result<Network<'a>, PlanFault>
-    ensures exact { Gives accepted refusal result (network_of nodes.now pdos.now (map (λ f. record { name = string_bytes f.0; text = f.1.items }) files.now)) }
-    ensures one_set { IfOk (network_of nodes.now pdos.now (map (λ f. record { name = string_bytes f.0; text = f.1.items }) files.now)) (λ made. AreOneSet made.streams) }
+    ensures exact { Gives accepted refusal result (network_of wanted.now nodes.now pdos.now (map (λ f. record { name = string_bytes f.0; text = f.1.items }) files.now)) }
+    ensures one_set { IfOk (network_of wanted.now nodes.now pdos.now (map (λ f. record { name = string_bytes f.0; text = f.1.items }) files.now)) (λ made. AreOneSet made.streams) }
     ensures tables { IfOk result (λ n. (n.nodes ≡ nodes.now) × (n.rows ≡ pdos.now)) }
 {
     let (frames, rows) = (frame_rows(nodes), pdos.rows());
     let files = EdsFiles::new(alloc, files)?;
-    network_of_rows(alloc, nodes, pdos, frames, rows, &files)
+    network_of_rows(alloc, wanted, nodes, pdos, frames, rows, &files)
 }

@@ -15,7 +15,7 @@ use cop_rows::{DeviceRow, NodeTable, PdoRow, PdoTable};
 use cop_rta::StreamSet;
 use std::marker::Model;
 
-/// A network: the tables, the dictionary of each device, the rates that all devices support, and the streams.
+/// A network: the tables, the dictionary of each device, the candidates, and the streams.
 #[derive(Drop)]
 pub struct Network<'a> {
     pub(crate) nodes: &'a NodeTable,
@@ -70,7 +70,7 @@ impl<'a> Network<'a> {
         self.rows().len()
     }
 
-    /// The rates that all devices support; there is one.
+    /// The candidates, which are the rates that are wanted and that all devices support; there is one.
     pub fn rates(&self) -> RateSet
         ensures rates { (rate : Rate) → Contains result rate ↔ Contains self.now.equipment.rates rate }
         ensures network { IsNetwork self.now }

@@ -1,7 +1,8 @@
-//! The rates that devices support.
+//! The rates that a plan may have, and those that devices support.
 
-ghost use Rattle.std.specs.Prelude.{◌≡◌};
-ghost use Rattle.std.specs.List.{filter};
+ghost use Rattle.std.specs.Prelude.{◌≡◌, ◌↔◌};
+ghost use Rattle.std.specs.List.{Contains, filter};
+ghost use Rattle.cop_frame.specs.declared.rates.Rate.{Rate};
 ghost use Rattle.cop_frame.specs.RateSet.{all_rates};
 ghost use Rattle.cop_net.specs.Rates.{in_order};
 ghost use Rattle.cop_net.specs.Devices.{supports};
@@ -18,6 +19,15 @@ pub fn all_rates() -> RateSet
         rates.insert(rate);
     }
     rates
+}
+
+/// The same set.
+pub fn same(rates: &RateSet) -> RateSet
+    ensures members { (rate : Rate) → Contains result rate ↔ Contains rates.now rate }
+    ensures order { in_order result ≡ in_order rates.now }
+{
+    // A set has no copy: what is in it and in itself is that set.
+    rates.both(rates)
 }
 
 /// The rates that a text supports too.

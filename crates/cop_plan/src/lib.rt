@@ -10,7 +10,7 @@ mod planning;
 mod plans;
 
 pub use assigning::{Outcome, assign, can_assign};
-pub use choices::Choice;
+pub use choices::{Asked, Choice};
 pub use filling::Count;
 pub use laws::{
     fillings_give_the_order, fillings_leave_the_greatest, one_outcome, order_is_unique,

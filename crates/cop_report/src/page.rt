@@ -36,6 +36,8 @@ pub struct Report<'a, 'n> {
     pub figures: &'a Figures,
     pub timeline: Option<&'a Timeline>,
     pub log: Option<&'a Logbook<'a>>,
+    /// Whether the rates that the plan may have were listed.
+    pub are_rates_listed: bool,
     pub inputs: &'a [Input<'a>],
 }
 
@@ -58,6 +60,7 @@ fn push_lead(
     page: &mut String,
     network: &Network<'_>,
     figures: &Figures,
+    are_rates_listed: bool,
 ) -> Result<(), AllocError> {
     let pdos = Count {
         number: network.pdos(),
@@ -68,16 +71,23 @@ fn push_lead(
         thing: "device",
     };
     write!(page, "<p>{pdos} of {devices}. ")?;
+    let rate = if are_rates_listed {
+        "rate that was asked for and that all devices support"
+    } else {
+        "rate that all devices support"
+    };
     if figures.rate.is_some() {
-        page.push_str(
-            "This is the slowest rate that all devices support and at which some choice of identifiers passes the \
-response-time test of Davis, Burns, Bril and Lukkien (2007).</p>\n",
+        write!(
+            page,
+            "This is the slowest {rate} and at which some choice of identifiers passes the \
+response-time test of Davis, Burns, Bril and Lukkien (2007).</p>\n"
         )
     } else {
-        page.push_str(
-            "At no rate that all devices support any choice of identifiers passes the response-time test of Davis, Burns, \
+        write!(
+            page,
+            "At no {rate} any choice of identifiers passes the response-time test of Davis, Burns, \
 Bril and Lukkien (2007). The reasons at each rate are below: longer deadlines or periods, fewer frames of fixed identifiers, \
-or devices with a faster rate can help.</p>\n",
+or devices with a faster rate can help.</p>\n"
         )
     }
 }
@@ -114,14 +124,11 @@ fn push_planned_load(page: &mut String, figures: &Figures) -> Result<(), AllocEr
 }
 
 /// Adds what there is to know at first sight.
-fn push_header(
-    page: &mut String,
-    network: &Network<'_>,
-    figures: &Figures,
-) -> Result<(), AllocError> {
+fn push_header(page: &mut String, report: Report<'_, '_>) -> Result<(), AllocError> {
+    let (network, figures) = (report.network, report.figures);
     page.push_str("<header>\n")?;
     push_title(page, figures)?;
-    push_lead(page, network, figures)?;
+    push_lead(page, network, figures, report.are_rates_listed)?;
     page.push_str("<div class=\"tiles\">\n")?;
     push_tightest(page, network, figures)?;
     push_planned_load(page, figures)?;
@@ -252,10 +259,15 @@ fn push_page(page: &mut String, alloc: Global, report: Report<'_, '_>) -> Result
     )?;
     page.push_str(STYLE)?;
     page.push_str("</style>\n</head>\n<body>\n<main>\n")?;
-    push_header(page, report.network, report.figures)?;
+    push_header(page, report)?;
     push_contents(page, report)?;
     push_margin(page, report)?;
-    push_rates(page, report.network, report.figures)?;
+    push_rates(
+        page,
+        report.network,
+        report.figures,
+        report.are_rates_listed,
+    )?;
     push_loads(page, report.figures)?;
     push_plan(page, alloc, report)?;
     push_inputs(page, report.inputs)?;

@@ -178,10 +178,15 @@ pub(crate) fn push_rates(
     page: &mut String,
     network: &Network<'_>,
     figures: &Figures,
+    are_rates_listed: bool,
 ) -> Result<(), AllocError> {
     page.push_str("<section id=\"rates\">\n<h2>Why no slower rate</h2>\n")?;
     if figures.refused.is_empty() {
-        page.push_str("<p>No slower rate is supported by all devices.</p>\n")?;
+        page.push_str(if are_rates_listed {
+            "<p>No slower rate that was asked for is supported by all devices.</p>\n"
+        } else {
+            "<p>No slower rate is supported by all devices.</p>\n"
+        })?;
     }
     for refused in figures.refused.iter() {
         push_refused(page, network, refused)?;

@@ -330,6 +330,14 @@ static EXPLANATIONS: [Explanation; 50] = [
     },
 ];
 
+/// What is to be said of the rule of rates where those that a plan may have are listed.
+pub(crate) static NONE_LISTED: Explanation = Explanation {
+    number: 52,
+    rule: "no bit rate that --rates lists is supported by all devices",
+    cause: "a list without the rate of one device, or BaudRate_ keys of [DeviceInfo] that are 0 or missing in one EDS file",
+    right: "--rates 250,500 where all devices support one of them",
+};
+
 /// The explanation with a number, of some.
 fn find(explanations: &'static [Explanation], number: u8) -> Option<&'static Explanation>
     ensures { IfSome result (λ e. e.now.number ≡ number) }

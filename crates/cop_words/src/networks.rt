@@ -2,30 +2,33 @@
 
 use crate::columns::{header, header_with_deadline, name_of, wanted};
 use crate::devices::text_named;
+use crate::explanations::NONE_LISTED;
 use crate::paces::{pace_words, sender};
 use crate::pdos::{RefusedRow, push_cob_id, push_receive, push_stray, push_transmit, push_type};
 use crate::places::{line_at, record_at};
-use crate::rates::push_all_rates;
+use crate::rates::{is_list, push_all_rates};
 use crate::separators::seen;
-use crate::words::{Source, push_place, push_rule, push_shown};
+use crate::words::{Source, push_explanation, push_place, push_rule, push_shown};
+use cop_frame::RateSet;
 use cop_net::{
     DeviceRow, NodeTable, PlanFault, Refusal, Rule, Table, network, read_nodes, read_pdos,
 };
 use std::alloc::{AllocError, Global};
 
-/// A network's tables, and its EDS files by their names.
+/// A network's tables, its EDS files by their names, and the rates that its plan may have.
 #[derive(Clone, Copy)]
 pub struct Network<'a> {
     pub nodes: Source<'a>,
     pub pdos: Source<'a>,
     pub eds_files: &'a [(String, Vec<u8>)],
+    pub wanted: &'a RateSet,
 }
 
 /// Reads a network, and nothing more.
 fn read(alloc: Global, files: Network<'_>) -> Result<(), PlanFault> {
     let nodes = read_nodes(alloc, files.nodes.text)?;
     let pdos = read_pdos(alloc, files.pdos.text)?;
-    network(alloc, &nodes, &pdos, files.eds_files)?;
+    network(alloc, files.wanted, &nodes, &pdos, files.eds_files)?;
     Ok(())
 }
 
@@ -275,7 +278,11 @@ fn refusal_words(
     }
     push_devices(&mut words, alloc, files, refusal)?;
     push_more(&mut words, alloc, files, refusal)?;
-    push_rule(&mut words, alloc, refusal.rule.number())?;
+    if refusal.rule == Rule::NoRate && is_list(files.wanted) {
+        push_explanation(&mut words, alloc, &NONE_LISTED)?;
+    } else {
+        push_rule(&mut words, alloc, refusal.rule.number())?;
+    }
     Ok(words)
 }
 

@@ -1,16 +1,19 @@
-//! What is said of devices that have no rate in common.
+//! What is said of devices that have no rate in common, or none of those that are listed.
 
 use crate::devices::{accepted, text_named};
 use crate::networks::Network;
 use crate::words::push_shown;
-use cop_eds::Eds;
-use cop_frame::Rate;
+use cop_frame::{Rate, RateSet};
 use cop_net::NodeTable;
 use std::alloc::{AllocError, Global};
 
-/// Adds the rates that an EDS text supports.
-fn push_rates(words: &mut Vec<u8>, alloc: Global, eds: &Eds<'_>) -> Result<(), AllocError> {
-    let rates = eds.rates();
+/// Whether the rates that a plan may have are not all.
+pub(crate) fn is_list(wanted: &RateSet) -> bool {
+    Rate::ALL.iter().any(|rate| !wanted.contains(*rate))
+}
+
+/// Adds some rates.
+fn push_rates(words: &mut Vec<u8>, alloc: Global, rates: &RateSet) -> Result<(), AllocError> {
     if rates.slowest().is_none() {
         words.extend_from_slice(b" none")?;
         return Ok(());
@@ -41,12 +44,23 @@ fn push_file(
     };
     push_shown(words, name)?;
     words.extend_from_slice(b" supports")?;
-    push_rates(words, alloc, &eds)?;
+    push_rates(words, alloc, &eds.rates())?;
     words.push(b'\n')?;
     Ok(())
 }
 
-/// Adds each EDS file of the devices with its rates, once.
+/// Adds the rates that are listed, where not all may be taken.
+fn push_listed(words: &mut Vec<u8>, alloc: Global, wanted: &RateSet) -> Result<(), AllocError> {
+    if !is_list(wanted) {
+        return Ok(());
+    }
+    words.extend_from_slice(b"--rates lists")?;
+    push_rates(words, alloc, wanted)?;
+    words.push(b'\n')?;
+    Ok(())
+}
+
+/// Adds each EDS file of the devices with its rates, once, and the rates that are listed.
 pub(crate) fn push_all_rates(
     words: &mut Vec<u8>,
     alloc: Global,
@@ -63,5 +77,5 @@ pub(crate) fn push_all_rates(
             push_file(words, alloc, files, name)?;
         }
     }
-    Ok(())
+    push_listed(words, alloc, files.wanted)
 }

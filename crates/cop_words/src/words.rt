@@ -1,6 +1,6 @@
 //! What is said of a rule, and of the record or line that breaks it.
 
-use crate::explanations::explained;
+use crate::explanations::{Explanation, NONE_LISTED, explained};
 use crate::places::{Place, record_at};
 use crate::separators::seen;
 use std::alloc::{AllocError, Global};
@@ -93,21 +93,35 @@ fn push_end(words: &mut Vec<u8>, alloc: Global, name: &str) -> Result<(), AllocE
     Ok(())
 }
 
-/// Adds the lines on a rule: what is broken, what is usually behind it, and what is right.
-pub(crate) fn push_rule(words: &mut Vec<u8>, alloc: Global, number: u8) -> Result<(), AllocError> {
-    let Some(found) = explained(number) else {
-        return Ok(());
-    };
-    let (rule, cause, right) = (found.rule, found.cause, found.right);
+/// Adds the lines of an explanation: what is broken, what is usually behind it, and what is right.
+pub(crate) fn push_explanation(
+    words: &mut Vec<u8>,
+    alloc: Global,
+    found: &Explanation,
+) -> Result<(), AllocError> {
+    let (number, rule) = (found.number, found.rule);
+    let (cause, right) = (found.cause, found.right);
     let lines = format!(in alloc; "rule {number}: {rule}\nusually: {cause}\nright: {right}\n")?;
     words.extend_from_slice(lines.as_bytes())?;
     Ok(())
 }
 
-/// What the rule of a number says. Nothing for a number that no refusal has.
+/// Adds the lines on a rule.
+pub(crate) fn push_rule(words: &mut Vec<u8>, alloc: Global, number: u8) -> Result<(), AllocError> {
+    match explained(number) {
+        Some(found) => push_explanation(words, alloc, found),
+        None => Ok(()),
+    }
+}
+
+/// What the rule of a number says, and of that of rates also what it says where they are listed. Nothing for a number that
+/// no refusal has.
 pub fn rule_words(alloc: Global, number: u8) -> Result<Vec<u8>, AllocError> {
     let mut words = Vec::new(alloc);
     push_rule(&mut words, alloc, number)?;
+    if number == NONE_LISTED.number {
+        push_explanation(&mut words, alloc, &NONE_LISTED)?;
+    }
     Ok(words)
 }
 

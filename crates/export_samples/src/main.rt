@@ -8,7 +8,7 @@ ghost use Rattle.cop_plan.specs.Plans.{IsPlan};
 use cop_cdcf::concise;
 use cop_dbc::dbc;
 use cop_dcf::settings;
-use cop_net::{Network, network, read_nodes, read_pdos};
+use cop_net::{Network, all_rates, network, read_nodes, read_pdos};
 use cop_plan::{Choice, Outcome, Plan, plan};
 use std::alloc::Global;
 use std::{fs, io};
@@ -107,7 +107,7 @@ fn try_sample(rt: &HostRuntime, name: &str) -> io::Result<()> {
     ) else {
         return println!(rt; "{name}: a table is refused");
     };
-    match network(rt.alloc(), &nodes, &pdos, &files.eds_files) {
+    match network(rt.alloc(), &all_rates(), &nodes, &pdos, &files.eds_files) {
         Ok(network) => try_network(rt, name, &network, &files),
         Err(_) => println!(rt; "{name}: the network is refused"),
     }

@@ -2,7 +2,7 @@ use cop_dcf::{Setting, settings, write};
 use cop_dict::build;
 use cop_eds::parse;
 use cop_frame::Rate;
-use cop_net::{Network, NodeTable, PdoTable, network, read_nodes, read_pdos};
+use cop_net::{Network, NodeTable, PdoTable, all_rates, network, read_nodes, read_pdos};
 use cop_plan::{Choice, Outcome, plan};
 use std::alloc::Global;
 use std::test::Fail;
@@ -43,7 +43,7 @@ fn settings_of(alloc: Global, network: &Network<'_>) -> Result<Vec<Setting>, Fai
 fn valve_settings(alloc: Global) -> Result<Vec<Setting>, Fail> {
     let (nodes, pdos) = valve_tables(alloc)?;
     let files = [unit_file(alloc)?];
-    let valve = network(alloc, &nodes, &pdos, &files)?;
+    let valve = network(alloc, &all_rates(), &nodes, &pdos, &files)?;
     settings_of(alloc, &valve)
 }
 

@@ -11,7 +11,8 @@ use cop_engine::{
     Fault, Files, check_bytes, judge_bytes, plan_bytes, read_all, status, test_bytes,
 };
 use cop_frame::Rate;
-use cop_plan::Choice;
+use cop_net::all_rates;
+use cop_plan::{Asked, Choice};
 use std::alloc::{AllocError, Global};
 use std::io;
 use std::test::Fail;
@@ -268,9 +269,17 @@ pub(crate) fn eds_files(alloc: Global, text: &[u8]) -> Result<Vec<(String, Vec<u
     Ok(files)
 }
 
+/// A plan by a choice, which may have each rate.
+pub(crate) fn by(choice: Choice) -> Asked {
+    Asked {
+        rates: all_rates(),
+        choice,
+    }
+}
+
 fn planned(alloc: Global, nodes: &[u8], pdos: &[u8], eds: &[u8]) -> Result<Files, Fault> {
     let files = eds_files(alloc, eds)?;
-    plan_bytes(alloc, nodes, pdos, &files, Choice::Order)
+    plan_bytes(alloc, nodes, pdos, &files, &by(Choice::Order))
 }
 
 #[test]
@@ -381,7 +390,7 @@ fn dcf_files_stand_by_rising_node(rt: HostRuntime) -> Result<(), Fail> {
 // The check of a refusal file against the valve's network.
 fn checked(alloc: Global, refusals: &[u8]) -> Result<(Vec<u8>, bool), Fault> {
     let files = eds_files(alloc, UNIT)?;
-    check_bytes(alloc, VALVE, ONE_PDO, &files, refusals)
+    check_bytes(alloc, &all_rates(), VALVE, ONE_PDO, &files, refusals)
 }
 
 #[test]
@@ -449,7 +458,7 @@ fn a_trace_of_the_valve_is_on_time(rt: HostRuntime) -> Result<(), Fail> {
         VALVE,
         ONE_PDO,
         &files,
-        Choice::Order,
+        &by(Choice::Order),
         VALVE_TRACE,
     )?;
     assert!(rt; text.as_slice() == b"transfers 3\non time\n".as_slice());
@@ -476,7 +485,14 @@ fn traces_are_refused(rt: HostRuntime) -> Result<(), Fail> {
     let files = eds_files(rt.alloc(), UNIT)?;
     for case in BROKEN_TRACES {
         let (trace, number, place) = *case;
-        let judged = judge_bytes(rt.alloc(), VALVE, ONE_PDO, &files, Choice::Order, trace);
+        let judged = judge_bytes(
+            rt.alloc(),
+            VALVE,
+            ONE_PDO,
+            &files,
+            &by(Choice::Order),
+            trace,
+        );
         assert!(rt; refused(judged)? == Some((number, place)));
     }
     Ok(())

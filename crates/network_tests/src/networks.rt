@@ -1,9 +1,9 @@
 use cop_dict::{MappingFault, build};
 use cop_eds::parse;
-use cop_frame::Rate;
+use cop_frame::{Rate, RateSet};
 use cop_net::{
-    EdsFiles, Network, NodeTable, PdoTable, PlanFault, Rule, Table, network, network_of_files,
-    read_nodes, read_pdos,
+    EdsFiles, Network, NodeTable, PdoTable, PlanFault, Rule, Table, all_rates, network,
+    network_of_files, read_nodes, read_pdos,
 };
 use cop_pdo::{Direction, payload};
 use std::alloc::Global;
@@ -154,7 +154,7 @@ fn refused_of(
 ) -> Result<Option<Refused>, Fail> {
     let nodes = nodes_of(alloc, nodes)?;
     let pdos = pdos_of(alloc, pdos)?;
-    told(network(alloc, &nodes, &pdos, files))
+    told(network(alloc, &all_rates(), &nodes, &pdos, files))
 }
 
 const VALVE: &str = "device,5,Valve,unit.eds,0,0\nemcy,5,,,100000,0\nheartbeat,5,,,100000,0\n";
@@ -179,7 +179,7 @@ const VALVE_STREAMS: &[(u16, u8, u64, Option<u64>)] = &[
 #[test]
 fn the_streams_of_the_valve(rt: HostRuntime) -> Result<(), Fail> {
     let (nodes, pdos, files) = valve(rt.alloc())?;
-    let valve = network(rt.alloc(), &nodes, &pdos, &files)?;
+    let valve = network(rt.alloc(), &all_rates(), &nodes, &pdos, &files)?;
     let streams = valve.set().streams();
     assert!(rt; streams.len() == VALVE_STREAMS.len());
     let mut wanted = VALVE_STREAMS.iter();
@@ -197,7 +197,7 @@ fn an_sdo_frame_with_a_deadline(rt: HostRuntime) -> Result<(), Fail> {
     let nodes = read_nodes(rt.alloc(), text.as_bytes())?;
     let pdos = pdos_of(rt.alloc(), "5,1,10000,0,670,\n")?;
     let files = [file(rt.alloc(), "unit.eds", text_of(rt.alloc(), USUAL)?)?];
-    let valve = network(rt.alloc(), &nodes, &pdos, &files)?;
+    let valve = network(rt.alloc(), &all_rates(), &nodes, &pdos, &files)?;
     match valve.set().streams() {
         [_, emergency, response] => {
             assert!(rt; emergency.id == 0x085 && emergency.deadline.is_none());
@@ -241,7 +241,7 @@ fn a_file_is_read_by_its_name(rt: HostRuntime) -> Result<(), Fail> {
 fn a_network_is_made_of_files_that_are_read(rt: HostRuntime) -> Result<(), Fail> {
     let (nodes, pdos, files) = valve(rt.alloc())?;
     let read = EdsFiles::new(rt.alloc(), &files)?;
-    let valve = network_of_files(rt.alloc(), &nodes, &pdos, &read)?;
+    let valve = network_of_files(rt.alloc(), &all_rates(), &nodes, &pdos, &read)?;
     assert!(rt; valve.pdos() == 1);
     Ok(())
 }
@@ -249,17 +249,41 @@ fn a_network_is_made_of_files_that_are_read(rt: HostRuntime) -> Result<(), Fail>
 #[test]
 fn the_tables_of_the_valve(rt: HostRuntime) -> Result<(), Fail> {
     let (nodes, pdos, files) = valve(rt.alloc())?;
-    let valve = network(rt.alloc(), &nodes, &pdos, &files)?;
+    let valve = network(rt.alloc(), &all_rates(), &nodes, &pdos, &files)?;
     assert!(rt; valve.devices().len() == 1 && valve.rows().len() == 1 && valve.pdos() == 1);
     assert!(rt; valve.heartbeat(5) == 100 && valve.heartbeat(6) == 0);
     assert!(rt; valve.dictionary(5).is_some() && valve.dictionary(6).is_none());
     Ok(())
 }
 
+/// The rates that are wanted, and the slowest that the valve's network has of them; none where it is refused.
+const WANTED: &[(&[Rate], Option<Rate>)] = &[
+    (&Rate::ALL, Some(Rate::Kbit250)),
+    (&[Rate::Kbit1000], Some(Rate::Kbit1000)),
+    (
+        &[Rate::Kbit1000, Rate::Kbit500, Rate::Kbit10],
+        Some(Rate::Kbit500),
+    ),
+    (&[Rate::Kbit800, Rate::Kbit125], None),
+];
+
 #[test]
 fn the_rates_of_the_valve(rt: HostRuntime) -> Result<(), Fail> {
     let (nodes, pdos, files) = valve(rt.alloc())?;
-    let rates = network(rt.alloc(), &nodes, &pdos, &files)?.rates();
+    for case in WANTED {
+        let (rates, slowest) = *case;
+        let mut wanted = RateSet::new();
+        for rate in rates {
+            wanted.insert(*rate);
+        }
+        match network(rt.alloc(), &wanted, &nodes, &pdos, &files) {
+            Ok(network) => assert!(rt; network.rates().slowest() == slowest),
+            refused => {
+                assert!(rt; slowest.is_none() && told(refused)? == Some((52, Table::Nodes, 0)));
+            }
+        }
+    }
+    let rates = network(rt.alloc(), &all_rates(), &nodes, &pdos, &files)?.rates();
     assert!(rt; rates.slowest() == Some(Rate::Kbit250));
     assert!(rt; !rates.contains(Rate::Kbit800));
     Ok(())
@@ -554,7 +578,7 @@ fn the_stream_of_a_pdo_that_is_sent_by_sync(rt: HostRuntime) -> Result<(), Fail>
     )?;
     let pdos = pdos_of(rt.alloc(), "5,1,0,100,1620,\n")?;
     let files = [file(rt.alloc(), "unit.eds", text_of(rt.alloc(), parts)?)?];
-    let valve = network(rt.alloc(), &nodes, &pdos, &files)?;
+    let valve = network(rt.alloc(), &all_rates(), &nodes, &pdos, &files)?;
     match valve.set().streams() {
         [pdo, sync] => {
             assert!(rt; pdo.every == 3 && pdo.period == 120_000 && pdo.jitter == 400);
@@ -595,7 +619,7 @@ fn an_empty_file_supports_no_rate(rt: HostRuntime) -> Result<(), Fail> {
 fn rule_of(alloc: Global, files: &[(String, Vec<u8>)]) -> Result<Option<Rule>, Fail> {
     let nodes = nodes_of(alloc, "device,5,First,unit.eds,0,0\n")?;
     let pdos = pdos_of(alloc, "5,2,10000,0,670,\n")?;
-    match network(alloc, &nodes, &pdos, files) {
+    match network(alloc, &all_rates(), &nodes, &pdos, files) {
         Ok(_) => Ok(None),
         Err(PlanFault::Refused(refusal)) => Ok(Some(refusal.rule)),
         Err(fault) => Err(Fail::from(fault)),

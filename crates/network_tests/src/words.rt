@@ -1,4 +1,5 @@
-use cop_net::{network, read_nodes, read_pdos};
+use cop_frame::{Rate, RateSet};
+use cop_net::{all_rates, network, read_nodes, read_pdos};
 use cop_warn::warnings_of;
 use cop_words::{
     Network, RULE_WORDS, Source, explained, late_words, line_at, network_words, record_at,
@@ -84,7 +85,7 @@ fn files(alloc: Global, texts: &[(&str, &str)]) -> Result<Vec<(String, Vec<u8>)>
 
 /// The words on a network of one device.
 fn words(alloc: Global, nodes: &str, pdos: &str, eds: &str) -> Result<String, Fail> {
-    words_of(alloc, nodes, pdos, &[("unit.eds", eds)])
+    words_of(alloc, nodes, pdos, &[("unit.eds", eds)], &all_rates())
 }
 
 /// The words on a network.
@@ -93,6 +94,7 @@ fn words_of(
     nodes: &str,
     pdos: &str,
     texts: &[(&str, &str)],
+    wanted: &RateSet,
 ) -> Result<String, Fail> {
     let files = files(alloc, texts)?;
     let network = Network {
@@ -105,6 +107,7 @@ fn words_of(
             text: pdos.as_bytes(),
         },
         eds_files: &files,
+        wanted,
     };
     let said = network_words(alloc, network)?;
     match str::from_utf8(&said) {
@@ -598,9 +601,14 @@ fn mistakes_of_a_consumer(rt: HostRuntime) -> Result<(), Fail> {
         let eds = format!(in rt.alloc(); "{before}{new}{after}")?;
         let pdos = format!(in rt.alloc(); "node,tpdo,period,jitter,deadline,consumers\n{rows}\n")?;
         let texts = [("unit.eds", UNIT), ("other.eds", eds.as_str())];
-        let said = words_of(rt.alloc(), &nodes, &pdos, &texts)?;
+        let said = words_of(rt.alloc(), &nodes, &pdos, &texts, &all_rates())?;
         assert!(rt; said.contains(part) && said.contains(rule), "{said}");
     }
+    let mut wanted = RateSet::new();
+    wanted.insert(Rate::Kbit125);
+    let said = words_of(rt.alloc(), NODES, PDOS, &[("unit.eds", UNIT)], &wanted)?;
+    let part = "unit.eds supports 250 kbit/s\n--rates lists 125 kbit/s\nrule 52: no bit rate that ";
+    assert!(rt; said.contains(part), "{said}");
     Ok(())
 }
 
@@ -665,7 +673,7 @@ fn warned(alloc: Global, eds: &str, pdo: &str) -> Result<String, Fail> {
     let files = files(alloc, &[("unit.eds", eds)])?;
     let nodes = read_nodes(alloc, NODES.as_bytes())?;
     let pdos = read_pdos(alloc, pdos.as_bytes())?;
-    let network = network(alloc, &nodes, &pdos, &files)?;
+    let network = network(alloc, &all_rates(), &nodes, &pdos, &files)?;
     let said = warning_words(alloc, &network, &warnings_of(alloc, &nodes, &network)?)?;
     match str::from_utf8(&said) {
         Ok(text) => Ok(String::from_str(alloc, text)?),

@@ -1,5 +1,6 @@
 //! Boots of planned networks by drawn turns.
 
+use crate::engine::by;
 use cop_engine::boot_bytes;
 use cop_plan::Choice;
 use std::alloc::Global;
@@ -21,7 +22,7 @@ fn booted(alloc: Global, seed: u64, nodes: &str, pdos: &str) -> Result<Vec<u8>, 
         nodes.as_bytes(),
         pdos.as_bytes(),
         &[file],
-        Choice::Order,
+        &by(Choice::Order),
     )?;
     Ok(text)
 }

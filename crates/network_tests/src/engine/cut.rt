@@ -1,7 +1,8 @@
 //! Files that are cut off at each byte: each is read or refused, and nothing else comes.
 
-use crate::engine::{ONE_PDO, UNIT, VALVE, VALVE_REFUSED, VALVE_TRACE, eds_files, refused};
+use crate::engine::{ONE_PDO, UNIT, VALVE, VALVE_REFUSED, VALVE_TRACE, by, eds_files, refused};
 use cop_engine::{check_bytes, judge_bytes, plan_bytes};
+use cop_net::all_rates;
 use cop_plan::Choice;
 use std::test::Fail;
 
@@ -9,7 +10,13 @@ use std::test::Fail;
 fn each_cut_table_of_nodes(rt: HostRuntime) -> Result<(), Fail> {
     let eds = eds_files(rt.alloc(), UNIT)?;
     for length in 0..VALVE.len() {
-        let planned = plan_bytes(rt.alloc(), &VALVE[..length], ONE_PDO, &eds, Choice::Order);
+        let planned = plan_bytes(
+            rt.alloc(),
+            &VALVE[..length],
+            ONE_PDO,
+            &eds,
+            &by(Choice::Order),
+        );
         let _ = refused(planned)?;
     }
     Ok(())
@@ -19,7 +26,13 @@ fn each_cut_table_of_nodes(rt: HostRuntime) -> Result<(), Fail> {
 fn each_cut_table_of_pdos(rt: HostRuntime) -> Result<(), Fail> {
     let eds = eds_files(rt.alloc(), UNIT)?;
     for length in 0..ONE_PDO.len() {
-        let planned = plan_bytes(rt.alloc(), VALVE, &ONE_PDO[..length], &eds, Choice::Order);
+        let planned = plan_bytes(
+            rt.alloc(),
+            VALVE,
+            &ONE_PDO[..length],
+            &eds,
+            &by(Choice::Order),
+        );
         let _ = refused(planned)?;
     }
     Ok(())
@@ -29,7 +42,7 @@ fn each_cut_table_of_pdos(rt: HostRuntime) -> Result<(), Fail> {
 fn each_cut_eds_text(rt: HostRuntime) -> Result<(), Fail> {
     for length in 0..UNIT.len() {
         let eds = eds_files(rt.alloc(), &UNIT[..length])?;
-        let planned = plan_bytes(rt.alloc(), VALVE, ONE_PDO, &eds, Choice::Order);
+        let planned = plan_bytes(rt.alloc(), VALVE, ONE_PDO, &eds, &by(Choice::Order));
         let _ = refused(planned)?;
     }
     Ok(())
@@ -40,7 +53,7 @@ fn each_cut_refusal_file(rt: HostRuntime) -> Result<(), Fail> {
     let eds = eds_files(rt.alloc(), UNIT)?;
     for length in 0..VALVE_REFUSED.len() {
         let cut = &VALVE_REFUSED[..length];
-        let _ = refused(check_bytes(rt.alloc(), VALVE, ONE_PDO, &eds, cut))?;
+        let _ = refused(check_bytes(rt.alloc(), &all_rates(), VALVE, ONE_PDO, &eds, cut))?;
     }
     Ok(())
 }
@@ -50,7 +63,7 @@ fn each_cut_trace(rt: HostRuntime) -> Result<(), Fail> {
     let eds = eds_files(rt.alloc(), UNIT)?;
     for length in 0..VALVE_TRACE.len() {
         let cut = &VALVE_TRACE[..length];
-        let _ = refused(judge_bytes(rt.alloc(), VALVE, ONE_PDO, &eds, Choice::Order, cut))?;
+        let _ = refused(judge_bytes(rt.alloc(), VALVE, ONE_PDO, &eds, &by(Choice::Order), cut))?;
     }
     Ok(())
 }

@@ -2,8 +2,10 @@
 
 ghost use Rattle.std.specs.Prelude.{◌<◌};
 
+use crate::engine::by;
 use cop_engine::{Fault, Files, check_bytes, plan_bytes, test_bytes};
 use cop_frame::Rate;
+use cop_net::all_rates;
 use cop_plan::Choice;
 use std::alloc::{AllocError, Global};
 use std::fmt::Write;
@@ -156,7 +158,7 @@ fn planned(alloc: Global, network: &Sources) -> Result<Files, Fault> {
         network.nodes.as_bytes(),
         network.pdos.as_bytes(),
         &network.eds,
-        Choice::Order,
+        &by(Choice::Order),
     )
 }
 
@@ -164,6 +166,7 @@ fn planned(alloc: Global, network: &Sources) -> Result<Files, Fault> {
 fn checked(alloc: Global, network: &Sources, refusals: &[u8]) -> Result<(Vec<u8>, bool), Fault> {
     check_bytes(
         alloc,
+        &all_rates(),
         network.nodes.as_bytes(),
         network.pdos.as_bytes(),
         &network.eds,

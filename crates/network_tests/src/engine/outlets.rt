@@ -2,7 +2,7 @@
 
 ghost use Rattle.std.specs.Prelude.{◌≡◌, false};
 
-use crate::engine::{NO_PDO, TWO_VALVES, UNIT, eds_files};
+use crate::engine::{NO_PDO, TWO_VALVES, UNIT, by, eds_files};
 use cop_engine::{Outlet, deliver, plan_bytes};
 use cop_plan::Choice;
 use std::alloc::Global;
@@ -61,7 +61,7 @@ const DELIVERED: &[(usize, Result<(), usize>, &[u8])] = &[
 #[test]
 fn an_outlet_fails_at_each_file(rt: HostRuntime) -> Result<(), Fail> {
     let eds = eds_files(rt.alloc(), UNIT)?;
-    let files = plan_bytes(rt.alloc(), TWO_VALVES, NO_PDO, &eds, Choice::Order)?;
+    let files = plan_bytes(rt.alloc(), TWO_VALVES, NO_PDO, &eds, &by(Choice::Order))?;
     for case in DELIVERED {
         let (room, wanted, names) = *case;
         let mut shelf = with_room(rt.alloc(), room);

@@ -1,6 +1,6 @@
 //! Traces that are judged while they are read in pieces.
 
-use crate::engine::{ONE_PDO, UNIT, VALVE, eds_files};
+use crate::engine::{ONE_PDO, UNIT, VALVE, by, eds_files};
 use cop_engine::{judge_outcome, judge_pieces, outcome_of, run_bytes};
 use cop_plan::Choice;
 use std::io::{self, Read};
@@ -38,7 +38,7 @@ fn in_pieces(text: &[u8], fails: bool) -> Pieces<'_> {
 #[test]
 fn a_trace_in_pieces_is_judged_as_it_is_told(rt: HostRuntime) -> Result<(), Fail> {
     let files = eds_files(rt.alloc(), UNIT)?;
-    let outcome = outcome_of(rt.alloc(), VALVE, ONE_PDO, &files, Choice::Order)?;
+    let outcome = outcome_of(rt.alloc(), VALVE, ONE_PDO, &files, &by(Choice::Order))?;
     let (text, trace) = run_bytes(
         rt.alloc(),
         42,
@@ -46,7 +46,7 @@ fn a_trace_in_pieces_is_judged_as_it_is_told(rt: HostRuntime) -> Result<(), Fail
         VALVE,
         ONE_PDO,
         &files,
-        Choice::Order,
+        &by(Choice::Order),
     )?;
     let judged = judge_pieces(rt.alloc(), &outcome, in_pieces(&trace, false));
     assert!(rt; judged.is_some_and(|judged| judged == text));
@@ -58,8 +58,16 @@ fn a_trace_in_pieces_is_judged_as_it_is_told(rt: HostRuntime) -> Result<(), Fail
 #[test]
 fn a_trace_that_is_not_read_to_its_end_is_not_judged(rt: HostRuntime) -> Result<(), Fail> {
     let files = eds_files(rt.alloc(), UNIT)?;
-    let outcome = outcome_of(rt.alloc(), VALVE, ONE_PDO, &files, Choice::Order)?;
-    let (_, trace) = run_bytes(rt.alloc(), 42, 20000, VALVE, ONE_PDO, &files, Choice::Order)?;
+    let outcome = outcome_of(rt.alloc(), VALVE, ONE_PDO, &files, &by(Choice::Order))?;
+    let (_, trace) = run_bytes(
+        rt.alloc(),
+        42,
+        20000,
+        VALVE,
+        ONE_PDO,
+        &files,
+        &by(Choice::Order),
+    )?;
     assert!(rt; judge_pieces(rt.alloc(), &outcome, in_pieces(&trace, true)).is_none());
     Ok(())
 }

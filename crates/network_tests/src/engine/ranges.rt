@@ -1,7 +1,8 @@
 //! Plans with synchronous PDOs and over both ranges of identifiers, their refusals, their boots and their traces.
 
-use crate::engine::{UNIT, eds_files, refused};
+use crate::engine::{UNIT, by, eds_files, refused};
 use cop_engine::{Fault, boot_bytes, check_bytes, judge_bytes, plan_bytes};
+use cop_net::all_rates;
 use cop_plan::Choice;
 use std::alloc::{AllocError, Global};
 use std::fmt::Write;
@@ -98,10 +99,17 @@ const ROWS: &[Row] = &[
 fn synchronous_pdos_and_sdo_deadlines_are_planned(rt: HostRuntime) -> Result<(), Fail> {
     for row in ROWS {
         let eds = eds_of(rt.alloc(), row.transmission)?;
-        let files = plan_bytes(rt.alloc(), row.nodes, row.pdos, &eds, Choice::Order)?;
+        let files = plan_bytes(rt.alloc(), row.nodes, row.pdos, &eds, &by(Choice::Order))?;
         assert!(rt; files.plan.as_slice() == row.plan);
         assert!(rt; files.refusals.as_slice() == row.refusals);
-        let (lines, _) = check_bytes(rt.alloc(), row.nodes, row.pdos, &eds, &files.refusals)?;
+        let (lines, _) = check_bytes(
+            rt.alloc(),
+            &all_rates(),
+            row.nodes,
+            row.pdos,
+            &eds,
+            &files.refusals,
+        )?;
         assert!(rt; lines.as_slice() == row.check);
     }
     Ok(())
@@ -111,7 +119,7 @@ fn synchronous_pdos_and_sdo_deadlines_are_planned(rt: HostRuntime) -> Result<(),
 fn their_devices_take_the_plan(rt: HostRuntime) -> Result<(), Fail> {
     for row in ROWS {
         let eds = eds_of(rt.alloc(), row.transmission)?;
-        let text = boot_bytes(rt.alloc(), 1, row.nodes, row.pdos, &eds, Choice::Order)?;
+        let text = boot_bytes(rt.alloc(), 1, row.nodes, row.pdos, &eds, &by(Choice::Order))?;
         assert!(rt; text.as_slice() == row.boot);
     }
     Ok(())
@@ -124,14 +132,21 @@ const TOO_OFTEN: &[u8] =
 #[test]
 fn sync_past_the_horizon_is_told(rt: HostRuntime) -> Result<(), Fail> {
     let eds = eds_of(rt.alloc(), "1")?;
-    let files = plan_bytes(rt.alloc(), TOO_OFTEN, AT_SYNC, &eds, Choice::Order)?;
+    let files = plan_bytes(rt.alloc(), TOO_OFTEN, AT_SYNC, &eds, &by(Choice::Order))?;
     let plan =
         b"no rate passes\nrefused 250 sync\nrefused 500 sync\nrefused 1000 members 1\n".as_slice();
     assert!(rt; !files.planned && files.plan.as_slice() == plan);
     let begin =
         b"rate,pdo,what,value\n0,0,version,2\n250,0,sync,0\n250,0,busy,1\n250,0,busy,3040\n";
     assert!(rt; files.refusals.starts_with(begin));
-    let (lines, hold) = check_bytes(rt.alloc(), TOO_OFTEN, AT_SYNC, &eds, &files.refusals)?;
+    let (lines, hold) = check_bytes(
+        rt.alloc(),
+        &all_rates(),
+        TOO_OFTEN,
+        AT_SYNC,
+        &eds,
+        &files.refusals,
+    )?;
     assert!(rt; lines.as_slice() == b"250 holds\n500 holds\n1000 holds\n".as_slice() && hold);
     Ok(())
 }
@@ -181,7 +196,7 @@ fn the_second_range_has_room_for_96(rt: HostRuntime) -> Result<(), Fail> {
             nodes.as_bytes(),
             pdos.as_bytes(),
             &eds,
-            Choice::Order,
+            &by(Choice::Order),
         )?;
         let plan = files.plan.as_slice();
         assert!(rt;
@@ -224,7 +239,14 @@ const TRACES: &[(&str, Option<(u8, u64)>)] = &[
 /// The judgement of a trace that begins with a SYNC.
 fn judged(alloc: Global, eds: &[(String, Vec<u8>)], steps: &str) -> Result<Vec<u8>, Fault> {
     let trace = format!(in alloc; "{SYNC_STEPS}{steps}until,4000,0,,,\n")?;
-    judge_bytes(alloc, SYNCED, AT_SYNC, eds, Choice::Order, trace.as_bytes())
+    judge_bytes(
+        alloc,
+        SYNCED,
+        AT_SYNC,
+        eds,
+        &by(Choice::Order),
+        trace.as_bytes(),
+    )
 }
 
 #[test]

@@ -2,7 +2,7 @@
 
 ghost use Rattle.std.specs.Prelude.{◌≤◌};
 
-use crate::engine::{ALONE, BUSY_PDO, ONE_PDO, SLOW, UNIT, VALVE, eds_files};
+use crate::engine::{ALONE, BUSY_PDO, ONE_PDO, SLOW, UNIT, VALVE, by, eds_files};
 use cop_engine::{Fault, judge_bytes, run_bytes};
 use cop_plan::Choice;
 use std::alloc::Global;
@@ -32,7 +32,7 @@ fn run(
     requires { until ≤ 1000000000 }
 {
     let files = eds_files(alloc, eds)?;
-    run_bytes(alloc, 42, until, nodes, pdos, &files, Choice::Order)
+    run_bytes(alloc, 42, until, nodes, pdos, &files, &by(Choice::Order))
 }
 
 #[test]
@@ -48,7 +48,14 @@ fn a_run_is_judged_as_it_is_told(rt: HostRuntime) -> Result<(), Fail> {
     let files = eds_files(rt.alloc(), UNIT)?;
     for until in [0, 1, 100000, 2000000] {
         let (text, trace) = run(rt.alloc(), until, VALVE, ONE_PDO, UNIT)?;
-        let judged = judge_bytes(rt.alloc(), VALVE, ONE_PDO, &files, Choice::Order, &trace)?;
+        let judged = judge_bytes(
+            rt.alloc(),
+            VALVE,
+            ONE_PDO,
+            &files,
+            &by(Choice::Order),
+            &trace,
+        )?;
         assert!(rt; judged == text);
     }
     Ok(())

@@ -4,7 +4,7 @@ ghost use Rattle.std.specs.Prelude.{length};
 ghost use Rattle.cop_plan.specs.Plans.{IsOutcome};
 
 use cop_figures::{Figures, Timeline, figures_of, timeline_of};
-use cop_net::{Network, NodeTable, PdoTable, network, read_nodes, read_pdos};
+use cop_net::{Network, NodeTable, PdoTable, all_rates, network, read_nodes, read_pdos};
 use cop_plan::{Choice, Outcome, Plan, plan};
 use cop_report::{Input, Report, page_of};
 use std::alloc::{AllocError, Global};
@@ -143,6 +143,7 @@ fn page<'a>(
             figures,
             timeline,
             log: None,
+            are_rates_listed: false,
             inputs: INPUTS,
         },
     )
@@ -171,7 +172,7 @@ pub fn report_of(
 ) -> Result<(Figures, String), Fail> {
     let (nodes, pdos) = read_tables(alloc, tables)?;
     let files = eds_files(alloc, tables.transmission)?;
-    let network = network(alloc, &nodes, &pdos, &files)?;
+    let network = network(alloc, &all_rates(), &nodes, &pdos, &files)?;
     let outcome = plan(alloc, &network, Choice::Order)?;
     told(alloc, &network, &outcome, trace)
 }
@@ -194,7 +195,7 @@ pub fn report(alloc: Global, pdos: &str, trace: Option<&str>) -> Result<(Figures
 pub fn planned(alloc: Global) -> Result<Plan, Fail> {
     let (nodes, pdos) = read_tables(alloc, valve(PDOS))?;
     let files = eds_files(alloc, "255")?;
-    let network = network(alloc, &nodes, &pdos, &files)?;
+    let network = network(alloc, &all_rates(), &nodes, &pdos, &files)?;
     match plan(alloc, &network, Choice::Order)? {
         Outcome::Planned(plan) => Ok(plan),
         Outcome::Refused(_) => Err(Fail::from("no rate passes")),

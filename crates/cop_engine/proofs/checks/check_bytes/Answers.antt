@@ -7,30 +7,30 @@ use Rattle.cop_engine.proofs.checks.check_bytes.Goals as goal
 pub returns-in_err-nodes : goal.returns-in_err-nodes
 returns-in_err-nodes c =
     err_is c.from_residual.result _ _ (fault_of c.in_err-nodes.field-0.0) c.from_residual.ensures.1
-    (of_network c.args.nodes.now c.args.pdos.now _ c.args.refusals.now c.in_err-nodes.field-0.0 (nodes_explain c.args.nodes.now c.args.pdos.now _ c.in_err-nodes.field-0.0 c.in_err-nodes.ensures))
+    (of_network c.args.wanted.now c.args.nodes.now c.args.pdos.now _ c.args.refusals.now c.in_err-nodes.field-0.0 (nodes_explain c.args.wanted.now c.args.nodes.now c.args.pdos.now _ c.in_err-nodes.field-0.0 c.in_err-nodes.ensures))
 
 pub returns-in_err-pdos : goal.returns-in_err-pdos
 returns-in_err-pdos c =
     err_is c.from_residual-in_err-pdos.result _ _ (fault_of c.in_err-pdos.field-0.0) c.from_residual-in_err-pdos.ensures.1
-    (of_network c.args.nodes.now c.args.pdos.now _ c.args.refusals.now c.in_err-pdos.field-0.0
-    (pdos_explain c.args.nodes.now c.args.pdos.now _ c.in_ok-nodes.nodes c.in_err-pdos.field-0.0 c.in_ok-nodes.ensures c.in_err-pdos.ensures))
+    (of_network c.args.wanted.now c.args.nodes.now c.args.pdos.now _ c.args.refusals.now c.in_err-pdos.field-0.0
+    (pdos_explain c.args.wanted.now c.args.nodes.now c.args.pdos.now _ c.in_ok-nodes.nodes c.in_err-pdos.field-0.0 c.in_ok-nodes.ensures c.in_err-pdos.ensures))
 
 pub returns-in_err-network : goal.returns-in_err-network
 returns-in_err-network c =
     err_is c.from_residual-in_err-network.result _ _ (fault_of c.in_err-network.field-0.0) c.from_residual-in_err-network.ensures.1
-    (of_network c.args.nodes.now c.args.pdos.now _ c.args.refusals.now c.in_err-network.field-0.0
-    (network_explains c.args.nodes.now c.args.pdos.now _ c.in_ok-nodes.nodes c.in_ok-pdos.pdos c.in_err-network.field-0.0 c.in_ok-nodes.ensures c.in_ok-pdos.ensures c.in_err-network.ensures.exact))
+    (of_network c.args.wanted.now c.args.nodes.now c.args.pdos.now _ c.args.refusals.now c.in_err-network.field-0.0
+    (network_explains c.args.wanted.now c.args.nodes.now c.args.pdos.now _ c.in_ok-nodes.nodes c.in_ok-pdos.pdos c.in_err-network.field-0.0 c.in_ok-nodes.ensures c.in_ok-pdos.ensures c.in_err-network.ensures.exact))
 
 pub returns-in_err-refusals : goal.returns-in_err-refusals
 returns-in_err-refusals c =
     err_is c.from_residual-in_err-refusals.result _ _ (fault_of_refusals c.in_err-refusals.field-0.0) c.from_residual-in_err-refusals.ensures.1
-    (refusals_explain c.args.nodes.now c.args.pdos.now _ c.args.refusals.now _ c.in_err-refusals.field-0.0
-    (network_found c.args.nodes.now c.args.pdos.now _ c.in_ok-nodes.nodes c.in_ok-pdos.pdos c.in_ok-network.network c.in_ok-nodes.ensures c.in_ok-pdos.ensures c.in_ok-network.ensures.exact)
+    (refusals_explain c.args.wanted.now c.args.nodes.now c.args.pdos.now _ c.args.refusals.now _ c.in_err-refusals.field-0.0
+    (network_found c.args.wanted.now c.args.nodes.now c.args.pdos.now _ c.in_ok-nodes.nodes c.in_ok-pdos.pdos c.in_ok-network.network c.in_ok-nodes.ensures c.in_ok-pdos.ensures c.in_ok-network.ensures.exact)
     c.in_err-refusals.ensures.read)
 
 pub returns : goal.returns
 returns c =
-    check_is c.args.nodes.now c.args.pdos.now _ c.in_ok-nodes.nodes c.in_ok-pdos.pdos c.in_ok-network.network c.args.refusals.now c.in_ok-checked.field-0.0.items
+    check_is c.args.wanted.now c.args.nodes.now c.args.pdos.now _ c.in_ok-nodes.nodes c.in_ok-pdos.pdos c.in_ok-network.network c.args.refusals.now c.in_ok-checked.field-0.0.items
     c.in_ok-refusals.refusals.items c.in_ok-checked.field-0.1
     c.in_ok-nodes.ensures c.in_ok-pdos.ensures c.in_ok-network.ensures.exact c.in_ok-network.ensures.tables.1 c.in_ok-refusals.ensures.read
     (rw c.deref.ensures.value at c.in_ok-checked.ensures)

@@ -2,5 +2,5 @@ use Rattle.cop_engine.proofs.JudgementLemmas.{judged_gives}
 use Rattle.cop_engine.proofs.judgements.judge_outcome.Goals as goal
 
 pub returns-in-Planned : goal.returns-in-Planned
-returns-in-Planned c choice nodes pdos eds n =
-    judged_gives choice nodes pdos eds c.args.trace.now c.in-Planned.plan c.judged.result (rw c.in-Planned.is at n) c.judged.ensures
+returns-in-Planned c asked nodes pdos eds n =
+    judged_gives asked nodes pdos eds c.args.trace.now c.in-Planned.plan c.judged.result (rw c.in-Planned.is at n) c.judged.ensures

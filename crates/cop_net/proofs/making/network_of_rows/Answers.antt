@@ -11,8 +11,9 @@ invariant_of-result c =
     let devices = rw c.device_rows.ensures.rows at c.in_ok-devices.ensures in
     let streams = rw (frames.0, rows.0) at made_of in (
       record {
+        wanted = c.args.wanted.now;
         files = _;
-        made = made c.args.nodes.now c.args.pdos.now _ c.in_ok-devices.devices c.in_ok-set.set devices streams;
+        made = made c.args.wanted.now c.args.nodes.now c.args.pdos.now _ c.in_ok-devices.devices c.in_ok-set.set devices streams;
         nodes = frames.1;
         rows = rows.1;
         streams = rw rows.0 at s.0;
