@@ -7,6 +7,7 @@ use crate::files::{Folder, print, remove_earlier};
 use crate::inputs::{Inputs, read_file, read_input};
 use crate::judging::judge;
 use crate::log_rules::log_rule_words;
+use crate::machines::{boot_machine, machine_rule_words};
 use crate::notes::{check_notes, plan_notes};
 use crate::orders::{NetworkFiles, Order, Request};
 use crate::reporting::write_report;
@@ -216,6 +217,11 @@ fn explain(rt: &HostRuntime, number: u8) -> Result<u8, Failure> {
     } else {
         words
     };
+    let words = if words.is_empty() {
+        machine_rule_words(number).as_bytes()
+    } else {
+        words
+    };
     if words.is_empty() {
         return Err(Failure::from(Fault::Usage));
     }
@@ -235,6 +241,7 @@ pub fn carry_out(
         Order::Plan { network, out } => plan(rt, network, out, told, inputs),
         Order::Check { network, refusals } => check(rt, network, refusals, told, inputs),
         Order::Boot { seed, network } => boot(rt, seed, network, inputs),
+        Order::Machine(order) => boot_machine(rt, order, told, inputs),
         Order::Judge { network, trace } => judge(rt, network, trace, inputs),
         Order::Run {
             seed,
