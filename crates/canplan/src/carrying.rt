@@ -9,6 +9,7 @@ use crate::files::{Folder, print};
 use crate::inputs::{Inputs, read_file, read_input};
 use crate::judging::judge;
 use crate::log_rules::log_rule_words;
+use crate::machines::{boot_machine, machine_rule_words};
 use crate::notes::plan_notes;
 use crate::orders::{NetworkFiles, Order, Request};
 use crate::reporting::{Shown, write_report};
@@ -207,6 +208,11 @@ fn explain(rt: &HostRuntime, number: u8) -> Result<u8, Failure> {
     } else {
         words
     };
+    let words = if words.is_empty() {
+        machine_rule_words(number).as_bytes()
+    } else {
+        words
+    };
     if words.is_empty() {
         return Err(Failure::from(Fault::Usage));
     }
@@ -236,6 +242,7 @@ pub fn carry_out(
             check(rt, network, refusals, wanted, inputs)
         }
         Order::Boot { seed, network } => boot(rt, seed, network, inputs),
+        Order::Machine(order) => boot_machine(rt, order, told, inputs),
         Order::Judge { network, trace } => judge(rt, network, trace, inputs),
         Order::Run {
             seed,

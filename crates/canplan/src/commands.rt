@@ -164,11 +164,32 @@ fn check_command<'a>(alloc: Global) -> Result<Command<'a>, AllocError> {
 }
 
 fn boot_command<'a>(alloc: Global) -> Result<Command<'a>, AllocError> {
-    let about = "Boots the planned devices over a simulated bus, each frame delivered in its turn";
+    let about =
+        "Boots the planned devices: those at an adapter, or over a simulated bus, each frame delivered in its turn";
+    let seed = number(
+        alloc,
+        "seed",
+        u64::MAX,
+        "The number that draws the turns of the simulated bus",
+    );
+    let port = Arg::new(alloc, "port")
+        .long("port")
+        .value_name("PORT")
+        .action(ArgAction::Set)
+        .help(
+            "The serial device of a CAN adapter that speaks slcan: the devices there are booted; - is standard input and output",
+        );
+    let take_over =
+        "Resets the nodes also where one is heard to run; without it such a machine is left alone";
     network_command(alloc, "boot", about)?
-        .after_help("Example: canplan boot --seed 1 nodes.csv pdos.csv")
+        .after_help(
+            "Examples: canplan boot --seed 1 nodes.csv pdos.csv
+          canplan boot --port /dev/ttyACM0 nodes.csv pdos.csv",
+        )
         .arg(json_flag(alloc))?
-        .arg(number(alloc, "seed", u64::MAX, "The number that draws the turns"))
+        .arg(seed.required(false).required_unless_present("port")?)?
+        .arg(port.conflicts_with("seed")?.conflicts_with("json")?)?
+        .arg(choice(alloc, "take-over", take_over).conflicts_with("seed")?)
 }
 
 fn run_command<'a>(alloc: Global) -> Result<Command<'a>, AllocError> {

@@ -3,6 +3,7 @@
 use crate::failures::Failure;
 use crate::inputs::{Inputs, beside};
 use crate::log_rules::log_rule_words;
+use crate::machines::{RUNNING, machine_rule_words};
 use crate::orders::{NetworkFiles, Order};
 use crate::tidying::mend_words;
 use cop_engine::Fault;
@@ -22,6 +23,7 @@ fn network_of<'a>(order: Order<'a>) -> Option<NetworkFiles<'a>> {
         Order::Run { network, .. } => Some(network),
         Order::Report { network, .. } | Order::Export { network, .. } => Some(network),
         Order::Watch(order) => Some(order.network),
+        Order::Machine(order) => Some(order.network),
         Order::Test { .. } | Order::Tidy(_) | Order::Explain { .. } => None,
     }
 }
@@ -99,6 +101,9 @@ fn refused(
     }
     if is_of_log(order, number) {
         return log_words(alloc, number, place);
+    }
+    if number == RUNNING {
+        return Ok(format!(in alloc; "node {place}: {}", machine_rule_words(number))?.into_bytes());
     }
     if let Some(name) = file_of(order, number) {
         let source = Source {

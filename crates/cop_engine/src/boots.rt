@@ -29,8 +29,8 @@ fn has_device(network: &Network<'_>, node: u8) -> bool
     network.dictionary(node).is_some()
 }
 
-/// The nodes that have devices, by rising number.
-fn device_nodes(alloc: Global, network: &Network<'_>) -> Result<Vec<u8>, AllocError>
+/// The nodes of a network that have devices, by rising number. Otherwise want of memory.
+pub fn device_nodes(alloc: Global, network: &Network<'_>) -> Result<Vec<u8>, AllocError>
     ensures { IfOk result (λ nodes. nodes.items ≡ device_nodes network.now) }
 {
     let mut nodes = Vec::new(alloc);
@@ -101,8 +101,8 @@ fn settings_by_node(
     Ok(plan_of)
 }
 
-/// The manager of a plan.
-fn manager_of(
+/// The manager of a plan, with the settings that it has for each of some nodes. Otherwise want of memory.
+pub fn manager_of(
     alloc: Global,
     plan: &Plan,
     network: &Network<'_>,
@@ -138,8 +138,8 @@ fn node_line(alloc: Global, node: u8, end: Option<End>) -> Result<String, AllocE
     }
 }
 
-/// What is said of a boot: a line for each node, and whether they were started.
-fn boot_text(alloc: Global, manager: &Manager, nodes: &[u8]) -> Result<Vec<u8>, AllocError>
+/// What is said of a boot: a line for each of some nodes, and whether they were started. Otherwise want of memory.
+pub fn boot_text(alloc: Global, manager: &Manager, nodes: &[u8]) -> Result<Vec<u8>, AllocError>
     ensures { IfOk result (λ text. text.items ≡ boot_text manager.now nodes.now) }
 {
     let mut text = Vec::new(alloc);

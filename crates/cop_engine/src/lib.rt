@@ -20,7 +20,7 @@ mod seeded_runs;
 mod tests_of_streams;
 mod turns;
 
-pub use boots::boot_bytes;
+pub use boots::{boot_bytes, boot_text, device_nodes, manager_of};
 pub use checks::check_bytes;
 pub use coverings::covers_slower;
 pub use dcfs::DcfFile;

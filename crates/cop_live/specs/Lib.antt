@@ -1,2 +1,3 @@
+pub mod Listening
 pub mod Log
 pub mod Session

@@ -2,6 +2,7 @@
 //! worth a word, and each breach with its arithmetic.
 #![tactic(auto)]
 
+mod abort_codes;
 mod breaches;
 mod loads;
 mod logbook;
@@ -9,6 +10,7 @@ mod noticed;
 mod seen;
 mod spread;
 
+pub use abort_codes::abort_words;
 pub use loads::{Loads, PARTS};
 pub use logbook::{BookFault, Logbook};
 pub use seen::Seen;

@@ -1,5 +1,6 @@
 //! What is worth a word in a log, and breaks nothing: commands, boot-ups, emergencies and SDO aborts.
 
+use crate::abort_codes::abort_words;
 use std::alloc::{AllocError, Global};
 
 /// How many words of a kind are kept.
@@ -56,42 +57,6 @@ fn command_words(command: u8) -> &'static str {
         129 => "reset node",
         130 => "reset communication",
         _ => "an unknown command",
-    }
-}
-
-/// The words of an abort code (CiA 301, table 22).
-fn abort_words(code: u32) -> &'static str {
-    match code {
-        0x05030000 => "toggle bit not alternated",
-        0x05040000 => "SDO protocol timed out",
-        0x05040001 => "command specifier not valid or unknown",
-        0x05040005 => "out of memory",
-        0x06010000 => "unsupported access to an object",
-        0x06010001 => "attempt to read a write only object",
-        0x06010002 => "attempt to write a read only object",
-        0x06020000 => "object does not exist in the object dictionary",
-        0x06040041 => "object cannot be mapped to the PDO",
-        0x06040042 =>
-            "the number and length of the objects to be mapped would exceed the PDO length",
-        0x06040043 => "general parameter incompatibility",
-        0x06040047 => "general internal incompatibility in the device",
-        0x06060000 => "access failed due to a hardware error",
-        0x06070010 => "data type does not match, length does not match",
-        0x06070012 => "data type does not match, length too high",
-        0x06070013 => "data type does not match, length too low",
-        0x06090011 => "sub-index does not exist",
-        0x06090030 => "invalid value for the parameter",
-        0x06090031 => "value of the parameter too high",
-        0x06090032 => "value of the parameter too low",
-        0x06090036 => "maximum value is less than minimum value",
-        0x060A0023 => "resource not available",
-        0x08000000 => "general error",
-        0x08000020 => "data cannot be transferred or stored to the application",
-        0x08000021 => "data cannot be transferred or stored because of local control",
-        0x08000022 => "data cannot be transferred or stored because of the present device state",
-        0x08000023 => "no object dictionary is present",
-        0x08000024 => "no data available",
-        _ => "a code of the device's maker",
     }
 }
 

@@ -1,0 +1,167 @@
+//! The boot of the devices at a port.
+
+use crate::failures::{Failure, Use, file_failure};
+use crate::files::print;
+use crate::inputs::Inputs;
+use crate::orders::MachineOrder;
+use crate::serial::{Serial, open_serial};
+use cop_commission::{Commissioned, commission};
+use cop_engine::{Fault, none_passes};
+use cop_frame::Rate;
+use cop_logbook::abort_words;
+use std::alloc::{AllocError, Global};
+use std::io::Write;
+use std::str;
+
+/// The number of the rule that no node of the machine runs.
+pub const RUNNING: u8 = 100;
+
+/// What the rule of a number says, and what is right. Nothing for a number that is no rule of a machine.
+pub fn machine_rule_words(number: u8) -> &'static str {
+    match number {
+        RUNNING => {
+            "it runs: its heartbeat says operational, or its PDO comes; no frame was sent\nstop the machine, or give --take-over where it may be reset\n"
+        }
+        _ => "",
+    }
+}
+
+/// Says something on standard error.
+fn say(rt: &HostRuntime, words: &[u8]) {
+    let _ = rt.stderr().write_all(words);
+}
+
+/// What is said of a node's line that tells of an abort: the code in words.
+fn code_words(alloc: Global, line: &str) -> Result<String, AllocError> {
+    let code = match line.rsplit_once(' ') {
+        Some((start, code)) if start.contains(" aborted ") => u32::from_str_radix(code, 16).ok(),
+        _ => None,
+    };
+    match code {
+        Some(code) => format!(in alloc; "{line}: {}\n", abort_words(code)),
+        None => Ok(String::new(alloc)),
+    }
+}
+
+/// Whether no node was heard.
+fn are_silent(text: &str) -> bool {
+    text.lines()
+        .all(|line| line.ends_with(" silent") || line == "not started")
+}
+
+/// What is said below the lines of a boot: the codes of aborts in words, and what to look at where no node was heard.
+fn boot_notes(alloc: Global, text: &str, rate: Rate) -> Result<Vec<u8>, AllocError> {
+    let mut notes = Vec::new(alloc);
+    for line in text.lines() {
+        notes.extend_from_slice(code_words(alloc, line)?.as_bytes())?;
+    }
+    if are_silent(text) {
+        let kbits = rate.kbits();
+        let words = format!(in alloc;
+            "no node answered at {kbits} kbit/s, the plan's rate: look at the rate that is set in the devices, at supply, wires and termination, and at the adapter's flags (its command F)\n"
+        )?;
+        notes.extend_from_slice(words.as_bytes())?;
+    }
+    Ok(notes)
+}
+
+/// The answer to a boot: on standard error where standard output is the port.
+fn answer(rt: &HostRuntime, port: &str, text: &[u8]) -> Result<(), Failure> {
+    if port == "-" {
+        say(rt, text);
+        Ok(())
+    } else {
+        print(rt, text)
+    }
+}
+
+/// Tells of what the adapter refused. The command that closes it is refused where it is closed already, which is told only where the nodes
+/// were not started.
+fn tell_refused(rt: &HostRuntime, refused: u64, started: bool) {
+    if refused == 0 || refused == 1 && started {
+        return;
+    }
+    let line = format!(in rt.alloc();
+        "canplan: the adapter refused {refused} of the commands; the one that closes it is refused where it is closed already\n"
+    );
+    if let Ok(line) = line {
+        say(rt, line.as_bytes());
+    }
+}
+
+/// The failure of a line that was opened.
+fn line_failure(rt: &HostRuntime, name: &str, port: &Serial<'_>) -> Failure {
+    if let Some(error) = &port.error {
+        return file_failure(rt, name, Use::Read, error);
+    }
+    match String::from_str(rt.alloc(), name) {
+        Ok(name) => Failure {
+            fault: Fault::File(name),
+            reason: String::from_str(rt.alloc(), "the line or the clock has ended\n").ok(),
+        },
+        Err(error) => Failure::from(error),
+    }
+}
+
+/// Tells what came of a boot, and gives its status: 3 where the nodes were not started.
+fn tell_ended(
+    rt: &HostRuntime,
+    name: &str,
+    ended: Commissioned,
+    port: &Serial<'_>,
+) -> Result<u8, Failure> {
+    match ended {
+        Commissioned::Ended {
+            text,
+            started,
+            rate,
+        } => {
+            answer(rt, name, &text)?;
+            let words = str::from_utf8(&text).unwrap_or("");
+            say(rt, &boot_notes(rt.alloc(), words, rate)?);
+            Ok(if started { 0 } else { 3 })
+        }
+        Commissioned::Running { node } => Err(Failure::from(Fault::Refused {
+            number: RUNNING,
+            place: u64::from(node),
+        })),
+        Commissioned::NonePasses => {
+            answer(rt, name, &none_passes(rt.alloc())?)?;
+            Ok(4)
+        }
+        Commissioned::Failed => Err(line_failure(rt, name, port)),
+    }
+}
+
+/// The boot of the devices at a port by the plan of their network.
+pub fn boot_machine(
+    rt: &HostRuntime,
+    order: MachineOrder<'_>,
+    told: bool,
+    inputs: &mut Inputs,
+) -> Result<u8, Failure> {
+    inputs.network.read(rt, order.network)?;
+    let texts = &inputs.network;
+    let mut port = match open_serial(rt, order.port) {
+        Ok(port) => port,
+        Err(error) => return Err(file_failure(rt, order.port, Use::Read, &error)),
+    };
+    if told && !order.take_over {
+        say(
+            rt,
+            b"canplan: listening for 2 s, then the nodes are reset\n",
+        );
+    }
+    let ended = commission(
+        rt.alloc(),
+        &texts.nodes,
+        &texts.pdos,
+        &texts.eds_files,
+        &texts.asked,
+        order.take_over,
+        &mut port,
+    )?;
+    let started = matches!(ended, Commissioned::Ended { started: true, .. });
+    tell_refused(rt, port.refused, started);
+    tell_ended(rt, order.port, ended, &port)
+}

@@ -1,0 +1,125 @@
+//! A serial line to a CAN adapter, and standard streams in its place.
+
+ghost use Rattle.std.specs.Prelude.{◌≤◌, length, IfOk};
+
+use cop_live::Port;
+use std::fs::File;
+use std::io::{self, IsTerminal, Read, Write};
+use std::time::Instant;
+
+/// BEL, by which an adapter refuses a command.
+const BEL: u8 = 0x07;
+
+/// A tick is so many nanoseconds.
+const TICK: u128 = 250;
+
+/// Where an adapter is reached.
+#[derive(Drop)]
+enum Line {
+    /// The device file of a serial line.
+    Device(File),
+    /// Standard input and output.
+    Streams,
+}
+
+/// A line to an adapter, with a clock that began as it was opened. What a line and a clock give no contract can say.
+#[derive(Drop)]
+pub struct Serial<'a> {
+    rt: &'a HostRuntime,
+    line: Line,
+    opened: Instant,
+    /// How many commands the adapter refused.
+    pub refused: u64,
+    /// What the system said of a read or a write that failed.
+    pub error: Option<io::Error>,
+}
+
+/// The line to an adapter by the name of its device file; `-` is standard input and output.
+pub fn open_serial<'a>(rt: &'a HostRuntime, name: &str) -> io::Result<Serial<'a>> {
+    let line = if name == "-" {
+        Line::Streams
+    } else {
+        Line::Device(File::options().read(true).write(true).open(rt, name)?)
+    };
+    Ok(Serial {
+        rt,
+        line,
+        opened: Instant::now(rt)?,
+        refused: 0,
+        error: None,
+    })
+}
+
+impl Serial<'_> {
+    /// Whether a read that gives nothing says that nothing came for a while, and not that the line has ended.
+    fn is_terminal(&self) -> bool {
+        match &self.line {
+            Line::Device(file) => file.is_terminal(),
+            Line::Streams => self.rt.stdin().is_terminal(),
+        }
+    }
+
+    fn read_line(&mut self, buffer: &mut [u8]) -> io::Result<usize>
+        ensures { IfOk result (λ count. count ≤ length buffer.old) }
+    {
+        match &mut self.line {
+            Line::Device(file) => file.read(buffer),
+            Line::Streams => self.rt.stdin().read(buffer),
+        }
+    }
+
+    fn write_line(&mut self, bytes: &[u8]) -> io::Result<()> {
+        match &mut self.line {
+            Line::Device(file) => file.write_all(bytes),
+            Line::Streams => {
+                self.rt.stdout().write_all(bytes)?;
+                self.rt.stdout().flush()
+            }
+        }
+    }
+}
+
+impl Port for Serial<'_> {
+    ghost reads = { λ _ _ _. Unit {0} };
+
+    ghost writes = { λ _ _ _. Unit {0} };
+
+    ghost asks = { λ _ _ _. Unit {0} };
+
+    fn read(&mut self, buffer: &mut [u8]) -> Option<usize> {
+        match self.read_line(buffer) {
+            Ok(0) if !self.is_terminal() => None,
+            Ok(count) => {
+                let refused = buffer
+                    .iter()
+                    .take(count)
+                    .filter(|byte| **byte == BEL)
+                    .count();
+                self.refused = self.refused.saturating_add(refused as u64);
+                Some(count)
+            }
+            Err(error) if error.kind() == io::ErrorKind::Interrupted => Some(0),
+            Err(error) => {
+                self.error = Some(error);
+                None
+            }
+        }
+    }
+
+    fn write(&mut self, bytes: &[u8]) -> bool {
+        match self.write_line(bytes) {
+            Ok(()) => true,
+            Err(error) => {
+                self.error = Some(error);
+                false
+            }
+        }
+    }
+
+    fn now(&mut self) -> Option<u64> {
+        match Instant::now(self.rt) {
+            Ok(now) => u64::try_from(now.duration_since(self.opened).as_nanos() / TICK).ok(),
+            Err(_) => None,
+        }
+    }
+}

@@ -1,0 +1,57 @@
+-- The senders of a plan's PDOs, and what the parts of a boot over a port make of it.
+use Rattle.std.proofs.Common.{◌≡◌, ℕ, zero, suc, ◌+◌, ◌<◌, List, [], ◌∷◌, ◌++◌, length, drop, get_or, Bool, refl, sym, ap, subst, ◌∙◌, arith, append_assoc, append-nil}
+use Rattle.cop_frame.specs.declared.rates.Rate.{Rate}
+use Rattle.cop_rows.specs.declared.pdo_table.PdoRow.{PdoRow}
+use Rattle.cop_net.specs.Network.{Net}
+use Rattle.cop_boot.specs.Manager.{Managing}
+use Rattle.cop_live.specs.declared.listening.Sender.{Sender}
+use Rattle.cop_engine.specs.Boots.{device_nodes, manager_of, boot_text}
+use Rattle.cop_commission.specs.Sessions.{IsWhole}
+use Rattle.cop_commission.specs.Commissioning.{senders_of, IsEnded}
+
+-- the senders from a place on
+sender_step : (rows : List PdoRow) (ids : List ℕ) (k : ℕ) (row : PdoRow) → k < length rows → length ids ≡ length rows
+    → senders_of (drop k rows) (drop k ids) ≡ record { id = get_or ids k 0; node = (get_or rows k row).node } ∷ senders_of (drop (k + 1) rows) (drop (k + 1) ids)
+sender_step [] ids k row inside same = absurd (omega arith)
+sender_step (r ∷ rows) [] k row inside same = absurd (omega arith)
+sender_step (r ∷ rows) (i ∷ ids) zero row inside same = refl
+sender_step (r ∷ rows) (i ∷ ids) (suc k) row inside same = let e : suc k + 1 ≡ suc (k + 1) = omega arith in rw e (sender_step rows ids k row (omega arith) (omega arith))
+
+pub sender_more : (rows : List PdoRow) (ids : List ℕ) (k : ℕ) (row : PdoRow) (done more : List Sender) (added : Sender) → k < length rows → length ids ≡ length rows → row ≡ get_or rows k row
+    → added ≡ record { id = get_or ids k 0; node = row.node } → more ≡ done ++ added ∷ [] → done ++ senders_of (drop k rows) (drop k ids) ≡ senders_of rows ids
+    → more ++ senders_of (drop (k + 1) rows) (drop (k + 1) ids) ≡ senders_of rows ids
+sender_more rows ids k row done more added inside same here is put so_far =
+    let one : added ≡ record { id = get_or ids k 0; node = (get_or rows k row).node } = is ∙ ap (λ (r : PdoRow). let s : Sender = record { id = get_or ids k 0; node = r.node } in s) here in
+    ap (λ xs. xs ++ senders_of (drop (k + 1) rows) (drop (k + 1) ids)) put
+    ∙ append_assoc done (added ∷ []) (senders_of (drop (k + 1) rows) (drop (k + 1) ids))
+    ∙ ap (λ s. done ++ s ∷ senders_of (drop (k + 1) rows) (drop (k + 1) ids)) one
+    ∙ ap (λ xs. done ++ xs) (sym (sender_step rows ids k row inside same))
+    ∙ so_far
+
+no_ids : (rows : List PdoRow) → senders_of rows [] ≡ []
+no_ids [] = refl
+no_ids (r ∷ rows) = refl
+
+-- no senders are left
+pub senders_all : (rows : List PdoRow) (ids : List ℕ) (done : List Sender) → done ++ senders_of (drop (length rows) rows) (drop (length rows) ids) ≡ senders_of rows ids → done ≡ senders_of rows ids
+senders_all rows ids done h = sym (append-nil done) ∙ ap (λ xs. done ++ xs) (sym (none rows ids)) ∙ h
+  where
+    none : (rows : List PdoRow) (ids : List ℕ) → senders_of (drop (length rows) rows) (drop (length rows) ids) ≡ []
+    none [] ids = refl
+    none (r ∷ rows) [] = no_ids (drop (length rows) rows)
+    none (r ∷ rows) (i ∷ ids) = none rows ids
+
+-- a session of a plan's manager
+pub ended_so : {P : Type 0} (reads writes : P → List ℕ → P → Type 0) (asks : P → ℕ → P → Type 0) (net : Net) (rate own at : Rate) (ids nodes shown : List ℕ) (senders : List Sender) (take_over : Bool) (manager later : Managing) (p q : P) (text : List ℕ) (started : Bool)
+    → nodes ≡ device_nodes net → manager ≡ manager_of net ids nodes → senders ≡ senders_of net.rows ids → own ≡ rate → shown ≡ nodes → IsWhole reads writes asks own senders take_over manager p later q
+    → text ≡ boot_text later shown → started ≡ later.started → at ≡ rate
+    → IsEnded reads writes asks rate (senders_of net.rows ids) take_over (manager_of net ids (device_nodes net)) (device_nodes net) p q text started at
+ended_so reads writes asks net rate own at ids nodes shown senders take_over manager later p q text started en em es er eo whole says tells rated = record {
+  later = later;
+  whole = subst (λ r. IsWhole reads writes asks r (senders_of net.rows ids) take_over (manager_of net ids (device_nodes net)) p later q) er
+      (subst (λ s. IsWhole reads writes asks own s take_over (manager_of net ids (device_nodes net)) p later q) es
+      (subst (λ m. IsWhole reads writes asks own senders take_over m p later q) (em ∙ ap (manager_of net ids) en) whole));
+  says = says ∙ ap (boot_text later) (eo ∙ en);
+  tells = tells;
+  rated = rated;
+}

@@ -1,0 +1,2 @@
+pub mod Commissioning
+pub mod Sessions

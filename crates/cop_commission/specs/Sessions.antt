@@ -1,0 +1,49 @@
+-- A boot by a manager over a port, from the opening of the adapter to its closing.
+use Rattle.std.specs.Prelude.{ℕ, List, Bool, true, false, ◌≡◌}
+use Rattle.cop_frame.specs.declared.rates.Rate.{Rate}
+use Rattle.cop_boot.specs.Manager.{Managing}
+use Rattle.cop_live.specs.declared.listening.Sender.{Sender}
+use Rattle.cop_live.specs.declared.listening.Found.{Found}
+use Rattle.cop_live.specs.declared.listening.Found.TheVariants as found
+use Rattle.cop_live.specs.Listening.{Listened}
+use Rattle.cop_live.specs.Session.{Opened, Closed, Booted}
+use Rattle.cop_commission.specs.declared.sessions.Session.{Session}
+use Rattle.cop_commission.specs.declared.sessions.Session.TheVariants as sessions
+
+-- it was listened for 2 s and no node was heard to run, unless the bus is taken over
+abbrev pub IsFree : {P : Type 0} → (P → List ℕ → P → Type 0) → (P → List ℕ → P → Type 0) → (P → ℕ → P → Type 0) → List Sender → Bool → P → P → Type 0
+IsFree reads writes asks senders true p q = p ≡ q
+IsFree reads writes asks senders false p q = Listened reads writes asks senders p found.Nobody q
+
+-- a manager boots its nodes over an open adapter, which is closed then
+pub record BootsAndCloses {P : Type 0} (reads writes : P → List ℕ → P → Type 0) (asks : P → ℕ → P → Type 0) (m : Managing) (p : P) (later : Managing) (q : P) : Type 0 where
+  pub booted : P
+  pub boots : Booted reads writes asks m p later booted
+  pub closes : Closed reads writes booted q
+
+-- the adapter is opened, nobody is heard to run, a manager boots its nodes, and the adapter is closed: nothing else is done at the port
+pub record IsWhole {P : Type 0} (reads writes : P → List ℕ → P → Type 0) (asks : P → ℕ → P → Type 0) (rate : Rate) (senders : List Sender) (take_over : Bool) (m : Managing) (p : P) (later : Managing) (q : P) : Type 0 where
+  pub opened : P
+  pub free : P
+  pub opens : Opened reads writes rate p opened
+  pub listens : IsFree reads writes asks senders take_over opened free
+  pub boots : BootsAndCloses reads writes asks m free later q
+
+-- the adapter is opened, a node is heard to run, and the adapter is closed: no frame is sent
+pub record IsRefrained {P : Type 0} (reads writes : P → List ℕ → P → Type 0) (asks : P → ℕ → P → Type 0) (rate : Rate) (senders : List Sender) (node : ℕ) (p q : P) : Type 0 where
+  pub opened : P
+  pub heard : P
+  pub opens : Opened reads writes rate p opened
+  pub listens : Listened reads writes asks senders opened (found.Running node) heard
+  pub closes : Closed reads writes heard q
+
+-- what the end of a session says; where a node is heard to run the bus is not taken over
+abbrev pub IsSession : {P : Type 0} → (P → List ℕ → P → Type 0) → (P → List ℕ → P → Type 0) → (P → ℕ → P → Type 0) → Rate → List Sender → Bool → Managing → P → Managing → P → Session → Type 0
+IsSession reads writes asks rate senders take_over m p later q sessions.Booted = IsWhole reads writes asks rate senders take_over m p later q
+IsSession reads writes asks rate senders take_over m p later q (sessions.Running node) = (take_over ≡ false) × IsRefrained reads writes asks rate senders node p q
+IsSession reads writes asks rate senders take_over m p later q sessions.Failed = Unit {0}
+
+-- what a look at the bus gives: nobody, where it is taken over, and else what listening finds
+abbrev pub IsLook : {P : Type 0} → (P → List ℕ → P → Type 0) → (P → List ℕ → P → Type 0) → (P → ℕ → P → Type 0) → List Sender → Bool → P → Found → P → Type 0
+IsLook reads writes asks senders true p f q = (f ≡ found.Nobody) × (p ≡ q)
+IsLook reads writes asks senders false p f q = Listened reads writes asks senders p f q

@@ -1,0 +1,118 @@
+//! The boot of a planned network over a port.
+
+ghost use Rattle.std.specs.Prelude.{◌≡◌, length, map, IfOk, MatchResult};
+ghost use Rattle.std.specs.String.{string_bytes};
+ghost use Rattle.cop_net.specs.Network.{IsNetwork};
+ghost use Rattle.cop_plan.specs.Plans.{IsPlan};
+ghost use Rattle.cop_engine.specs.Networks.{ExplainsNetwork};
+ghost use Rattle.cop_commission.specs.Commissioning.{senders_of, IsCommissioned, IsCommissionedBy, IsCommissioning};
+
+use crate::sessions::{Session, run_session};
+use cop_engine::{Fault, boot_text, device_nodes, manager_of};
+use cop_frame::Rate;
+use cop_live::{Port, Sender};
+use cop_net::{Network, network, read_nodes, read_pdos};
+use cop_plan::{Asked, Choice, Outcome, Plan, plan};
+use cop_rows::PdoRow;
+use std::alloc::{AllocError, Global};
+
+/// What came of a boot over a port.
+#[derive(Drop)]
+pub enum Commissioned {
+    /// The boot of each node ended, at a rate: the text has a line for each, and whether they were started.
+    Ended {
+        text: Vec<u8>,
+        started: bool,
+        rate: Rate,
+    },
+    /// A node runs already: no frame was sent.
+    Running {
+        node: u8,
+    },
+    /// No rate passes: nothing was done at the port.
+    NonePasses,
+    /// The port or its clock failed.
+    Failed,
+}
+
+/// The identifiers of a plan's PDOs, and who sends each.
+fn senders_of(alloc: Global, rows: &[PdoRow], ids: &[u16]) -> Result<Vec<Sender>, AllocError>
+    requires { length ids.now ≡ length rows.now }
+    ensures { IfOk result (λ senders. senders.items ≡ senders_of rows.now ids.now) }
+{
+    let mut senders = Vec::new(alloc);
+    for (k, row) in rows.iter().enumerate() {
+        senders.push(Sender {
+            id: ids[k],
+            node: row.node,
+        })?;
+    }
+    Ok(senders)
+}
+
+/// The boot of a network by its plan.
+fn commission_planned<P: Port>(
+    alloc: Global,
+    network: &Network<'_>,
+    plan: &Plan,
+    take_over: bool,
+    port: &mut P,
+) -> Result<Commissioned, AllocError>
+    requires network { IsNetwork network.now }
+    requires planned { IsPlan network.now.equipment.rates network.now.set (length network.now.rows) plan.now }
+    ensures { IfOk result (λ ended. IsCommissioned P.reads P.writes P.asks network.now plan.now.rate plan.now.ids take_over port.old port.new ended) }
+{
+    let nodes = device_nodes(alloc, network)?;
+    let senders = senders_of(alloc, network.rows(), plan.ids())?;
+    let mut manager = manager_of(alloc, plan, network, &nodes)?;
+    let ended = run_session(&mut manager, &nodes, plan.rate(), &senders, take_over, port);
+    match ended {
+        Session::Booted => Ok(Commissioned::Ended {
+            text: boot_text(alloc, &manager, &nodes)?,
+            started: manager.started(),
+            rate: plan.rate(),
+        }),
+        Session::Running { node } => Ok(Commissioned::Running { node }),
+        Session::Failed => Ok(Commissioned::Failed),
+    }
+}
+
+/// The boot of a network by what the planner answers for it.
+fn commission_network<P: Port>(
+    alloc: Global,
+    network: &Network<'_>,
+    choice: Choice,
+    take_over: bool,
+    port: &mut P,
+) -> Result<Commissioned, AllocError>
+    requires { IsNetwork network.now }
+    ensures { IfOk result (λ ended. IsCommissionedBy P.reads P.writes P.asks choice network.now take_over port.old port.new ended) }
+{
+    match plan(alloc, network, choice)? {
+        Outcome::Planned(plan) => commission_planned(alloc, network, &plan, take_over, port),
+        Outcome::Refused(_) => Ok(Commissioned::NonePasses),
+    }
+}
+
+/// The boot of the devices of a planned network over a port. The network is planned, and the adapter is opened at its rate. Unless the bus is
+/// taken over, it is listened for 2 s, and where a node is heard to run no frame is sent. Then the settings of each node are sent to
+/// it, the nodes are started when all have confirmed theirs, and the adapter is closed. Otherwise the first rule that the network
+/// breaks, or want of memory.
+pub fn commission<P: Port>(
+    alloc: Global,
+    nodes: &[u8],
+    pdos: &[u8],
+    eds_files: &[(String, Vec<u8>)],
+    asked: &Asked,
+    take_over: bool,
+    port: &mut P,
+) -> Result<Commissioned, Fault>
+    ensures { MatchResult result
+        (λ ended. IsCommissioning P.reads P.writes P.asks asked.now nodes.now pdos.now (map (λ f. record { name = string_bytes f.0; text = f.1.items }) eds_files.now) take_over port.old port.new ended)
+        (λ fault. ExplainsNetwork asked.now.rates nodes.now pdos.now (map (λ f. record { name = string_bytes f.0; text = f.1.items }) eds_files.now) fault) }
+{
+    let nodes = read_nodes(alloc, nodes)?;
+    let pdos = read_pdos(alloc, pdos)?;
+    let network = network(alloc, &asked.rates, &nodes, &pdos, eds_files)?;
+    Ok(commission_network(alloc, &network, asked.choice, take_over, port)?)
+}

@@ -1,0 +1,7 @@
+//! The boot of a planned network over a port: from the bytes of tables and files to what became of each device.
+#![tactic(auto)]
+
+mod commissioning;
+mod sessions;
+
+pub use commissioning::{Commissioned, commission};

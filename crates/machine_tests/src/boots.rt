@@ -1,0 +1,118 @@
+//! Boots of a planned network over a port.
+
+use crate::scripts::{Script, Turn};
+use cop_commission::{Commissioned, commission};
+use cop_frame::Rate;
+use cop_net::all_rates;
+use cop_plan::{Asked, Choice};
+use std::alloc::{AllocError, Global};
+use std::test::Fail;
+
+/// The sample device.
+const UNIT: &[u8] =
+    b"[DeviceInfo]\nBaudRate_250=1\nBaudRate_500=1\nBaudRate_1000=1\n[OptionalObjects]\nSupportedObjects=4\n1=0x1017\n2=0x1800\n3=0x1A00\n4=0x2000\n[1017]\nDataType=0x0006\nAccessType=rw\nDefaultValue=0\n[1800]\nObjectType=0x9\nSubNumber=3\n[1800sub0]\nDataType=0x0005\nAccessType=ro\nDefaultValue=2\n[1800sub1]\nDataType=0x0007\nAccessType=rw\nDefaultValue=$NODEID+0x40000180\n[1800sub2]\nDataType=0x0005\nAccessType=rw\nDefaultValue=255\n[1A00]\nObjectType=0x9\nSubNumber=3\n[1A00sub0]\nDataType=0x0005\nAccessType=ro\nDefaultValue=2\n[1A00sub1]\nDataType=0x0007\nAccessType=ro\nDefaultValue=0x20000120\n[1A00sub2]\nDataType=0x0007\nAccessType=ro\nDefaultValue=0x20000220\n[2000]\nObjectType=0x8\nSubNumber=3\n[2000sub0]\nDataType=0x0005\nAccessType=ro\nDefaultValue=2\n[2000sub1]\nDataType=0x0007\nAccessType=ro\nPDOMapping=1\n[2000sub2]\nDataType=0x0007\nAccessType=ro\nPDOMapping=1\n";
+
+const NODES: &[u8] =
+    b"row,node,name,eds,period,jitter\ndevice,5,Valve,unit.eds,0,0\nemcy,5,,,100000,0\nheartbeat,5,,,100000,0\n";
+
+const PDOS: &[u8] = b"node,tpdo,period,jitter,deadline,consumers\n5,1,10000,0,670,\n";
+
+/// A PDO that no rate has in time.
+const TOO_FAST: &[u8] = b"node,tpdo,period,jitter,deadline,consumers\n5,1,10000,0,100,\n";
+
+/// The adapter's answers, 2 s of other traffic; the node's boot-up and its confirmations, in lines that come in parts, among garbage;
+/// and the reads at the end.
+const TAKES_ALL: &[Turn] = &[
+    (0, b"\r\r\x07\r\r"),
+    (10, b"t7051"),
+    (20, b"7F\r"),
+    (8_000_010, b"z\rt70510"),
+    (8_000_400, b"0\rgarbage\rt1801FF\r"),
+    (8_000_800, b"t5858600018010000000012AB\r"),
+    (8_001_200, b"\x07t58586000180100000000\r"),
+    (8_001_600, b"t58586017100000000000\r"),
+    (8_002_000, b""),
+    (8_002_400, b""),
+];
+
+/// Nothing is switched on, and the adapter is closed.
+const RUNS: &[Turn] = &[(0, b""), (10, b"t1810\r"), (400, b""), (800, b"")];
+
+/// No boot-up comes in 5 s.
+const SILENT: &[Turn] = &[
+    (0, b""),
+    (10, b""),
+    (8_000_010, b""),
+    (28_000_010, b""),
+    (28_000_400, b""),
+    (28_000_800, b""),
+];
+
+const FAILS: &[Turn] = &[(0, b""), (10, b""), (8_000_010, b"t705100\r")];
+
+/// The adapter is opened at 500 kbit/s; the reset, the node's settings and the start; and it is closed.
+const ALL_WRITTEN: &[u8] =
+    b"\r\rC\rS6\rO\rt00028200\rt605823001801850100C0\rt60582300180181010040\rt60582B17100064000000\rt00020100\rC\r";
+
+const OPENED_AND_CLOSED: &[u8] = b"\r\rC\rS6\rO\rC\r";
+
+const RESET_ALONE: &[u8] = b"\r\rC\rS6\rO\rt00028200\rC\r";
+
+const BEGUN: &[u8] = b"\r\rC\rS6\rO\rt00028200\rt605823001801850100C0\r";
+
+/// What comes, what is said and whether the nodes were started, and what is written.
+const BOOTS: &[(&[Turn], &[u8], bool, &[u8])] = &[
+    (TAKES_ALL, b"node 5 ready\nstarted\n", true, ALL_WRITTEN),
+    (RUNS, b"running", false, OPENED_AND_CLOSED),
+    (SILENT, b"node 5 silent\nnot started\n", false, RESET_ALONE),
+    (FAILS, b"failed", false, BEGUN),
+];
+
+/// What came of a boot, as a text, and whether the nodes were started at 500 kbit/s.
+fn told(alloc: Global, ended: Commissioned) -> Result<(Vec<u8>, bool), AllocError> {
+    match ended {
+        Commissioned::Ended {
+            text,
+            started,
+            rate,
+        } => Ok((text, started && rate == Rate::Kbit500)),
+        Commissioned::Running { node: 5 } => Ok((Vec::from_slice(alloc, b"running")?, false)),
+        Commissioned::Running { .. } => Ok((Vec::from_slice(alloc, b"another runs")?, false)),
+        Commissioned::NonePasses => Ok((Vec::from_slice(alloc, b"none passes")?, false)),
+        Commissioned::Failed => Ok((Vec::from_slice(alloc, b"failed")?, false)),
+    }
+}
+
+fn booted(alloc: Global, pdos: &[u8], port: &mut Script) -> Result<(Vec<u8>, bool), Fail> {
+    let file = (
+        String::from_str(alloc, "unit.eds")?,
+        Vec::from_slice(alloc, UNIT)?,
+    );
+    let asked = Asked {
+        rates: all_rates(),
+        choice: Choice::Order,
+    };
+    let ended = commission(alloc, NODES, pdos, &[file], &asked, false, port)?;
+    Ok(told(alloc, ended)?)
+}
+
+#[test]
+fn boots_over_a_port(rt: HostRuntime) -> Result<(), Fail> {
+    for (turns, wanted, starts, written) in BOOTS {
+        let mut port = Script::new(rt.alloc(), *turns);
+        let (text, started) = booted(rt.alloc(), PDOS, &mut port)?;
+        assert_eq!(rt; text.as_slice(), *wanted);
+        assert_eq!(rt; started, *starts);
+        assert_eq!(rt; port.written.as_slice(), *written);
+    }
+    Ok(())
+}
+
+#[test]
+fn does_nothing_without_a_plan(rt: HostRuntime) -> Result<(), Fail> {
+    let mut port = Script::new(rt.alloc(), TAKES_ALL);
+    let (text, _) = booted(rt.alloc(), TOO_FAST, &mut port)?;
+    assert_eq!(rt; text.as_slice(), b"none passes".as_slice());
+    assert!(rt; port.written.is_empty(), "nothing is written");
+    Ok(())
+}

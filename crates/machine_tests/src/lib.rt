@@ -1,0 +1,10 @@
+//! Tests of the boot over a port: of listening, and of a planned network, over a port that gives what a script has.
+
+#![tactic(auto)]
+
+#[cfg(test)]
+mod boots;
+#[cfg(test)]
+mod listening;
+#[cfg(test)]
+mod scripts;

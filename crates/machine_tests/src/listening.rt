@@ -1,0 +1,45 @@
+//! Listening before a boot.
+
+use crate::scripts::{Script, Turn};
+use cop_live::{Found, Sender, listen};
+use std::test::Fail;
+
+/// TPDO 1 of node 5.
+const SENDERS: &[Sender] = &[Sender { id: 0x181, node: 5 }];
+
+/// A boot-up, a heartbeat that says pre-operational, an EMCY, a PDO of nobody, answers of the adapter, and 2 s.
+const QUIET: &[Turn] = &[
+    (7, b"\r\x07t705100\r"),
+    (9, b"t70517F\rt0858001000000000000"),
+    (400, b"00\rt1821AA\rz\r"),
+    (8_000_007, b""),
+];
+
+/// A heartbeat that says operational, in parts, behind other lines.
+const BEATS: &[Turn] = &[(0, b"z\rt705"), (100, b"105\rt705105\r"), (8_000_000, b"")];
+
+/// A PDO of the plan, whose line has a moment.
+const PDO: &[Turn] = &[(0, b"t1811FFA0B1\r"), (8_000_000, b"")];
+
+/// Less than 2 s, and then a failure.
+const FAILS: &[Turn] = &[(0, b""), (7_999_999, b"")];
+
+/// What comes, and what is found.
+const CASES: &[(&[Turn], Found)] = &[
+    (QUIET, Found::Nobody),
+    (BEATS, Found::Running { node: 5 }),
+    (PDO, Found::Running { node: 5 }),
+    (FAILS, Found::Failed),
+    (&[], Found::Failed),
+];
+
+#[test]
+fn listens(rt: HostRuntime) -> Result<(), Fail> {
+    for (turns, wanted) in CASES {
+        let mut port = Script::new(rt.alloc(), *turns);
+        let found = listen(SENDERS, &mut port);
+        assert_eq!(rt; found, *wanted);
+        assert!(rt; port.written.is_empty(), "nothing is written");
+    }
+    Ok(())
+}

@@ -1,0 +1,106 @@
+#!/usr/bin/env python3
+"""Boots the devices of three examples over a pseudo terminal, behind which are an adapter and slaves of another make.
+
+    python3 tools/boot_machines.py [NAME..]
+
+The adapter and the slaves stand in tools/machine/, and share nothing with canplan: they read the EDS and DCF files by themselves.
+Of each case it is seen what the program says and its status, which NMT commands were on the bus, and, where all nodes are
+ready, that each device has what its DCF file says. A case whose name holds one of the words given is run, or each.
+"""
+import json
+import os
+import subprocess
+import sys
+import tempfile
+
+HERE = os.path.dirname(os.path.dirname(os.path.realpath(__file__)))
+PROGRAM = f"{HERE}/bin/canplan"
+RIG = f"{HERE}/tools/machine/rig.py"
+
+# A case: the example, the words of the rig, how the nodes end that are not ready, and what else is expected: the status, where it is not 0 or 3,
+# and the words of the program.
+CASES = {
+    "valve": ("valve", "", {}),
+    "conveyor": ("conveyor", "", {}),
+    "crane": ("crane", "", {}),
+    "stamps, small letters, answers by CR": ("valve", "--stamps --lower --answers cr", {}),
+    "no answers of the adapter, byte by byte": ("valve", "--answers none --chunk 1", {}),
+    "garbage and other traffic": ("valve", "--garbage 0.6 --traffic 20 --chunk 13", {}),
+    "traffic at the crane": ("crane", "--traffic 50 --garbage 0.2", {}),
+    "silent": ("valve", "--silent 5", {5: "silent"}),
+    "mute": ("valve", "--mute 5", {5: "silent"}),
+    "silent among others": ("crane", "--silent 31", {31: "silent"}),
+    "late boot-up": ("valve", "--late 5:3", {}),
+    "too late boot-up": ("valve", "--late 5:6", {5: "silent"}),
+    "slow answers": ("crane", "--slow 22:0.4", {}),
+    "abort": ("valve", "--abort 5:1800:1:06090030", {5: "aborted 1800 01 06090030"}),
+    "abort among others": ("crane", "--abort 12:1017:0:08000022", {12: "aborted 1017 00 08000022"}),
+    "confirms another sub": ("valve", "--wrong 5:1800:1", {5: "aborted 1800 01 05040001"}),
+    "second boot-up": ("valve", "--reboot 5:2", {}),
+    "second boot-up among others": ("crane", "--reboot 13:3 22:1", {}),
+    "another rate": ("valve", "--rate 250", {5: "silent"}),
+    "lines cut": ("valve", "--noise 1", {5: "silent"}),
+    "runs already": ("valve", "--running 5", {}, 3, []),
+    "runs already, taken over": ("valve", "--running 5", {}, 0, ["--take-over"]),
+    "pulled out": ("valve", "--gone 2", {}, 5, []),
+}
+
+
+def wanted_text(example, ends):
+    """The lines of a boot in which some nodes end in other ways."""
+    with open(f"{HERE}/examples/{example}/boot.txt") as it:
+        lines = it.read().splitlines()
+    nodes = [line for line in lines if line.startswith("node ")]
+    for at, line in enumerate(nodes):
+        number = int(line.split()[1])
+        if number in ends:
+            nodes[at] = f"node {number} {ends[number]}"
+    return "\n".join(nodes + ["not started" if ends else "started"]) + "\n"
+
+
+def run(name, folder):
+    """What is wrong with a case."""
+    example, words, ends, *more = CASES[name]
+    status, options = more if more else (3 if ends else 0, [])
+    tables = [f"{HERE}/examples/{example}/{file}" for file in ("nodes.csv", "pdos.csv")]
+    port, report = f"{folder}/port", f"{folder}/report.json"
+    rig = subprocess.Popen([sys.executable, RIG, tables[0], port, "--expect", os.path.dirname(tables[0]), "--log", f"{folder}/log",
+                            "--report", report, *words.split()], stdout=subprocess.PIPE, text=True)
+    rig.stdout.readline()
+    it = subprocess.run([PROGRAM, "boot", "--port", port, *options, *tables], capture_output=True, text=True, timeout=120)
+    rig.wait(timeout=60)
+    with open(report) as file:
+        seen = json.load(file)
+    text = wanted_text(example, ends) if status in (0, 3) and "--running" not in words or status == 0 else ""
+    commands = {0: ["8200", "0100"], 3: [] if "--running" in words or "--rate" in words else ["8200"], 5: ["8200"]}[status]
+    faults = []
+    if it.returncode != status:
+        faults.append(f"status {it.returncode}, not {status}")
+    if it.stdout != text:
+        faults.append(f"says {it.stdout!r}, not {text!r}")
+    if seen["commands"] != commands:
+        faults.append(f"NMT commands {seen['commands']}, not {commands}")
+    if status == 0 and not seen["all_as_dcf"]:
+        faults.append("a device has not what its DCF file says")
+    if "--running" in words and status == 3 and "refused 100 5" not in it.stderr:
+        faults.append(f"does not name the node that runs: {it.stderr!r}")
+    return faults + ([f"standard error: {it.stderr}"] if faults else [])
+
+
+def main(words):
+    passed, failed = 0, 0
+    for name in CASES:
+        if words and not any(word in name for word in words):
+            continue
+        with tempfile.TemporaryDirectory() as folder:
+            faults = run(name, folder)
+        print(f"{'FAILED' if faults else 'ok'}: {name}", flush=True)
+        for fault in faults:
+            print(f"  {fault}")
+        passed, failed = passed + (not faults), failed + bool(faults)
+    print(f"{passed} passed, {failed} failed")
+    return 1 if failed else 0
+
+
+if __name__ == "__main__":
+    sys.exit(main(sys.argv[1:]))

@@ -1,0 +1,84 @@
+#!/usr/bin/env python3
+"""Boots the valve of the examples over a pseudo terminal, at whose other end stands python-can's own slcan bus (Debian: python3-can, python3-serial).
+
+    /usr/bin/python3 tools/boot_with_python_can.py
+
+python-can reads the lines that canplan writes as frames, and writes the node's frames as lines. The frames that it reads have to be the
+reset, the settings of the node's DCF file and the start, and canplan has to tell the node ready.
+"""
+import os
+import subprocess
+import sys
+import threading
+import time
+import tty
+import termios
+
+import can
+
+HERE = os.path.dirname(os.path.dirname(os.path.realpath(__file__)))
+WANTED = [
+    (0x000, "8200"),
+    (0x605, "23001801850100c0"),
+    (0x605, "2300180181010040"),
+    (0x605, "2b17100064000000"),
+    (0x000, "0100"),
+]
+
+
+def terminal():
+    """A pseudo terminal: its other end, and the name of its device file, which is set up as bin/canplan does."""
+    master, slave = os.openpty()
+    tty.setraw(slave)
+    mode = termios.tcgetattr(slave)
+    mode[6][termios.VMIN], mode[6][termios.VTIME] = 0, 1
+    termios.tcsetattr(slave, termios.TCSANOW, mode)
+    return master, slave, os.ttyname(slave)
+
+
+def pass_on(source, target):
+    """What comes from one end goes to the other."""
+    try:
+        while True:
+            os.write(target, os.read(source, 4096))
+    except OSError:
+        pass
+
+
+def serve(bus, seen, is_over):
+    """Node 5: it boots up at a reset, and confirms each setting."""
+    while not is_over.is_set():
+        frame = bus.recv(0.1)
+        if frame is None:
+            continue
+        seen.append((frame.arbitration_id, bytes(frame.data).hex()))
+        if frame.arbitration_id == 0 and frame.data[0] == 0x82:
+            bus.send(can.Message(arbitration_id=0x705, data=[0], is_extended_id=False))
+        elif frame.arbitration_id == 0x605:
+            bus.send(can.Message(arbitration_id=0x585, data=[0x60, *frame.data[1:4], 0, 0, 0, 0], is_extended_id=False))
+
+
+def main():
+    ours, _ours_slave, port = terminal()
+    theirs, _theirs_slave, channel = terminal()
+    for source, target in ((ours, theirs), (theirs, ours)):
+        threading.Thread(target=pass_on, args=(source, target), daemon=True).start()
+    bus = can.Bus(interface="slcan", channel=channel, bitrate=500000, sleep_after_open=0)
+    time.sleep(0.2)
+    seen, is_over = [], threading.Event()
+    peer = threading.Thread(target=serve, args=(bus, seen, is_over))
+    peer.start()
+    program = os.environ.get("CANPLAN", f"{HERE}/bin/canplan")
+    tables = [f"{HERE}/examples/valve/{file}" for file in ("nodes.csv", "pdos.csv")]
+    it = subprocess.run([*program.split(), "boot", "--port", port, *tables], capture_output=True, text=True, timeout=600)
+    time.sleep(0.3)
+    is_over.set()
+    peer.join()
+    bus.shutdown()
+    right = it.returncode == 0 and it.stdout == "node 5 ready\nstarted\n" and seen == WANTED
+    print("ok" if right else f"FAILED: status {it.returncode}, says {it.stdout!r}, {it.stderr!r}, frames {seen}")
+    return 0 if right else 1
+
+
+if __name__ == "__main__":
+    sys.exit(main())

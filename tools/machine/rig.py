@@ -1,0 +1,285 @@
+#!/usr/bin/env python3
+"""A CAN adapter that speaks slcan on a pseudo terminal, with the CANopen slaves of a network's tables behind it."""
+import argparse, csv, json, os, random, select, signal, sys, termios, time, tty
+
+import eds
+from device import Device
+
+RATES = {"0": 10, "1": 20, "2": 50, "3": 100, "4": 125, "5": 250, "6": 500, "7": 800, "8": 1000}
+
+
+class Adapter:
+    """Lawicel's text protocol: S, O, C, t, V, v, N, Z, F; CR is yes and BEL is no."""
+
+    def __init__(self, args, out, frame, log):
+        self.args, self.out, self.on_frame, self.log = args, out, frame, log
+        self.line, self.open, self.rate, self.stamps = b"", False, None, False
+        self.sent = self.heard = self.bad = self.closed = 0
+        self.random = random.Random(args.seed)
+
+    def bytes(self, data):
+        for b in data:
+            if b == 13:
+                self.do(self.line)
+                self.line = b""
+            elif b != 10:
+                self.line += bytes([b])
+
+    def yes(self, text=b""):
+        if self.args.answers != "none":
+            self.out(text + b"\r")
+
+    def no(self, line):
+        self.bad += 1
+        self.log(f"adapter: refused {line!r}")
+        if self.args.answers != "none":
+            self.out(b"\x07")
+
+    def do(self, line):
+        text = line.decode("latin-1")
+        if not text:
+            return self.yes()
+        kind, rest = text[0], text[1:]
+        if kind == "S" and rest in RATES and not self.open:
+            self.rate = RATES[rest]
+            return self.yes()
+        if kind == "O" and not rest and not self.open and self.rate:
+            self.open = True
+            self.log(f"adapter: open at {self.rate} kbit/s")
+            return self.yes()
+        if kind == "C" and not rest:
+            if not self.open and not self.args.lenient:
+                return self.no(line)
+            self.closed += self.open
+            self.open = False
+            return self.yes()
+        if kind == "V":
+            return self.yes(b"V1013")
+        if kind == "N":
+            return self.yes(b"NA123")
+        if kind == "F":
+            return self.yes(b"F00")
+        if kind == "Z" and rest in ("0", "1"):
+            self.stamps = rest == "1"
+            return self.yes()
+        if kind == "t" and self.open:
+            try:
+                ident, size = int(rest[:3], 16), int(rest[3], 16)
+                data = bytes.fromhex(rest[4:])
+                if len(rest) != 4 + 2 * size or size > 8 or ident > 0x7FF or len(data) != size:
+                    raise ValueError
+            except (ValueError, IndexError):
+                return self.no(line)
+            self.heard += 1
+            self.yes({"z": b"z", "cr": b"", "none": b""}[self.args.answers])
+            if self.args.rate and self.args.rate != self.rate:
+                return self.log(f"bus: error frames, {self.rate} kbit/s on a bus of {self.args.rate}")
+            return self.on_frame(ident, data)
+        return self.no(line)
+
+    def frame(self, ident, data):
+        """A frame was on the bus."""
+        if not self.open:
+            return
+        r = self.random
+        if r.random() < self.args.garbage:
+            self.out(bytes(r.choice(b"\x00\xff\x80tTzr0159AFg\x07 \n") for _ in range(r.randint(0, 60))) + b"\r")
+        if r.random() < self.args.noise:
+            self.out(bytes(r.choice(b"\x00\xff t0A9") for _ in range(r.randint(1, 5))))
+        text = f"t{ident:03X}{len(data)}{data.hex()}"
+        text = text.lower() if self.args.lower else text.upper().replace("T", "t", 1)
+        if self.stamps or self.args.stamps:
+            text += f"{int(time.monotonic() * 1000) % 60000:04X}"
+        self.sent += 1
+        self.out(text.encode() + b"\r")
+
+
+class Rig:
+    def __init__(self, args):
+        self.args, self.queue, self.begin = args, [], time.monotonic()
+        self.log_file = open(args.log, "w", buffering=1) if args.log else None
+        self.master, self.slave = os.openpty()
+        tty.setraw(self.slave)
+        if args.stty:  # what `stty raw -echo min 0 time 1` does
+            mode = termios.tcgetattr(self.slave)
+            mode[6][termios.VMIN], mode[6][termios.VTIME] = 0, 1
+            termios.tcsetattr(self.slave, termios.TCSANOW, mode)
+        os.set_blocking(self.master, False)
+        if os.path.islink(args.link):
+            os.unlink(args.link)
+        os.symlink(os.ttyname(self.slave), args.link)
+        self.outgoing = b""
+        self.adapter = Adapter(args, self.out, self.from_manager, self.log)
+        self.random = random.Random(args.seed + 1)
+        self.devices = self.load()
+        self.commands, self.next_other, self.is_gone = [], self.begin, False
+
+    def log(self, text):
+        line = f"{time.monotonic() - self.begin:9.4f} {text}\n"
+        (self.log_file or sys.stderr).write(line)
+
+    def out(self, data):
+        self.outgoing += data
+
+    def load(self):
+        folder, found = os.path.dirname(os.path.abspath(self.args.nodes)), {}
+        faults = self.faults()
+        for row in csv.DictReader(open(self.args.nodes)):
+            if row["row"] == "device":
+                node = int(row["node"])
+                entries = eds.dictionary(os.path.join(folder, row["eds"]), node)
+                found[node] = Device(node, entries, self.begin, self.send, faults.get(node, {}), self.log)
+        return found
+
+    def faults(self):
+        all = {}
+        at = lambda node: all.setdefault(int(node), {"lag": self.args.lag})
+        for row in csv.DictReader(open(self.args.nodes)):
+            if row["row"] == "device":
+                at(row["node"])
+        for node in self.args.silent:
+            at(node)["silent"] = True
+        for node in self.args.running:
+            at(node)["running"] = True
+        for node in self.args.mute:
+            at(node)["mute"] = True
+        for text in self.args.late:
+            node, seconds = text.split(":")
+            at(node)["late"] = float(seconds)
+        for text in self.args.slow:
+            node, seconds = text.split(":")
+            at(node)["lag"] = float(seconds)
+        for text in self.args.abort:
+            node, index, sub, code = text.split(":")
+            at(node).setdefault("abort", {})[int(index, 16), int(sub, 16)] = int(code, 16)
+        for text in self.args.wrong:
+            node, index, sub = text.split(":")
+            at(node)["wrong_mux"] = int(index, 16), int(sub, 16)
+        for text in self.args.reboot:
+            node, after = text.split(":")
+            at(node)["reboot"] = int(after)
+        return all
+
+    def send(self, ident, data):
+        self.log(f"<- {ident:03X} {data.hex(' ')}")
+        self.adapter.frame(ident, data)
+
+    def from_manager(self, ident, data):
+        self.log(f"-> {ident:03X} {data.hex(' ')}")
+        if ident == 0:
+            self.commands.append(data.hex())
+        if self.args.gone and self.adapter.heard >= self.args.gone:
+            self.is_gone = True
+        now = time.monotonic()
+        for device in self.devices.values():
+            device.frame(ident, data, now)
+
+    def other(self, now):
+        """What else is on a bus: EMCY, SYNC, SDO frames and a heartbeat of nodes that are nobody's."""
+        if self.args.traffic and now >= self.next_other:
+            self.next_other = now + 1 / self.args.traffic
+            r = self.random
+            ident = r.choice([0x080, 0x2A5, 0x481, 0x5FF, 0x6FF, 0x100])
+            self.adapter.frame(ident, bytes(r.randrange(256) for _ in range(r.randint(0, 8))))
+            self.adapter.frame(0x77F, b"\x7f")
+
+    def write_some(self):
+        while self.outgoing:
+            n = self.random.randint(1, self.args.chunk) if self.args.chunk else len(self.outgoing)
+            try:
+                k = os.write(self.master, self.outgoing[:n])
+            except BlockingIOError:
+                return
+            self.outgoing = self.outgoing[k:]
+            if self.args.chunk:
+                return
+
+    def run(self):
+        stop = []
+        for s in (signal.SIGTERM, signal.SIGINT):
+            signal.signal(s, lambda *_: stop.append(1))
+        print("ready", self.args.link, flush=True)
+        linger = None
+        while not stop and not self.is_gone:
+            now = time.monotonic()
+            if now - self.begin > self.args.until:
+                break
+            if self.adapter.closed and linger is None:
+                linger = now + 0.2
+            if linger and now > linger and not self.args.stay:
+                break
+            r, _, _ = select.select([self.master], [], [], 0.002)
+            if r:
+                try:
+                    self.adapter.bytes(os.read(self.master, 4096))
+                except (BlockingIOError, OSError):
+                    pass
+            now = time.monotonic()
+            for device in self.devices.values():
+                device.poll(now)
+            self.other(now)
+            self.write_some()
+        return self.report()
+
+    def report(self):
+        wanted_all, told, good = self.args.expect, {}, True
+        for node, d in sorted(self.devices.items()):
+            changed = {f"{e.index:04X}:{e.sub:02X}": f"{e.value:X}" for e in d.entries.values() if e.size and e.value != e.default}
+            one = {"state": d.told(), "boots": d.boots, "resets": d.resets, "starts": d.starts,
+                   "writes": len(d.writes), "aborted": [f"{i:04X}:{s:02X} {c:08X}" for i, s, _, c in d.writes if c], "changed": changed}
+            if wanted_all:
+                path = os.path.join(wanted_all, f"node-{node:03}.dcf")
+                wrong = []
+                for (index, sub), w in eds.dictionary(path, node, "parametervalue").items():
+                    if w.value is not None and d.entries[index, sub].value != w.value:
+                        wrong.append(f"{index:04X}:{sub:02X} has {d.entries[index, sub].value:X}, the DCF {w.value:X}")
+                one["as_dcf"], good = not wrong, good and not wrong
+                one["wrong"] = wrong
+            told[node] = one
+        summary = {"commands": self.commands, "frames_from_manager": self.adapter.heard, "frames_to_manager": self.adapter.sent,
+                   "refused_lines": self.adapter.bad, "rate": self.adapter.rate, "devices": told}
+        if wanted_all:
+            summary["all_as_dcf"] = good
+        text = json.dumps(summary, indent=1)
+        if self.args.report:
+            open(self.args.report, "w").write(text + "\n")
+        else:
+            print(text)
+        return 0
+
+
+def words():
+    p = argparse.ArgumentParser(description=__doc__)
+    p.add_argument("nodes", help="the table of nodes; the EDS files lie in its folder")
+    p.add_argument("link", help="a symbolic link that is made to the terminal, for canplan boot --port")
+    p.add_argument("--expect", metavar="DIR", help="node-NNN.dcf files of canplan plan: each device is compared with its own at the end")
+    p.add_argument("--rate", type=int, help="the bus's bit rate in kbit/s: at another nothing is heard")
+    p.add_argument("--silent", nargs="*", default=[], metavar="NODE", help="never boots and never answers")
+    p.add_argument("--running", nargs="*", default=[], metavar="NODE", help="is operational from the beginning, with a heartbeat")
+    p.add_argument("--gone", type=int, default=0, help="the adapter is pulled out after so many frames from the manager")
+    p.add_argument("--mute", nargs="*", default=[], metavar="NODE", help="boots, but has no SDO server")
+    p.add_argument("--late", nargs="*", default=[], metavar="NODE:S", help="boots so many seconds after the reset")
+    p.add_argument("--slow", nargs="*", default=[], metavar="NODE:S", help="answers SDO after so many seconds")
+    p.add_argument("--lag", type=float, default=0.001, help="every device answers after so many seconds")
+    p.add_argument("--abort", nargs="*", default=[], metavar="NODE:INDEX:SUB:CODE", help="refuses that write (hexadecimal but for NODE)")
+    p.add_argument("--wrong", nargs="*", default=[], metavar="NODE:INDEX:SUB", help="confirms that write with another sub")
+    p.add_argument("--reboot", nargs="*", default=[], metavar="NODE:K", help="falls over at its K-th write, forgets all and boots again")
+    p.add_argument("--traffic", type=float, default=0, help="so many other frames a second")
+    p.add_argument("--garbage", type=float, default=0, help="before so many of the lines (0 to 1) a line of garbage with a CR")
+    p.add_argument("--noise", type=float, default=0, help="before so many of the lines a few bytes without CR: that line is lost")
+    p.add_argument("--answers", choices=["z", "cr", "none"], default="z", help="how frames that are taken are answered")
+    p.add_argument("--stamps", action="store_true", help="four digits of a clock behind each frame")
+    p.add_argument("--lower", action="store_true", help="hexadecimal digits in lower case")
+    p.add_argument("--chunk", type=int, default=0, help="give the bytes in parts of at most so many")
+    p.add_argument("--lenient", action="store_true", help="C is taken where nothing is open")
+    p.add_argument("--no-stty", dest="stty", action="store_false", help="leave the terminal at min 1 time 0, for who sets it by stty")
+    p.add_argument("--stay", action="store_true", help="go on after C")
+    p.add_argument("--until", type=float, default=60, help="end after so many seconds")
+    p.add_argument("--seed", type=int, default=1)
+    p.add_argument("--log", help="a file for the frames (else standard error)")
+    p.add_argument("--report", help="a file for the summary (else standard output)")
+    return p.parse_args()
+
+
+if __name__ == "__main__":
+    sys.exit(Rig(words()).run())
