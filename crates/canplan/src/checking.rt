@@ -6,7 +6,8 @@ use crate::files::print;
 use crate::inputs::{Inputs, Texts, read_file};
 use crate::notes::check_notes;
 use crate::orders::NetworkFiles;
-use cop_engine::{Fault, check_bytes, check_status, covers_slower, strict_check_status};
+use cop_covering::covers_slower;
+use cop_engine::{Fault, check_bytes, check_status, strict_check_status};
 use cop_net::{network, read_nodes, read_pdos};
 use std::alloc::Global;
 

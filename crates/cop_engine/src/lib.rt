@@ -3,7 +3,6 @@
 
 mod boots;
 mod checks;
-mod coverings;
 mod dcfs;
 mod faults;
 mod guarantee;
@@ -22,7 +21,6 @@ mod turns;
 
 pub use boots::{boot_bytes, boot_text, device_nodes, manager_of};
 pub use checks::check_bytes;
-pub use coverings::covers_slower;
 pub use dcfs::DcfFile;
 pub use faults::{Fault, status};
 pub use guarantee::{dcf_round_trip, judged_on_time, planner_guarantee};
