@@ -12,7 +12,7 @@ use crate::log_rules::log_rule_words;
 use crate::machines::{boot_machine, machine_rule_words};
 use crate::notes::plan_notes;
 use crate::orders::{NetworkFiles, Order, Request};
-use crate::reporting::{Shown, write_report};
+use crate::reporting::write_report;
 use crate::tidying::carry_tidy;
 use crate::watching::watch_bus;
 use cop_engine::{
@@ -252,13 +252,9 @@ pub fn carry_out(
         } => run(rt, (seed, until), network, trace, inputs),
         Order::Report {
             network,
-            trace,
-            log,
+            shown,
             out,
-        } => {
-            let shown = Shown { trace, log };
-            write_report(rt, network, shown, out, inputs)
-        }
+        } => write_report(rt, network, shown, out, inputs),
         Order::Export {
             format,
             network,

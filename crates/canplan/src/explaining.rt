@@ -35,14 +35,19 @@ fn file_of<'a>(order: Order<'a>, number: u8) -> Option<&'a str> {
         Order::Test { file, .. } => Some(file),
         Order::Check { refusals, .. } if number < 40 => Some(refusals),
         Order::Judge { trace, .. } if number >= 60 => Some(trace),
-        Order::Report { trace, .. } if number >= 60 && number < 90 => trace,
+        Order::Report { shown, .. } if number >= 60 && number < 90 => shown.trace,
         _ => None,
     }
 }
 
 /// Whether a rule is about the log that is watched, whose line the failure has in words.
 fn is_of_log(order: Order<'_>, number: u8) -> bool {
-    number >= 90 && matches!(order, Order::Watch(_) | Order::Report { log: Some(_), .. })
+    let has_log = match order {
+        Order::Watch(_) => true,
+        Order::Report { shown, .. } => shown.log.is_some(),
+        _ => false,
+    };
+    has_log && number >= 90
 }
 
 /// What is said of a line of a log that is refused.

@@ -7,7 +7,7 @@ use crate::failures::Failure;
 use crate::files::write_file;
 use crate::inputs::{Inputs, beside, read_file};
 use crate::judging::judge_inputs;
-use crate::orders::{NetworkFiles, WatchOrder};
+use crate::orders::{NetworkFiles, Shown};
 use crate::watching::watched;
 use cop_engine::{Fault, plan_status};
 use cop_figures::{Timeline, figures_of, timeline_of};
@@ -16,15 +16,6 @@ use cop_net::{Network, network, read_nodes, read_pdos};
 use cop_plan::{Outcome, plan};
 use cop_report::{Input, Report, page_of};
 use std::alloc::AllocError;
-
-/// What a page shows of the bus beside the plan.
-#[derive(Clone, Copy)]
-pub struct Shown<'a> {
-    /// The name of a trace.
-    pub trace: Option<&'a str>,
-    /// A log of the machine's bus.
-    pub log: Option<WatchOrder<'a>>,
-}
 
 /// The files that a page is made of.
 #[derive(Clone, Copy)]
