@@ -5,11 +5,13 @@
 
 Each example that has a plan is run by several seeds. The ends of the transfers, by a clock that is shaken and drifts within what is said
 on the command line, make a log as `candump -L` writes it: no breach may be found in it, nor in its middle third, nor where each tenth
-line is lost, nor where a second channel stands between. Then one breach of each kind is put in: it has to be found at its line. Last a
+line is lost, nor where a second channel stands between. The page of `report --log` has to have as many distances in the histogram of each
+identifier as the lines have frames but one. Then one breach of each kind is put in: it has to be found at its line. Last a
 log that is refused has to be refused by the number and at the place that it should.
 """
 import os
 import random
+import re
 import subprocess
 import sys
 import tempfile
@@ -119,6 +121,31 @@ def watched(tables, lines, words=SAID):
     return run("watch", *words, *tables, "-", text="".join(line + "\n" for line in lines).encode())
 
 
+def page_faults(tables, lines, folder):
+    """What is wrong with the section of a report on a log."""
+    log, page = f"{folder}/log", f"{folder}/page.html"
+    with open(log, "w") as file:
+        file.write("".join(line + "\n" for line in lines))
+    status, _, err = run("report", "--log", log, *SAID, *tables, page)
+    if status != 0:
+        yield f"status {status} {err}"
+        return
+    with open(page) as file:
+        section = file.read().split('<section id="log">', 1)[1].split("</section>", 1)[0]
+    frames = {}
+    for line in lines:
+        number = int(line.split()[2].split("#")[0], 16)
+        frames[number] = frames.get(number, 0) + 1
+    rows = re.findall(r'<tr><th scope="row">([0-9A-F]{3})h</th>(.*?)</tr>', section, re.S)
+    for number, row in rows:
+        counted = sum(int(count) for count in re.findall(r"<title>(\d+) from", row))
+        seen = frames.get(int(number, 16), 0)
+        if f'<td class="n">{seen}</td>' not in row or counted != max(seen - 1, 0):
+            yield f"{number}: {seen} frames, {counted} distances"
+    if not rows or "keeps to the tables" not in section:
+        yield "no rows, or no judgement"
+
+
 def faults_of(name, seed, folder):
     chance = random.Random(f"{name} {seed}")
     tables = (f"{EXAMPLES}/{name}/nodes.csv", f"{EXAMPLES}/{name}/pdos.csv")
@@ -129,6 +156,8 @@ def faults_of(name, seed, folder):
         status, out, err = watched(tables, lines)
         if status != 0 or not out.endswith("keeps to the tables\n"):
             yield f"{name} {seed} {kind}: status {status} {err} {[it for it in out.splitlines() if 'breaks' in it][:2]}"
+    for fault in page_faults(tables, lines_of(log), folder):
+        yield f"{name} {seed} page: {fault}"
     for kind, lines, place, word in bad_logs(log, chance):
         status, out, err = watched(tables, lines)
         found = [it for it in out.splitlines() if word in it and (place is None or it.startswith(f"line {place}:"))]
