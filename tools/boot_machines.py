@@ -14,7 +14,7 @@ import sys
 import tempfile
 
 HERE = os.path.dirname(os.path.dirname(os.path.realpath(__file__)))
-PROGRAM = f"{HERE}/bin/canplan"
+PROGRAM = os.environ.get("CANPLAN", f"{HERE}/bin/canplan")
 RIG = f"{HERE}/tools/machine/rig.py"
 
 # A case: the example, the words of the rig, how the nodes end that are not ready, and what else is expected: the status, where it is not 0 or 3,
@@ -42,8 +42,26 @@ CASES = {
     "lines cut": ("valve", "--noise 1", {5: "silent"}),
     "runs already": ("valve", "--running 5", {}, 3, []),
     "runs already, taken over": ("valve", "--running 5", {}, 0, ["--take-over"]),
+    "node numbers swapped": ("crane", "--swap 21:31", {21: "other 1000 00 00020194", 31: "other 1000 00 00020196"}),
+    "swapped, not asked": ("crane", "--swap 31:43", {31: "aborted 1017 00 06020000"}, 3, ["--no-identity"]),
+    "another product": ("conveyor", "--identity 13:1018:2:191", {13: "other 1018 02 00000191"}),
+    "another product, taken over, byte by byte": ("conveyor", "--identity 13:1018:2:191 --chunk 1", {13: "other 1018 02 00000191"}, 3, ["--take-over"]),
+    "another product, not asked": ("conveyor", "--identity 13:1018:2:191", {}, 0, ["--no-identity"]),
+    "another product, as a document": ("conveyor", "--identity 13:1018:2:191", {13: "other 1018 02 00000191"}, 3, ["--json"]),
+    "all ready, as a document": ("crane", "", {}, 0, ["--json"]),
+    "another product among silent and aborting ones": (
+        "conveyor", "--identity 13:1018:2:3217 --silent 12 --unread 14:1018:2:06090011",
+        {12: "silent", 13: "other 1018 02 00003217", 14: "aborted 1018 02 06090011"}),
+    "no identity in a device": ("conveyor", "--unread 12:1018:2:06090011 14:1000:0:08000022 14:1018:2:06020000", {}),
+    "slow to say who it is": ("conveyor", "--slow-read 12:0.8", {}),
+    "too slow to say who it is": ("conveyor", "--slow-read 12:1.5", {}),
     "pulled out": ("valve", "--gone 2", {}, 5, []),
 }
+
+
+def has_other(ends):
+    """Whether some node is another device: then nothing is written to any."""
+    return any(end.startswith("other ") for end in ends.values())
 
 
 def wanted_text(example, ends):
@@ -51,11 +69,20 @@ def wanted_text(example, ends):
     with open(f"{HERE}/examples/{example}/boot.txt") as it:
         lines = it.read().splitlines()
     nodes = [line for line in lines if line.startswith("node ")]
+    if has_other(ends):
+        nodes = [line.replace(" ready", " as planned") for line in nodes]
     for at, line in enumerate(nodes):
         number = int(line.split()[1])
         if number in ends:
             nodes[at] = f"node {number} {ends[number]}"
     return "\n".join(nodes + ["not started" if ends else "started"]) + "\n"
+
+
+def lines_of(document):
+    """The lines that a document in JSON stands for."""
+    value = json.loads(document)
+    lines = [f"node {it['node']} {it['state']}" + (f" {it['index']:04X} {it['sub']:02X} {it['found']:08X}" if "found" in it else "") for it in value["nodes"]]
+    return "\n".join(lines + ["started" if value["started"] else "not started"]) + "\n"
 
 
 def run(name, folder):
@@ -72,16 +99,22 @@ def run(name, folder):
     with open(report) as file:
         seen = json.load(file)
     text = wanted_text(example, ends) if status in (0, 3) and "--running" not in words or status == 0 else ""
-    commands = {0: ["8200", "0100"], 3: [] if "--running" in words or "--rate" in words else ["8200"], 5: ["8200"]}[status]
+    commands = {0: ["8200", "0100"], 3: [] if "--running" in words or "--rate" in words or has_other(ends) else ["8200"], 5: ["8200"]}[status]
     faults = []
     if it.returncode != status:
         faults.append(f"status {it.returncode}, not {status}")
-    if it.stdout != text:
-        faults.append(f"says {it.stdout!r}, not {text!r}")
+    said = lines_of(it.stdout) if "--json" in options else it.stdout
+    if said != text:
+        faults.append(f"says {said!r}, not {text!r}")
     if seen["commands"] != commands:
         faults.append(f"NMT commands {seen['commands']}, not {commands}")
     if status == 0 and not seen["all_as_dcf"]:
         faults.append("a device has not what its DCF file says")
+    written = sum(device["writes"] for device in seen["devices"].values())
+    if has_other(ends) and written:
+        faults.append(f"{written} settings are written though a device is another one")
+    if has_other(ends) and "node numbers may be swapped" not in it.stderr:
+        faults.append(f"does not say what may be behind it: {it.stderr!r}")
     if "--running" in words and status == 3 and "refused 100 5" not in it.stderr:
         faults.append(f"does not name the node that runs: {it.stderr!r}")
     return faults + ([f"standard error: {it.stderr}"] if faults else [])

@@ -57,7 +57,7 @@ def ends_in(trace):
 def faults_of_report(tables, trace, out):
     """What is wrong with the report of a run, and with that of the run without its header."""
     page, headless = f"{out}/report.html", f"{out}/headless.csv"
-    if run("report", *tables, page) != (0, b"") or b"<script" in bytes_of(page):
+    if run("report", *tables, page) != (0, b"") or b"id=\"lanes\"" in bytes_of(page):
         yield "the report"
     os.remove(page)
     drawn = run("report", "--trace", trace, *tables, page)

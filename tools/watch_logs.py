@@ -1,13 +1,16 @@
 #!/usr/bin/env python3
 """Watches logs that are made of runs of the examples, and logs with a breach in them.
 
-    python3 tools/watch_logs.py [PROGRAM]
+    /usr/bin/python3 tools/watch_logs.py [PROGRAM]
 
 Each example that has a plan is run by several seeds. The ends of the transfers, by a clock that is shaken and drifts within what is said
 on the command line, make a log as `candump -L` writes it: no breach may be found in it, nor in its middle third, nor where each tenth
 line is lost, nor where a second channel stands between. The page of `report --log` has to have as many distances in the histogram of each
 identifier as the lines have frames but one. Then one breach of each kind is put in: it has to be found at its line. Last a
 log that is refused has to be refused by the number and at the place that it should.
+
+By more seeds the log is written in each other form (log_forms.py): nothing may be found in it, and what is said of the streams has to be the
+same in each form that keeps the microseconds; then a breach of some kind is put in, which has to be found at its line.
 """
 import os
 import random
@@ -16,11 +19,14 @@ import subprocess
 import sys
 import tempfile
 
+from log_forms import FORMS, Frame
+
 HERE = os.path.dirname(os.path.dirname(os.path.realpath(__file__)))
 EXAMPLES = f"{HERE}/examples"
 PROGRAM = sys.argv[1] if len(sys.argv) > 1 else f"{HERE}/bin/canplan"
 NAMES = ("valve", "crane", "conveyor", "drives", "second-range")
 SEEDS = range(1, 6)
+MORE_SEEDS = range(6, 48)
 UNTIL = 1500000
 
 # What the clock does, and what is said of it.
@@ -146,6 +152,52 @@ def page_faults(tables, lines, folder):
         yield "no rows, or no judgement"
 
 
+def planted(frames, chance):
+    """The frames with a breach of some kind among them: the kind, the frames, its place among them, and a word that is said of it."""
+    n = chance.randrange(len(frames) // 4, len(frames) // 2)
+    at, number, body, _ = frames[n]
+    longer = body + "00" if len(body) < 16 else body[:-2]
+    pdos = [k for k in range(n, len(frames)) if 0x180 < frames[k].number < 0x580]
+    yield "strange", frames[:n + 1] + [Frame(at, 0x7C1, "00")] + frames[n + 1:], n + 1, "is of no sender"
+    yield "long", frames[:n + 1] + [Frame(at, 0x18FF1234, "00", "long")] + frames[n + 1:], n + 1, "of 29 bits"
+    yield "remote", frames[:n + 1] + [Frame(at, number, "", "remote")] + frames[n + 1:], n + 1, "a remote frame"
+    yield "error", frames[:n + 1] + [Frame(at, 0x80, "0000000000000000", "error")] + frames[n + 1:], n + 1, "an error frame"
+    yield "length", frames[:n] + [Frame(at, number, longer)] + frames[n + 1:], n, "bytes, and"
+    if pdos:
+        k = pdos[0]
+        later = [frame._replace(at=frame.at + 700) for frame in frames[k + 1:]]
+        yield "twice", frames[:k + 1] + [frames[k]._replace(at=frames[k].at + 700)] + later, k + 1, "after that of line"
+
+
+def said_of_streams(out):
+    """What is said of the streams, and of what was noticed, but for the lines."""
+    return [re.sub(r"line \d+", "line", line) for line in out.splitlines() if "heartbeat" not in line]
+
+
+def faults_of_forms(name, seed, folder):
+    chance = random.Random(f"forms {name} {seed}")
+    tables = (f"{EXAMPLES}/{name}/nodes.csv", f"{EXAMPLES}/{name}/pdos.csv")
+    trace = f"{folder}/trace.csv"
+    run("run", "--seed", str(seed), "--until", str(UNTIL), *tables, trace)
+    frames = [Frame(*entry) for entry in log_of(ends_of(trace), chance)]
+    breaches = list(planted(frames, chance))
+    before = None
+    for form, (write, rounded, words, never) in FORMS.items():
+        said = (*words, "--error", str(60 + rounded), "--drift", "100")
+        status, out, err = run("watch", *said, *tables, "-", text=write(frames)[0].encode())
+        if status != 0 or not out.endswith("keeps to the tables\n"):
+            yield f"{name} {seed} {form}: status {status} {err} {[it for it in out.splitlines() if 'breaks' in it][:2]}"
+        if rounded == 0:
+            before = before or said_of_streams(out)
+            if said_of_streams(out) != before:
+                yield f"{name} {seed} {form}: not as in columns"
+        kind, bad, place, word = chance.choice([it for it in breaches if it[0] not in never])
+        text, head = write(bad)
+        status, out, err = run("watch", *said, *tables, "-", text=text.encode())
+        if status != 3 or not [it for it in out.splitlines() if word in it and it.startswith(f"line {head + place + 1}:")]:
+            yield f"{name} {seed} {form} {kind} at {head + place + 1}: status {status} {err} {[it for it in out.splitlines() if 'breaks' in it][:2]}"
+
+
 def faults_of(name, seed, folder):
     chance = random.Random(f"{name} {seed}")
     tables = (f"{EXAMPLES}/{name}/nodes.csv", f"{EXAMPLES}/{name}/pdos.csv")
@@ -175,9 +227,11 @@ def main():
         for name in NAMES:
             for seed in SEEDS:
                 faults += faults_of(name, seed, folder)
+            for seed in MORE_SEEDS:
+                faults += faults_of_forms(name, seed, folder)
     for fault in faults:
         print(fault)
-    print(f"{len(NAMES) * len(SEEDS)} runs, {len(faults)} faults")
+    print(f"{len(NAMES) * (len(SEEDS) + len(MORE_SEEDS))} runs, {len(faults)} faults")
     return 1 if faults else 0
 
 

@@ -33,6 +33,7 @@ CALLS = (
     (("test", "--strict", "--rate", "125", f"{HERE}/examples/three-frames.csv"), 3, "late", ""),
     (("test", "--strict", "--rate", "500", f"{HERE}/examples/three-frames.csv"), 0, "pass", ""),
     (("boot", "--seed", "1", "--port", "-", *CRANE), 2, "", "cannot be used with"),
+    (("boot", "--seed", "1", "--no-identity", *CRANE), 2, "", "cannot be used with"),
     (("boot", *CRANE), 2, "", "required"),
 )
 

@@ -11,7 +11,7 @@ class Device:
         self.state, self.writes, self.next_beat = 0x7F, [], None
         self.boot_at, self.boots, self.pending = None, 0, []
         self.upload = self.download = None
-        self.resets = self.starts = 0
+        self.resets = self.starts = self.reads = 0
         if faults.get("running"):
             self.state, self.next_beat = 0x05, now
 
@@ -44,7 +44,8 @@ class Device:
             if self.state in (0x7F, 0x05) and self.boot_at is None:
                 answer = self.sdo(data, now)
                 if answer:
-                    self.pending.append((now + f.get("lag", 0.0), 0x580 + self.node, answer))
+                    lag = f.get("read_lag", f.get("lag", 0.0)) if data[0] >> 5 == 2 else f.get("lag", 0.0)
+                    self.pending.append((now + lag, 0x580 + self.node, answer))
 
     def command(self, cs, now):
         if cs in (0x81, 0x82):
@@ -144,6 +145,10 @@ class Device:
         return 0
 
     def read_first(self, index, sub):
+        self.reads += 1
+        refused = self.faults.get("unread", {}).get((index, sub))
+        if refused is not None:
+            return self.refuse(index, sub, refused)
         e = self.entries.get((index, sub))
         if e is None:
             return self.refuse(index, sub, 0x06090011 if any(i == index for i, _ in self.entries) else 0x06020000)

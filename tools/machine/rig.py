@@ -124,11 +124,17 @@ class Rig:
     def load(self):
         folder, found = os.path.dirname(os.path.abspath(self.args.nodes)), {}
         faults = self.faults()
-        for row in csv.DictReader(open(self.args.nodes)):
-            if row["row"] == "device":
-                node = int(row["node"])
-                entries = eds.dictionary(os.path.join(folder, row["eds"]), node)
-                found[node] = Device(node, entries, self.begin, self.send, faults.get(node, {}), self.log)
+        files = {int(row["node"]): row["eds"] for row in csv.DictReader(open(self.args.nodes)) if row["row"] == "device"}
+        for text in self.args.swap:
+            a, b = map(int, text.split(":"))
+            files[a], files[b] = files[b], files[a]
+        for node, name in files.items():
+            entries = eds.dictionary(os.path.join(folder, name), node)
+            found[node] = Device(node, entries, self.begin, self.send, faults.get(node, {}), self.log)
+        for text in self.args.identity:
+            node, index, sub, value = text.split(":")
+            entry = found[int(node)].entries[int(index, 16), int(sub, 16)]
+            entry.default = entry.value = int(value, 16)
         return found
 
     def faults(self):
@@ -152,6 +158,12 @@ class Rig:
         for text in self.args.abort:
             node, index, sub, code = text.split(":")
             at(node).setdefault("abort", {})[int(index, 16), int(sub, 16)] = int(code, 16)
+        for text in self.args.slow_read:
+            node, seconds = text.split(":")
+            at(node)["read_lag"] = float(seconds)
+        for text in self.args.unread:
+            node, index, sub, code = text.split(":")
+            at(node).setdefault("unread", {})[int(index, 16), int(sub, 16)] = int(code, 16)
         for text in self.args.wrong:
             node, index, sub = text.split(":")
             at(node)["wrong_mux"] = int(index, 16), int(sub, 16)
@@ -225,14 +237,17 @@ class Rig:
         wanted_all, told, good = self.args.expect, {}, True
         for node, d in sorted(self.devices.items()):
             changed = {f"{e.index:04X}:{e.sub:02X}": f"{e.value:X}" for e in d.entries.values() if e.size and e.value != e.default}
-            one = {"state": d.told(), "boots": d.boots, "resets": d.resets, "starts": d.starts,
+            one = {"state": d.told(), "boots": d.boots, "resets": d.resets, "starts": d.starts, "reads": d.reads,
                    "writes": len(d.writes), "aborted": [f"{i:04X}:{s:02X} {c:08X}" for i, s, _, c in d.writes if c], "changed": changed}
             if wanted_all:
                 path = os.path.join(wanted_all, f"node-{node:03}.dcf")
                 wrong = []
                 for (index, sub), w in eds.dictionary(path, node, "parametervalue").items():
-                    if w.value is not None and d.entries[index, sub].value != w.value:
-                        wrong.append(f"{index:04X}:{sub:02X} has {d.entries[index, sub].value:X}, the DCF {w.value:X}")
+                    has = d.entries.get((index, sub))
+                    if w.value is None or has is not None and has.value == w.value:
+                        continue
+                    found = "nothing" if has is None else f"{has.value:X}"
+                    wrong.append(f"{index:04X}:{sub:02X} has {found}, the DCF {w.value:X}")
                 one["as_dcf"], good = not wrong, good and not wrong
                 one["wrong"] = wrong
             told[node] = one
@@ -262,6 +277,10 @@ def words():
     p.add_argument("--slow", nargs="*", default=[], metavar="NODE:S", help="answers SDO after so many seconds")
     p.add_argument("--lag", type=float, default=0.001, help="every device answers after so many seconds")
     p.add_argument("--abort", nargs="*", default=[], metavar="NODE:INDEX:SUB:CODE", help="refuses that write (hexadecimal but for NODE)")
+    p.add_argument("--slow-read", nargs="*", default=[], metavar="NODE:S", help="answers uploads after so many seconds")
+    p.add_argument("--unread", nargs="*", default=[], metavar="NODE:INDEX:SUB:CODE", help="refuses that upload (hexadecimal but for NODE)")
+    p.add_argument("--identity", nargs="*", default=[], metavar="NODE:INDEX:SUB:VALUE", help="has another value there than its EDS file says")
+    p.add_argument("--swap", nargs="*", default=[], metavar="NODE:NODE", help="the devices of these nodes have each other's number")
     p.add_argument("--wrong", nargs="*", default=[], metavar="NODE:INDEX:SUB", help="confirms that write with another sub")
     p.add_argument("--reboot", nargs="*", default=[], metavar="NODE:K", help="falls over at its K-th write, forgets all and boots again")
     p.add_argument("--traffic", type=float, default=0, help="so many other frames a second")

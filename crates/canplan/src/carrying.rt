@@ -1,7 +1,6 @@
 //! What each subcommand does.
 
 use crate::checking::{Wanted, check};
-use crate::commands::MOST_UNTIL;
 use crate::earlier::{NodeFiles, remove_earlier};
 use crate::exporting::export;
 use crate::failures::{Failure, Use, file_failure};
@@ -9,9 +8,8 @@ use crate::files::{Folder, print};
 use crate::inputs::{Inputs, read_file, read_input};
 use crate::judging::judge;
 use crate::log_rules::log_rule_words;
-use crate::machines::{boot_machine, machine_rule_words};
-use crate::notes::plan_notes;
-use crate::orders::{NetworkFiles, Order, Request};
+use crate::machines::{Form, boot_machine, machine_rule_words};
+use crate::notes::{plan_notes, tell};
 use crate::reporting::write_report;
 use crate::tidying::carry_tidy;
 use crate::watching::watch_bus;
@@ -20,6 +18,7 @@ use cop_engine::{
     run_plan, test_bytes, test_status, text_status,
 };
 use cop_frame::Rate;
+use cop_orders::{MOST_UNTIL, NetworkFiles, Order, Request};
 use cop_plan::{Outcome, Plan};
 use cop_tidy::question_words;
 use cop_words::{late_words, rule_words};
@@ -42,13 +41,6 @@ fn test(
         let _ = rt.stderr().write_all(&late_words(rt.alloc(), &text)?);
     }
     Ok(all_pass)
-}
-
-/// Says what is to be said of an answer, where there was memory for it.
-pub fn tell(rt: &HostRuntime, notes: Result<Vec<u8>, Fault>) {
-    if let Ok(words) = notes {
-        let _ = rt.stderr().write_all(&words);
-    }
 }
 
 /// The names of the DCF files of a plan.
@@ -242,7 +234,10 @@ pub fn carry_out(
             check(rt, network, refusals, wanted, inputs)
         }
         Order::Boot { seed, network } => boot(rt, seed, network, inputs),
-        Order::Machine(order) => boot_machine(rt, order, told, inputs),
+        Order::Machine(order) => {
+            let form = if told { Form::Told } else { Form::Lines };
+            boot_machine(rt, order, form, inputs)
+        }
         Order::Judge { network, trace } => judge(rt, network, trace, inputs),
         Order::Run {
             seed,

@@ -1,14 +1,12 @@
 //! The check of a refusal file against a network.
 
-use crate::carrying::tell;
 use crate::failures::Failure;
 use crate::files::print;
 use crate::inputs::{Inputs, Texts, read_file};
-use crate::notes::check_notes;
-use crate::orders::NetworkFiles;
+use crate::notes::{check_notes, tell};
 use cop_covering::covers_slower;
 use cop_engine::{Fault, check_bytes, check_status, strict_check_status};
-use cop_net::{network, read_nodes, read_pdos};
+use cop_orders::NetworkFiles;
 use std::alloc::Global;
 
 /// What is wanted of a check.
@@ -22,9 +20,8 @@ pub struct Wanted {
 
 /// Whether a refusal file has a refusal of each rate that the plan of its network refuses.
 fn covers(alloc: Global, texts: &Texts, refusals: &[u8]) -> Result<bool, Fault> {
-    let nodes = read_nodes(alloc, &texts.nodes)?;
-    let pdos = read_pdos(alloc, &texts.pdos)?;
-    let network = network(alloc, &texts.asked.rates, &nodes, &pdos, &texts.eds_files)?;
+    let (nodes, pdos) = texts.tables(alloc)?;
+    let network = texts.network(alloc, &nodes, &pdos)?;
     let refusals = cop_cert::read(alloc, refusals)?;
     Ok(covers_slower(alloc, &network, refusals.as_slice())?)
 }

@@ -6,7 +6,7 @@ use crate::explaining::explain;
 use crate::failures::Failure;
 use crate::files::print;
 use crate::inputs::{Inputs, Texts, read_file, read_input};
-use crate::orders::{NetworkFiles, Order, Request};
+use crate::machines::{Form, answer, boot_machine};
 use cop_documents::{
     Told, boot_document, check_document, fault_document, judge_document, plan_document,
     test_document,
@@ -17,6 +17,7 @@ use cop_engine::{
 };
 use cop_frame::Rate;
 use cop_net::{PlanFault, Table, network, read_nodes, read_pdos};
+use cop_orders::{NetworkFiles, Order, Request};
 use cop_plan::plan;
 use std::alloc::{AllocError, Global};
 use std::str;
@@ -35,9 +36,8 @@ fn test(rt: &HostRuntime, rate: Rate, file: &str, inputs: &mut Inputs) -> Result
 
 /// The document of a plan.
 fn planned(alloc: Global, texts: &Texts) -> Result<String, Fault> {
-    let nodes = read_nodes(alloc, &texts.nodes)?;
-    let pdos = read_pdos(alloc, &texts.pdos)?;
-    let network = network(alloc, &texts.asked.rates, &nodes, &pdos, &texts.eds_files)?;
+    let (nodes, pdos) = texts.tables(alloc)?;
+    let network = texts.network(alloc, &nodes, &pdos)?;
     let outcome = plan(alloc, &network, texts.asked.choice)?;
     Ok(plan_document(alloc, &network, &outcome)?)
 }
@@ -136,6 +136,7 @@ pub fn carry_document(
             strict,
         } => check(rt, network, refusals, strict, inputs),
         Order::Boot { seed, network } => boot(rt, seed, network, inputs),
+        Order::Machine(order) => boot_machine(rt, order, Form::Document, inputs),
         Order::Judge { network, trace } => judge(rt, network, trace, inputs),
         _ => carry_out(rt, request, false, inputs),
     }
@@ -219,9 +220,22 @@ fn fault_text(
     )
 }
 
+/// Writes a fault as a document: on standard error where standard output is the port of a machine.
+fn print_fault(
+    rt: &HostRuntime,
+    order: Order<'_>,
+    inputs: &Inputs,
+    failure: &Failure,
+) -> Result<(), Failure> {
+    let document = fault_text(rt, order, inputs, failure)?;
+    let line = format!(in rt.alloc(); "{document}\n")?;
+    match order {
+        Order::Machine(machine) => answer(rt, machine.port, line.as_bytes()),
+        _ => print(rt, line.as_bytes()),
+    }
+}
+
 /// Writes a fault as a document, where there is memory for it.
 pub fn tell_document(rt: &HostRuntime, order: Order<'_>, inputs: &Inputs, failure: &Failure) {
-    if let Ok(document) = fault_text(rt, order, inputs, failure) {
-        let _ = print_document(rt, &document);
-    }
+    let _ = print_fault(rt, order, inputs, failure);
 }

@@ -7,12 +7,12 @@ use crate::earlier::{NodeFiles, remove_earlier};
 use crate::failures::Failure;
 use crate::files::{print, write_file};
 use crate::inputs::Inputs;
-use crate::orders::{Format, NetworkFiles};
 use cop_cdcf::concise;
 use cop_dbc::dbc;
 use cop_dcf::settings;
 use cop_engine::{none_passes, text_status};
-use cop_net::{DeviceRow, Network, network, read_nodes, read_pdos};
+use cop_net::{DeviceRow, Network};
+use cop_orders::{Format, NetworkFiles};
 use cop_plan::{Outcome, Plan, plan};
 use std::alloc::{AllocError, Global};
 use std::str;
@@ -163,14 +163,7 @@ pub fn export(
 ) -> Result<u8, Failure> {
     inputs.network.read(rt, files)?;
     let texts = &inputs.network;
-    let nodes = read_nodes(rt.alloc(), &texts.nodes)?;
-    let pdos = read_pdos(rt.alloc(), &texts.pdos)?;
-    let network = network(
-        rt.alloc(),
-        &texts.asked.rates,
-        &nodes,
-        &pdos,
-        &texts.eds_files,
-    )?;
+    let (nodes, pdos) = texts.tables(rt.alloc())?;
+    let network = texts.network(rt.alloc(), &nodes, &pdos)?;
     export_network(rt, inputs, &network, Target { format, out })
 }

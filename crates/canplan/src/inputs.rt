@@ -1,9 +1,9 @@
 //! What is read for an order. It is kept, so that the words of a fault are of what was read.
 
 use crate::failures::{Failure, Use, file_failure};
-use crate::orders::NetworkFiles;
-use cop_engine::read_all;
-use cop_net::{NodeTable, all_rates, read_nodes};
+use cop_engine::{Fault, read_all};
+use cop_net::{Network, NodeTable, PdoTable, all_rates, network, read_nodes, read_pdos};
+use cop_orders::NetworkFiles;
 use cop_plan::{Asked, Choice};
 use std::alloc::{AllocError, Global};
 use std::collections::BTreeSet;
@@ -138,6 +138,23 @@ impl Texts {
         let nodes = read_nodes(rt.alloc(), &self.nodes)?;
         self.eds_files = read_each(rt, files.nodes, &nodes)?;
         Ok(())
+    }
+
+    /// The two tables that the texts are.
+    pub fn tables(&self, alloc: Global) -> Result<(NodeTable, PdoTable), Fault> {
+        let nodes = read_nodes(alloc, &self.nodes)?;
+        Ok((nodes, read_pdos(alloc, &self.pdos)?))
+    }
+
+    /// The network that tables and EDS files make.
+    pub fn network<'a>(
+        &self,
+        alloc: Global,
+        nodes: &'a NodeTable,
+        pdos: &'a PdoTable,
+    ) -> Result<Network<'a>, Fault> {
+        let rates = &self.asked.rates;
+        Ok(network(alloc, rates, nodes, pdos, &self.eds_files)?)
     }
 
     /// Reads the tables and the EDS files.

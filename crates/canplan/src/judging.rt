@@ -3,8 +3,8 @@
 use crate::failures::Failure;
 use crate::files::print;
 use crate::inputs::{Inputs, is_regular, open_file, read_file, read_opened};
-use crate::orders::NetworkFiles;
 use cop_engine::{judge_bytes, judge_outcome, judge_pieces, outcome_of, text_status};
+use cop_orders::NetworkFiles;
 use std::fs::File;
 
 /// The judgement of the trace that was read, by the plan of the network that was read.

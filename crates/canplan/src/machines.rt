@@ -2,13 +2,15 @@
 
 use crate::failures::{Failure, Use, file_failure};
 use crate::files::print;
+use crate::identities::identity_notes;
 use crate::inputs::Inputs;
-use crate::orders::MachineOrder;
 use crate::serial::{Serial, open_serial};
 use cop_commission::{Commissioned, commission};
+use cop_documents::boot_document;
 use cop_engine::{Fault, none_passes};
 use cop_frame::Rate;
 use cop_logbook::abort_words;
+use cop_orders::MachineOrder;
 use std::alloc::{AllocError, Global};
 use std::io::Write;
 use std::str;
@@ -24,6 +26,17 @@ pub fn machine_rule_words(number: u8) -> &'static str {
         }
         _ => "",
     }
+}
+
+/// In which form an answer is given.
+#[derive(Clone, Copy, PartialEq, Eq)]
+pub enum Form {
+    /// Its lines.
+    Lines,
+    /// Its lines, to a person who waits for them.
+    Told,
+    /// A document in JSON.
+    Document,
 }
 
 /// Says something on standard error.
@@ -65,13 +78,23 @@ fn boot_notes(alloc: Global, text: &str, rate: Rate) -> Result<Vec<u8>, AllocErr
     Ok(notes)
 }
 
-/// The answer to a boot: on standard error where standard output is the port.
-fn answer(rt: &HostRuntime, port: &str, text: &[u8]) -> Result<(), Failure> {
+/// Gives an answer: on standard error where standard output is the port.
+pub fn answer(rt: &HostRuntime, port: &str, text: &[u8]) -> Result<(), Failure> {
     if port == "-" {
         say(rt, text);
         Ok(())
     } else {
         print(rt, text)
+    }
+}
+
+/// Gives the lines of a boot in a form.
+fn answer_in(rt: &HostRuntime, port: &str, form: Form, text: &[u8]) -> Result<(), Failure> {
+    if form == Form::Document {
+        let document = boot_document(rt.alloc(), text)?;
+        answer(rt, port, format!(in rt.alloc(); "{document}\n")?.as_bytes())
+    } else {
+        answer(rt, port, text)
     }
 }
 
@@ -107,6 +130,7 @@ fn line_failure(rt: &HostRuntime, name: &str, port: &Serial<'_>) -> Failure {
 fn tell_ended(
     rt: &HostRuntime,
     name: &str,
+    form: Form,
     ended: Commissioned,
     port: &Serial<'_>,
 ) -> Result<u8, Failure> {
@@ -116,20 +140,35 @@ fn tell_ended(
             started,
             rate,
         } => {
-            answer(rt, name, &text)?;
+            answer_in(rt, name, form, &text)?;
             let words = str::from_utf8(&text).unwrap_or("");
             say(rt, &boot_notes(rt.alloc(), words, rate)?);
             Ok(if started { 0 } else { 3 })
+        }
+        Commissioned::Others { text, exchanges } => {
+            answer_in(rt, name, form, &text)?;
+            say(rt, &identity_notes(rt.alloc(), &exchanges)?);
+            Ok(3)
         }
         Commissioned::Running { node } => Err(Failure::from(Fault::Refused {
             number: RUNNING,
             place: u64::from(node),
         })),
         Commissioned::NonePasses => {
-            answer(rt, name, &none_passes(rt.alloc())?)?;
+            answer_in(rt, name, form, &none_passes(rt.alloc())?)?;
             Ok(4)
         }
         Commissioned::Failed => Err(line_failure(rt, name, port)),
+    }
+}
+
+/// What is said before a boot to a person who waits for it.
+fn said_before(order: MachineOrder<'_>) -> &'static str {
+    match (order.take_over, order.identify) {
+        (true, _) => "",
+        (false, true) =>
+            "canplan: listening for 2 s, then the devices are asked who they are and the nodes are reset\n",
+        (false, false) => "canplan: listening for 2 s, then the nodes are reset\n",
     }
 }
 
@@ -137,7 +176,7 @@ fn tell_ended(
 pub fn boot_machine(
     rt: &HostRuntime,
     order: MachineOrder<'_>,
-    told: bool,
+    form: Form,
     inputs: &mut Inputs,
 ) -> Result<u8, Failure> {
     inputs.network.read(rt, order.network)?;
@@ -146,11 +185,8 @@ pub fn boot_machine(
         Ok(port) => port,
         Err(error) => return Err(file_failure(rt, order.port, Use::Read, &error)),
     };
-    if told && !order.take_over {
-        say(
-            rt,
-            b"canplan: listening for 2 s, then the nodes are reset\n",
-        );
+    if form == Form::Told {
+        say(rt, said_before(order).as_bytes());
     }
     let ended = commission(
         rt.alloc(),
@@ -159,9 +195,10 @@ pub fn boot_machine(
         &texts.eds_files,
         &texts.asked,
         order.take_over,
+        order.identify,
         &mut port,
     )?;
     let started = matches!(ended, Commissioned::Ended { started: true, .. });
     tell_refused(rt, port.refused, started);
-    tell_ended(rt, order.port, ended, &port)
+    tell_ended(rt, order.port, form, ended, &port)
 }

@@ -6,11 +6,12 @@ ghost use Rattle.cop_plan.specs.Plans.{IsOutcome};
 use crate::inputs::{Inputs, Texts};
 use cop_engine::Fault;
 use cop_figures::{Figures, figures_of};
-use cop_net::{Network, NodeTable, network, read_nodes, read_pdos};
+use cop_net::{Network, NodeTable};
 use cop_plan::{Outcome, plan};
 use cop_warn::warnings_of;
 use cop_words::{margin_words, refused_words, uncovered_words, warning_words};
 use std::alloc::{AllocError, Global};
+use std::io::Write;
 
 /// What limits the margin of a plan, where its identifiers were chosen by it.
 fn limits(
@@ -47,19 +48,24 @@ fn outcome_notes(
 
 /// What is said of a plan: why each rate is refused, what limits its margin, and what is worth a look before one relies on it.
 pub fn plan_notes(alloc: Global, texts: &Texts) -> Result<Vec<u8>, Fault> {
-    let nodes = read_nodes(alloc, &texts.nodes)?;
-    let pdos = read_pdos(alloc, &texts.pdos)?;
-    let network = network(alloc, &texts.asked.rates, &nodes, &pdos, &texts.eds_files)?;
+    let (nodes, pdos) = texts.tables(alloc)?;
+    let network = texts.network(alloc, &nodes, &pdos)?;
     let outcome = plan(alloc, &network, texts.asked.choice)?;
     Ok(outcome_notes(alloc, &nodes, &network, &outcome)?)
+}
+
+/// Says what is to be said of an answer, where there was memory for it.
+pub fn tell(rt: &HostRuntime, notes: Result<Vec<u8>, Fault>) {
+    if let Ok(words) = notes {
+        let _ = rt.stderr().write_all(&words);
+    }
 }
 
 /// What is said of a check: the rates that the file of this name does not refuse.
 pub fn check_notes(alloc: Global, inputs: &Inputs, name: &str) -> Result<Vec<u8>, Fault> {
     let texts = &inputs.network;
-    let nodes = read_nodes(alloc, &texts.nodes)?;
-    let pdos = read_pdos(alloc, &texts.pdos)?;
-    let network = network(alloc, &texts.asked.rates, &nodes, &pdos, &texts.eds_files)?;
+    let (nodes, pdos) = texts.tables(alloc)?;
+    let network = texts.network(alloc, &nodes, &pdos)?;
     let refusals = cop_cert::read(alloc, &inputs.other)?;
     Ok(uncovered_words(alloc, name, &network, refusals.as_slice())?)
 }

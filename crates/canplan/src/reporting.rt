@@ -2,17 +2,18 @@
 
 ghost use Rattle.std.specs.Prelude.{length};
 ghost use Rattle.cop_plan.specs.Plans.{IsOutcome};
+ghost use Rattle.cop_figures.specs.Figures.{AreFigures};
 
 use crate::failures::Failure;
 use crate::files::write_file;
 use crate::inputs::{Inputs, beside, read_file};
 use crate::judging::judge_inputs;
-use crate::orders::{NetworkFiles, Shown};
 use crate::watching::watched;
 use cop_engine::{Fault, plan_status};
-use cop_figures::{Timeline, figures_of, timeline_of};
+use cop_figures::{Breakdown, Figures, Timeline, breakdowns_of, figures_of, timeline_of};
 use cop_logbook::Logbook;
-use cop_net::{Network, network, read_nodes, read_pdos};
+use cop_net::Network;
+use cop_orders::{NetworkFiles, Shown};
 use cop_plan::{Outcome, plan};
 use cop_report::{Input, Report, page_of};
 use std::alloc::AllocError;
@@ -97,6 +98,22 @@ fn log_book<'p>(
     }
 }
 
+/// What the responses of the PDOs are made of, where a rate passes.
+fn breakdowns(
+    rt: &HostRuntime,
+    network: &Network<'_>,
+    outcome: &Outcome,
+    figures: &Figures,
+) -> Result<Vec<Breakdown>, AllocError>
+    requires { AreFigures network.now outcome.now figures.now }
+{
+    let _ = network;
+    match outcome {
+        Outcome::Planned(plan) => breakdowns_of(rt.alloc(), plan, &figures.pdos),
+        Outcome::Refused(_) => Ok(Vec::new(rt.alloc())),
+    }
+}
+
 /// The text of a page.
 fn page_text(
     rt: &HostRuntime,
@@ -108,6 +125,7 @@ fn page_text(
     requires { IsOutcome network.now.equipment.rates network.now.set (length network.now.rows) outcome.now }
 {
     let figures = figures_of(rt.alloc(), network, outcome)?;
+    let breakdowns = breakdowns(rt, network, outcome, &figures)?;
     let book = log_book(rt, sources, outcome)?;
     let opened = opened(rt, sources)?;
     let inputs = inputs(rt, sources, &opened)?;
@@ -115,6 +133,7 @@ fn page_text(
         network,
         outcome,
         figures: &figures,
+        breakdowns: &breakdowns,
         timeline,
         log: book.as_ref(),
         are_rates_listed: sources.network.rates.are_listed(),
@@ -155,15 +174,8 @@ fn network_page(
 /// The page of the network that the files make.
 fn sources_page(rt: &HostRuntime, sources: Sources<'_>) -> Result<Page, Failure> {
     let texts = &sources.inputs.network;
-    let nodes = read_nodes(rt.alloc(), &texts.nodes)?;
-    let pdos = read_pdos(rt.alloc(), &texts.pdos)?;
-    let network = network(
-        rt.alloc(),
-        &texts.asked.rates,
-        &nodes,
-        &pdos,
-        &texts.eds_files,
-    )?;
+    let (nodes, pdos) = texts.tables(rt.alloc())?;
+    let network = texts.network(rt.alloc(), &nodes, &pdos)?;
     network_page(rt, sources, &network)
 }
 

@@ -3,10 +3,10 @@
 use crate::failures::Failure;
 use crate::files::{print, write_file};
 use crate::inputs::{Inputs, read_file};
-use crate::orders::TidyOrder;
 use crate::tidying_folders::tidy_folder;
 use cop_engine::Fault;
 use cop_net::{PlanFault, read_nodes};
+use cop_orders::TidyOrder;
 use cop_tidy::{Question, Refusal, Tidied, TidyFault, Words, tidy, told};
 use std::alloc::{AllocError, Global};
 use std::fs;

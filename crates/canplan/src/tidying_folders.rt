@@ -3,8 +3,8 @@
 use crate::failures::{Failure, Use, file_failure};
 use crate::files::{print, write_file};
 use crate::inputs::read_file;
-use crate::orders::TidyOrder;
 use crate::tidying::{Answer, answer_for, check_name, is_same};
+use cop_orders::TidyOrder;
 use cop_tidy::{Refusal, Tidied, refusal_words, told};
 use cop_words::line_at;
 use std::fs;

@@ -3,10 +3,10 @@
 use crate::failures::{Failure, Use, file_failure};
 use crate::files::print;
 use crate::inputs::{Inputs, open_file};
-use crate::orders::WatchOrder;
 use cop_engine::{Fault, none_passes, outcome_of};
 use cop_log::Clock;
 use cop_logbook::Logbook;
+use cop_orders::WatchOrder;
 use cop_plan::{Outcome, Plan};
 use memchr::memchr;
 use std::io::Read;
@@ -80,7 +80,8 @@ pub fn watched<'p>(
         error: order.error,
         drift: order.drift,
     };
-    let mut book = Logbook::new(rt.alloc(), plan, clock, order.channel)?;
+    let (channel, are_distances) = (order.channel, order.are_distances);
+    let mut book = Logbook::new(rt.alloc(), plan, clock, channel, are_distances)?;
     if order.log == "-" {
         take_lines(rt, "-", rt.stdin(), &mut book)?;
     } else {

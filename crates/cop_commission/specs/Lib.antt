@@ -1,2 +1,3 @@
 pub mod Commissioning
+pub mod Identities
 pub mod Sessions

@@ -5,11 +5,13 @@ ghost use Rattle.std.specs.String.{string_bytes};
 ghost use Rattle.cop_net.specs.Network.{IsNetwork};
 ghost use Rattle.cop_plan.specs.Plans.{IsPlan};
 ghost use Rattle.cop_engine.specs.Networks.{ExplainsNetwork};
-ghost use Rattle.cop_commission.specs.Commissioning.{senders_of, IsCommissioned, IsCommissionedBy, IsCommissioning};
+ghost use Rattle.cop_commission.specs.Commissioning.{senders_of, questions_for, IsCommissioned, IsCommissionedBy, IsCommissioning};
 
+use crate::identities::{identity_text, questions_of};
 use crate::sessions::{Session, run_session};
 use cop_engine::{Fault, boot_text, device_nodes, manager_of};
 use cop_frame::Rate;
+use cop_identity::{Exchange, Question};
 use cop_live::{Port, Sender};
 use cop_net::{Network, network, read_nodes, read_pdos};
 use cop_plan::{Asked, Choice, Outcome, Plan, plan};
@@ -28,6 +30,11 @@ pub enum Commissioned {
     /// A node runs already: no frame was sent.
     Running {
         node: u8,
+    },
+    /// Some device is another one than is planned: of frames questions alone were sent. The text has a line for each node.
+    Others {
+        text: Vec<u8>,
+        exchanges: Vec<Exchange>,
     },
     /// No rate passes: nothing was done at the port.
     NonePasses,
@@ -50,22 +57,49 @@ fn senders_of(alloc: Global, rows: &[PdoRow], ids: &[u16]) -> Result<Vec<Sender>
     Ok(senders)
 }
 
+/// The questions to nodes of a network, where their devices are to be asked who they are.
+fn questions_for(
+    alloc: Global,
+    identify: bool,
+    network: &Network<'_>,
+    nodes: &[u8],
+) -> Result<Vec<Question>, AllocError>
+    ensures { IfOk result (λ questions. questions.items ≡ questions_for identify network.now nodes.now) }
+{
+    if identify {
+        questions_of(alloc, network, nodes)
+    } else {
+        Ok(Vec::new(alloc))
+    }
+}
+
 /// The boot of a network by its plan.
 fn commission_planned<P: Port>(
     alloc: Global,
     network: &Network<'_>,
     plan: &Plan,
     take_over: bool,
+    identify: bool,
     port: &mut P,
 ) -> Result<Commissioned, AllocError>
     requires network { IsNetwork network.now }
     requires planned { IsPlan network.now.equipment.rates network.now.set (length network.now.rows) plan.now }
-    ensures { IfOk result (λ ended. IsCommissioned P.reads P.writes P.asks network.now plan.now.rate plan.now.ids take_over port.old port.new ended) }
+    ensures { IfOk result (λ ended. IsCommissioned P.reads P.writes P.asks network.now plan.now.rate plan.now.ids take_over identify port.old port.new ended) }
 {
     let nodes = device_nodes(alloc, network)?;
     let senders = senders_of(alloc, network.rows(), plan.ids())?;
     let mut manager = manager_of(alloc, plan, network, &nodes)?;
-    let ended = run_session(&mut manager, &nodes, plan.rate(), &senders, take_over, port);
+    let questions = questions_for(alloc, identify, network, &nodes)?;
+    let ended = run_session(
+        alloc,
+        &mut manager,
+        &nodes,
+        plan.rate(),
+        &senders,
+        take_over,
+        &questions,
+        port,
+    )?;
     match ended {
         Session::Booted => Ok(Commissioned::Ended {
             text: boot_text(alloc, &manager, &nodes)?,
@@ -73,6 +107,10 @@ fn commission_planned<P: Port>(
             rate: plan.rate(),
         }),
         Session::Running { node } => Ok(Commissioned::Running { node }),
+        Session::Others { exchanges } => Ok(Commissioned::Others {
+            text: identity_text(alloc, &nodes, &exchanges)?,
+            exchanges,
+        }),
         Session::Failed => Ok(Commissioned::Failed),
     }
 }
@@ -83,19 +121,23 @@ fn commission_network<P: Port>(
     network: &Network<'_>,
     choice: Choice,
     take_over: bool,
+    identify: bool,
     port: &mut P,
 ) -> Result<Commissioned, AllocError>
     requires { IsNetwork network.now }
-    ensures { IfOk result (λ ended. IsCommissionedBy P.reads P.writes P.asks choice network.now take_over port.old port.new ended) }
+    ensures { IfOk result (λ ended. IsCommissionedBy P.reads P.writes P.asks choice network.now take_over identify port.old port.new ended) }
 {
     match plan(alloc, network, choice)? {
-        Outcome::Planned(plan) => commission_planned(alloc, network, &plan, take_over, port),
+        Outcome::Planned(plan) => commission_planned(
+            alloc, network, &plan, take_over, identify, port,
+        ),
         Outcome::Refused(_) => Ok(Commissioned::NonePasses),
     }
 }
 
 /// The boot of the devices of a planned network over a port. The network is planned, and the adapter is opened at its rate. Unless the bus is
-/// taken over, it is listened for 2 s, and where a node is heard to run no frame is sent. Then the settings of each node are sent to
+/// taken over, it is listened for 2 s, and where a node is heard to run no frame is sent. If they are to be identified, the devices are
+/// asked who they are, and where one is another than its EDS file says nothing else is sent. Then the settings of each node are sent to
 /// it, the nodes are started when all have confirmed theirs, and the adapter is closed. Otherwise the first rule that the network
 /// breaks, or want of memory.
 pub fn commission<P: Port>(
@@ -105,14 +147,15 @@ pub fn commission<P: Port>(
     eds_files: &[(String, Vec<u8>)],
     asked: &Asked,
     take_over: bool,
+    identify: bool,
     port: &mut P,
 ) -> Result<Commissioned, Fault>
     ensures { MatchResult result
-        (λ ended. IsCommissioning P.reads P.writes P.asks asked.now nodes.now pdos.now (map (λ f. record { name = string_bytes f.0; text = f.1.items }) eds_files.now) take_over port.old port.new ended)
+        (λ ended. IsCommissioning P.reads P.writes P.asks asked.now nodes.now pdos.now (map (λ f. record { name = string_bytes f.0; text = f.1.items }) eds_files.now) take_over identify port.old port.new ended)
         (λ fault. ExplainsNetwork asked.now.rates nodes.now pdos.now (map (λ f. record { name = string_bytes f.0; text = f.1.items }) eds_files.now) fault) }
 {
     let nodes = read_nodes(alloc, nodes)?;
     let pdos = read_pdos(alloc, pdos)?;
     let network = network(alloc, &asked.rates, &nodes, &pdos, eds_files)?;
-    Ok(commission_network(alloc, &network, asked.choice, take_over, port)?)
+    Ok(commission_network(alloc, &network, asked.choice, take_over, identify, port)?)
 }

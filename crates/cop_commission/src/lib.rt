@@ -2,6 +2,7 @@
 #![tactic(auto)]
 
 mod commissioning;
+mod identities;
 mod sessions;
 
 pub use commissioning::{Commissioned, commission};

@@ -1,7 +1,8 @@
 //! Answers that are told line by line.
 
+use crate::objects::Object;
 use crate::values::{identifier, number, time_of};
-use serde_json::{Value, json};
+use serde_json::Value;
 use std::alloc::{AllocError, Global};
 use std::str;
 
@@ -20,8 +21,13 @@ fn stream_of(alloc: Global, line: &str) -> Result<Value, AllocError> {
     } else {
         Value::Null
     };
-    let response = time_of(alloc, words.next().unwrap_or(""))?;
-    json!(in alloc; {"id": id, "verdict": verdict, "instance": instance, "response": response})
+    let response = time_of(alloc, words.next().unwrap_or(""));
+    Object::new(alloc)
+        .plain("id", id)
+        .text("verdict", verdict)
+        .plain("instance", instance)
+        .with("response", response)
+        .end()
 }
 
 /// The answer of the test at a rate in kbit/s.
@@ -30,8 +36,12 @@ pub fn test_document(alloc: Global, kbits: u32, text: &[u8]) -> Result<String, A
     for line in lines_of(text).lines() {
         streams.push(stream_of(alloc, line)?)?;
     }
-    let streams = Value::Array(streams);
-    json!(in alloc; {"command": "test", "rate": kbits, "streams": streams})?.to_string(alloc)
+    let document = Object::new(alloc)
+        .text("command", "test")
+        .plain("rate", kbits)
+        .plain("streams", Value::Array(streams))
+        .end()?;
+    document.to_string(alloc)
 }
 
 /// What is said of a refusal: `250 holds`.
@@ -39,7 +49,10 @@ fn refusal_of(alloc: Global, line: &str) -> Result<Value, AllocError> {
     let mut words = line.split(' ');
     let rate = number(words.next().unwrap_or(""));
     let holds = words.next().unwrap_or("") == "holds";
-    json!(in alloc; {"rate": rate, "holds": holds})
+    Object::new(alloc)
+        .plain("rate", rate)
+        .plain("holds", holds)
+        .end()
 }
 
 /// The answer of a check.
@@ -48,19 +61,30 @@ pub fn check_document(alloc: Global, text: &[u8]) -> Result<String, AllocError> 
     for line in lines_of(text).lines() {
         refusals.push(refusal_of(alloc, line)?)?;
     }
-    let refusals = Value::Array(refusals);
-    json!(in alloc; {"command": "check", "refusals": refusals})?.to_string(alloc)
+    let document = Object::new(alloc)
+        .text("command", "check")
+        .plain("refusals", Value::Array(refusals))
+        .end()?;
+    document.to_string(alloc)
 }
 
-/// How the boot of a node ended: `node 5 ready`.
+/// How the boot of a node ended, or what it answered: `node 5 ready`, `node 5 as planned` or `node 5 other 1018 02 00000191`.
 fn node_of(alloc: Global, line: &str) -> Result<Option<Value>, AllocError> {
     let mut words = line.split(' ');
     if words.next().unwrap_or("") != "node" {
         return Ok(None);
     }
-    let node = number(words.next().unwrap_or(""));
-    let state = words.next().unwrap_or("");
-    Ok(Some(json!(in alloc; {"node": node, "state": state})?))
+    let told = Object::new(alloc).plain("node", number(words.next().unwrap_or("")));
+    let told = match words.next().unwrap_or("") {
+        "as" => told.text("state", "as planned"),
+        "other" => told
+            .text("state", "other")
+            .plain("index", identifier(words.next().unwrap_or("")))
+            .plain("sub", identifier(words.next().unwrap_or("")))
+            .plain("found", identifier(words.next().unwrap_or(""))),
+        state => told.text("state", state),
+    };
+    Ok(Some(told.end()?))
 }
 
 /// Whether an answer has a line.
@@ -76,12 +100,13 @@ pub fn boot_document(alloc: Global, text: &[u8]) -> Result<String, AllocError> {
             nodes.push(node)?;
         }
     }
-    let nodes = Value::Array(nodes);
-    let planned = !has_line(text, "no rate passes");
-    let started = has_line(text, "started");
-    json!(in alloc; {"command": "boot", "planned": planned, "started": started, "nodes": nodes})?.to_string(
-        alloc,
-    )
+    let document = Object::new(alloc)
+        .text("command", "boot")
+        .plain("planned", !has_line(text, "no rate passes"))
+        .plain("started", has_line(text, "started"))
+        .plain("nodes", Value::Array(nodes))
+        .end()?;
+    document.to_string(alloc)
 }
 
 /// How many transfers an answer tells; null where it tells none.
@@ -96,10 +121,11 @@ fn transfers_of(text: &[u8]) -> Value {
 
 /// The answer of a judgement.
 pub fn judge_document(alloc: Global, text: &[u8]) -> Result<String, AllocError> {
-    let planned = !has_line(text, "no rate passes");
-    let on_time = has_line(text, "on time");
-    let transfers = transfers_of(text);
-    json!(in alloc; {"command": "judge", "planned": planned, "on_time": on_time, "transfers": transfers})?.to_string(
-        alloc,
-    )
+    let document = Object::new(alloc)
+        .text("command", "judge")
+        .plain("planned", !has_line(text, "no rate passes"))
+        .plain("on_time", has_line(text, "on time"))
+        .plain("transfers", transfers_of(text))
+        .end()?;
+    document.to_string(alloc)
 }

@@ -1,6 +1,7 @@
 //! Faults.
 
-use serde_json::{Value, json};
+use crate::objects::{Object, text_of};
+use serde_json::Value;
 use std::alloc::{AllocError, Global};
 
 /// What is told of a fault: its number and its record where an input is refused, the table and the column where these are
@@ -24,24 +25,26 @@ fn number_if(number: Option<u64>) -> Value {
 
 fn text_if(alloc: Global, text: Option<&str>) -> Result<Value, AllocError> {
     match text {
-        Some(text) => json!(in alloc; text),
+        Some(text) => text_of(alloc, text),
         None => Ok(Value::Null),
     }
 }
 
 /// A fault.
 pub fn fault_document(alloc: Global, told: Told<'_>) -> Result<String, AllocError> {
-    let number = number_if(told.number.map(|number| u64::from(number)));
-    let record = number_if(told.record);
-    let table = text_if(alloc, told.table)?;
-    let column = text_if(alloc, told.column)?;
     let mut words = Vec::new(alloc);
     for line in told.words.lines() {
-        words.push(json!(in alloc; line)?)?;
+        words.push(text_of(alloc, line)?)?;
     }
-    let words = Value::Array(words);
-    let line = told.line;
-    json!(in alloc; {"error": {"number": number, "table": table, "record": record, "column": column, "line": line, "words": words}})?.to_string(
-        alloc,
-    )
+    let number = told.number.map(|number| u64::from(number));
+    let fault = Object::new(alloc)
+        .plain("number", number_if(number))
+        .with("table", text_if(alloc, told.table))
+        .plain("record", number_if(told.record))
+        .with("column", text_if(alloc, told.column))
+        .text("line", told.line)
+        .plain("words", Value::Array(words))
+        .end();
+    let document = Object::new(alloc).with("error", fault).end()?;
+    document.to_string(alloc)
 }

@@ -3,6 +3,7 @@
 
 mod answers;
 mod faults;
+mod objects;
 mod plans;
 mod values;
 

@@ -3,31 +3,35 @@
 ghost use Rattle.std.specs.Prelude.{length};
 ghost use Rattle.cop_plan.specs.Plans.{IsOutcome};
 
+use crate::objects::Object;
 use crate::values::{time, time_if};
 use cop_figures::{FrameTimes, Load, PdoTimes, Reason, RefusedRate, SyncTimes, figures_of};
 use cop_net::{Network, PdoRow};
 use cop_plan::Outcome;
 use cop_rta::Stream;
-use serde_json::{Value, json};
+use serde_json::Value;
 use std::alloc::{AllocError, Global};
 
 /// A stream's identifier, bytes and times, and its greatest response.
 fn stream_of(alloc: Global, stream: &Stream, response: u64) -> Result<Value, AllocError> {
-    let (id, bytes, every) = (stream.id, stream.bytes, stream.every);
-    let period = time(alloc, stream.period)?;
-    let jitter = time(alloc, stream.jitter)?;
-    let deadline = time_if(alloc, stream.deadline)?;
-    let response = time(alloc, response)?;
-    json!(in alloc; {"id": id, "bytes": bytes, "every": every, "period": period, "jitter": jitter, "deadline": deadline, "response": response})
+    Object::new(alloc)
+        .plain("id", stream.id)
+        .plain("bytes", stream.bytes)
+        .plain("every", stream.every)
+        .with("period", time(alloc, stream.period))
+        .with("jitter", time(alloc, stream.jitter))
+        .with("deadline", time_if(alloc, stream.deadline))
+        .with("response", time(alloc, response))
+        .end()
 }
 
 /// The node and the number of a PDO by its row.
 fn pdo_name(alloc: Global, row: Option<&PdoRow>) -> Result<Value, AllocError> {
     match row {
-        Some(row) => {
-            let (node, tpdo) = (row.node, row.tpdo);
-            json!(in alloc; {"node": node, "tpdo": tpdo})
-        }
+        Some(row) => Object::new(alloc)
+            .plain("node", row.node)
+            .plain("tpdo", row.tpdo)
+            .end(),
         None => Ok(Value::Null),
     }
 }
@@ -35,9 +39,11 @@ fn pdo_name(alloc: Global, row: Option<&PdoRow>) -> Result<Value, AllocError> {
 fn pdos_of(alloc: Global, network: &Network<'_>, times: &[PdoTimes]) -> Result<Value, AllocError> {
     let mut pdos = Vec::new(alloc);
     for time in times {
-        let pdo = pdo_name(alloc, network.rows().get(time.pdo))?;
-        let stream = stream_of(alloc, &time.stream, time.response)?;
-        pdos.push(json!(in alloc; {"pdo": pdo, "stream": stream})?)?;
+        let pdo = Object::new(alloc)
+            .with("pdo", pdo_name(alloc, network.rows().get(time.pdo)))
+            .with("stream", stream_of(alloc, &time.stream, time.response))
+            .end()?;
+        pdos.push(pdo)?;
     }
     Ok(Value::Array(pdos))
 }
@@ -61,8 +67,12 @@ fn sync_of(alloc: Global, sync: Option<SyncTimes>) -> Result<Value, AllocError> 
 fn loads_of(alloc: Global, loads: &[Load]) -> Result<Value, AllocError> {
     let mut values = Vec::new(alloc);
     for load in loads {
-        let (rate, pdos, fixed) = (load.rate.kbits(), load.pdos, load.fixed);
-        values.push(json!(in alloc; {"rate": rate, "pdos": pdos, "fixed": fixed})?)?;
+        let value = Object::new(alloc)
+            .plain("rate", load.rate.kbits())
+            .plain("pdos", load.pdos)
+            .plain("fixed", load.fixed)
+            .end()?;
+        values.push(value)?;
     }
     Ok(Value::Array(values))
 }
@@ -75,14 +85,12 @@ fn reason_of(alloc: Global, network: &Network<'_>, reason: &Reason) -> Result<Va
             for member in members.as_slice() {
                 pdos.push(pdo_name(alloc, network.rows().get(member.pdo))?)?;
             }
-            let pdos = Value::Array(pdos);
-            json!(in alloc; {"members": pdos})
+            Object::new(alloc)
+                .plain("members", Value::Array(pdos))
+                .end()
         }
-        Reason::Sync => json!(in alloc; {"sync": true}),
-        Reason::Sdo { frame, .. } => {
-            let id = frame.id;
-            json!(in alloc; {"sdo": id})
-        }
+        Reason::Sync => Object::new(alloc).plain("sync", true).end(),
+        Reason::Sdo { frame, .. } => Object::new(alloc).plain("sdo", frame.id).end(),
     }
 }
 
@@ -93,9 +101,11 @@ fn refused_of(
 ) -> Result<Value, AllocError> {
     let mut values = Vec::new(alloc);
     for one in refused {
-        let rate = one.rate.kbits();
-        let reason = reason_of(alloc, network, &one.reason)?;
-        values.push(json!(in alloc; {"rate": rate, "reason": reason})?)?;
+        let value = Object::new(alloc)
+            .plain("rate", one.rate.kbits())
+            .with("reason", reason_of(alloc, network, &one.reason))
+            .end()?;
+        values.push(value)?;
     }
     Ok(Value::Array(values))
 }
@@ -113,16 +123,19 @@ pub fn plan_document(
         Some(rate) => Value::from(rate.kbits()),
         None => Value::Null,
     };
-    let sync = sync_of(alloc, figures.sync)?;
-    let pdos = pdos_of(alloc, network, &figures.pdos)?;
-    let frames = frames_of(alloc, &figures.frames)?;
     let margin = match outcome {
-        Outcome::Planned(plan) => time_if(alloc, plan.margin())?,
-        Outcome::Refused(_) => Value::Null,
+        Outcome::Planned(plan) => time_if(alloc, plan.margin()),
+        Outcome::Refused(_) => Ok(Value::Null),
     };
-    let loads = loads_of(alloc, &figures.loads)?;
-    let refused = refused_of(alloc, network, &figures.refused)?;
-    json!(in alloc; {"command": "plan", "rate": rate, "pdos": pdos, "sync": sync, "sdo_frames": frames, "margin": margin, "loads": loads, "refused": refused})?.to_string(
-        alloc,
-    )
+    let document = Object::new(alloc)
+        .text("command", "plan")
+        .plain("rate", rate)
+        .with("pdos", pdos_of(alloc, network, &figures.pdos))
+        .with("sync", sync_of(alloc, figures.sync))
+        .with("sdo_frames", frames_of(alloc, &figures.frames))
+        .with("margin", margin)
+        .with("loads", loads_of(alloc, &figures.loads))
+        .with("refused", refused_of(alloc, network, &figures.refused))
+        .end()?;
+    document.to_string(alloc)
 }

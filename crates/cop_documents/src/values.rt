@@ -2,7 +2,8 @@
 
 ghost use Rattle.std.specs.Prelude.{◌≤◌};
 
-use serde_json::{Value, json};
+use crate::objects::Object;
+use serde_json::Value;
 use std::alloc::{AllocError, Global};
 use std::num::nearest_u64_to_f64;
 
@@ -13,7 +14,10 @@ pub(crate) fn time(alloc: Global, ticks: u64) -> Result<Value, AllocError> {
     } else {
         Value::from(nearest_u64_to_f64(ticks) / 4.0)
     };
-    json!(in alloc; {"ticks": ticks, "us": micros})
+    Object::new(alloc)
+        .plain("ticks", ticks)
+        .plain("us", micros)
+        .end()
 }
 
 /// A time that is perhaps not there.

@@ -3,3 +3,4 @@ pub mod LoadLemmas
 pub mod FrameLemmas
 pub mod BelowLemmas
 pub mod TimelineLemmas
+pub mod DelayLemmas

@@ -1,6 +1,7 @@
 pub mod Loads
 pub mod Reasons
 pub mod Frames
+pub mod Delays
 pub mod Figures
 pub mod Measures
 pub mod Timelines

@@ -1,6 +1,7 @@
 //! The numbers of a plan's report: loads, times, refused rates and the bus over time.
 #![tactic(auto)]
 
+mod delays;
 mod figures;
 mod frames;
 mod loads;
@@ -8,6 +9,7 @@ mod refused;
 mod timelines;
 mod times;
 
+pub use delays::{Breakdown, Delay, breakdowns_of};
 pub use figures::{Figures, figures_of};
 pub use frames::{FrameTimes, SyncTimes};
 pub use loads::Load;

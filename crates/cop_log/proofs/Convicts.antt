@@ -10,7 +10,7 @@ use Rattle.cop_rta.proofs.QueueLemmas.{ticks_pos}
 use Rattle.cop_bus.specs.Run.{Instance, IsRunAbove, jitter_at, least_bits}
 use Rattle.cop_bus.specs.Spread.{IsSpread}
 use Rattle.cop_bus.proofs.Sound.{in_streams}
-use Rattle.cop_log.specs.declared.entries.Entry.{Entry}
+use Rattle.cop_lines.specs.declared.entries.Entry.{Entry}
 use Rattle.cop_log.specs.declared.findings.Finding.{Finding}
 use Rattle.cop_log.specs.declared.findings.Finding.TheVariants.{Unknown, Length, Soon, Crowded}
 use Rattle.cop_log.specs.Log.{Terms, entry_at, IsOf, HasLog, AreBounded, IsRunWith, count_of, least_of, Lane, IsLaneOf, IsNear, IsSoon, stamp, IsEvidence}

@@ -2,9 +2,10 @@
 use Rattle.std.proofs.Common.{◌≡◌, ◌∙◌, ℕ, ◌+◌, ◌<◌, ◌≤◌, List, [], ◌∷◌, suc, zero, length, take, drop, refl, sym, ap, subst, arith, Bool, true, false, cond}
 use Rattle.std.specs.Prelude.{◌==◌, Option, None, Some, Result, Ok, Err, IfSome, IsErrAnd}
 use Rattle.cop_table.specs.Reading.{◌>>=◌, Gives}
-use Rattle.cop_log.specs.declared.entries.Entry.{Entry}
+use Rattle.cop_lines.specs.declared.entries.Entry.{Entry}
 use Rattle.cop_log.specs.declared.faults.LogFault.{LogFault}
-use Rattle.cop_log.specs.Lines.{place_in, front, back, line_in}
+use Rattle.cop_lines.specs.Words.{place_in, front, back}
+use Rattle.cop_lines.specs.Lines.{line_in}
 use Rattle.cop_log.specs.Reading.{begun, lines_of, with_line, log_from, fault_of_text}
 
 pub first_and_rest : (text : List ℕ) → 0 < length text → lines_of text ≡ front 10 text ∷ lines_of (back 10 text)

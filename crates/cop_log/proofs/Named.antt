@@ -11,7 +11,7 @@ use Rattle.std.proofs.lemmas.Option.{slice_get_read}
 use Rattle.cop_rta.specs.declared.streams.Stream.{Stream}
 use Rattle.cop_rta.specs.Streams.{place_of_id, AreDistinct}
 use Rattle.cop_rta.proofs.IdentifierLemmas.{place_has_id}
-use Rattle.cop_log.specs.declared.entries.Entry.{Entry}
+use Rattle.cop_lines.specs.declared.entries.Entry.{Entry}
 use Rattle.cop_log.specs.declared.findings.Finding.TheVariants.{Unknown, Length}
 use Rattle.cop_log.specs.declared.naming.Naming.{Naming}
 use Rattle.cop_log.specs.declared.naming.Naming.TheVariants as naming

@@ -3,8 +3,8 @@ use Rattle.std.proofs.Common.{◌≡◌, ℕ, ◌+◌, ◌*◌, ◌^◌, ◌≤�
 use Rattle.std.specs.Prelude.{◌&&◌, Option, Some, None}
 use Rattle.std.proofs.lemmas.Bool.{cases_lt}
 use Rattle.cop_bus.specs.Run.{least_bits}
-use Rattle.cop_log.specs.declared.entries.Entry.{Entry}
-use Rattle.cop_log.specs.declared.entries.Clock.{Clock}
+use Rattle.cop_lines.specs.declared.entries.Entry.{Entry}
+use Rattle.cop_log.specs.declared.clocks.Clock.{Clock}
 use Rattle.cop_log.specs.declared.anchors.Pile.{Pile}
 use Rattle.cop_log.specs.declared.findings.Finding.TheVariants.{Crowded}
 use Rattle.cop_log.specs.Log.{entry_at, stamp, most, least_of, IsFull, IsCrowded, IsEvidence}

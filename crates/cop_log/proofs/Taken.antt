@@ -4,7 +4,7 @@ use Rattle.std.specs.Prelude.{◌&&◌, is_none, IfNone, IfSome, slice_index_or}
 use Rattle.std.specs.Option.{ForSome}
 use Rattle.cop_frame.specs.Rate.{ticks_of}
 use Rattle.cop_rta.specs.Streams.{AreDistinct}
-use Rattle.cop_log.specs.declared.entries.Entry.{Entry}
+use Rattle.cop_lines.specs.declared.entries.Entry.{Entry}
 use Rattle.cop_log.specs.declared.anchors.Anchor.{Anchor}
 use Rattle.cop_log.specs.declared.anchors.Pile.{Pile}
 use Rattle.cop_log.specs.declared.findings.Finding.{Finding}

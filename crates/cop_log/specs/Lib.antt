@@ -1,8 +1,6 @@
 pub mod Log
 pub mod Watching
 pub mod Watchers
-pub mod Faults
-pub mod Lines
 pub mod Reading
 pub mod Bounds
 pub mod Reports

@@ -7,8 +7,8 @@ use Rattle.cop_rta.specs.Test.{place_by_id}
 use Rattle.cop_rta.specs.Verdict.{PassesBy}
 use Rattle.cop_rta.specs.Greatest.{AreSynced}
 use Rattle.cop_bus.specs.Run.{Instance, IsLegal, IsObeying, least_bits}
-use Rattle.cop_log.specs.declared.entries.Entry.{Entry}
-use Rattle.cop_log.specs.declared.entries.Clock.{Clock}
+use Rattle.cop_lines.specs.declared.entries.Entry.{Entry}
+use Rattle.cop_log.specs.declared.clocks.Clock.{Clock}
 use Rattle.cop_log.specs.declared.findings.Finding.{Finding}
 use Rattle.cop_log.specs.declared.findings.Finding.TheVariants.{Unknown, Length, Soon, Crowded}
 

@@ -1,11 +1,11 @@
 -- A log as a text: its lines end by LF (byte 10), and the last one may lack it.
 use Rattle.std.specs.Prelude.{ℕ, List, [], ◌∷◌, ◌++◌, suc, ◌==◌, if◌then◌else◌, Option, Some, None, Result, Ok, Err}
-use Rattle.cop_log.specs.declared.entries.Entry.{Entry}
-use Rattle.cop_log.specs.declared.faults.LineFault.{LineFault}
+use Rattle.cop_lines.specs.declared.entries.Entry.{Entry}
+use Rattle.cop_lines.specs.declared.faults.LineFault.{LineFault}
 use Rattle.cop_log.specs.declared.faults.LogFault.{LogFault}
 use Rattle.cop_log.specs.declared.faults.LogFault.TheVariants.{Line, Memory}
 use Rattle.cop_table.specs.Reading.{◌>>=◌}
-use Rattle.cop_log.specs.Lines.{line_in}
+use Rattle.cop_lines.specs.Lines.{line_in}
 
 -- a byte before the first of some lines
 abbrev pub begun : ℕ → List (List ℕ) → List (List ℕ)

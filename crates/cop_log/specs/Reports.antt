@@ -4,8 +4,8 @@ use Rattle.cop_frame.specs.declared.rates.Rate.{Rate}
 use Rattle.cop_rta.specs.declared.streams.Stream.{Stream}
 use Rattle.cop_rta.specs.Greatest.{AreSynced}
 use Rattle.cop_bus.specs.Run.{Instance}
-use Rattle.cop_log.specs.declared.entries.Entry.{Entry}
-use Rattle.cop_log.specs.declared.entries.Clock.{Clock}
+use Rattle.cop_lines.specs.declared.entries.Entry.{Entry}
+use Rattle.cop_log.specs.declared.clocks.Clock.{Clock}
 use Rattle.cop_log.specs.declared.faults.LogFault.{LogFault}
 use Rattle.cop_log.specs.declared.findings.Finding.{Finding}
 use Rattle.cop_log.specs.Log.{IsAnswer, IsRunWith}

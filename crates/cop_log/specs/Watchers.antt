@@ -2,7 +2,7 @@
 use Rattle.std.specs.Prelude.{◌≡◌, ◌≢◌, ℕ, ◌^◌, ◌<◌, Bool, ◌&&◌, List, [], ◌∷◌, ◌++◌, Option, Some, None, suc, length, is_none}
 use Rattle.std.specs.Option.{ForSome}
 use Rattle.cop_rta.specs.Streams.{AreDistinct}
-use Rattle.cop_log.specs.declared.entries.Entry.{Entry}
+use Rattle.cop_lines.specs.declared.entries.Entry.{Entry}
 use Rattle.cop_log.specs.declared.anchors.Anchor.{Anchor}
 use Rattle.cop_log.specs.declared.findings.Finding.{Finding}
 use Rattle.cop_log.specs.declared.findings.Finding.TheVariants.{Unknown, Length}

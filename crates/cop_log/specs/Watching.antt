@@ -3,8 +3,8 @@ use Rattle.std.specs.Prelude.{◌≡◌, ◌≢◌, ℕ, ◌+◌, ◌*◌, ◌^�
 use Rattle.std.specs.Option.{ForSome}
 use Rattle.cop_frame.specs.Rate.{ticks_of}
 use Rattle.cop_rta.specs.declared.streams.Stream.{Stream}
-use Rattle.cop_log.specs.declared.entries.Entry.{Entry}
-use Rattle.cop_log.specs.declared.entries.Clock.{Clock}
+use Rattle.cop_lines.specs.declared.entries.Entry.{Entry}
+use Rattle.cop_log.specs.declared.clocks.Clock.{Clock}
 use Rattle.cop_log.specs.declared.anchors.Anchor.{Anchor}
 use Rattle.cop_log.specs.declared.anchors.Pile.{Pile}
 use Rattle.cop_log.specs.declared.naming.Naming.{Naming}

@@ -4,12 +4,13 @@ ghost use Rattle.std.specs.Prelude.{◌≡◌, ◌++◌, IfOk, OnOk};
 ghost use Rattle.cop_log.specs.Log.{IsAnswer};
 ghost use Rattle.cop_log.specs.Watchers.{findings_of, listed};
 
-use crate::entries::{Clock, Entry};
+use crate::clocks::Clock;
 use crate::findings::Finding;
 use crate::laws::evidence_convicts;
 use crate::told::Told;
 use crate::watcher::Watcher;
 use cop_frame::Rate;
+use cop_lines::Entry;
 use cop_rta::StreamSet;
 use std::alloc::{AllocError, Global};
 

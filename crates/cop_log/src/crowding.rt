@@ -3,15 +3,16 @@
 ghost use Rattle.std.specs.Prelude.{◌≡◌, ℕ, ◌+◌, ◌*◌, ◌^◌, ◌≤◌, ◌<◌, ◌↔◌, IsTrue, Bool, length, List};
 ghost use Rattle.cop_frame.specs.Rate.{ticks_of};
 ghost use Rattle.cop_bus.specs.Run.{least_bits};
-ghost use Rattle.cop_log.specs.declared.entries.Entry.{Entry as Seen};
+ghost use Rattle.cop_lines.specs.declared.entries.Entry.{Entry as Seen};
 ghost use Rattle.cop_log.specs.Log.{most, IsFull, entry_at};
 ghost use Rattle.cop_log.specs.Watching.{IsHeld, IsLoaded};
 
 use crate::anchors::Pile;
-use crate::entries::{Clock, Entry};
+use crate::clocks::Clock;
 use crate::findings::Finding;
 use crate::measures::{most, slack};
 use cop_frame::Rate;
+use cop_lines::Entry;
 
 // More ticks than a log of 2 to the 64 entries has.
 const MOST_TICKS: u128 = 1 << 85;

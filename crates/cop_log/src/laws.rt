@@ -2,7 +2,7 @@
 
 ghost use Rattle.std.specs.Prelude.{ℕ, List};
 ghost use Rattle.cop_bus.specs.Run.{Instance};
-ghost use Rattle.cop_log.specs.declared.entries.Entry.{Entry};
+ghost use Rattle.cop_lines.specs.declared.entries.Entry.{Entry};
 ghost use Rattle.cop_log.specs.declared.findings.Finding.{Finding};
 ghost use Rattle.cop_log.specs.Log.{Terms, AreBounded, IsRunWith, IsEvidence};
 

@@ -3,7 +3,7 @@
 ghost use Rattle.std.specs.Prelude.{◌≡◌, ◌^◌, ◌<◌};
 ghost use Rattle.cop_log.specs.Log.{most, slack};
 
-use crate::entries::Clock;
+use crate::clocks::Clock;
 
 /// The most that may have passed up to a stamp.
 pub(crate) fn most(clock: Clock, at: u64) -> u128

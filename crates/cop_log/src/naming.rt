@@ -3,7 +3,7 @@
 ghost use Rattle.std.specs.Prelude.{◌≡◌, ◌≢◌, ℕ, ◌+◌, ◌≤◌, ◌<◌, All, Any, length, List};
 ghost use Rattle.cop_log.specs.Watching.{IsNamed};
 
-use crate::entries::Entry;
+use cop_lines::Entry;
 use cop_rta::StreamSet;
 
 /// What the plan says of an entry's identifier and length.

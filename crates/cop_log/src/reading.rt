@@ -2,12 +2,11 @@
 
 ghost use Rattle.std.specs.Prelude.{◌≡◌};
 ghost use Rattle.cop_table.specs.Reading.{Gives};
-ghost use Rattle.cop_log.specs.Lines.{line_in};
+ghost use Rattle.cop_lines.specs.Lines.{line_in};
 ghost use Rattle.cop_log.specs.Reading.{with_line, log_in, fault_of_text};
 
-use crate::entries::Entry;
 use crate::faults::LogFault;
-use crate::lines::{back, front, line_in};
+use cop_lines::{Entry, back, front, line_in};
 use std::alloc::Global;
 
 // Reads a line, which has a number, and puts its entry behind those before it.

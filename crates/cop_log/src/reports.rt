@@ -5,7 +5,7 @@ ghost use Rattle.cop_log.specs.Reports.{IsReport, IsExplained};
 
 use crate::answers::watch;
 use crate::bounds::bounds_of;
-use crate::entries::Clock;
+use crate::clocks::Clock;
 use crate::faults::LogFault;
 use crate::findings::Finding;
 use crate::reading::read_log;

@@ -2,20 +2,21 @@
 
 ghost use Rattle.std.specs.Prelude.{◌≡◌, ◌≢◌, ℕ, ◌+◌, ◌^◌, ◌<◌, ◌&&◌, Bool, true, Option, IfOk, IfSome, IfNone, length, List, slice_index_or};
 ghost use Rattle.cop_rta.specs.Streams.{place_of_id};
-ghost use Rattle.cop_log.specs.declared.entries.Entry.{Entry as Seen};
+ghost use Rattle.cop_lines.specs.declared.entries.Entry.{Entry as Seen};
 ghost use Rattle.cop_log.specs.Log.{entry_at};
 ghost use Rattle.cop_log.specs.Watching.{lane_of, tells_nothing, IsTold};
 ghost use Rattle.cop_log.specs.Watchers.{terms_of, IsKept, HasNoLane, HasLane, IsStepOfAll, named_by};
 
 use crate::anchors::{Anchor, Pile};
+use crate::clocks::Clock;
 use crate::crowding::load_next;
-use crate::entries::{Clock, Entry};
 use crate::findings::Finding;
 use crate::naming::{Naming, naming_of};
 use crate::told::Told;
 use crate::watches::Watch;
 use crate::watching::watch_next;
 use cop_frame::Rate;
+use cop_lines::Entry;
 use cop_rta::StreamSet;
 use std::alloc::{AllocError, Global};
 

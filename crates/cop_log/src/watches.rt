@@ -2,7 +2,7 @@
 
 ghost use Rattle.std.specs.Prelude.{◌<◌, ◌^◌};
 
-use crate::entries::Clock;
+use crate::clocks::Clock;
 use cop_frame::Rate;
 use cop_rta::Stream;
 

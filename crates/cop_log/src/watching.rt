@@ -2,7 +2,7 @@
 
 ghost use Rattle.std.specs.Prelude.{◌≡◌, ℕ, ◌+◌, ◌*◌, ◌^◌, ◌≤◌, ◌<◌, ◌↔◌, IsTrue, Bool, length, List};
 ghost use Rattle.cop_frame.specs.Rate.{ticks_of};
-ghost use Rattle.cop_log.specs.declared.entries.Entry.{Entry};
+ghost use Rattle.cop_lines.specs.declared.entries.Entry.{Entry};
 ghost use Rattle.cop_log.specs.Log.{most, IsNear, entry_at};
 ghost use Rattle.cop_log.specs.Watching.{lane_of, IsWatched, IsStep};
 

@@ -1,7 +1,8 @@
 //! The breaches that a log shows, in words.
 
 use cop_frame::{Rate, least_bits};
-use cop_log::{Anchor, Clock, Entry, Finding, Pile};
+use cop_lines::Entry;
+use cop_log::{Anchor, Clock, Finding, Pile};
 use cop_rta::Stream;
 use std::alloc::{AllocError, Global};
 

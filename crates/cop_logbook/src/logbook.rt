@@ -1,13 +1,12 @@
 //! A log that is watched, line by line, and what is said of it at its end.
 
-ghost use Rattle.std.specs.Prelude.{◌≤◌};
-
 use crate::breaches::{Breaches, Scene};
 use crate::loads::Loads;
 use crate::noticed::Notices;
 use crate::seen::{Seen, least_bits_of};
 use crate::spread::Spread;
-use cop_log::{Clock, Entry, Finding, Told, Watcher, back, bounds_of, front, line_in};
+use cop_lines::{Entry, LineReader, Message};
+use cop_log::{Clock, Finding, Told, Watcher, bounds_of};
 use cop_plan::Plan;
 use std::alloc::{AllocError, Global};
 use std::collections::BTreeMap;
@@ -44,7 +43,8 @@ pub struct Logbook<'a> {
     clock: Clock,
     bounds: Vec<Option<u64>>,
     watcher: Watcher<'a>,
-    // That of the first line, where none is wanted.
+    reader: LineReader,
+    // That of the first frame, where none is wanted.
     channel: Option<Vec<u8>>,
     line: u64,
     all: Seen,
@@ -60,29 +60,14 @@ pub struct Logbook<'a> {
     notices: Notices,
 }
 
-/// The bytes of the data of a line that was read.
-fn data_of(line: &[u8], body: &mut [u8; 8], len: u8) -> usize
-    ensures { result ≤ 8 }
-{
-    let frame = front(b' ', back(b' ', back(b' ', line)));
-    let digits = back(b'#', frame);
-    let len = usize::from(len).min(8);
-    if digits.len() != 2 * len {
-        return 0;
-    }
-    match hex::decode_to_slice(digits, &mut body[..len]) {
-        Ok(()) => len,
-        Err(_) => 0,
-    }
-}
-
 impl<'a> Logbook<'a> {
-    /// A log of no line yet.
+    /// A log of no line yet. `are_distances` says that the stamps of a log in columns are distances, as `candump -td` writes them.
     pub fn new(
         alloc: Global,
         plan: &'a Plan,
         clock: Clock,
         channel: Option<&str>,
+        are_distances: bool,
     ) -> Result<Logbook<'a>, AllocError> {
         let bounds = bounds_of(alloc, plan.streams(), plan.rate())?;
         let own = bounds.clone()?;
@@ -102,6 +87,7 @@ impl<'a> Logbook<'a> {
             clock,
             bounds,
             watcher,
+            reader: LineReader::new(are_distances),
             channel,
             line: 0,
             all: Seen::NOTHING,
@@ -164,26 +150,28 @@ impl<'a> Logbook<'a> {
         }
     }
 
-    /// The lines of the channel of the first line are taken, where no channel is wanted.
-    fn choose_channel(&mut self, line: &[u8]) -> Result<(), AllocError> {
-        if self.channel.is_none() {
-            let mut bytes = Vec::new(self.alloc);
-            bytes.extend_from_slice(front(b' ', back(b' ', line)))?;
-            self.channel = Some(bytes);
+    /// Whether frames of a channel are taken: those of the first one, where none is wanted.
+    fn is_wanted(&mut self, channel: &[u8]) -> Result<bool, AllocError> {
+        if let Some(wanted) = &self.channel {
+            return Ok(wanted.as_slice() == channel);
         }
-        Ok(())
+        let mut bytes = Vec::new(self.alloc);
+        bytes.extend_from_slice(channel)?;
+        self.channel = Some(bytes);
+        Ok(true)
     }
 
     /// Takes the next line.
     pub fn take_line(&mut self, line: &[u8]) -> Result<(), BookFault> {
         self.line = self.line.saturating_add(1);
-        self.choose_channel(line)?;
-        let read = match &self.channel {
-            Some(channel) => line_in(channel, line),
-            None => Ok(None),
-        };
-        match read {
-            Ok(Some(entry)) => Ok(self.take_entry(&entry, line)?),
+        match self.reader.read(line) {
+            Ok(Some(message)) => {
+                let channel = self.reader.channel_in(line);
+                if self.is_wanted(channel)? {
+                    self.take_message(&message)?;
+                }
+                Ok(())
+            }
             Ok(None) => Ok(()),
             Err(fault) => Err(BookFault::Refused {
                 number: fault.number(),
@@ -192,17 +180,17 @@ impl<'a> Logbook<'a> {
         }
     }
 
-    fn take_entry(&mut self, entry: &Entry, line: &[u8]) -> Result<(), AllocError> {
+    fn take_message(&mut self, message: &Message) -> Result<(), AllocError> {
+        let entry = &message.entry;
         let place = self.place_of(entry.id);
         self.count(entry, place)?;
         let scene = self.scene(entry, place);
         let told = self.watcher.take(entry);
         self.tell(&scene, &told)?;
         self.remember(place);
-        let mut body = [0; 8];
-        let len = data_of(line, &mut body, entry.len);
+        let len = usize::from(entry.len).min(8);
         match u16::try_from(entry.id) {
-            Ok(id) => self.notices.note(self.line, id, &body[..len]),
+            Ok(id) => self.notices.note(self.line, id, &message.body[..len]),
             Err(_) => Ok(()),
         }
     }

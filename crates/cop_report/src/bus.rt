@@ -1,6 +1,6 @@
 //! The section of a page on the bus over time, as inline SVG: a lane for each identifier, one unit wide for each tick.
 
-use crate::script::SCRIPT;
+use crate::script::LANES_SCRIPT;
 use crate::senders::{Sender, sender_of};
 use crate::units::{Count, Identifier, Micros};
 use cop_bus::Transfer;
@@ -179,7 +179,7 @@ fn push_lanes(
         push_lane(page, network, plan, window, lane)?;
     }
     page.push_str("</div>\n<script>")?;
-    page.push_str(SCRIPT)?;
+    page.push_str(LANES_SCRIPT)?;
     page.push_str("</script>\n")
 }
 

@@ -8,6 +8,7 @@ mod frames;
 mod log;
 mod nodes;
 mod page;
+mod parts;
 mod pdos;
 mod premises;
 mod rates;

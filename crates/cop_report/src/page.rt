@@ -1,4 +1,4 @@
-//! The page of a report: one file of HTML with its style and its pictures. It has a script only where it shows a trace.
+//! The page of a report: one file of HTML with its style, its pictures and its scripts.
 
 ghost use Rattle.std.specs.Prelude.{length};
 ghost use Rattle.cop_plan.specs.Plans.{IsOutcome};
@@ -14,7 +14,7 @@ use crate::rates::{push_loads, push_rates};
 use crate::senders::fixed_sender;
 use crate::style::STYLE;
 use crate::units::{Count, Identifier, Micros, Percent};
-use cop_figures::{Figures, Timeline};
+use cop_figures::{Breakdown, Figures, Timeline};
 use cop_logbook::Logbook;
 use cop_net::Network;
 use cop_plan::Outcome;
@@ -27,13 +27,15 @@ pub struct Input<'a> {
     pub size: usize,
 }
 
-/// What a page is made of: a network, what the planner answers for it, the numbers of that, what a trace tells of the bus under
+/// What a page is made of: a network, what the planner answers for it, the numbers of that, what the responses of the PDOs are made of, in
+/// the order of these numbers, what a trace tells of the bus under
 /// the plan if one is to be shown, a log that was watched by the plan if there is one, and the files that were read.
 #[derive(Clone, Copy)]
 pub struct Report<'a, 'n> {
     pub network: &'a Network<'n>,
     pub outcome: &'a Outcome,
     pub figures: &'a Figures,
+    pub breakdowns: &'a [Breakdown],
     pub timeline: Option<&'a Timeline>,
     pub log: Option<&'a Logbook<'a>>,
     /// Whether the rates that the plan may have were listed.
@@ -235,7 +237,13 @@ fn push_plan(page: &mut String, alloc: Global, report: Report<'_, '_>) -> Result
     requires { IsOutcome report.network.now.equipment.rates report.network.now.set (length report.network.now.rows) report.outcome.now }
 {
     if let Outcome::Planned(plan) = report.outcome {
-        push_pdos(page, report.network, report.figures)?;
+        push_pdos(
+            page,
+            alloc,
+            report.network,
+            report.figures,
+            report.breakdowns,
+        )?;
         push_frames(page, report.network, report.figures)?;
         if let Some(timeline) = report.timeline {
             push_bus(page, report.network, plan, timeline)?;

@@ -3,10 +3,12 @@
 use crate::bars::ResponseBar;
 use crate::devices::{device_of, taken_by};
 use crate::frames::{is_lower, push_lower};
+use crate::parts::push_parts;
+use crate::script::TABLE_SCRIPT;
 use crate::units::{Identifier, Micros, Share};
-use cop_figures::{Figures, PdoTimes, SyncTimes};
+use cop_figures::{Breakdown, Figures, PdoTimes, SyncTimes};
 use cop_net::{Consumer, Network, PdoRow};
-use std::alloc::AllocError;
+use std::alloc::{AllocError, Global};
 
 /// The deadline of a PDO in ticks.
 fn deadline_of(times: &PdoTimes) -> u64 {
@@ -80,14 +82,16 @@ fn push_stream(page: &mut String, times: &PdoTimes) -> Result<(), AllocError> {
     )
 }
 
-/// Adds the response of a PDO, and of a synchronous one how much of it is SYNC's.
-fn push_number(
+/// Adds the response of a PDO with what it is made of, and of a synchronous one how much of it is SYNC's.
+fn push_response(
     page: &mut String,
+    alloc: Global,
     times: &PdoTimes,
+    parts: &Breakdown,
     sync: Option<SyncTimes>,
 ) -> Result<(), AllocError> {
-    let response = Micros(times.response);
-    write!(page, "<td class=\"n\">{response}")?;
+    page.push_str("<td class=\"n\">")?;
+    push_parts(page, alloc, parts, times.stream.period)?;
     if let Some(sync) = sync {
         if times.stream.every > 0 {
             let part = Micros(sync.response);
@@ -146,19 +150,28 @@ fn push_sender(
     )
 }
 
+/// What is shown of a PDO.
+#[derive(Clone, Copy)]
+struct Shown<'a> {
+    row: &'a PdoRow,
+    times: &'a PdoTimes,
+    parts: &'a Breakdown,
+    sync: Option<SyncTimes>,
+    is_tightest: bool,
+}
+
 /// Adds the line of a PDO.
 fn push_pdo(
     page: &mut String,
+    alloc: Global,
     network: &Network<'_>,
-    row: &PdoRow,
-    times: &PdoTimes,
-    sync: Option<SyncTimes>,
-    is_tightest: bool,
+    shown: Shown<'_>,
 ) -> Result<(), AllocError> {
-    push_sender(page, network, row, times, is_tightest)?;
+    let Shown { row, times, .. } = shown;
+    push_sender(page, network, row, times, shown.is_tightest)?;
     push_stream(page, times)?;
-    push_number(page, times, sync)?;
-    push_margin(page, times, is_tightest)?;
+    push_response(page, alloc, times, shown.parts, shown.sync)?;
+    push_margin(page, times, shown.is_tightest)?;
     page.push_str("<td class=\"taken\">")?;
     push_consumers(page, network, row.consumers.as_slice())?;
     page.push_str("</td></tr>\n")
@@ -180,30 +193,53 @@ is sent each {period} µs; its transfer ends {response} µs after its event at t
     Ok(())
 }
 
-/// Adds the PDOs by rising identifier.
-pub(crate) fn push_pdos(
+/// Adds the lines of the PDOs.
+fn push_lines(
     page: &mut String,
+    alloc: Global,
     network: &Network<'_>,
     figures: &Figures,
+    breakdowns: &[Breakdown],
+) -> Result<(), AllocError> {
+    let most = tightest(&figures.pdos).map(|times| times.pdo);
+    for (times, parts) in figures.pdos.iter().zip(breakdowns) {
+        if let Some(row) = network.rows().get(times.pdo) {
+            let shown = Shown {
+                row,
+                times,
+                parts,
+                sync: figures.sync,
+                is_tightest: most == Some(times.pdo),
+            };
+            push_pdo(page, alloc, network, shown)?;
+        }
+    }
+    Ok(())
+}
+
+/// Adds the PDOs by rising identifier, with what their responses are made of, which stands in the same order.
+pub(crate) fn push_pdos(
+    page: &mut String,
+    alloc: Global,
+    network: &Network<'_>,
+    figures: &Figures,
+    breakdowns: &[Breakdown],
 ) -> Result<(), AllocError> {
     page.push_str(
         "<section id=\"pdos\">\n<h2>PDOs by identifier</h2>\n\
-<p>Times are microseconds. The response is the greatest time from an event to the end of its transfer; a bar is full where it \
-takes the whole deadline.</p>\n",
+<p>Times are microseconds. The response is the greatest time from an event to the end of its transfer, and shows what it is made of where it is pressed; \
+a bar is full where it takes the whole deadline.</p>\n",
     )?;
     push_synchronous(page, figures)?;
     push_lower(page, network, figures)?;
     page.push_str(
-        "<div class=\"scroll\"><table>\n<tr><th>Identifier</th><th>Device</th><th class=\"n\">TPDO</th>\
+        "<p id=\"find\" hidden><label>PDOs with <input type=\"search\"></label> <output></output></p>\n\
+<div class=\"scroll\"><table>\n<tr><th>Identifier</th><th>Device</th><th class=\"n\">TPDO</th>\
 <th class=\"n\">Bytes</th><th class=\"n\">Period</th><th class=\"n\">Jitter</th><th class=\"n\">Deadline</th>\
 <th class=\"n\">Response</th><th></th><th class=\"n\">Margin</th><th class=\"n\">of it</th><th>Taken by</th></tr>\n",
     )?;
-    let most = tightest(&figures.pdos).map(|times| times.pdo);
-    for times in figures.pdos.iter() {
-        if let Some(row) = network.rows().get(times.pdo) {
-            let is_tightest = most == Some(times.pdo);
-            push_pdo(page, network, row, times, figures.sync, is_tightest)?;
-        }
-    }
-    page.push_str("</table></div>\n</section>\n")
+    push_lines(page, alloc, network, figures, breakdowns)?;
+    page.push_str("</table></div>\n<script>")?;
+    page.push_str(TABLE_SCRIPT)?;
+    page.push_str("</script>\n</section>\n")
 }

@@ -1,8 +1,51 @@
-//! The script of a page with a trace.
+//! The scripts of a page. Without them it shows the same, in one order.
+
+/// Sorts the table of PDOs by the column whose head is pressed, and shows the rows that have some words. A column of numbers has its head
+/// at the right, and the numbers stand first in their cells.
+pub(crate) const TABLE_SCRIPT: &str = "
+(() => {
+  const table = document.querySelector('#pdos table'), find = document.getElementById('find');
+  const field = find.querySelector('input'), shown = find.querySelector('output');
+  const heads = Array.from(table.rows[0].cells), rows = Array.from(table.rows).slice(1);
+  const text = (row, column) => row.cells[column].textContent;
+  const byNumber = (column) => (a, b) => parseFloat(text(a, column)) - parseFloat(text(b, column));
+  const byText = (column) => (a, b) => text(a, column).localeCompare(text(b, column));
+
+  function sort(head, column) {
+    const falls = head.ariaSort === 'ascending';
+    for (const other of heads) other.ariaSort = null;
+    head.ariaSort = falls ? 'descending' : 'ascending';
+    rows.sort(head.className === 'n' ? byNumber(column) : byText(column));
+    table.tBodies[0].append(...(falls ? rows.slice().reverse() : rows));
+  }
+
+  function filter() {
+    const words = field.value.toLowerCase().split(' ').filter(Boolean);
+    for (const row of rows) {
+      const has = row.textContent.toLowerCase();
+      row.hidden = !words.every((word) => has.includes(word));
+    }
+    shown.value = `${rows.filter((row) => !row.hidden).length} of ${rows.length}`;
+  }
+
+  heads.forEach((head, column) => {
+    if (!head.textContent) return;
+    const button = document.createElement('button');
+    button.append(...head.childNodes);
+    button.addEventListener('click', () => sort(head, column));
+    head.append(button);
+  });
+  heads[0].ariaSort = 'ascending';
+  field.addEventListener('input', filter);
+  addEventListener('hashchange', () => { field.value = ''; filter(); });
+  find.hidden = false;
+  filter();
+})();
+";
 
 /// Shows a window of the lanes: each bar is moved by the window's begin, and each lane gets its length. Moments are in ticks of
 /// 250 ns from the first one that is drawn; the fields and the axis have microseconds of the trace.
-pub(crate) const SCRIPT: &str = "
+pub(crate) const LANES_SCRIPT: &str = "
 (() => {
   const least = 40;
   const byId = (id) => document.getElementById(id);

@@ -34,6 +34,7 @@ nav { display: flex; flex-wrap: wrap; gap: .3rem 1.1rem; margin-top: 1rem; }
 .wide { min-width: 6rem; width: 30%; } #pdos .wide { width: 8%; }
 #pdos small { display: block; } #pdos td:nth-child(2) { white-space: normal; min-width: 10rem; }
 .spread { display: block; width: 100%; min-width: 7rem; height: 1.6rem; } .loads { display: block; width: 100%; height: 6rem; }
+.parts { margin: 0; } .parts summary { color: inherit; } .parts ul { list-style: none; margin: 0; padding: 0; font-size: .85em; color: var(--soft); }
 .bar { display: block; width: 100%; height: .7rem; border-radius: 3px; }
 .track { fill: var(--track); } .pdo { fill: var(--pdo); background: var(--pdo); } .fixed { fill: var(--fixed); background: var(--fixed); }
 .tight { fill: var(--tight); }
@@ -48,6 +49,9 @@ nav { display: flex; flex-wrap: wrap; gap: .3rem 1.1rem; margin-top: 1rem; }
 .waits { fill: var(--fixed); stroke: var(--fixed); } .sends { fill: var(--pdo); stroke: var(--pdo); }
 .axis { position: sticky; top: 0; background: var(--card); color: var(--soft); text-align: right; padding: .2rem 0; }
 .marks { display: flex; justify-content: space-between; font-variant-numeric: tabular-nums; }
+#find:not([hidden]) { display: flex; flex-wrap: wrap; gap: .4rem .6rem; align-items: center; } #find input { font: inherit; }
+th button { font: inherit; color: inherit; background: none; border: 0; padding: 0; cursor: pointer; }
+[aria-sort=ascending] button::after { content: ' \\2191'; } [aria-sort=descending] button::after { content: ' \\2193'; }
 #window { max-width: none; flex-wrap: wrap; gap: .4rem .6rem; align-items: center; } #window:not([hidden]) { display: flex; }
 #window input { width: 8rem; font: inherit; } #window button { font: inherit; }
 @media (max-width: 45rem) { .lane { grid-template-columns: minmax(0, 1fr); margin-top: .3rem; } .axis div:first-child { display: none; }
@@ -57,7 +61,7 @@ footer { color: var(--soft); font-size: .88rem; margin-top: 1.2rem; }
 @page { size: A4; margin: 12mm; }
 @media print { :root { color-scheme: light; --back: #ffffff; --card: #ffffff; --text: #000000; --soft: #444444; --line: #bbbbbb;
   --track: #e7ebf0; --pdo: #2f6fd0; --fixed: #93a4b8; --tight: #c2570c; --mark: #fff3e2; --good: #1c7a4b; --bad: #b3261e; }
-  * { print-color-adjust: exact; } body { font-size: 10pt; } main { max-width: none; padding: 0; } nav, #window { display: none !important; }
+  * { print-color-adjust: exact; } body { font-size: 10pt; } main { max-width: none; padding: 0; } nav, #window, #find { display: none !important; } th button::after { content: none !important; }
   section, .tiles div { border-radius: 0; padding: .6rem .7rem; } article, tr, .lane, .tiles div { break-inside: avoid; }
   h2, h3 { break-after: avoid; } table { font-size: 7.5pt; } th, td { padding: .2rem .3rem; white-space: normal; }
   tr:first-child th, .axis { position: static; } .n { white-space: nowrap; } .wide { min-width: 2.5rem; width: 10%; }

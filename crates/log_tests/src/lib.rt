@@ -3,6 +3,8 @@
 #![tactic(auto)]
 
 #[cfg(test)]
+mod forms;
+#[cfg(test)]
 mod lines;
 #[cfg(test)]
 mod logs;

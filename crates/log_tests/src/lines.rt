@@ -1,6 +1,7 @@
 //! Lines of logs.
 
-use cop_log::{Entry, LineFault, LogFault, line_in, read_log};
+use cop_lines::{Entry, LineFault, line_in};
+use cop_log::{LogFault, read_log};
 use std::test::Fail;
 
 const LINE: &[u8] = b"(1436509052.249713) can0 181#0011223344556677";

@@ -78,6 +78,7 @@ fn told(alloc: Global, ended: Commissioned) -> Result<(Vec<u8>, bool), AllocErro
         } => Ok((text, started && rate == Rate::Kbit500)),
         Commissioned::Running { node: 5 } => Ok((Vec::from_slice(alloc, b"running")?, false)),
         Commissioned::Running { .. } => Ok((Vec::from_slice(alloc, b"another runs")?, false)),
+        Commissioned::Others { .. } => Ok((Vec::from_slice(alloc, b"others")?, false)),
         Commissioned::NonePasses => Ok((Vec::from_slice(alloc, b"none passes")?, false)),
         Commissioned::Failed => Ok((Vec::from_slice(alloc, b"failed")?, false)),
     }
@@ -92,7 +93,7 @@ fn booted(alloc: Global, pdos: &[u8], port: &mut Script) -> Result<(Vec<u8>, boo
         rates: all_rates(),
         choice: Choice::Order,
     };
-    let ended = commission(alloc, NODES, pdos, &[file], &asked, false, port)?;
+    let ended = commission(alloc, NODES, pdos, &[file], &asked, false, false, port)?;
     Ok(told(alloc, ended)?)
 }
 

@@ -1,4 +1,5 @@
 mod boots;
+mod coverings;
 mod cut;
 mod large;
 mod margins;

@@ -12,6 +12,8 @@ mod engine;
 #[cfg(test)]
 mod networks;
 #[cfg(test)]
+mod orders;
+#[cfg(test)]
 mod reports;
 #[cfg(test)]
 mod words;

@@ -114,6 +114,8 @@ const SAID: &[&str] = &[
     "500&nbsp;kbit/s",
     "At 250 kbit/s TPDO 1 of Valve (node 5) needs 1340 µs, its deadline is 670 µs.",
     "<li>TPDO 1 sends <a href=\"#pdo-181h\">181h</a></li>",
+    "<summary>670</summary>",
+    "<li>one from below <b>130</b></li><li>085h ×1 <b>270</b></li><li>its transfer <b>270</b></li>",
     "<li>switched off: TPDO 2</li>",
     "<li>heartbeat every 100 ms</li>",
     "a&lt;b&gt;&amp;&quot;c&quot;.csv",
@@ -127,7 +129,7 @@ fn the_page_says_the_plan(rt: HostRuntime) -> Result<(), Fail> {
         assert!(rt; page.contains(*said), "{said}");
     }
     assert!(rt; !page.contains("a<b>"));
-    assert!(rt; !page.contains("<script"));
+    assert!(rt; page.matches("<script").count() == 1);
     Ok(())
 }
 

@@ -3,7 +3,7 @@
 ghost use Rattle.std.specs.Prelude.{length};
 ghost use Rattle.cop_plan.specs.Plans.{IsOutcome};
 
-use cop_figures::{Figures, Timeline, figures_of, timeline_of};
+use cop_figures::{Breakdown, Figures, Timeline, breakdowns_of, figures_of, timeline_of};
 use cop_net::{Network, NodeTable, PdoTable, all_rates, network, read_nodes, read_pdos};
 use cop_plan::{Choice, Outcome, Plan, plan};
 use cop_report::{Input, Report, page_of};
@@ -131,6 +131,7 @@ fn page<'a>(
     network: &'a Network<'_>,
     outcome: &'a Outcome,
     figures: &'a Figures,
+    breakdowns: &'a [Breakdown],
     timeline: Option<&'a Timeline>,
 ) -> Result<String, AllocError>
     requires { IsOutcome network.now.equipment.rates network.now.set (length network.now.rows) outcome.now }
@@ -141,6 +142,7 @@ fn page<'a>(
             network,
             outcome,
             figures,
+            breakdowns,
             timeline,
             log: None,
             are_rates_listed: false,
@@ -159,8 +161,19 @@ fn told(
     requires { IsOutcome network.now.equipment.rates network.now.set (length network.now.rows) outcome.now }
 {
     let figures = figures_of(alloc, network, outcome)?;
+    let breakdowns = match outcome {
+        Outcome::Planned(plan) => breakdowns_of(alloc, plan, &figures.pdos)?,
+        Outcome::Refused(_) => Vec::new(alloc),
+    };
     let timeline = timeline(alloc, outcome, trace)?;
-    let page = page(alloc, network, outcome, &figures, timeline.as_ref())?;
+    let page = page(
+        alloc,
+        network,
+        outcome,
+        &figures,
+        &breakdowns,
+        timeline.as_ref(),
+    )?;
     Ok((figures, page))
 }
 

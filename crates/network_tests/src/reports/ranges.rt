@@ -44,7 +44,8 @@ const SAID: &[(Tables<'static>, &[&str])] = &[
         SYNCHRONOUS,
         &[
             "10000 <small>each SYNC</small>",
-            "1620 <small>SYNC 760</small>",
+            "<summary>1620</summary>",
+            "</details> <small>SYNC 760</small>",
             "is sent each 10000 µs; its transfer ends 760 µs after its event at the latest",
         ],
     ),

@@ -3,7 +3,7 @@ use Rattle.std.specs.Prelude.{Some, None, length}
 use Rattle.std.proofs.lemmas.Bool.{cases_lt}
 use Rattle.cop_frame.specs.Rate.{ticks_of}
 use Rattle.cop_bus.specs.Run.{least_bits}
-use Rattle.cop_log.specs.declared.entries.Entry.{Entry}
+use Rattle.cop_lines.specs.declared.entries.Entry.{Entry}
 use Rattle.cop_log.specs.declared.findings.Finding.TheVariants.{Crowded}
 use Rattle.cop_log.specs.declared.anchors.Pile.{Pile}
 use Rattle.cop_log.specs.Log.{stamp, entry_at, most, IsFull}

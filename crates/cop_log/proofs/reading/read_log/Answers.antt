@@ -1,7 +1,8 @@
 use Rattle.std.proofs.lemmas.Bool.Decides.{nat_tests}
 use Rattle.std.proofs.Common.{ℕ, false, ◌≡◌, ◌∙◌, ◌<◌, ◌+◌, suc, length, sym, subst, arith}
 use Rattle.std.specs.Prelude.{◌==◌, Ok, Err, IfSome}
-use Rattle.cop_log.specs.Lines.{line_in, front}
+use Rattle.cop_lines.specs.Words.{front}
+use Rattle.cop_lines.specs.Lines.{line_in}
 use Rattle.cop_log.specs.Reading.{log_from, log_in, lines_of, with_line, fault_of_text}
 use Rattle.cop_log.proofs.CutLines.{next_line, bad_line, bad_text, err_is, rest_is_shorter}
 use Rattle.cop_log.proofs.reading.read_log.Goals as goal

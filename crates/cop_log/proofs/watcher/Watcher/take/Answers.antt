@@ -1,7 +1,7 @@
 use Rattle.std.proofs.Common.{◌∙◌, sym, ap, subst, arith}
 use Rattle.std.specs.Prelude.{◌&&◌, IfNone, IfSome}
 use Rattle.cop_rta.specs.Streams.{AreDistinct}
-use Rattle.cop_log.specs.declared.entries.Entry.{Entry}
+use Rattle.cop_lines.specs.declared.entries.Entry.{Entry}
 use Rattle.cop_log.specs.Watching.{lane_of, IsNamed}
 use Rattle.cop_log.specs.Watchers.{terms_of, HasNoLane, HasLane, IsStepOfAll}
 use Rattle.cop_log.proofs.Taken.{taken}

@@ -1,0 +1,136 @@
+-- Questions that are being asked.
+use Rattle.std.proofs.Common.{◌≡◌, ℕ, ◌+◌, ◌-◌, ◌≤◌, ◌<◌, zero, suc, List, [], ◌∷◌, ◌++◌, map, drop, length, get_or, refl, sym, ◌∙◌, ap, subst, arith, Option, Some, None, append_assoc, append-nil}
+use Rattle.std.specs.Option.{option_or}
+use Rattle.std.specs.List.{AllByRecursion}
+use Rattle.std.proofs.lemmas.List.{map-append}
+use Rattle.cop_slcan.specs.Reading.{said_from, left_from}
+use Rattle.cop_live.specs.Log as log
+use Rattle.cop_live.specs.Log.{DidAll}
+use Rattle.cop_live.specs.Listening.{listening_log}
+use Rattle.cop_live.proofs.Sessions.{did_both}
+use Rattle.cop_identity.specs.declared.questions.Question.{Question}
+use Rattle.cop_identity.specs.declared.questions.Answer.{Answer}
+use Rattle.cop_identity.specs.declared.asking.Exchange.{Exchange}
+use Rattle.cop_identity.specs.Questions.{request_of}
+use Rattle.cop_identity.specs.Asking.{first_answer, answer_heard, Asks, WereAsked, WasNext, is_silent, silent_after}
+
+or_assoc : {T : Type 0} (a b c : Option T) → option_or (option_or a b) c ≡ option_or a (option_or b c)
+or_assoc None b c = refl
+or_assoc (Some x) b c = refl
+
+or_none : {T : Type 0} (a : Option T) → option_or a None ≡ a
+or_none None = refl
+or_none (Some x) = refl
+
+-- turns and one more
+abbrev pub left_turns : List ℕ → List (ℕ × List ℕ) → List ℕ
+left_turns pending [] = pending
+left_turns pending ((now, bytes) ∷ turns) = left_turns (left_from pending bytes) turns
+
+left_more : (pending : List ℕ) (turns : List (ℕ × List ℕ)) (now : ℕ) (bytes : List ℕ) → left_turns pending (turns ++ (now, bytes) ∷ []) ≡ left_from (left_turns pending turns) bytes
+left_more pending [] now bytes = refl
+left_more pending ((at, got) ∷ turns) now bytes = left_more (left_from pending got) turns now bytes
+
+heard_more : (question : Question) (pending : List ℕ) (turns : List (ℕ × List ℕ)) (now : ℕ) (bytes : List ℕ)
+    → answer_heard question pending (turns ++ (now, bytes) ∷ []) ≡ option_or (answer_heard question pending turns) (first_answer question (said_from (left_turns pending turns) bytes))
+heard_more question pending [] now bytes = or_none (first_answer question (said_from pending bytes))
+heard_more question pending ((at, got) ∷ turns) now bytes =
+    ap (option_or (first_answer question (said_from pending got))) (heard_more question (left_from pending got) turns now bytes)
+    ∙ sym (or_assoc (first_answer question (said_from pending got)) (answer_heard question (left_from pending got) turns) (first_answer question (said_from (left_turns (left_from pending got) turns) bytes)))
+
+log_more : (turns : List (ℕ × List ℕ)) (now : ℕ) (bytes : List ℕ) → listening_log (turns ++ (now, bytes) ∷ []) ≡ listening_log turns ++ log.Asked now ∷ log.Read bytes ∷ []
+log_more [] now bytes = refl
+log_more ((at, got) ∷ turns) now bytes = ap (λ l. log.Asked at ∷ log.Read got ∷ l) (log_more turns now bytes)
+
+all_more : {A : Type 0} (Q : A → Type 0) (xs : List A) (x : A) → AllByRecursion Q xs → Q x → AllByRecursion Q (xs ++ x ∷ [])
+all_more Q [] x h q = (q, tt)
+all_more Q (y ∷ xs) x h q = (h.0, all_more Q xs x h.1 q)
+
+-- a question that is not answered so far
+pub record Waits {P : Type 0} (reads writes : P → List ℕ → P → Type 0) (asks : P → ℕ → P → Type 0) (question : Question) (began : ℕ) (p : P) (pending : List ℕ) (q : P) : Type 0 where
+  pub turns : List (ℕ × List ℕ)
+  pub waits : Asks reads writes asks question began p turns None q
+  pub left : pending ≡ left_turns [] turns
+
+module _ {P : Type 0} (reads writes : P → List ℕ → P → Type 0) (asks : P → ℕ → P → Type 0) (question : Question) (began : ℕ) (p : P) where
+  pub waits_first : (pending : List ℕ) (m q : P) → asks p began m → DidAll reads writes asks m (log.Sent (request_of question) ∷ []) q → pending ≡ [] → Waits reads writes asks question began p pending q
+  waits_first pending m q asked sent e = record { turns = []; waits = record { did = (m, asked, sent); heard = refl; soon = tt }; left = e }
+
+  -- a turn more
+  asks_on : (pending : List ℕ) (q a r : P) (now : ℕ) (bytes : List ℕ) (answer : Option Answer) (h : Waits reads writes asks question began p pending q) → asks q now a → reads a bytes r
+      → now - began < 4000000 → answer ≡ first_answer question (said_from pending bytes) → Asks reads writes asks question began p (h.turns ++ (now, bytes) ∷ []) answer r
+  asks_on pending q a r now bytes answer h asked got early e = record {
+    did = subst (λ l. DidAll reads writes asks p (log.Asked began ∷ log.Sent (request_of question) ∷ l) r) (sym (log_more h.turns now bytes))
+        (did_both reads writes asks p q r (log.Asked began ∷ log.Sent (request_of question) ∷ listening_log h.turns) (log.Asked now ∷ log.Read bytes ∷ []) h.waits.did (a, asked, (r, got, refl)));
+    heard = e ∙ ap (λ l. first_answer question (said_from l bytes)) h.left ∙ ap (λ o. option_or o (first_answer question (said_from (left_turns [] h.turns) bytes))) h.waits.heard ∙ sym (heard_more question [] h.turns now bytes);
+    soon = all_more (λ (turn : ℕ × List ℕ). turn.0 - began < 4000000) h.turns (now, bytes) h.waits.soon early;
+  }
+
+  pub waits_on : (pending left : List ℕ) (q a r : P) (now : ℕ) (bytes : List ℕ) → Waits reads writes asks question began p pending q → asks q now a → reads a bytes r
+      → now - began < 4000000 → None ≡ first_answer question (said_from pending bytes) → left ≡ left_from pending bytes → Waits reads writes asks question began p left r
+  waits_on pending left q a r now bytes h asked got early e el = record {
+    turns = h.turns ++ (now, bytes) ∷ [];
+    waits = asks_on pending q a r now bytes None h asked got early e;
+    left = el ∙ ap (λ l. left_from l bytes) h.left ∙ sym (left_more [] h.turns now bytes);
+  }
+
+  pub was_answered : (pending : List ℕ) (q a r : P) (now : ℕ) (bytes : List ℕ) (answer : Answer) → Waits reads writes asks question began p pending q → asks q now a → reads a bytes r
+      → now - began < 4000000 → Some answer ≡ first_answer question (said_from pending bytes)
+      → (b : ℕ) × (turns : List (ℕ × List ℕ)) × Asks reads writes asks question b p turns (Some answer) r
+  was_answered pending q a r now bytes answer h asked got early e = (began, h.turns ++ (now, bytes) ∷ [], asks_on pending q a r now bytes (Some answer) h asked got early e)
+
+  pub was_silent : (pending : List ℕ) (q r : P) (now : ℕ) → Waits reads writes asks question began p pending q → asks q now r → 4000000 ≤ now - began
+      → (b : ℕ) × (turns : List (ℕ × List ℕ)) × (m : P) × (until : ℕ) × Asks reads writes asks question b p turns None m × asks m until r × (4000000 ≤ until - b)
+  was_silent pending q r now h asked late = (began, h.turns, q, now, h.waits, asked, late)
+
+-- ---- all questions
+
+abbrev pub questions_in : List Exchange → List Question
+questions_in all = map (λ asked. asked.question) all
+
+drop_step : (questions : List Question) (k : ℕ) (question : Question) → k < length questions → question ≡ get_or questions k question → question ∷ drop (k + 1) questions ≡ drop k questions
+drop_step [] k question inside here = absurd (omega arith)
+drop_step (q ∷ qs) zero question inside here = ap (λ x. x ∷ qs) here
+drop_step (q ∷ qs) (suc k) question inside here = let e : suc k + 1 ≡ suc (k + 1) = omega arith in rw e (drop_step qs k question (omega arith) here)
+
+drop_none : (questions : List Question) (k : ℕ) → length questions ≤ k → drop k questions ≡ []
+drop_none [] zero h = refl
+drop_none [] (suc k) h = refl
+drop_none (q ∷ qs) zero h = absurd (omega arith)
+drop_none (q ∷ qs) (suc k) h = drop_none qs k (omega arith)
+
+pub none_added : (questions : List Question) (all : List Exchange) → all ≡ [] → questions_in all ++ drop 0 questions ≡ questions
+none_added questions all e = ap (λ xs. questions_in xs ++ questions) e
+
+pub one_added : (questions : List Question) (all more : List Exchange) (k : ℕ) (question : Question) (added : Exchange) → k < length questions → question ≡ get_or questions k question
+    → added.question ≡ question → more ≡ all ++ added ∷ [] → questions_in all ++ drop k questions ≡ questions → questions_in more ++ drop (k + 1) questions ≡ questions
+one_added questions all more k question added inside here is put so_far =
+    ap (λ xs. questions_in xs ++ drop (k + 1) questions) put
+    ∙ ap (λ xs. xs ++ drop (k + 1) questions) (map-append (λ (asked : Exchange). asked.question) all (added ∷ []))
+    ∙ append_assoc (questions_in all) (added.question ∷ []) (drop (k + 1) questions)
+    ∙ ap (λ q. questions_in all ++ q ∷ drop (k + 1) questions) is
+    ∙ ap (λ xs. questions_in all ++ xs) (drop_step questions k question inside here)
+    ∙ so_far
+
+pub all_added : (questions : List Question) (all : List Exchange) (k : ℕ) → length questions ≤ k → questions_in all ++ drop k questions ≡ questions → questions_in all ≡ questions
+all_added questions all k over so_far = sym (append-nil (questions_in all)) ∙ ap (λ xs. questions_in all ++ xs) (sym (drop_none questions k over)) ∙ so_far
+
+-- questions so far: whatever comes of the others stands behind
+pub record Goes {P : Type 0} (reads writes : P → List ℕ → P → Type 0) (asks : P → ℕ → P → Type 0) (p : P) (all : List Exchange) (silent : Option ℕ) (q : P) : Type 0 where
+  pub goes : (rest : List Exchange) (r : P) → WereAsked reads writes asks silent q rest r → WereAsked reads writes asks None p (all ++ rest) r
+
+module _ {P : Type 0} (reads writes : P → List ℕ → P → Type 0) (asks : P → ℕ → P → Type 0) (p : P) where
+  pub none_yet : (all : List Exchange) → all ≡ [] → Goes reads writes asks p all None p
+  none_yet all e = record { goes = λ rest r h. subst (λ (xs : List Exchange). WereAsked reads writes asks None p (xs ++ rest) r) (sym e) h }
+
+  pub one_more : (all more : List Exchange) (silent later : Option ℕ) (q m : P) (asked : Exchange) → Goes reads writes asks p all silent q
+      → WasNext reads writes asks (is_silent silent asked.question.node) asked.question q asked.outcome m → later ≡ silent_after silent asked.question.node asked.outcome
+      → more ≡ all ++ asked ∷ [] → Goes reads writes asks p more later m
+  one_more all more silent later q m asked g was el em = record {
+    goes = λ rest r h.
+        subst (λ (xs : List Exchange). WereAsked reads writes asks None p xs r) (sym (ap (λ (xs : List Exchange). xs ++ rest) em ∙ append_assoc all (asked ∷ []) rest))
+        (g.goes (asked ∷ rest) r (m, was, subst (λ (s : Option ℕ). WereAsked reads writes asks s m rest r) el h));
+  }
+
+  pub were_all : (all : List Exchange) (silent : Option ℕ) (q : P) → Goes reads writes asks p all silent q → WereAsked reads writes asks None p all q
+  were_all all silent q g = subst (λ (xs : List Exchange). WereAsked reads writes asks None p xs q) (append-nil all) (g.goes [] q refl)

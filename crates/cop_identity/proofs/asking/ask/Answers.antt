@@ -1,0 +1,20 @@
+use Rattle.std.proofs.Common.{◌-◌, ◌<◌, sym, ◌∙◌, arith}
+use Rattle.cop_identity.proofs.AskingLemmas.{waits_first, waits_on, was_answered}
+use Rattle.cop_identity.proofs.asking.ask.Goals as goal
+
+pub loop-init : goal.loop-init
+loop-init g c =
+    waits_first g.P.Port.reads g.P.Port.writes g.P.Port.asks c.args.question.now c.in-Some.began c.args.port.now c.new-reader.result c.now.new.self c.send.new.port
+    c.in-Some.ensures (c.send.ensures c.if-not-send.false) c.new-reader.ensures
+
+pub returns-in-Some-answer_from : goal.returns-in-Some-answer_from
+returns-in-Some-answer_from g c =
+    let early : c.in-Some-now.now - c.in-Some.began < 4000000 = omega arith in
+    was_answered g.P.Port.reads g.P.Port.writes g.P.Port.asks c.args.question.now c.in-Some.began c.args.port.now c.loop.reader c.loop.port c.now-in-loop.new.self c.read.new.self c.in-Some-now.now _ c.in-Some-answer_from.answer
+    c.loop.invariant c.in-Some-now.ensures c.in-Some-read.ensures.reads early (sym c.in-Some-answer_from.is ∙ c.answer_from.ensures.found)
+
+pub loop-preserved : goal.loop-preserved
+loop-preserved g c =
+    let early : c.in-Some-now.now - c.in-Some.began < 4000000 = omega arith in
+    waits_on g.P.Port.reads g.P.Port.writes g.P.Port.asks c.args.question.now c.in-Some.began c.args.port.now c.loop.reader c.answer_from.new.reader c.loop.port c.now-in-loop.new.self c.read.new.self c.in-Some-now.now _
+    c.loop.invariant c.in-Some-now.ensures c.in-Some-read.ensures.reads early (sym c.in_default-answer_from.is ∙ c.answer_from.ensures.found) (c.answer_from.ensures.reader c.in_default-answer_from.is)

@@ -1,0 +1,18 @@
+use Rattle.std.proofs.Common.{refl}
+use Rattle.std.proofs.lemmas.List.{get_or_default}
+use Rattle.cop_identity.proofs.AskingLemmas.{one_added, all_added, one_more, were_all}
+use Rattle.cop_identity.proofs.asking.ask_all.Goals as goal
+
+pub loop-question-preserved : goal.loop-question-preserved
+loop-question-preserved g c = record {
+  asked = one_added c.args.questions.now c.loop-question.all.items c.push.new.self.items c.loop-question.question-index _ _ c.loop-question-test.true
+      (get_or_default c.args.questions.now c.loop-question.question-index _ _ c.loop-question-test.true) refl c.in_ok-push.ensures.items c.loop-question.invariant.asked;
+  goes = one_more g.P.Port.reads g.P.Port.writes g.P.Port.asks c.args.port.now c.loop-question.all.items c.push.new.self.items c.loop-question.silent c.silent_after-silent.result c.loop-question.port c.ask_next.new.port _
+      c.loop-question.invariant.goes c.in-Some.ensures c.silent_after-silent.ensures c.in_ok-push.ensures.items;
+}
+
+pub returns : goal.returns
+returns g c = record {
+  each = all_added c.args.questions.now c.loop-question.all.items c.loop-question.question-index c.loop-question-test.false c.loop-question.invariant.asked;
+  were = were_all g.P.Port.reads g.P.Port.writes g.P.Port.asks c.args.port.now c.loop-question.all.items c.loop-question.silent c.loop-question.port c.loop-question.invariant.goes;
+}

@@ -1,0 +1,9 @@
+use Rattle.std.proofs.Common.{◌≡◌, ◌++◌, drop}
+use Rattle.cop_identity.proofs.AskingLemmas.{Goes, questions_in}
+use Rattle.cop_identity.proofs.asking.ask_all.Given as goal
+
+abbrev pub invariant-loop-question : goal.invariant-loop-question
+invariant-loop-question g l = record {
+  asked : questions_in l.all.items ++ drop l.question-index l.questions ≡ l.questions;
+  goes : Goes g.P.Port.reads g.P.Port.writes g.P.Port.asks l.fn.port l.all.items l.silent l.port;
+}

@@ -1,0 +1,128 @@
+//! What the device of a node is asked about itself, and what a frame answers.
+
+ghost use Rattle.std.specs.Prelude.{◌≡◌, slice_index};
+ghost use Rattle.cop_sdo.specs.Message.{message_of};
+ghost use Rattle.cop_sdo.specs.Request.{address_in};
+ghost use Rattle.cop_sdo.specs.Client.{same_address};
+ghost use Rattle.cop_sdo.specs.Reply.{upload_of, reply_of};
+ghost use Rattle.cop_identity.specs.Questions.{request_of, number_of, value_of, judged, answer_by, answer_in};
+
+use byteorder::{ByteOrder, LittleEndian};
+use cop_frame::Frame;
+use cop_sdo::Address;
+
+/// A question to the device of a node: an object of it, and the value that this has in the device that is wanted there.
+#[derive(Clone, Copy, Debug, PartialEq, Eq)]
+pub struct Question {
+    pub node: u8,
+    pub at: Address,
+    pub wanted: u32,
+}
+
+/// What a device answers.
+#[derive(Clone, Copy, Debug, PartialEq, Eq)]
+pub enum Answer {
+    /// The value that is wanted.
+    Wanted,
+    /// Another value.
+    Other { found: u32 },
+    /// It does not tell, by this abort code.
+    Aborted { code: u32 },
+}
+
+/// The request of an upload, which asks a question.
+pub(crate) fn request_of(question: &Question) -> Frame
+    ensures { message_of result ≡ request_of question.now }
+{
+    let Question { node, at, .. } = *question;
+    let (low, high) = ((at.index % 256) as u8, (at.index / 256) as u8);
+    Frame {
+        id: 0x600 + u16::from(node),
+        body: [0x40, low, high, at.sub, 0, 0, 0, 0],
+        len: 8,
+    }
+}
+
+// A byte, and 0 where there is none.
+fn byte_at(bytes: &[u8], i: usize) -> u8
+    ensures { result ≡ slice_index bytes.now i }
+{
+    if i < bytes.len() { bytes[i] } else { 0 }
+}
+
+// The number that at most four bytes are.
+fn number_of(bytes: &[u8]) -> u32
+    ensures { result ≡ number_of bytes.now }
+{
+    u32::from(byte_at(bytes, 0))
+        + 256 * u32::from(byte_at(bytes, 1))
+        + 65_536 * u32::from(byte_at(bytes, 2))
+        + 16_777_216 * u32::from(byte_at(bytes, 3))
+}
+
+// The value that the answer to an upload has, unless it comes in segments.
+fn value_in(body: &[u8; 8]) -> Option<u32>
+    ensures { result ≡ value_of (upload_of (slice_index body.now 0) body.now) }
+{
+    let first = body[0];
+    let four = &body[4..];
+    if first / 2 % 2 != 1 {
+        return None;
+    }
+    if first % 2 == 1 {
+        let count = usize::from(4 - first / 4 % 4);
+        Some(number_of(&four[..count]))
+    } else {
+        Some(number_of(four))
+    }
+}
+
+// Whether a body is about an object.
+fn is_about(at: Address, body: &[u8; 8]) -> bool
+    ensures { result ≡ same_address at (address_in body.now) }
+{
+    at.index == LittleEndian::read_u16(&body[1..3]) && at.sub == body[3]
+}
+
+impl Question {
+    // What a value that was found answers.
+    fn judged(&self, found: u32) -> Answer
+        ensures { result ≡ judged self.now.wanted found }
+    {
+        if found == self.wanted {
+            Answer::Wanted
+        } else {
+            Answer::Other { found }
+        }
+    }
+
+    // What a body about its object answers.
+    fn answer_by(&self, body: &[u8; 8]) -> Option<Answer>
+        ensures { result ≡ answer_by self.now.wanted (reply_of body.now) }
+    {
+        match body[0] / 32 {
+            2 => match value_in(body) {
+                Some(found) => Some(self.judged(found)),
+                None => None,
+            },
+            4 => Some(Answer::Aborted {
+                code: number_of(&body[4..]),
+            }),
+            _ => None,
+        }
+    }
+
+    /// What a frame answers to it.
+    pub(crate) fn answer_in(&self, frame: &Frame) -> Option<Answer>
+        ensures { result ≡ answer_in self.now (message_of frame.now) }
+    {
+        if frame.id == 0x580 + u16::from(self.node)
+            && frame.len == 8
+            && is_about(self.at, &frame.body)
+        {
+            self.answer_by(&frame.body)
+        } else {
+            None
+        }
+    }
+}

@@ -1,0 +1,21 @@
+//! The lines of logs of a bus, in the forms in which programs write them.
+#![tactic(auto)]
+
+mod columns;
+mod entries;
+mod faults;
+mod forms;
+mod lines;
+mod numbers;
+mod peak;
+mod reader;
+mod vector;
+mod words;
+
+pub use entries::{Content, Entry, Message};
+pub use faults::LineFault;
+pub use forms::{Form, Layout};
+pub use lines::line_in;
+pub use numbers::Base;
+pub use reader::LineReader;
+pub use words::{back, front};

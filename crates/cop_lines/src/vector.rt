@@ -1,0 +1,148 @@
+//! Lines of logs in Vector's form .asc.
+
+ghost use Rattle.std.specs.Prelude.{◌≡◌, ◌<◌, length};
+ghost use Rattle.cop_lines.specs.Vector.{base_in, is_header, is_long, id_in, is_direction, bytes_in, data_in, frame_in, without_direction, on_channel, event_in};
+
+use crate::entries::{Content, Message};
+use crate::faults::LineFault;
+use crate::forms::Form;
+use crate::numbers::{
+    Base, content_in, error_frame, id_digits, len_in, long_id, message_of, short_id,
+};
+use crate::words::{after, begins, field, word};
+use cop_table::number;
+
+#[tactic(auto, unfolding(crate::specs::Vector::base_in))]
+/// What a line says that begins with `base`: the digits of identifiers and bytes, and whether stamps are distances.
+pub(crate) fn base_in(line: &[u8]) -> Result<Form, LineFault>
+    ensures { result ≡ base_in line.now }
+{
+    let are_distances = field(3, line) == b"relative".as_slice();
+    let base = field(1, line);
+    if base == b"hex".as_slice() {
+        return Ok(Form::Vector {
+            base: Base::Hexadecimal,
+            are_distances,
+        });
+    }
+    if base == b"dec".as_slice() {
+        return Ok(Form::Vector {
+            base: Base::Decimal,
+            are_distances,
+        });
+    }
+    Err(LineFault::Form)
+}
+
+/// Whether a line that begins with a word is none of an event, and not that of the base.
+pub(crate) fn is_header(text: &[u8]) -> bool
+    ensures { result ≡ is_header text.now }
+{
+    text == b"date".as_slice()
+        || text == b"internal".as_slice()
+        || text == b"no".as_slice()
+        || text == b"Begin".as_slice()
+        || text == b"End".as_slice()
+        || begins(b"//", text)
+}
+
+// An x stands behind identifiers of 29 bits.
+fn is_long(text: &[u8]) -> bool
+    requires { 0 < length text.now }
+    ensures { result ≡ is_long text.now }
+{
+    text[text.len() - 1] == b'x'
+}
+
+#[tactic(auto, unfolding(crate::specs::Vector::id_in))]
+fn id_in(base: Base, text: &[u8]) -> Result<u32, LineFault>
+    ensures { result ≡ id_in base text.now }
+{
+    if text.is_empty() {
+        return Err(LineFault::Identifier);
+    }
+    if is_long(text) {
+        let number = id_digits(base, &text[..text.len() - 1])?;
+        return long_id(number);
+    }
+    let number = id_digits(base, text)?;
+    short_id(number)
+}
+
+fn is_direction(text: &[u8]) -> bool
+    ensures { result ≡ is_direction text.now }
+{
+    text == b"Rx".as_slice() || text == b"Tx".as_slice() || text == b"TxRq".as_slice()
+}
+
+#[tactic(auto, unfolding(crate::specs::Vector::bytes_in))]
+fn bytes_in(base: Base, text: &[u8]) -> Result<Option<Content>, LineFault>
+    ensures { result ≡ bytes_in base text.now }
+{
+    let len = len_in(word(text))?;
+    let content = content_in(base, len, after(1, text))?;
+    Ok(Some(content))
+}
+
+#[tactic(auto, unfolding(crate::specs::Vector::data_in))]
+// The data bytes of a frame, and none of a remote frame.
+fn data_in(base: Base, text: &[u8]) -> Result<Option<Content>, LineFault>
+    ensures { result ≡ data_in base text.now }
+{
+    let kind = word(text);
+    if kind == b"r".as_slice() {
+        return Ok(None);
+    }
+    if kind == b"d".as_slice() {
+        return bytes_in(base, after(1, text));
+    }
+    Err(LineFault::Form)
+}
+
+#[tactic(auto, unfolding(crate::specs::Vector::frame_in))]
+fn frame_in(base: Base, at: u64, text: &[u8]) -> Result<Message, LineFault>
+    ensures { result ≡ frame_in base at text.now }
+{
+    let id = id_in(base, word(text))?;
+    let content = data_in(base, after(2, text))?;
+    Ok(message_of(at, id, content))
+}
+
+// An event with no direction, whose first word is an identifier or is none.
+fn without_direction(id: Result<u32, LineFault>) -> Result<Option<Message>, LineFault>
+    ensures { result ≡ without_direction id }
+{
+    match id {
+        Ok(_) => Err(LineFault::Form),
+        Err(_) => Ok(None),
+    }
+}
+
+#[tactic(auto, unfolding(crate::specs::Vector::on_channel))]
+fn on_channel(base: Base, at: u64, text: &[u8]) -> Result<Option<Message>, LineFault>
+    ensures { result ≡ on_channel base at text.now }
+{
+    if word(text) == b"ErrorFrame".as_slice() {
+        return Ok(Some(error_frame(at)));
+    }
+    if is_direction(field(1, text)) {
+        let message = frame_in(base, at, text)?;
+        return Ok(Some(message));
+    }
+    without_direction(id_in(base, word(text)))
+}
+
+#[tactic(auto, unfolding(crate::specs::Vector::event_in))]
+/// The frame of an event, from what stands behind its stamp; nothing where it is none.
+pub(crate) fn event_in(base: Base, at: u64, text: &[u8]) -> Result<Option<Message>, LineFault>
+    ensures { result ≡ event_in base at text.now }
+{
+    let channel = word(text);
+    if channel == b"CANFD".as_slice() {
+        return Err(LineFault::Form);
+    }
+    if number(3, channel).is_some() {
+        return on_channel(base, at, after(1, text));
+    }
+    Ok(None)
+}

@@ -1,0 +1,82 @@
+//! What the response of a PDO is made of, as its cell shows it.
+
+use crate::units::{Count, Identifier, Micros};
+use cop_figures::{Breakdown, Delay};
+use std::alloc::{AllocError, Global};
+use std::cmp::Reverse;
+
+/// How many streams that go before are told one by one; the others are told together.
+const MOST: usize = 8;
+
+/// The delays, that which takes longest first.
+fn by_time(alloc: Global, delays: &[Delay]) -> Result<Vec<Delay>, AllocError> {
+    let mut sorted = Vec::new(alloc);
+    sorted.extend_from_slice(delays)?;
+    sorted.sort_unstable_by_key(|delay| Reverse(delay.ticks));
+    Ok(sorted)
+}
+
+/// How long some delays take together, in ticks.
+fn total(delays: &[Delay]) -> u64 {
+    let mut ticks = 0u64;
+    for delay in delays {
+        ticks = ticks.saturating_add(delay.ticks);
+    }
+    ticks
+}
+
+/// Adds the streams that go before.
+fn push_delays(page: &mut String, delays: &[Delay]) -> Result<(), AllocError> {
+    for delay in delays.iter().take(MOST) {
+        let (id, transfers, time) = (Identifier(delay.id), delay.transfers, Micros(delay.ticks));
+        write!(page, "<li>{id} ×{transfers} <b>{time}</b></li>")?;
+    }
+    let others = delays.get(MOST..).unwrap_or(&[]);
+    if others.is_empty() {
+        return Ok(());
+    }
+    let count = Count {
+        number: others.len(),
+        thing: "other",
+    };
+    let time = Micros(total(others));
+    write!(page, "<li>{count} <b>{time}</b></li>")
+}
+
+/// Adds the instances before it, where there are some: their transfers go before, and its own event is as many periods later.
+fn push_instances(page: &mut String, parts: &Breakdown, period: u64) -> Result<(), AllocError> {
+    if parts.instance == 0 {
+        return Ok(());
+    }
+    let own = Micros(parts.instance.saturating_mul(parts.transfer));
+    let (count, later) = (
+        parts.instance,
+        Micros(parts.instance.saturating_mul(period)),
+    );
+    write!(
+        page,
+        "<li>itself ×{count} <b>{own}</b></li><li>periods ×{count} <b>−{later}</b></li>"
+    )
+}
+
+/// Adds a response, and what it is made of: it is shown when the number is pressed.
+pub(crate) fn push_parts(
+    page: &mut String,
+    alloc: Global,
+    parts: &Breakdown,
+    period: u64,
+) -> Result<(), AllocError> {
+    let (response, blocking) = (Micros(parts.response), Micros(parts.blocking));
+    let (jitter, transfer) = (Micros(parts.jitter), Micros(parts.transfer));
+    write!(
+        page,
+        "<details class=\"parts\"><summary>{response}</summary><ul><li>jitter <b>{jitter}</b></li>\
+<li>one from below <b>{blocking}</b></li>"
+    )?;
+    push_delays(page, &by_time(alloc, &parts.delays)?)?;
+    push_instances(page, parts, period)?;
+    write!(
+        page,
+        "<li>its transfer <b>{transfer}</b></li></ul></details>"
+    )
+}

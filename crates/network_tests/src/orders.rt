@@ -1,0 +1,230 @@
+//! What the words of the command line ask for.
+
+use cop_frame::Rate;
+use cop_orders::{Format, NetworkFiles, Order, WatchOrder, read_request};
+use cop_plan::Choice;
+use std::alloc::{AllocError, Global};
+use std::test::Fail;
+
+/// The words of a line, behind the program's name.
+fn words_of(alloc: Global, line: &str) -> Result<Vec<String>, AllocError> {
+    let mut words = Vec::new(alloc);
+    words.push(String::from_str(alloc, "canplan")?)?;
+    for word in line.split_whitespace() {
+        words.push(String::from_str(alloc, word)?)?;
+    }
+    Ok(words)
+}
+
+/// Adds the tables of a network, the rates that its plan may have if they are listed, and whether its margin is wanted.
+fn write_network(text: &mut String, network: NetworkFiles<'_>) -> Result<(), AllocError> {
+    let (nodes, pdos) = (network.nodes, network.pdos);
+    write!(text, " {nodes} {pdos}")?;
+    if network.rates.are_listed() {
+        let set = network.rates.set();
+        for rate in Rate::ALL {
+            if set.contains(rate) {
+                let kbits = rate.kbits();
+                write!(text, " at {kbits}")?;
+            }
+        }
+    }
+    match network.choice {
+        Choice::Margin => text.push_str(" margin"),
+        Choice::Order => Ok(()),
+    }
+}
+
+/// Adds a log, and what is taken of its clock.
+fn write_log(text: &mut String, order: WatchOrder<'_>) -> Result<(), AllocError> {
+    let (log, error, drift) = (order.log, order.error, order.drift);
+    let channel = order.channel.unwrap_or("first");
+    write!(text, " log {log} {error} {drift} {channel}")
+}
+
+/// Adds an order on a network.
+fn write_planned(text: &mut String, order: Order<'_>) -> Result<(), AllocError> {
+    match order {
+        Order::Plan { network, out } => {
+            write!(text, "plan {out}")?;
+            write_network(text, network)
+        }
+        Order::Check {
+            network,
+            refusals,
+            strict,
+        } => {
+            write!(text, "check {refusals} {strict}")?;
+            write_network(text, network)
+        }
+        Order::Judge { network, trace } => {
+            write!(text, "judge {trace}")?;
+            write_network(text, network)
+        }
+        Order::Run {
+            seed,
+            until,
+            network,
+            trace,
+        } => {
+            write!(text, "run {seed} {until} {trace}")?;
+            write_network(text, network)
+        }
+        _ => Ok(()),
+    }
+}
+
+/// Adds an order on what is made of a plan.
+fn write_made(text: &mut String, order: Order<'_>) -> Result<(), AllocError> {
+    match order {
+        Order::Report {
+            network,
+            shown,
+            out,
+        } => {
+            let trace = shown.trace.unwrap_or("no");
+            write!(text, "report {out} {trace}")?;
+            if let Some(log) = shown.log {
+                write_log(text, log)?;
+            }
+            write_network(text, network)
+        }
+        Order::Export {
+            format,
+            network,
+            out,
+        } => {
+            let name = match format {
+                Format::Dbc => "dbc",
+                Format::Cdcf => "cdcf",
+            };
+            write!(text, "export {name} {out}")?;
+            write_network(text, network)
+        }
+        Order::Watch(order) => {
+            text.push_str("watch")?;
+            write_log(text, order)?;
+            write_network(text, order.network)
+        }
+        _ => write_planned(text, order),
+    }
+}
+
+/// Adds an order.
+fn write_order(text: &mut String, order: Order<'_>) -> Result<(), AllocError> {
+    match order {
+        Order::Test { rate, file, strict } => {
+            let kbits = rate.kbits();
+            write!(text, "test {kbits} {file} {strict}")
+        }
+        Order::Boot { seed, network } => {
+            write!(text, "boot {seed}")?;
+            write_network(text, network)
+        }
+        Order::Machine(order) => {
+            let (port, take_over) = (order.port, order.take_over);
+            write!(text, "machine {port} {take_over}")?;
+            write_network(text, order.network)
+        }
+        Order::Tidy(order) => {
+            let (input, out, clamp) = (order.input, order.out.unwrap_or("no"), order.words.clamp);
+            write!(text, "tidy {input} {out} {clamp}")
+        }
+        Order::Explain { number } => write!(text, "explain {number}"),
+        _ => write_made(text, order),
+    }
+}
+
+/// What a line asks for, in words; nothing where it is not understood.
+fn asked(alloc: Global, line: &str) -> Result<String, Fail> {
+    let words = words_of(alloc, line)?;
+    let mut text = String::new(alloc);
+    if let Ok(request) = read_request(alloc, &words) {
+        write_order(&mut text, request.order)?;
+        if request.explain {
+            text.push_str(" explain")?;
+        }
+        if request.json {
+            text.push_str(" json")?;
+        }
+    }
+    Ok(text)
+}
+
+/// Lines, and what they ask for.
+const ASKED: &[(&str, &str)] = &[
+    ("", "test 125 - false"),
+    ("test --rate 500 s.csv", "test 500 s.csv false"),
+    ("test --strict --rate 10 --json -", "test 10 - true json"),
+    ("plan n p out", "plan out n p"),
+    (
+        "plan --explain --rates 250,500 --margin n p out",
+        "plan out n p at 250 at 500 margin explain",
+    ),
+    (
+        "check --strict --json n p r.csv",
+        "check r.csv true n p json",
+    ),
+    (
+        "boot --seed 18446744073709551615 n p",
+        "boot 18446744073709551615 n p",
+    ),
+    ("boot --port - --take-over n p", "machine - true n p"),
+    (
+        "run --seed 1 --until 1000000000 n p t",
+        "run 1 1000000000 t n p",
+    ),
+    ("judge --json n p t", "judge t n p json"),
+    ("report n p out", "report out no n p"),
+    (
+        "report --trace t --log l --error 7 n p out",
+        "report out t log l 7 200 first n p",
+    ),
+    ("export cdcf n p out", "export cdcf out n p"),
+    ("export dbc n p out", "export dbc out n p"),
+    ("tidy --clamp in out", "tidy in out true"),
+    ("tidy --check in", "tidy in no false"),
+    (
+        "watch --drift 9 --channel can1 n p -",
+        "watch log - 1000 9 can1 n p",
+    ),
+    ("explain 41", "explain 41"),
+];
+
+#[test]
+fn words_ask_for_orders(rt: HostRuntime) -> Result<(), Fail> {
+    for case in ASKED {
+        let (line, wanted) = *case;
+        assert!(rt; asked(rt.alloc(), line)?.as_str() == wanted, "{line}");
+    }
+    Ok(())
+}
+
+/// Lines that are not understood.
+const REFUSED: &[&str] = &[
+    "plans n p out",
+    "plan n p",
+    "plan n p out more",
+    "plan --rates 300 n p out",
+    "test s.csv",
+    "test --rate 7 s.csv",
+    "boot n p",
+    "boot --seed 1 --port x n p",
+    "boot --seed 18446744073709551616 n p",
+    "run --seed 1 --until 1000000001 n p t",
+    "report n p",
+    "export xml n p out",
+    "tidy in",
+    "tidy --octal --decimal in out",
+    "watch --error 1000001 n p l",
+    "explain 0",
+    "explain 256",
+];
+
+#[test]
+fn other_words_are_refused(rt: HostRuntime) -> Result<(), Fail> {
+    for line in REFUSED {
+        assert!(rt; asked(rt.alloc(), line)?.is_empty(), "{line}");
+    }
+    Ok(())
+}
