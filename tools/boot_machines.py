@@ -54,7 +54,14 @@ CASES = {
         {12: "silent", 13: "other 1018 02 00003217", 14: "aborted 1018 02 06090011"}),
     "no identity in a device": ("conveyor", "--unread 12:1018:2:06090011 14:1000:0:08000022 14:1018:2:06020000", {}),
     "slow to say who it is": ("conveyor", "--slow-read 12:0.8", {}),
-    "too slow to say who it is": ("conveyor", "--slow-read 12:1.5", {}),
+    "too slow to say who it is and what it has": ("conveyor", "--slow-read 12:1.5", {12: "silent"}),
+    "stores nothing": ("valve", "--stores-nothing 5", {5: "differs 1800 01 40000185"}),
+    "stores nothing among others": ("crane", "--stores-nothing 22", {22: "differs 1801 01 40000296"}),
+    "an old confirmation": ("conveyor", "--lost 13:1017:0", {13: "differs 1017 00 00000000"}),
+    "an old confirmation, as a document": ("conveyor", "--lost 13:1017:0", {13: "differs 1017 00 00000000"}, 3, ["--json"]),
+    "boots up while it is read back": ("valve", "--reboot-at-read 5:1", {5: "restarting"}),
+    "boots up once it was read back in part": ("crane", "--reboot-at-read 13:2", {13: "restarting"}),
+    "does not tell what it has": ("crane", "--unread 12:1017:0:08000022", {12: "aborted 1017 00 08000022"}),
     "pulled out": ("valve", "--gone 2", {}, 5, []),
 }
 

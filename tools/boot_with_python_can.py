@@ -4,7 +4,8 @@
     /usr/bin/python3 tools/boot_with_python_can.py
 
 python-can reads the lines that canplan writes as frames, and writes the node's frames as lines. The frames that it reads have to be the
-reset, the settings of the node's DCF file and the start, and canplan has to tell the node ready.
+reset, the settings of the node's DCF file, the requests of uploads by which they are read back and the start, and canplan has to tell
+the node ready.
 """
 import os
 import subprocess
@@ -22,6 +23,8 @@ WANTED = [
     (0x605, "23001801850100c0"),
     (0x605, "2300180181010040"),
     (0x605, "2b17100064000000"),
+    (0x605, "4000180100000000"),
+    (0x605, "4017100000000000"),
     (0x000, "0100"),
 ]
 
@@ -46,7 +49,8 @@ def pass_on(source, target):
 
 
 def serve(bus, seen, is_over):
-    """Node 5: it boots up at a reset, and confirms each setting."""
+    """Node 5: it boots up at a reset, confirms each setting, and tells what it has."""
+    has = {}
     while not is_over.is_set():
         frame = bus.recv(0.1)
         if frame is None:
@@ -54,7 +58,10 @@ def serve(bus, seen, is_over):
         seen.append((frame.arbitration_id, bytes(frame.data).hex()))
         if frame.arbitration_id == 0 and frame.data[0] == 0x82:
             bus.send(can.Message(arbitration_id=0x705, data=[0], is_extended_id=False))
+        elif frame.arbitration_id == 0x605 and frame.data[0] == 0x40:
+            bus.send(can.Message(arbitration_id=0x585, data=has[bytes(frame.data[1:4])], is_extended_id=False))
         elif frame.arbitration_id == 0x605:
+            has[bytes(frame.data[1:4])] = [0x40 | frame.data[0] & 0x0F, *frame.data[1:8]]
             bus.send(can.Message(arbitration_id=0x585, data=[0x60, *frame.data[1:4], 0, 0, 0, 0], is_extended_id=False))
 
 

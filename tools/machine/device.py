@@ -11,7 +11,7 @@ class Device:
         self.state, self.writes, self.next_beat = 0x7F, [], None
         self.boot_at, self.boots, self.pending = None, 0, []
         self.upload = self.download = None
-        self.resets = self.starts = self.reads = 0
+        self.resets = self.starts = self.reads = self.read_back = 0
         if faults.get("running"):
             self.state, self.next_beat = 0x05, now
 
@@ -73,7 +73,7 @@ class Device:
         if cs == 0 and self.download:
             return self.write_more(d, now)
         if cs == 2:
-            return self.read_first(index, sub)
+            return self.read_first(index, sub, now)
         if cs == 3 and self.upload:
             return self.read_more(d)
         return self.refuse(index, sub, 0x05040001)
@@ -104,25 +104,29 @@ class Device:
         return bytes([0x20 | toggle << 4]) + bytes(7)
 
     def store(self, index, sub, data, now):
-        code = self.check(index, sub, data)
+        code = 0 if self.faults.get("stores_nothing") else self.check(index, sub, data)
         self.writes.append((index, sub, data.hex(), code))
         if code:
             return self.refuse(index, sub, code)
-        e = self.entries[index, sub]
-        e.value = int.from_bytes(data, "little") if e.size else data
-        if index == 0x1017:
-            self.arm(now)
+        if not self.faults.get("stores_nothing") and (index, sub) not in self.faults.get("lost", ()):
+            e = self.entries[index, sub]
+            e.value = int.from_bytes(data, "little") if e.size else data
+            if index == 0x1017:
+                self.arm(now)
         after = self.faults.get("reboot")
         if after is not None and sum(1 for w in self.writes if not w[3]) == after:
             self.faults["reboot"] = self.faults.get("reboot_again")
-            for x in self.entries.values():
-                x.value = x.default
-            self.boot_at = now + 0.01
-            self.log(f"node {self.node}: falls over and boots again")
-            return None
+            return self.fall_over(now)
         if self.faults.get("wrong_mux") == (index, sub):
             return bytes([0x60, index & 255, index >> 8, sub ^ 1, 0, 0, 0, 0])
         return bytes([0x60, index & 255, index >> 8, sub, 0, 0, 0, 0])
+
+    def fall_over(self, now):
+        for x in self.entries.values():
+            x.value = x.default
+        self.boot_at = now + 0.01
+        self.log(f"node {self.node}: falls over and boots again")
+        return None
 
     def check(self, index, sub, data):
         refused = self.faults.get("abort", {}).get((index, sub))
@@ -144,8 +148,11 @@ class Device:
                 return 0x06090030
         return 0
 
-    def read_first(self, index, sub):
+    def read_first(self, index, sub, now):
         self.reads += 1
+        self.read_back += bool(self.writes)
+        if self.writes and self.read_back == self.faults.get("reboot_at_read"):
+            return self.fall_over(now)
         refused = self.faults.get("unread", {}).get((index, sub))
         if refused is not None:
             return self.refuse(index, sub, refused)

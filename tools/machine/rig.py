@@ -167,6 +167,14 @@ class Rig:
         for text in self.args.wrong:
             node, index, sub = text.split(":")
             at(node)["wrong_mux"] = int(index, 16), int(sub, 16)
+        for node in self.args.stores_nothing:
+            at(node)["stores_nothing"] = True
+        for text in self.args.lost:
+            node, index, sub = text.split(":")
+            at(node).setdefault("lost", set()).add((int(index, 16), int(sub, 16)))
+        for text in self.args.reboot_at_read:
+            node, after = text.split(":")
+            at(node)["reboot_at_read"] = int(after)
         for text in self.args.reboot:
             node, after = text.split(":")
             at(node)["reboot"] = int(after)
@@ -283,6 +291,9 @@ def words():
     p.add_argument("--swap", nargs="*", default=[], metavar="NODE:NODE", help="the devices of these nodes have each other's number")
     p.add_argument("--wrong", nargs="*", default=[], metavar="NODE:INDEX:SUB", help="confirms that write with another sub")
     p.add_argument("--reboot", nargs="*", default=[], metavar="NODE:K", help="falls over at its K-th write, forgets all and boots again")
+    p.add_argument("--stores-nothing", nargs="*", default=[], metavar="NODE", help="confirms each write, and stores nothing")
+    p.add_argument("--lost", nargs="*", default=[], metavar="NODE:INDEX:SUB", help="does not get that write; an old confirmation of it is on the way")
+    p.add_argument("--reboot-at-read", nargs="*", default=[], metavar="NODE:K", help="falls over at the K-th upload behind a write, forgets all and boots again")
     p.add_argument("--traffic", type=float, default=0, help="so many other frames a second")
     p.add_argument("--garbage", type=float, default=0, help="before so many of the lines (0 to 1) a line of garbage with a CR")
     p.add_argument("--noise", type=float, default=0, help="before so many of the lines a few bytes without CR: that line is lost")

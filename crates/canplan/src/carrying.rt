@@ -132,16 +132,18 @@ fn trace_file(rt: &HostRuntime, trace: &str) -> Result<BufWriter<File>, Failure>
     }
 }
 
-/// Runs a plan by a seed, and writes the trace into a file as it goes: what is said of the run.
-fn run_into(
-    rt: &HostRuntime,
-    plan: &Plan,
+/// The seed that draws what happens in a run, and the run's end in microseconds.
+#[derive(Clone, Copy)]
+struct Drawn {
     seed: u64,
     until: u64,
-    trace: &str,
-) -> Result<Vec<u8>, Failure> {
+}
+
+/// Runs a plan by a seed, and writes the trace into a file as it goes: what is said of the run.
+fn run_into(rt: &HostRuntime, plan: &Plan, drawn: Drawn, trace: &str) -> Result<Vec<u8>, Failure> {
     let file = trace_file(rt, trace)?;
-    match run_plan(rt.alloc(), plan, seed, until.min(MOST_UNTIL), file) {
+    let until = drawn.until.min(MOST_UNTIL);
+    match run_plan(rt.alloc(), plan, drawn.seed, until, file) {
         Ok((text, _file)) => Ok(text),
         Err(RunFault::Trace) => Err(Failure {
             fault: Fault::File(String::from_str(rt.alloc(), trace)?),
@@ -151,24 +153,23 @@ fn run_into(
     }
 }
 
-/// Runs what the planner answers for a network, if that is a plan, by the numbers of the seed and the end: what is said of it.
+/// Runs what the planner answers for a network, if that is a plan: what is said of it.
 fn run_outcome(
     rt: &HostRuntime,
     outcome: &Outcome,
-    numbers: (u64, u64),
+    drawn: Drawn,
     trace: &str,
 ) -> Result<Vec<u8>, Failure> {
-    let (seed, until) = numbers;
     match outcome {
-        Outcome::Planned(plan) => run_into(rt, plan, seed, until, trace),
+        Outcome::Planned(plan) => run_into(rt, plan, drawn, trace),
         Outcome::Refused(_) => Ok(none_passes(rt.alloc())?),
     }
 }
 
-/// The seeded run of a network, by the numbers of the seed and the end: the trace is written, and then the run is told.
+/// The seeded run of a network: the trace is written, and then the run is told.
 fn run(
     rt: &HostRuntime,
-    numbers: (u64, u64),
+    drawn: Drawn,
     network: NetworkFiles<'_>,
     trace: &str,
     inputs: &mut Inputs,
@@ -182,7 +183,7 @@ fn run(
         &texts.eds_files,
         &texts.asked,
     )?;
-    let text = run_outcome(rt, &outcome, numbers, trace)?;
+    let text = run_outcome(rt, &outcome, drawn, trace)?;
     print(rt, &text)?;
     Ok(text_status(&text))
 }
@@ -244,7 +245,7 @@ pub fn carry_out(
             until,
             network,
             trace,
-        } => run(rt, (seed, until), network, trace, inputs),
+        } => run(rt, Drawn { seed, until }, network, trace, inputs),
         Order::Report {
             network,
             shown,

@@ -5,7 +5,7 @@ use crate::files::print;
 use crate::identities::identity_notes;
 use crate::inputs::Inputs;
 use crate::serial::{Serial, open_serial};
-use cop_commission::{Commissioned, commission};
+use cop_commission::{Approach, Commissioned, commission};
 use cop_documents::boot_document;
 use cop_engine::{Fault, none_passes};
 use cop_frame::Rate;
@@ -44,8 +44,13 @@ fn say(rt: &HostRuntime, words: &[u8]) {
     let _ = rt.stderr().write_all(words);
 }
 
-/// What is said of a node's line that tells of an abort: the code in words.
-fn code_words(alloc: Global, line: &str) -> Result<String, AllocError> {
+/// What is said of a node's line that tells of an abort: the code in words; and of one that tells that a value differs.
+fn line_words(alloc: Global, line: &str) -> Result<String, AllocError> {
+    if line.contains(" differs ") {
+        return format!(in alloc;
+            "{line}: it confirmed what was set there, and this is what it has\n"
+        );
+    }
     let code = match line.rsplit_once(' ') {
         Some((start, code)) if start.contains(" aborted ") => u32::from_str_radix(code, 16).ok(),
         _ => None,
@@ -62,11 +67,11 @@ fn are_silent(text: &str) -> bool {
         .all(|line| line.ends_with(" silent") || line == "not started")
 }
 
-/// What is said below the lines of a boot: the codes of aborts in words, and what to look at where no node was heard.
+/// What is said below the lines of a boot: the codes of aborts in words, what differs, and what to look at where no node was heard.
 fn boot_notes(alloc: Global, text: &str, rate: Rate) -> Result<Vec<u8>, AllocError> {
     let mut notes = Vec::new(alloc);
     for line in text.lines() {
-        notes.extend_from_slice(code_words(alloc, line)?.as_bytes())?;
+        notes.extend_from_slice(line_words(alloc, line)?.as_bytes())?;
     }
     if are_silent(text) {
         let kbits = rate.kbits();
@@ -188,14 +193,17 @@ pub fn boot_machine(
     if form == Form::Told {
         say(rt, said_before(order).as_bytes());
     }
+    let approach = Approach {
+        take_over: order.take_over,
+        identify: order.identify,
+    };
     let ended = commission(
         rt.alloc(),
         &texts.nodes,
         &texts.pdos,
         &texts.eds_files,
         &texts.asked,
-        order.take_over,
-        order.identify,
+        approach,
         &mut port,
     )?;
     let started = matches!(ended, Commissioned::Ended { started: true, .. });

@@ -1,14 +1,16 @@
 -- The senders of a plan's PDOs, and what the parts of a boot over a port make of it.
-use Rattle.std.proofs.Common.{◌≡◌, ℕ, zero, suc, ◌+◌, ◌<◌, List, [], ◌∷◌, ◌++◌, length, drop, get_or, Bool, refl, sym, ap, subst, ◌∙◌, arith, append_assoc, append-nil}
+use Rattle.std.proofs.Common.{◌≡◌, ℕ, zero, suc, ◌+◌, ◌<◌, List, [], ◌∷◌, ◌++◌, length, drop, get_or, Bool, refl, sym, ap, ◌∙◌, arith, append_assoc, append-nil}
 use Rattle.cop_frame.specs.declared.rates.Rate.{Rate}
 use Rattle.cop_rows.specs.declared.pdo_table.PdoRow.{PdoRow}
 use Rattle.cop_net.specs.Network.{Net}
 use Rattle.cop_boot.specs.Manager.{Managing}
 use Rattle.cop_live.specs.declared.listening.Sender.{Sender}
 use Rattle.cop_identity.specs.declared.questions.Question.{Question}
-use Rattle.cop_engine.specs.Boots.{device_nodes, manager_of, boot_text}
+use Rattle.cop_engine.specs.Boots.{device_nodes, manager_of}
+use Rattle.cop_readback.specs.declared.session.ReadBack.{ReadBack}
 use Rattle.cop_commission.specs.Sessions.{IsWhole}
 use Rattle.cop_commission.specs.Commissioning.{senders_of, IsEnded}
+use Rattle.cop_commission.specs.Readings.{standing_text}
 
 -- the senders from a place on
 sender_step : (rows : List PdoRow) (ids : List ℕ) (k : ℕ) (row : PdoRow) → k < length rows → length ids ≡ length rows
@@ -43,17 +45,16 @@ senders_all rows ids done h = sym (append-nil done) ∙ ap (λ xs. done ++ xs) (
     none (r ∷ rows) (i ∷ ids) = none rows ids
 
 -- a session of a plan's manager
-pub ended_so : {P : Type 0} (reads writes : P → List ℕ → P → Type 0) (asks : P → ℕ → P → Type 0) (net : Net) (rate own at : Rate) (ids nodes shown : List ℕ) (senders : List Sender) (take_over : Bool) (questions wanted : List Question) (manager later : Managing) (p q : P) (text : List ℕ) (started : Bool)
-    → nodes ≡ device_nodes net → manager ≡ manager_of net ids nodes → senders ≡ senders_of net.rows ids → own ≡ rate → shown ≡ nodes → IsWhole reads writes asks own senders take_over questions manager p later q → questions ≡ wanted
-    → text ≡ boot_text later shown → started ≡ later.started → at ≡ rate
-    → IsEnded reads writes asks rate (senders_of net.rows ids) take_over wanted (manager_of net ids (device_nodes net)) (device_nodes net) p q text started at
-ended_so reads writes asks net rate own at ids nodes shown senders take_over questions wanted manager later p q text started en em es er eo whole eq says tells rated = record {
+pub ended_so : {P : Type 0} (reads writes : P → List ℕ → P → Type 0) (asks : P → ℕ → P → Type 0) (net : Net) (rate own at : Rate) (ids nodes shown : List ℕ) (senders : List Sender) (takes take_over : Bool) (questions wanted settings all : List Question) (manager later : Managing) (back : ReadBack) (p q : P) (text : List ℕ) (started : Bool)
+    → nodes ≡ device_nodes net → manager ≡ manager_of net ids (device_nodes net) → senders ≡ senders_of net.rows ids → own ≡ rate → takes ≡ take_over → questions ≡ wanted → settings ≡ all
+    → IsWhole reads writes asks own senders takes questions manager nodes settings p back later q
+    → shown ≡ device_nodes net → text ≡ standing_text later shown back → started ≡ back.started → at ≡ rate
+    → IsEnded reads writes asks rate (senders_of net.rows ids) take_over wanted (manager_of net ids (device_nodes net)) (device_nodes net) all p q text started at
+ended_so reads writes asks net rate own at ids nodes shown senders takes take_over questions wanted settings all manager later back p q text started en em es er et eq ea whole eo says tells rated = record {
   later = later;
-  whole = subst (λ r. IsWhole reads writes asks r (senders_of net.rows ids) take_over wanted (manager_of net ids (device_nodes net)) p later q) er
-      (subst (λ s. IsWhole reads writes asks own s take_over wanted (manager_of net ids (device_nodes net)) p later q) es
-      (subst (λ qs. IsWhole reads writes asks own senders take_over qs (manager_of net ids (device_nodes net)) p later q) eq
-      (subst (λ m. IsWhole reads writes asks own senders take_over questions m p later q) (em ∙ ap (manager_of net ids) en) whole)));
-  says = says ∙ ap (boot_text later) (eo ∙ en);
+  back = back;
+  whole = rw (en, em, es, er, et, eq, ea) at whole;
+  says = says ∙ ap (λ ns. standing_text later ns back) eo;
   tells = tells;
   rated = rated;
 }

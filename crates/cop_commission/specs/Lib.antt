@@ -1,3 +1,4 @@
 pub mod Commissioning
 pub mod Identities
+pub mod Readings
 pub mod Sessions

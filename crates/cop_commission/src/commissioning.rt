@@ -8,8 +8,9 @@ ghost use Rattle.cop_engine.specs.Networks.{ExplainsNetwork};
 ghost use Rattle.cop_commission.specs.Commissioning.{senders_of, questions_for, IsCommissioned, IsCommissionedBy, IsCommissioning};
 
 use crate::identities::{identity_text, questions_of};
-use crate::sessions::{Session, run_session};
-use cop_engine::{Fault, boot_text, device_nodes, manager_of};
+use crate::readings::{settings_questions, standing_text};
+use crate::sessions::{Bus, Questions, Session, run_session};
+use cop_engine::{Fault, device_nodes, manager_of};
 use cop_frame::Rate;
 use cop_identity::{Exchange, Question};
 use cop_live::{Port, Sender};
@@ -18,10 +19,20 @@ use cop_plan::{Asked, Choice, Outcome, Plan, plan};
 use cop_rows::PdoRow;
 use std::alloc::{AllocError, Global};
 
+/// How the devices are approached.
+#[derive(Clone, Copy, Debug, PartialEq, Eq)]
+pub struct Approach {
+    /// Whether the bus is taken over: otherwise nothing is sent where a node is heard to run.
+    pub take_over: bool,
+    /// Whether the devices are asked who they are.
+    pub identify: bool,
+}
+
 /// What came of a boot over a port.
 #[derive(Drop)]
 pub enum Commissioned {
-    /// The boot of each node ended, at a rate: the text has a line for each, and whether they were started.
+    /// The boot of each node ended, at a rate, and its settings were read back: the text has a line for each, and whether they were
+    /// started.
     Ended {
         text: Vec<u8>,
         started: bool,
@@ -73,37 +84,46 @@ fn questions_for(
     }
 }
 
+/// How the bus of a network is met by its plan.
+fn bus_of(
+    alloc: Global,
+    network: &Network<'_>,
+    plan: &Plan,
+    take_over: bool,
+) -> Result<Bus, AllocError>
+    requires { length plan.now.ids ≡ length network.now.rows }
+    ensures { IfOk result (λ bus. (bus.rate ≡ plan.now.rate) × (bus.senders.items ≡ senders_of network.now.rows plan.now.ids) × (bus.take_over ≡ take_over)) }
+{
+    Ok(Bus {
+        rate: plan.rate(),
+        senders: senders_of(alloc, network.rows(), plan.ids())?,
+        take_over,
+    })
+}
+
 /// The boot of a network by its plan.
 fn commission_planned<P: Port>(
     alloc: Global,
     network: &Network<'_>,
     plan: &Plan,
-    take_over: bool,
-    identify: bool,
+    approach: Approach,
     port: &mut P,
 ) -> Result<Commissioned, AllocError>
     requires network { IsNetwork network.now }
     requires planned { IsPlan network.now.equipment.rates network.now.set (length network.now.rows) plan.now }
-    ensures { IfOk result (λ ended. IsCommissioned P.reads P.writes P.asks network.now plan.now.rate plan.now.ids take_over identify port.old port.new ended) }
+    ensures { IfOk result (λ ended. IsCommissioned P.reads P.writes P.asks network.now plan.now.rate plan.now.ids approach port.old port.new ended) }
 {
     let nodes = device_nodes(alloc, network)?;
-    let senders = senders_of(alloc, network.rows(), plan.ids())?;
+    let bus = bus_of(alloc, network, plan, approach.take_over)?;
     let mut manager = manager_of(alloc, plan, network, &nodes)?;
-    let questions = questions_for(alloc, identify, network, &nodes)?;
-    let ended = run_session(
-        alloc,
-        &mut manager,
-        &nodes,
-        plan.rate(),
-        &senders,
-        take_over,
-        &questions,
-        port,
-    )?;
-    match ended {
-        Session::Booted => Ok(Commissioned::Ended {
-            text: boot_text(alloc, &manager, &nodes)?,
-            started: manager.started(),
+    let questions = Questions {
+        identity: questions_for(alloc, approach.identify, network, &nodes)?,
+        settings: settings_questions(alloc, plan, network, &nodes)?,
+    };
+    match run_session(alloc, &mut manager, &nodes, &bus, &questions, port)? {
+        Session::Booted { back } => Ok(Commissioned::Ended {
+            text: standing_text(alloc, &manager, &nodes, &back)?,
+            started: back.started,
             rate: plan.rate(),
         }),
         Session::Running { node } => Ok(Commissioned::Running { node }),
@@ -120,17 +140,14 @@ fn commission_network<P: Port>(
     alloc: Global,
     network: &Network<'_>,
     choice: Choice,
-    take_over: bool,
-    identify: bool,
+    approach: Approach,
     port: &mut P,
 ) -> Result<Commissioned, AllocError>
     requires { IsNetwork network.now }
-    ensures { IfOk result (λ ended. IsCommissionedBy P.reads P.writes P.asks choice network.now take_over identify port.old port.new ended) }
+    ensures { IfOk result (λ ended. IsCommissionedBy P.reads P.writes P.asks choice network.now approach port.old port.new ended) }
 {
     match plan(alloc, network, choice)? {
-        Outcome::Planned(plan) => commission_planned(
-            alloc, network, &plan, take_over, identify, port,
-        ),
+        Outcome::Planned(plan) => commission_planned(alloc, network, &plan, approach, port),
         Outcome::Refused(_) => Ok(Commissioned::NonePasses),
     }
 }
@@ -138,7 +155,8 @@ fn commission_network<P: Port>(
 /// The boot of the devices of a planned network over a port. The network is planned, and the adapter is opened at its rate. Unless the bus is
 /// taken over, it is listened for 2 s, and where a node is heard to run no frame is sent. If they are to be identified, the devices are
 /// asked who they are, and where one is another than its EDS file says nothing else is sent. Then the settings of each node are sent to
-/// it, the nodes are started when all have confirmed theirs, and the adapter is closed. Otherwise the first rule that the network
+/// it, and read back once all have confirmed theirs or the boot of each has ended; the nodes are started where each has its settings,
+/// and the adapter is closed. Otherwise the first rule that the network
 /// breaks, or want of memory.
 pub fn commission<P: Port>(
     alloc: Global,
@@ -146,16 +164,15 @@ pub fn commission<P: Port>(
     pdos: &[u8],
     eds_files: &[(String, Vec<u8>)],
     asked: &Asked,
-    take_over: bool,
-    identify: bool,
+    approach: Approach,
     port: &mut P,
 ) -> Result<Commissioned, Fault>
     ensures { MatchResult result
-        (λ ended. IsCommissioning P.reads P.writes P.asks asked.now nodes.now pdos.now (map (λ f. record { name = string_bytes f.0; text = f.1.items }) eds_files.now) take_over identify port.old port.new ended)
+        (λ ended. IsCommissioning P.reads P.writes P.asks asked.now nodes.now pdos.now (map (λ f. record { name = string_bytes f.0; text = f.1.items }) eds_files.now) approach port.old port.new ended)
         (λ fault. ExplainsNetwork asked.now.rates nodes.now pdos.now (map (λ f. record { name = string_bytes f.0; text = f.1.items }) eds_files.now) fault) }
 {
     let nodes = read_nodes(alloc, nodes)?;
     let pdos = read_pdos(alloc, pdos)?;
     let network = network(alloc, &asked.rates, &nodes, &pdos, eds_files)?;
-    Ok(commission_network(alloc, &network, asked.choice, take_over, identify, port)?)
+    Ok(commission_network(alloc, &network, asked.choice, approach, port)?)
 }

@@ -3,6 +3,7 @@
 
 mod commissioning;
 mod identities;
+mod readings;
 mod sessions;
 
-pub use commissioning::{Commissioned, commission};
+pub use commissioning::{Approach, Commissioned, commission};

@@ -3,13 +3,12 @@
 ghost use Rattle.std.specs.Prelude.{IfSome};
 ghost use Rattle.cop_rows.specs.Pdos.{IsPdoRow};
 
-use crate::bus::{Message, messages, receivers, sent_signals};
 use crate::fixed::{Fixed, fixed_of};
 use crate::identifiers::Identifiers;
 use crate::labels::{Labels, text_of};
-use crate::places::{Kind, Signal};
 use cop_net::{Network, PdoRow};
 use cop_plan::Plan;
+use cop_signals::{Kind, Message, Signal, messages, receivers, sent_signals};
 use std::alloc::{AllocError, Global};
 
 /// A device with its identifier, its name and the name of its EDS file.

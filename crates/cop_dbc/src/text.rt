@@ -3,10 +3,10 @@
 use crate::comments::Comment;
 use crate::contents::{Contents, NamedMessage, NamedNode, NamedSignal, contents_of, node_of};
 use crate::labels::Labels;
-use crate::places::Kind;
 use cop_frame::Rate;
 use cop_net::Network;
 use cop_plan::Plan;
+use cop_signals::Kind;
 use std::alloc::{AllocError, Global};
 
 /// Who sends or takes what no device of the database does.

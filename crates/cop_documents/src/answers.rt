@@ -68,21 +68,23 @@ pub fn check_document(alloc: Global, text: &[u8]) -> Result<String, AllocError> 
     document.to_string(alloc)
 }
 
-/// How the boot of a node ended, or what it answered: `node 5 ready`, `node 5 as planned` or `node 5 other 1018 02 00000191`.
+/// How the boot of a node ended, or what it answered: `node 5 ready`, `node 5 as planned`, `node 5 other 1018 02 00000191` or
+/// `node 5 differs 1800 01 00000191`.
 fn node_of(alloc: Global, line: &str) -> Result<Option<Value>, AllocError> {
     let mut words = line.split(' ');
     if words.next().unwrap_or("") != "node" {
         return Ok(None);
     }
     let told = Object::new(alloc).plain("node", number(words.next().unwrap_or("")));
-    let told = match words.next().unwrap_or("") {
+    let state = words.next().unwrap_or("");
+    let told = match state {
         "as" => told.text("state", "as planned"),
-        "other" => told
-            .text("state", "other")
+        "other" | "differs" => told
+            .text("state", state)
             .plain("index", identifier(words.next().unwrap_or("")))
             .plain("sub", identifier(words.next().unwrap_or("")))
             .plain("found", identifier(words.next().unwrap_or(""))),
-        state => told.text("state", state),
+        _ => told.text("state", state),
     };
     Ok(Some(told.end()?))
 }

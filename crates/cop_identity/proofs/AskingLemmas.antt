@@ -3,6 +3,7 @@ use Rattle.std.proofs.Common.{◌≡◌, ℕ, ◌+◌, ◌-◌, ◌≤◌, ◌<�
 use Rattle.std.specs.Option.{option_or}
 use Rattle.std.specs.List.{AllByRecursion}
 use Rattle.std.proofs.lemmas.List.{map-append}
+use Rattle.cop_sdo.specs.Message.{Message}
 use Rattle.cop_slcan.specs.Reading.{said_from, left_from}
 use Rattle.cop_live.specs.Log as log
 use Rattle.cop_live.specs.Log.{DidAll}
@@ -27,11 +28,11 @@ abbrev pub left_turns : List ℕ → List (ℕ × List ℕ) → List ℕ
 left_turns pending [] = pending
 left_turns pending ((now, bytes) ∷ turns) = left_turns (left_from pending bytes) turns
 
-left_more : (pending : List ℕ) (turns : List (ℕ × List ℕ)) (now : ℕ) (bytes : List ℕ) → left_turns pending (turns ++ (now, bytes) ∷ []) ≡ left_from (left_turns pending turns) bytes
+pub left_more : (pending : List ℕ) (turns : List (ℕ × List ℕ)) (now : ℕ) (bytes : List ℕ) → left_turns pending (turns ++ (now, bytes) ∷ []) ≡ left_from (left_turns pending turns) bytes
 left_more pending [] now bytes = refl
 left_more pending ((at, got) ∷ turns) now bytes = left_more (left_from pending got) turns now bytes
 
-heard_more : (question : Question) (pending : List ℕ) (turns : List (ℕ × List ℕ)) (now : ℕ) (bytes : List ℕ)
+pub heard_more : (question : Question) (pending : List ℕ) (turns : List (ℕ × List ℕ)) (now : ℕ) (bytes : List ℕ)
     → answer_heard question pending (turns ++ (now, bytes) ∷ []) ≡ option_or (answer_heard question pending turns) (first_answer question (said_from (left_turns pending turns) bytes))
 heard_more question pending [] now bytes = or_none (first_answer question (said_from pending bytes))
 heard_more question pending ((at, got) ∷ turns) now bytes =
@@ -42,7 +43,7 @@ log_more : (turns : List (ℕ × List ℕ)) (now : ℕ) (bytes : List ℕ) → l
 log_more [] now bytes = refl
 log_more ((at, got) ∷ turns) now bytes = ap (λ l. log.Asked at ∷ log.Read got ∷ l) (log_more turns now bytes)
 
-all_more : {A : Type 0} (Q : A → Type 0) (xs : List A) (x : A) → AllByRecursion Q xs → Q x → AllByRecursion Q (xs ++ x ∷ [])
+pub all_more : {A : Type 0} (Q : A → Type 0) (xs : List A) (x : A) → AllByRecursion Q xs → Q x → AllByRecursion Q (xs ++ x ∷ [])
 all_more Q [] x h q = (q, tt)
 all_more Q (y ∷ xs) x h q = (h.0, all_more Q xs x h.1 q)
 
@@ -53,8 +54,9 @@ pub record Waits {P : Type 0} (reads writes : P → List ℕ → P → Type 0) (
   pub left : pending ≡ left_turns [] turns
 
 module _ {P : Type 0} (reads writes : P → List ℕ → P → Type 0) (asks : P → ℕ → P → Type 0) (question : Question) (began : ℕ) (p : P) where
-  pub waits_first : (pending : List ℕ) (m q : P) → asks p began m → DidAll reads writes asks m (log.Sent (request_of question) ∷ []) q → pending ≡ [] → Waits reads writes asks question began p pending q
-  waits_first pending m q asked sent e = record { turns = []; waits = record { did = (m, asked, sent); heard = refl; soon = tt }; left = e }
+  pub waits_first : (pending : List ℕ) (m q : P) (frame : Message) → asks p began m → frame ≡ request_of question → DidAll reads writes asks m (log.Sent frame ∷ []) q → pending ≡ [] → Waits reads writes asks question began p pending q
+  waits_first pending m q frame asked is sent e =
+      record { turns = []; waits = record { did = (m, asked, subst (λ f. DidAll reads writes asks m (log.Sent f ∷ []) q) is sent); heard = refl; soon = tt }; left = e }
 
   -- a turn more
   asks_on : (pending : List ℕ) (q a r : P) (now : ℕ) (bytes : List ℕ) (answer : Option Answer) (h : Waits reads writes asks question began p pending q) → asks q now a → reads a bytes r

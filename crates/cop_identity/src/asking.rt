@@ -1,16 +1,13 @@
 //! Devices are asked over a port, question after question.
 
-ghost use Rattle.std.specs.Prelude.{◌≡◌, ◌∷◌, [], None, true, IfSome, IfOk, option_to_list};
-ghost use Rattle.cop_sdo.specs.Message.{message_of};
+ghost use Rattle.std.specs.Prelude.{◌≡◌, None, IfSome, IfOk, option_to_list};
 ghost use Rattle.cop_slcan.specs.Meaning.{told_of};
 ghost use Rattle.cop_slcan.specs.Reading.{said_from, left_from, taken};
-ghost use Rattle.cop_live.specs.Log.{Sent, DidAll};
-ghost use Rattle.cop_identity.specs.Questions.{request_of};
 ghost use Rattle.cop_identity.specs.Asking.{answer_told, first_answer, WasAsked, WasNext, AskedAll, is_silent, silent_after, is_other, has_other};
 
 use crate::questions::{Answer, Question, request_of};
-use cop_live::Port;
-use cop_slcan::{Reader, Said, line_of};
+use cop_live::{Port, send};
+use cop_slcan::{Reader, Said};
 use std::alloc::{AllocError, Global};
 
 /// An answer is awaited for so many ticks, 1 s.
@@ -55,8 +52,8 @@ fn answer_at(question: &Question, reader: &mut Reader, byte: u8) -> Option<Answe
     }
 }
 
-// The first answer in bytes.
-fn answer_from(question: &Question, reader: &mut Reader, bytes: &[u8]) -> Option<Answer>
+/// The first answer in bytes.
+pub fn answer_from(question: &Question, reader: &mut Reader, bytes: &[u8]) -> Option<Answer>
     ensures found { result ≡ first_answer question.now (said_from reader.old bytes.now) }
     ensures reader { result ≡ None → reader.new ≡ left_from reader.old bytes.now }
 {
@@ -69,13 +66,6 @@ fn answer_from(question: &Question, reader: &mut Reader, bytes: &[u8]) -> Option
     }
 }
 
-// Sends the request of a question.
-fn send<P: Port>(question: &Question, port: &mut P) -> bool
-    ensures { result ≡ true → DidAll P.reads P.writes P.asks port.old (Sent (request_of question.now) ∷ []) port.new }
-{
-    port.write(&line_of(&request_of(question)))
-}
-
 /// Asks a question, and waits for the answer, at most 1 s. `None` where the port or its clock fails.
 pub fn ask<P: Port>(question: &Question, port: &mut P) -> Option<Outcome>
     ensures { IfSome result (λ outcome. WasAsked P.reads P.writes P.asks question.now port.old outcome port.new) }
@@ -83,7 +73,7 @@ pub fn ask<P: Port>(question: &Question, port: &mut P) -> Option<Outcome>
     let Some(began) = port.now() else {
         return None;
     };
-    if !send(question, port) {
+    if !send(port, &request_of(question)) {
         return None;
     }
     let mut reader = Reader::new();

@@ -4,6 +4,6 @@
 mod asking;
 mod questions;
 
-pub use asking::{Exchange, Outcome, ask, ask_all, has_other};
+pub use asking::{Exchange, Outcome, answer_from, ask, ask_all, has_other};
 pub use cop_sdo::Address;
-pub use questions::{Answer, Question};
+pub use questions::{Answer, Question, request_of};

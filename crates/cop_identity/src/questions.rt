@@ -31,7 +31,7 @@ pub enum Answer {
 }
 
 /// The request of an upload, which asks a question.
-pub(crate) fn request_of(question: &Question) -> Frame
+pub fn request_of(question: &Question) -> Frame
     ensures { message_of result ≡ request_of question.now }
 {
     let Question { node, at, .. } = *question;

@@ -18,10 +18,6 @@ after_less (suc n) text l = let e : suc n - 1 ≡ n = omega arith in rw e refl
 abbrev pub joined : List ℕ → Result (List ℕ) LineFault → Result (List ℕ) LineFault
 joined front read = read >>= (λ bytes. Ok (front ++ bytes))
 
-pub joined_none : (read : Result (List ℕ) LineFault) → joined [] read ≡ read
-joined_none (Ok bytes) = refl
-joined_none (Err fault) = refl
-
 pub joined_more : (front : List ℕ) (b : ℕ) (read : Result (List ℕ) LineFault) → joined front (read >>= (λ bytes. Ok (b ∷ bytes))) ≡ joined (front ++ b ∷ []) read
 joined_more front b (Ok bytes) = ap Ok (sym (append_assoc front (b ∷ []) bytes))
 joined_more front b (Err fault) = refl

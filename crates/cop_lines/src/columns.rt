@@ -15,8 +15,8 @@ fn is_direction(text: &[u8]) -> bool
     text == b"RX".as_slice() || text == b"TX".as_slice()
 }
 
-#[tactic(auto, unfolding(crate::specs::Columns::from_id))]
 /// What stands of a line from the identifier on: with `-x` the direction and two flags stand before it.
+#[tactic(auto, unfolding(crate::specs::Columns::from_id))]
 pub(crate) fn from_id(line: &[u8]) -> &[u8]
     ensures { result.now ≡ from_id line.now }
 {
@@ -27,8 +27,8 @@ pub(crate) fn from_id(line: &[u8]) -> &[u8]
     }
 }
 
-#[tactic(auto, unfolding(crate::specs::Columns::bracketed))]
 // A length as "[8]"; a CAN FD frame has two digits.
+#[tactic(auto, unfolding(crate::specs::Columns::bracketed))]
 fn bracketed(text: &[u8]) -> Result<u8, LineFault>
     ensures value { result ≡ bracketed text.now }
     ensures few { IfOk result (λ len. len ≤ 8) }
@@ -59,8 +59,8 @@ fn bytes_with_tail(len: u8, text: &[u8]) -> Result<Option<Content>, LineFault>
     }
 }
 
-#[tactic(auto, unfolding(crate::specs::Columns::data_in))]
 // The data bytes of a frame, and none of a remote frame.
+#[tactic(auto, unfolding(crate::specs::Columns::data_in))]
 fn data_in(len: u8, text: &[u8]) -> Result<Option<Content>, LineFault>
     requires { len ≤ 8 }
     ensures { result ≡ data_in len text.now }
@@ -72,8 +72,8 @@ fn data_in(len: u8, text: &[u8]) -> Result<Option<Content>, LineFault>
     }
 }
 
-#[tactic(auto, unfolding(crate::specs::Columns::frame_in))]
 /// The frame of a line, from its identifier on.
+#[tactic(auto, unfolding(crate::specs::Columns::frame_in))]
 pub(crate) fn frame_in(at: u64, text: &[u8]) -> Result<Message, LineFault>
     ensures { result ≡ frame_in at text.now }
 {

@@ -33,8 +33,8 @@ fn numbers_in(text: &[u8]) -> Result<u64, LineFault>
     with_micros(seconds, &text[n - 7..][..6])
 }
 
-#[tactic(auto, unfolding(crate::specs::Lines::stamp_in))]
 /// The microsecond of a stamp.
+#[tactic(auto, unfolding(crate::specs::Lines::stamp_in))]
 pub(crate) fn stamp_in(text: &[u8]) -> Result<u64, LineFault>
     ensures { result ≡ stamp_in text.now }
 {
@@ -47,8 +47,8 @@ pub(crate) fn stamp_in(text: &[u8]) -> Result<u64, LineFault>
     numbers_in(text)
 }
 
-#[tactic(auto, unfolding(crate::specs::Lines::id_in))]
 /// An identifier of three or eight digits.
+#[tactic(auto, unfolding(crate::specs::Lines::id_in))]
 pub(crate) fn id_in(text: &[u8]) -> Result<u32, LineFault>
     ensures { result ≡ id_in text.now }
 {
@@ -65,8 +65,8 @@ pub(crate) fn id_in(text: &[u8]) -> Result<u32, LineFault>
     Err(LineFault::Identifier)
 }
 
-#[tactic(auto, unfolding(crate::specs::Lines::pairs_in))]
 // The data bytes of a frame, and none of a remote frame.
+#[tactic(auto, unfolding(crate::specs::Lines::pairs_in))]
 fn pairs_in(text: &[u8]) -> Result<Option<Content>, LineFault>
     ensures { result ≡ pairs_in text.now }
 {
@@ -112,8 +112,8 @@ fn logged(at: u64, text: &[u8]) -> Result<Message, LineFault>
     frame_in(at, front(b' ', text))
 }
 
-#[tactic(auto, unfolding(crate::specs::Lines::logged_in))]
 /// The frame of a line.
+#[tactic(auto, unfolding(crate::specs::Lines::logged_in))]
 pub(crate) fn logged_in(line: &[u8]) -> Result<Message, LineFault>
     ensures { result ≡ logged_in line.now }
 {
@@ -121,8 +121,8 @@ pub(crate) fn logged_in(line: &[u8]) -> Result<Message, LineFault>
     logged(at, back(b' ', back(b' ', line)))
 }
 
-#[tactic(auto, unfolding(crate::specs::Lines::line_in))]
 /// The entry of a line, or nothing where the line is of another channel.
+#[tactic(auto, unfolding(crate::specs::Lines::line_in))]
 pub fn line_in(channel: &[u8], line: &[u8]) -> Result<Option<Entry>, LineFault>
     ensures { result ≡ line_in channel.now line.now }
 {

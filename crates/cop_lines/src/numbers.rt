@@ -76,8 +76,8 @@ fn part_in(places: usize, text: &[u8]) -> Result<u64, LineFault>
     moment(scaled(number, places, text.len()))
 }
 
-#[tactic(auto, unfolding(crate::specs::Numbers::decimal_in))]
 /// The number that digits write, with a point or with none, in units of its last place that counts.
+#[tactic(auto, unfolding(crate::specs::Numbers::decimal_in))]
 pub(crate) fn decimal_in(places: usize, text: &[u8]) -> Result<u64, LineFault>
     requires { places ≤ 9 }
     ensures { result ≡ decimal_in places text.now }
@@ -111,8 +111,8 @@ fn hexadecimal_id(text: &[u8]) -> Result<u32, LineFault>
     hexadecimal(text).ok_or(LineFault::Identifier)
 }
 
-#[tactic(auto, unfolding(crate::specs::Numbers::id_digits))]
 /// The number of an identifier.
+#[tactic(auto, unfolding(crate::specs::Numbers::id_digits))]
 pub(crate) fn id_digits(base: Base, text: &[u8]) -> Result<u64, LineFault>
     ensures { result ≡ id_digits base text.now }
 {
@@ -192,8 +192,8 @@ pub(crate) fn len_of(digit: u8) -> Result<u8, LineFault>
     }
 }
 
-#[tactic(auto, unfolding(crate::specs::Numbers::len_in))]
 /// The length that a word of one digit says.
+#[tactic(auto, unfolding(crate::specs::Numbers::len_in))]
 pub(crate) fn len_in(text: &[u8]) -> Result<u8, LineFault>
     ensures value { result ≡ len_in text.now }
     ensures few { IfOk result (λ len. len ≤ 8) }
@@ -217,8 +217,8 @@ fn bytes_in(base: Base, text: &[u8], body: &mut [u8]) -> Result<(), LineFault>
     Ok(())
 }
 
-#[tactic(auto, unfolding(crate::specs::Numbers::content_in))]
 /// The data bytes of a frame with so many, a word each.
+#[tactic(auto, unfolding(crate::specs::Numbers::content_in))]
 pub(crate) fn content_in(base: Base, len: u8, text: &[u8]) -> Result<Content, LineFault>
     requires { len ≤ 8 }
     ensures { result ≡ content_in base len text.now }

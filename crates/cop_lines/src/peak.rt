@@ -24,8 +24,8 @@ pub(crate) enum Kind {
     Status,
 }
 
-#[tactic(auto, unfolding(crate::specs::Peak::column_of))]
 // The number of the column of a letter.
+#[tactic(auto, unfolding(crate::specs::Peak::column_of))]
 fn column_of(letter: u8, text: &[u8]) -> Option<usize>
     ensures { result ≡ column_of letter text.now }
 {
@@ -112,8 +112,8 @@ fn layout_of_version(text: &[u8]) -> Result<Layout, LineFault>
     Err(LineFault::Form)
 }
 
-#[tactic(auto, unfolding(crate::specs::Peak::header_in))]
 /// What a word that begins with `;` says of the columns.
+#[tactic(auto, unfolding(crate::specs::Peak::header_in))]
 pub(crate) fn header_in(layout: Layout, text: &[u8]) -> Result<Layout, LineFault>
     ensures { result ≡ header_in layout text.now }
 {
@@ -147,8 +147,8 @@ fn is_status(text: &[u8]) -> bool
         || text == b"Warng".as_slice()
 }
 
-#[tactic(auto, unfolding(crate::specs::Peak::kind_of))]
 // The kind that a word says; others are refused, as CAN FD frames.
+#[tactic(auto, unfolding(crate::specs::Peak::kind_of))]
 fn kind_of(text: &[u8]) -> Result<Kind, LineFault>
     ensures { result ≡ kind_of text.now }
 {
@@ -201,8 +201,8 @@ fn id_in(text: &[u8]) -> Result<u32, LineFault>
     long_id(number)
 }
 
-#[tactic(auto, unfolding(crate::specs::Peak::data_in))]
 // The data bytes of a frame, and none of a remote frame.
+#[tactic(auto, unfolding(crate::specs::Peak::data_in))]
 fn data_in(len: u8, text: &[u8]) -> Result<Option<Content>, LineFault>
     requires { len ≤ 8 }
     ensures { result ≡ data_in len text.now }
@@ -250,8 +250,8 @@ fn frame_in(kind: Kind, layout: Layout, at: u64, line: &[u8]) -> Result<Option<M
     }
 }
 
-#[tactic(auto, unfolding(crate::specs::Peak::line_in))]
 /// The frame of a line that is no comment; nothing where it tells of something else. Stamps are milliseconds.
+#[tactic(auto, unfolding(crate::specs::Peak::line_in))]
 pub(crate) fn line_in(layout: Layout, line: &[u8]) -> Result<Option<Message>, LineFault>
     ensures { result ≡ line_in layout line.now }
 {

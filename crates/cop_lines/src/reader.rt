@@ -51,8 +51,8 @@ fn form_of_candump(line: &[u8]) -> Form
     }
 }
 
-#[tactic(auto, unfolding(crate::specs::Reader::form_of))]
 // The form that a line tells.
+#[tactic(auto, unfolding(crate::specs::Reader::form_of))]
 fn form_of(line: &[u8]) -> Form
     ensures { result ≡ form_of line.now }
 {
@@ -119,8 +119,8 @@ fn nothing(reader: LineReader) -> Reading
     }
 }
 
-#[tactic(auto, unfolding(crate::specs::Reader::moment_of))]
 // The moment of a line by its stamp.
+#[tactic(auto, unfolding(crate::specs::Reader::moment_of))]
 fn moment_of(are_distances: bool, before: u64, stamp: u64) -> Result<u64, LineFault>
     ensures { result ≡ moment_of are_distances before stamp }
 {
@@ -240,8 +240,8 @@ fn step_by(form: Form, reader: LineReader, line: &[u8]) -> Result<Reading, LineF
     }
 }
 
-#[tactic(auto, unfolding(crate::specs::Reader::step))]
 // What a line makes of a reader.
+#[tactic(auto, unfolding(crate::specs::Reader::step))]
 fn step(reader: LineReader, line: &[u8]) -> Result<Reading, LineFault>
     ensures { result ≡ step reader line.now }
 {

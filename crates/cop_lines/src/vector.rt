@@ -12,8 +12,8 @@ use crate::numbers::{
 use crate::words::{after, begins, field, word};
 use cop_table::number;
 
-#[tactic(auto, unfolding(crate::specs::Vector::base_in))]
 /// What a line says that begins with `base`: the digits of identifiers and bytes, and whether stamps are distances.
+#[tactic(auto, unfolding(crate::specs::Vector::base_in))]
 pub(crate) fn base_in(line: &[u8]) -> Result<Form, LineFault>
     ensures { result ≡ base_in line.now }
 {
@@ -84,8 +84,8 @@ fn bytes_in(base: Base, text: &[u8]) -> Result<Option<Content>, LineFault>
     Ok(Some(content))
 }
 
-#[tactic(auto, unfolding(crate::specs::Vector::data_in))]
 // The data bytes of a frame, and none of a remote frame.
+#[tactic(auto, unfolding(crate::specs::Vector::data_in))]
 fn data_in(base: Base, text: &[u8]) -> Result<Option<Content>, LineFault>
     ensures { result ≡ data_in base text.now }
 {
@@ -132,8 +132,8 @@ fn on_channel(base: Base, at: u64, text: &[u8]) -> Result<Option<Message>, LineF
     without_direction(id_in(base, word(text)))
 }
 
-#[tactic(auto, unfolding(crate::specs::Vector::event_in))]
 /// The frame of an event, from what stands behind its stamp; nothing where it is none.
+#[tactic(auto, unfolding(crate::specs::Vector::event_in))]
 pub(crate) fn event_in(base: Base, at: u64, text: &[u8]) -> Result<Option<Message>, LineFault>
     ensures { result ≡ event_in base at text.now }
 {

@@ -66,16 +66,16 @@ fn letters_in(text: &[u8]) -> usize
     text.len()
 }
 
-#[tactic(auto, unfolding(crate::specs::Words::trimmed))]
 /// A text without the blanks in front of it.
+#[tactic(auto, unfolding(crate::specs::Words::trimmed))]
 pub(crate) fn trimmed(text: &[u8]) -> &[u8]
     ensures { result.now ≡ trimmed text.now }
 {
     &text[blanks_in(text)..]
 }
 
-#[tactic(auto, unfolding(crate::specs::Words::word))]
 /// The first word of a text, which is empty where there is none.
+#[tactic(auto, unfolding(crate::specs::Words::word))]
 pub(crate) fn word(text: &[u8]) -> &[u8]
     ensures { result.now ≡ word text.now }
 {
@@ -83,8 +83,8 @@ pub(crate) fn word(text: &[u8]) -> &[u8]
     &start[..letters_in(start)]
 }
 
-#[tactic(auto, unfolding(crate::specs::Words::after_word))]
 /// What stands behind the first word.
+#[tactic(auto, unfolding(crate::specs::Words::after_word))]
 pub(crate) fn after_word(text: &[u8]) -> &[u8]
     ensures { result.now ≡ after_word text.now }
 {
@@ -92,8 +92,8 @@ pub(crate) fn after_word(text: &[u8]) -> &[u8]
     &start[letters_in(start)..]
 }
 
-#[tactic(auto, unfolding(crate::specs::Words::after), using(crate::proofs::Parts::after_less))]
 /// What stands behind so many words.
+#[tactic(auto, unfolding(crate::specs::Words::after), using(crate::proofs::Parts::after_less))]
 pub(crate) fn after(count: usize, text: &[u8]) -> &[u8]
     ensures { result.now ≡ after count text.now }
 {
@@ -106,16 +106,16 @@ pub(crate) fn after(count: usize, text: &[u8]) -> &[u8]
     rest
 }
 
-#[tactic(auto, unfolding(crate::specs::Words::field))]
 /// The word behind so many others.
+#[tactic(auto, unfolding(crate::specs::Words::field))]
 pub(crate) fn field(count: usize, text: &[u8]) -> &[u8]
     ensures { result.now ≡ field count text.now }
 {
     word(after(count, text))
 }
 
-#[tactic(auto, unfolding(crate::specs::Words::begins))]
 /// Whether a text begins with another one.
+#[tactic(auto, unfolding(crate::specs::Words::begins))]
 pub(crate) fn begins(start: &[u8], text: &[u8]) -> bool
     ensures value { result ≡ begins start.now text.now }
     ensures long { IsTrue result → length start.now ≤ length text.now }

@@ -1,16 +1,16 @@
--- A boot over a port: what is done there, and what is true of it.
-use Rattle.std.specs.Prelude.{◌≡◌, ℕ, ◌-◌, List, [], ◌∷◌, ◌++◌, map, filter, Some, option_and_then}
+-- A boot over a port: what is done there, and what is true of it. The start of the nodes is held back.
+use Rattle.std.specs.Prelude.{◌≡◌, ℕ, ◌-◌, Bool, not, ◌&&◌, ◌==◌, List, [], ◌∷◌, ◌++◌, map, filter, slice_index, nat_lt, Option, Some, None, option_and_then, if◌then◌else◌}
+use Rattle.std.specs.Option.{option_or}
 use Rattle.cop_frame.specs.declared.rates.Rate.{Rate}
 use Rattle.cop_sdo.specs.Message.{Message}
 use Rattle.cop_boot.specs.declared.«end».End.TheVariants.{Ready}
 use Rattle.cop_boot.specs.Node.{Node}
-use Rattle.cop_boot.specs.Manager.{Managing, Managed, heard, passed, and_then, begun_at, driven, reset_all, start_all, node_of, end_at, is_command, commands_of}
+use Rattle.cop_boot.specs.Manager.{Managing, Managed, heard, passed, and_then, begun_at, driven, reset_all, node_of, end_at, is_command}
 use Rattle.cop_boot.specs.Ends.{events, end_of, IsConfigured}
-use Rattle.cop_boot.specs.Sent.{MaySend, WereConfigured}
 use Rattle.cop_slcan.specs.Lines.{rate_digit}
 use Rattle.cop_slcan.specs.Meaning.{Told, Heard, Done, Refused, Other}
 use Rattle.cop_slcan.specs.Reading.{said_from, left_from}
-use Rattle.cop_live.specs.Log.{Doing, Asked, Sent, Read, DidAll, sent_in, came}
+use Rattle.cop_live.specs.Log.{Doing, Asked, Sent, Read, DidAll, came}
 
 -- CR ends a line that is begun, twice; `C` closes the adapter, `S` and a digit set the rate, `O` opens it
 abbrev pub opening : Rate → List ℕ
@@ -54,11 +54,35 @@ abbrev pub told_all : Managing → List Told → Managed
 told_all m [] = record { manager = m; frames = [] }
 told_all m (t ∷ rest) = and_then (told m t) (λ later. told_all later rest)
 
+-- an NMT command whose first byte is 1 starts nodes
+abbrev pub is_start : Message → Bool
+is_start frame = is_command frame && (slice_index frame.body 0 == 1)
+
+-- the start is held back, and all else is sent
+abbrev pub held : List Message → List Message
+held frames = filter (λ frame. not (is_start frame)) frames
+
+-- the node whose boot-up a frame is (701h to 77Fh, one byte, 00h)
+abbrev pub boot_up_of : Message → Option ℕ
+boot_up_of frame = if nat_lt 0x700 frame.id && (nat_lt frame.id 0x780 && ((frame.len == 1) && (slice_index frame.body 0 == 0))) then Some (frame.id - 0x700) else None
+
+-- the node whose boot-up a line tells
+abbrev pub boot_up_told : Told → Option ℕ
+boot_up_told (Heard frame) = boot_up_of frame
+boot_up_told Done = None
+boot_up_told Refused = None
+boot_up_told Other = None
+
+-- the node whose boot-up is the first in lines
+abbrev pub first_boot_up : List Told → Option ℕ
+first_boot_up [] = None
+first_boot_up (line ∷ rest) = option_or (boot_up_told line) (first_boot_up rest)
+
 -- a turn: the clock is asked, and what the manager gives up then is sent; bytes are read, and what it answers to the frames in them
 -- is sent
 abbrev pub turn_log : ℕ → State → ℕ → List ℕ → List Doing
 turn_log began s now bytes =
-    Asked now ∷ (map Sent (passed s.manager (now - began)).frames ++ (Read bytes ∷ map Sent (told_all (passed s.manager (now - began)).manager (said_from s.pending bytes)).frames))
+    Asked now ∷ (map Sent (held (passed s.manager (now - began)).frames) ++ (Read bytes ∷ map Sent (held (told_all (passed s.manager (now - began)).manager (said_from s.pending bytes)).frames)))
 
 abbrev pub turn_state : ℕ → State → ℕ → List ℕ → State
 turn_state began s now bytes = record {
@@ -66,33 +90,47 @@ turn_state began s now bytes = record {
   pending = left_from s.pending bytes;
 }
 
--- turns in their order, each with its moment and its bytes
-abbrev pub turns_log : ℕ → State → List (ℕ × List ℕ) → List Doing
-turns_log began s [] = []
-turns_log began s ((now, bytes) ∷ turns) = turn_log began s now bytes ++ turns_log began (turn_state began s now bytes) turns
+-- a step: a turn with its moment and its bytes, or a frame of another than the manager
+pub data Step : Type 0 where
+  Turn : (now : ℕ) (bytes : List ℕ) → Step
+  Request : (frame : Message) → Step
 
--- a boot: the communication of all nodes is reset, and turns are taken
-abbrev pub boot_log : Managing → ℕ → List (ℕ × List ℕ) → List Doing
-boot_log m began turns = Sent reset_all ∷ turns_log began (record { manager = (begun_at m 0).manager; pending = [] }) turns
+-- steps in their order
+abbrev pub steps_log : ℕ → State → List Step → List Doing
+steps_log began s [] = []
+steps_log began s (Turn now bytes ∷ steps) = turn_log began s now bytes ++ steps_log began (turn_state began s now bytes) steps
+steps_log began s (Request frame ∷ steps) = Sent frame ∷ steps_log began s steps
 
--- What is true of a boot that made one manager of another.
-pub record IsBoot (m : Managing) (began : ℕ) (log : List Doing) (later : Managing) : Type 0 where
-  -- what is sent is what the manager sends to all that came
-  pub driven_so : (let out : Managed = record { manager = later; frames = sent_in log } in out) ≡ driven m (came began log)
+abbrev pub steps_state : ℕ → State → List Step → State
+steps_state began s [] = s
+steps_state began s (Turn now bytes ∷ steps) = steps_state began (turn_state began s now bytes) steps
+steps_state began s (Request frame ∷ steps) = steps_state began s steps
+
+-- turns, each with its moment and its bytes
+abbrev pub turns : List (ℕ × List ℕ) → List Step
+turns [] = []
+turns ((now, bytes) ∷ rest) = Turn now bytes ∷ turns rest
+
+-- a boot begins: the communication of all nodes is reset, and their boot-ups are awaited
+abbrev pub first_state : Managing → State
+first_state m = record { manager = (begun_at m 0).manager; pending = [] }
+
+abbrev pub boot_log : Managing → ℕ → List Step → List Doing
+boot_log m began steps = Sent reset_all ∷ steps_log began (first_state m) steps
+
+-- What is true of a manager that one became by all that came.
+pub record IsDriven (m : Managing) (began : ℕ) (log : List Doing) (later : Managing) : Type 0 where
+  pub driven_so : later ≡ (driven m (came began log)).manager
   -- the boot of each node ended as what came from it says
   pub ends : (number : ℕ) → end_at later.nodes number ≡ option_and_then (λ node. end_of node.number node.settings (events node.number 0 (came began log))) (node_of m.nodes number)
   -- a node that is ready has, since its last boot-up, confirmed each of its settings in turn by an answer that was read
   pub ready : (number : ℕ) (node : Node) → node_of m.nodes number ≡ Some node → end_at later.nodes number ≡ Some Ready → IsConfigured node.settings (events node.number 0 (came began log))
-  -- of commands one reset was sent, and one start where the nodes were started
-  pub commands : filter is_command (sent_in log) ≡ commands_of later.started
-  -- whatever was sent is a frame that the manager may send, and before the start each node had been configured by what came
-  pub sent : (before after : List Doing) (frame : Message) → log ≡ before ++ Sent frame ∷ after → MaySend m.nodes frame × (frame ≡ start_all → WereConfigured m.nodes (came began before))
 
--- a boot over a port: the clock is asked at which moment it begins, and then all that is done is its log
-pub record Booted {P : Type 0} (reads writes : P → List ℕ → P → Type 0) (asks : P → ℕ → P → Type 0) (m : Managing) (p : P) (later : Managing) (q : P) : Type 0 where
-  pub began : ℕ
+-- a boot over a port so far: the clock was asked at which moment it begins, the nodes were reset, and turns were taken
+pub record Booted {P : Type 0} (reads writes : P → List ℕ → P → Type 0) (asks : P → ℕ → P → Type 0) (m : Managing) (p : P) (began : ℕ) (s : State) (q : P) : Type 0 where
   pub asked : P
-  pub turns : List (ℕ × List ℕ)
+  pub taken : List (ℕ × List ℕ)
   pub asks_first : asks p began asked
-  pub did : DidAll reads writes asks asked (boot_log m began turns) q
-  pub is : IsBoot m began (boot_log m began turns) later
+  pub did : DidAll reads writes asks asked (boot_log m began (turns taken)) q
+  pub state : s ≡ steps_state began (first_state m) (turns taken)
+  pub is : IsDriven m began (boot_log m began (turns taken)) s.manager

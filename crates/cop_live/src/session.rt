@@ -1,34 +1,49 @@
-//! A boot over a port.
+//! A boot over a port. The start of the nodes is held back.
 
-ghost use Rattle.std.specs.Prelude.{◌≡◌, ◌∷◌, ◌-◌, [], ℕ, List, true, map, is_some, option_to_list};
+ghost use Rattle.std.specs.Prelude.{◌≡◌, ◌≤◌, ◌∷◌, [], true, map, take, is_some, option_to_list, IfSome};
 ghost use Rattle.std.specs.List.{list_all};
+ghost use Rattle.std.specs.Option.{option_or};
 ghost use Rattle.cop_sdo.specs.Message.{message_of};
 ghost use Rattle.cop_boot.specs.Manager.{passed, heard, end_at};
 ghost use Rattle.cop_slcan.specs.Meaning.{told_of};
 ghost use Rattle.cop_slcan.specs.Reading.{taken, said_from, left_from};
 ghost use Rattle.cop_live.specs.Log.{Sent, DidAll};
-ghost use Rattle.cop_live.specs.Session.{State, told, told_all, turn_log, turn_state, Opened, Closed, Booted};
+ghost use Rattle.cop_live.specs.Session.{State, told, told_all, is_start, held, boot_up_of, boot_up_told, first_boot_up, turn_log, turn_state, Opened, Closed, Booted};
 
 use crate::port::Port;
 use cop_boot::Manager;
 use cop_frame::{Frame, Rate};
 use cop_slcan::{Reader, Said, line_of, rate_digit};
 
-// Sends a frame.
-fn send<P: Port>(port: &mut P, frame: &Frame) -> bool
+/// Sends a frame. `false` where the port fails.
+pub fn send<P: Port>(port: &mut P, frame: &Frame) -> bool
     ensures { result ≡ true → DidAll P.reads P.writes P.asks port.old (Sent (message_of frame.now) ∷ []) port.new }
 {
     port.write(&line_of(frame))
 }
 
+// Whether a frame starts nodes.
+fn is_start(frame: &Frame) -> bool
+    ensures { result ≡ is_start (message_of frame.now) }
+{
+    frame.id == 0 && frame.body[0] == 1
+}
+
+// Sends a frame of the manager, unless it is the start.
+fn send_held<P: Port>(port: &mut P, frame: &Frame) -> bool
+    ensures { result ≡ true → DidAll P.reads P.writes P.asks port.old (map Sent (held (message_of frame.now ∷ []))) port.new }
+{
+    is_start(frame) || send(port, frame)
+}
+
 // A moment passes: what the manager gives up is sent.
 fn pass<P: Port>(manager: &mut Manager, port: &mut P, now: u64) -> bool
     ensures manager { result ≡ true → manager.new ≡ (passed manager.old now).manager }
-    ensures sent { result ≡ true → DidAll P.reads P.writes P.asks port.old (map Sent (passed manager.old now).frames) port.new }
+    ensures sent { result ≡ true → DidAll P.reads P.writes P.asks port.old (map Sent (held (passed manager.old now).frames)) port.new }
 {
     match manager.on_moment(now) {
         Some(frame) => {
-            if send(port, &frame) {
+            if send_held(port, &frame) {
                 pass(manager, port, now)
             } else {
                 false
@@ -41,11 +56,11 @@ fn pass<P: Port>(manager: &mut Manager, port: &mut P, now: u64) -> bool
 // The manager hears a frame, and answers.
 fn hear_frame<P: Port>(manager: &mut Manager, port: &mut P, frame: &Frame) -> bool
     ensures manager { result ≡ true → manager.new ≡ (heard manager.old (message_of frame.now) manager.old.clock).manager }
-    ensures sent { result ≡ true → DidAll P.reads P.writes P.asks port.old (map Sent (heard manager.old (message_of frame.now) manager.old.clock).frames) port.new }
+    ensures sent { result ≡ true → DidAll P.reads P.writes P.asks port.old (map Sent (held (heard manager.old (message_of frame.now) manager.old.clock).frames)) port.new }
 {
     let now = manager.clock();
     match manager.on_frame(frame, now) {
-        Some(answer) => send(port, &answer),
+        Some(answer) => send_held(port, &answer),
         None => true,
     }
 }
@@ -53,7 +68,7 @@ fn hear_frame<P: Port>(manager: &mut Manager, port: &mut P, frame: &Frame) -> bo
 // The manager is told something, and answers.
 fn tell<P: Port>(manager: &mut Manager, port: &mut P, said: &Said) -> bool
     ensures manager { result ≡ true → manager.new ≡ (told manager.old (told_of said.now)).manager }
-    ensures sent { result ≡ true → DidAll P.reads P.writes P.asks port.old (map Sent (told manager.old (told_of said.now)).frames) port.new }
+    ensures sent { result ≡ true → DidAll P.reads P.writes P.asks port.old (map Sent (held (told manager.old (told_of said.now)).frames)) port.new }
 {
     match said {
         Said::Heard(frame) => hear_frame(manager, port, frame),
@@ -61,34 +76,75 @@ fn tell<P: Port>(manager: &mut Manager, port: &mut P, said: &Said) -> bool
     }
 }
 
-// The manager is told what a byte says, if it ends a line.
-fn take_byte<P: Port>(manager: &mut Manager, reader: &mut Reader, port: &mut P, byte: u8) -> bool
-    ensures reader { reader.new ≡ (taken reader.old byte).0 }
-    ensures manager { result ≡ true → manager.new ≡ (told_all manager.old (option_to_list (taken reader.old byte).1)).manager }
-    ensures sent { result ≡ true → DidAll P.reads P.writes P.asks port.old (map Sent (told_all manager.old (option_to_list (taken reader.old byte).1)).frames) port.new }
+// The node whose boot-up a frame is.
+fn boot_up_of(frame: &Frame) -> Option<u8>
+    ensures { result ≡ boot_up_of (message_of frame.now) }
 {
-    match reader.take(byte) {
-        Some(said) => tell(manager, port, &said),
+    if frame.id > 0x700 && frame.id < 0x780 && frame.len == 1 && frame.body[0] == 0 {
+        Some((frame.id - 0x700) as u8)
+    } else {
+        None
+    }
+}
+
+// The node whose boot-up a line tells.
+fn boot_up_told(said: &Said) -> Option<u8>
+    ensures { result ≡ boot_up_told (told_of said.now) }
+{
+    match said {
+        Said::Heard(frame) => boot_up_of(frame),
+        Said::Done | Said::Refused | Said::Other => None,
+    }
+}
+
+/// A boot over a port: the moment at which it began, the reader of what comes, and the node that was the first to boot up.
+#[derive(Drop)]
+pub struct Boot {
+    pub began: u64,
+    pub reader: Reader,
+    pub booted: Option<u8>,
+}
+
+// The node that was the first to boot up, once a line was told.
+fn booted_after(booted: Option<u8>, said: &Said) -> Option<u8>
+    ensures { result ≡ option_or booted (boot_up_told (told_of said.now)) }
+{
+    match booted {
+        Some(node) => Some(node),
+        None => boot_up_told(said),
+    }
+}
+
+// The manager is told what a byte says, if it ends a line.
+fn take_byte<P: Port>(manager: &mut Manager, boot: &mut Boot, port: &mut P, byte: u8) -> bool
+    ensures began { boot.new.began ≡ boot.old.began }
+    ensures reader { boot.new.reader ≡ (taken boot.old.reader byte).0 }
+    ensures booted { boot.new.booted ≡ option_or boot.old.booted (first_boot_up (option_to_list (taken boot.old.reader byte).1)) }
+    ensures manager { result ≡ true → manager.new ≡ (told_all manager.old (option_to_list (taken boot.old.reader byte).1)).manager }
+    ensures sent { result ≡ true → DidAll P.reads P.writes P.asks port.old (map Sent (held (told_all manager.old (option_to_list (taken boot.old.reader byte).1)).frames)) port.new }
+{
+    match boot.reader.take(byte) {
+        Some(said) => {
+            boot.booted = booted_after(boot.booted, &said);
+            tell(manager, port, &said)
+        }
         None => true,
     }
 }
 
 // The manager is told what bytes say.
-fn take_bytes<P: Port>(
-    manager: &mut Manager,
-    reader: &mut Reader,
-    port: &mut P,
-    bytes: &[u8],
-) -> bool
-    ensures reader { result ≡ true → reader.new ≡ left_from reader.old bytes.now }
-    ensures manager { result ≡ true → manager.new ≡ (told_all manager.old (said_from reader.old bytes.now)).manager }
-    ensures sent { result ≡ true → DidAll P.reads P.writes P.asks port.old (map Sent (told_all manager.old (said_from reader.old bytes.now)).frames) port.new }
+fn take_bytes<P: Port>(manager: &mut Manager, boot: &mut Boot, port: &mut P, bytes: &[u8]) -> bool
+    ensures began { boot.new.began ≡ boot.old.began }
+    ensures reader { result ≡ true → boot.new.reader ≡ left_from boot.old.reader bytes.now }
+    ensures booted { result ≡ true → boot.new.booted ≡ option_or boot.old.booted (first_boot_up (said_from boot.old.reader bytes.now)) }
+    ensures manager { result ≡ true → manager.new ≡ (told_all manager.old (said_from boot.old.reader bytes.now)).manager }
+    ensures sent { result ≡ true → DidAll P.reads P.writes P.asks port.old (map Sent (held (told_all manager.old (said_from boot.old.reader bytes.now)).frames)) port.new }
 {
     match bytes {
         [] => true,
         [byte, rest @ ..] => {
-            if take_byte(manager, reader, port, *byte) {
-                take_bytes(manager, reader, port, rest)
+            if take_byte(manager, boot, port, *byte) {
+                take_bytes(manager, boot, port, rest)
             } else {
                 false
             }
@@ -103,21 +159,40 @@ fn have_ended(manager: &Manager, nodes: &[u8]) -> bool
     nodes.iter().all(|node| manager.end(*node).is_some())
 }
 
-// Lets time pass, and hears what came. Moments count from that at which the boot began.
-fn turn<P: Port>(manager: &mut Manager, reader: &mut Reader, port: &mut P, began: u64) -> bool
-    ensures { result ≡ true → (now : ℕ) × (bytes : List ℕ) × DidAll P.reads P.writes P.asks port.old (turn_log began (record { manager = manager.old; pending = reader.old }) now bytes) port.new
-        × ((let later : State = record { manager = manager.new; pending = reader.new } in later) ≡ turn_state began (record { manager = manager.old; pending = reader.old }) now bytes) }
+/// A turn that was taken: its moment, and how many bytes were read in it.
+#[derive(Clone, Copy)]
+pub struct Turn {
+    pub now: u64,
+    pub count: usize,
+}
+
+/// Takes a turn: lets time pass, and hears what comes, of which the bytes are put into the buffer's beginning. Moments count from that at
+/// which the boot began. `None` where the port or its clock fails.
+pub fn take_turn<P: Port>(
+    manager: &mut Manager,
+    boot: &mut Boot,
+    port: &mut P,
+    buffer: &mut [u8; 256],
+) -> Option<Turn>
+    ensures count { IfSome result (λ turn. turn.count ≤ 256) }
+    ensures began { boot.new.began ≡ boot.old.began }
+    ensures did { IfSome result (λ turn. DidAll P.reads P.writes P.asks port.old (turn_log boot.old.began (record { manager = manager.old; pending = boot.old.reader }) turn.now (take turn.count buffer.new)) port.new) }
+    ensures booted { IfSome result (λ turn. boot.new.booted ≡ option_or boot.old.booted (first_boot_up (said_from boot.old.reader (take turn.count buffer.new)))) }
+    ensures state { IfSome result (λ turn. (let later : State = record { manager = manager.new; pending = boot.new.reader } in later) ≡ turn_state boot.old.began (record { manager = manager.old; pending = boot.old.reader }) turn.now (take turn.count buffer.new)) }
 {
     let Some(now) = port.now() else {
-        return false;
+        return None;
     };
-    if !pass(manager, port, now.saturating_sub(began)) {
-        return false;
+    if !pass(manager, port, now.saturating_sub(boot.began)) {
+        return None;
     }
-    let mut buffer = [0; 256];
-    match port.read(&mut buffer) {
-        Some(count) => take_bytes(manager, reader, port, &buffer[..count]),
-        None => false,
+    let Some(count) = port.read(buffer) else {
+        return None;
+    };
+    if take_bytes(manager, boot, port, &buffer[..count]) {
+        Some(Turn { now, count })
+    } else {
+        None
     }
 }
 
@@ -148,27 +223,42 @@ pub fn close<P: Port>(port: &mut P) -> bool
     port.read(&mut buffer).is_some() && port.read(&mut buffer).is_some() && port.write(b"C\r")
 }
 
-/// Boots the nodes of a manager over a port, until the boot of each of some nodes has ended: whatever bytes come, and at whatever
-/// moments. `false` where the port or its clock fails.
-pub fn boot_over<P: Port>(manager: &mut Manager, nodes: &[u8], port: &mut P) -> bool
-    ensures booted { result ≡ true → Booted P.reads P.writes P.asks manager.old port.old manager.new port.new }
-    ensures ended { result ≡ true → list_all (λ node. is_some (end_at manager.new.nodes node)) nodes.now ≡ true }
+// Asks the clock when the boot begins, and resets the nodes.
+fn begin<P: Port>(manager: &mut Manager, port: &mut P) -> Option<Boot>
+    ensures { IfSome result (λ boot. Booted P.reads P.writes P.asks manager.old port.old boot.began (record { manager = manager.new; pending = boot.reader }) port.new) }
 {
-    let mut reader = Reader::new();
     let Some(began) = port.now() else {
-        return false;
+        return None;
     };
     let reset = manager.begin(0);
-    if !send(port, &reset) {
-        return false;
+    if send(port, &reset) {
+        Some(Boot {
+            began,
+            reader: Reader::new(),
+            booted: None,
+        })
+    } else {
+        None
     }
+}
+
+/// Boots the nodes of a manager over a port, until the boot of each of some nodes has ended: whatever bytes come, and at whatever
+/// moments. The start of the nodes is held back. `None` where the port or its clock fails.
+pub fn boot_over<P: Port>(manager: &mut Manager, nodes: &[u8], port: &mut P) -> Option<Boot>
+    ensures booted { IfSome result (λ boot. Booted P.reads P.writes P.asks manager.old port.old boot.began (record { manager = manager.new; pending = boot.reader }) port.new) }
+    ensures ended { IfSome result (λ boot. list_all (λ node. is_some (end_at manager.new.nodes node)) nodes.now ≡ true) }
+{
+    let Some(mut boot) = begin(manager, port) else {
+        return None;
+    };
+    let mut buffer = [0; 256];
     for _ in 0..u64::MAX {
         if have_ended(manager, nodes) {
-            return true;
+            return Some(boot);
         }
-        if !turn(manager, &mut reader, port, began) {
-            return false;
-        }
+        let Some(_turn) = take_turn(manager, &mut boot, port, &mut buffer) else {
+            return None;
+        };
     }
-    false
+    None
 }

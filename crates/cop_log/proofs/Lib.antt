@@ -2,6 +2,7 @@ pub mod Counted
 pub mod Distance
 pub mod Bounded
 pub mod Convicts
+pub mod Kept
 pub mod Watched
 pub mod Piled
 pub mod Named

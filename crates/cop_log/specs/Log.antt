@@ -51,6 +51,15 @@ pub record HasLog (tau : ℕ) (clock : Clock) (until : ℕ) (run : List Instance
   pub not_slow : (i j : ℕ) → i < j → j < length log → 1000000 * end j + most clock (stamp log i) ≤ 1000000 * end i + most clock (stamp log j) + slack clock
   pub not_fast : (i j : ℕ) → i < j → j < length log → 1000000 * end i + least clock (stamp log j) ≤ 1000000 * end j + least clock (stamp log i) + slack clock
 
+-- A log that keeps time: its entries are of transfers that end by the end of the run, in the order of their ends, and the stamp of
+-- each is the microsecond in which its transfer ends.
+pub record IsKept (tau until : ℕ) (run : List Instance) (log : List Entry) : Type 0 where
+  pub end : ℕ → ℕ
+  pub seen : (i : ℕ) → i < length log → Any (IsOf tau (entry_at log i) (end i)) run
+  pub by_end : (i : ℕ) → i < length log → end i ≤ until
+  pub in_order : (i j : ℕ) → i < j → j < length log → end i < end j
+  pub stamped : (i : ℕ) → i < length log → (4 * stamp log i ≤ end i) × (end i < 4 * stamp log i + 4)
+
 -- What a log is watched for: the streams at a rate, the bound of each stream's response where there is one, and the clock of the log.
 pub record Terms : Type 0 where
   pub rate : Rate

@@ -84,32 +84,26 @@ pub(crate) fn load_next(
         at,
         ticks: 0,
     };
-    match pile {
-        None => Load {
+    let Some(pile) = pile else {
+        return Load {
             pile: fresh,
             crowded: None,
+        };
+    };
+    let more = grown(pile, least_ticks(rate, entry.len));
+    if is_full(clock, more.at, at, more.ticks) {
+        let (from, to) = (more.from, number);
+        return Load {
+            pile: fresh,
+            crowded: Some(Finding::Crowded { from, to }),
+        };
+    }
+    Load {
+        pile: if is_lower(clock, more, at) {
+            more
+        } else {
+            fresh
         },
-        Some(pile) => {
-            let more = grown(pile, least_ticks(rate, entry.len));
-            if is_full(clock, more.at, at, more.ticks) {
-                return Load {
-                    pile: fresh,
-                    crowded: Some(Finding::Crowded {
-                        from: more.from,
-                        to: number,
-                    }),
-                };
-            }
-            if is_lower(clock, more, at) {
-                return Load {
-                    pile: more,
-                    crowded: None,
-                };
-            }
-            Load {
-                pile: fresh,
-                crowded: None,
-            }
-        }
+        crowded: None,
     }
 }

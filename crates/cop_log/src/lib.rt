@@ -24,7 +24,7 @@ pub use bounds::bounds_of;
 pub use clocks::Clock;
 pub use faults::LogFault;
 pub use findings::Finding;
-pub use laws::evidence_convicts;
+pub use laws::{evidence_convicts, kept_time_is_a_log};
 pub use reading::read_log;
 pub use reports::watch_log;
 pub use told::Told;

@@ -58,36 +58,33 @@ pub(crate) fn watch_next(watch: &Watch, at: u64, number: u64, anchor: Option<Anc
         at,
         count: 1,
     };
-    match anchor {
-        None => Next {
+    let Some(anchor) = anchor else {
+        return Next {
             anchor: fresh,
             soon: None,
-        },
-        Some(anchor) => {
-            if is_near(watch, anchor.at, at, anchor.count) {
-                return Next {
-                    anchor: fresh,
-                    soon: Some(Finding::Soon {
-                        from: anchor.from,
-                        to: number,
-                        count: anchor.count,
-                    }),
-                };
-            }
-            if is_behind(watch, anchor, at) {
-                return Next {
-                    anchor: Anchor {
-                        from: anchor.from,
-                        at: anchor.at,
-                        count: anchor.count.saturating_add(1),
-                    },
-                    soon: None,
-                };
-            }
-            Next {
-                anchor: fresh,
-                soon: None,
-            }
-        }
+        };
+    };
+    let Anchor {
+        from,
+        at: start,
+        count,
+    } = anchor;
+    if is_near(watch, start, at, count) {
+        let to = number;
+        return Next {
+            anchor: fresh,
+            soon: Some(Finding::Soon { from, to, count }),
+        };
+    }
+    if is_behind(watch, anchor, at) {
+        let count = count.saturating_add(1);
+        return Next {
+            anchor: Anchor { count, ..anchor },
+            soon: None,
+        };
+    }
+    Next {
+        anchor: fresh,
+        soon: None,
     }
 }

@@ -3,9 +3,11 @@
 
 mod commands;
 mod orders;
+mod subcommands;
+mod words;
 
-pub use commands::MOST_UNTIL;
 pub use orders::{
     Format, MachineOrder, NetworkFiles, Order, Rates, Request, Shown, TidyOrder, WatchOrder,
     read_request,
 };
+pub use subcommands::MOST_UNTIL;

@@ -370,7 +370,7 @@ fn has_document(name: &str) -> bool {
 
 /// What the words ask for, the program's name being the first. With no other word it is `test --rate 125 -`.
 pub fn read_request<'a>(alloc: Global, words: &'a [String]) -> Result<Request<'a>, Error> {
-    let command = command(alloc)?;
+    let command = command(alloc, words)?;
     let matches = command.try_get_matches_from(words)?;
     match matches.subcommand() {
         Some((name, matches)) => Ok(Request {

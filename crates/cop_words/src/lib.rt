@@ -1,10 +1,7 @@
-//! What canplan says in words: the rules by their numbers, what a column of a table wants, where a record stands, why rates are
-//! refused, and what is warned of.
+//! What canplan says in words: which rule a record breaks and where it stands, why rates are refused, and what is warned of.
 #![tactic(auto)]
 
-mod columns;
 mod devices;
-mod explanations;
 mod mappings;
 mod margins;
 mod networks;
@@ -18,8 +15,6 @@ mod separators;
 mod warnings;
 mod words;
 
-pub use columns::{header, header_with_deadline, wanted};
-pub use explanations::{Explanation, RULE_WORDS, explained};
 pub use margins::margin_words;
 pub use networks::{Network, network_words};
 pub use places::{Place, line_at, record_at};

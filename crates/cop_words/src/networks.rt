@@ -1,8 +1,6 @@
 //! What is said of a network that is refused.
 
-use crate::columns::{header, header_with_deadline, name_of, wanted};
 use crate::devices::text_named;
-use crate::explanations::NONE_LISTED;
 use crate::paces::{pace_words, sender};
 use crate::pdos::{RefusedRow, push_cob_id, push_receive, push_stray, push_transmit, push_type};
 use crate::places::{line_at, record_at};
@@ -13,6 +11,7 @@ use cop_frame::RateSet;
 use cop_net::{
     DeviceRow, NodeTable, PlanFault, Refusal, Rule, Table, network, read_nodes, read_pdos,
 };
+use cop_rules::{NONE_LISTED, header, header_with_deadline, name_of, wanted};
 use std::alloc::{AllocError, Global};
 
 /// A network's tables, its EDS files by their names, and the rates that its plan may have.

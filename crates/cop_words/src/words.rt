@@ -1,8 +1,8 @@
 //! What is said of a rule, and of the record or line that breaks it.
 
-use crate::explanations::{Explanation, NONE_LISTED, explained};
 use crate::places::{Place, record_at};
 use crate::separators::seen;
+use cop_rules::{Explanation, NONE_LISTED, explained};
 use std::alloc::{AllocError, Global};
 use std::str;
 

@@ -8,7 +8,7 @@ ghost use Rattle.cop_plan.specs.Plans.{IsPlan};
 use cop_cdcf::concise;
 use cop_dbc::dbc;
 use cop_dcf::settings;
-use cop_net::{Network, all_rates, network, read_nodes, read_pdos};
+use cop_net::{Network, NodeTable, PdoTable, all_rates, network, read_nodes, read_pdos};
 use cop_plan::{Choice, Outcome, Plan, plan};
 use std::alloc::Global;
 use std::{fs, io};
@@ -77,6 +77,22 @@ fn compare_concise(
     Ok(())
 }
 
+/// Compares what a plan is exported as.
+fn try_plan(
+    rt: &HostRuntime,
+    name: &str,
+    network: &Network<'_>,
+    plan: &Plan,
+    files: &Files,
+) -> io::Result<()>
+    requires { IsPlan network.now.equipment.rates network.now.set (length network.now.rows) plan.now }
+{
+    let text = dbc(rt.alloc(), network, plan, &files.eds_files)?;
+    let file = format!(in rt.alloc(); "{name}/plan.dbc")?;
+    compare(rt, &file, &text)?;
+    compare_concise(rt, name, network, plan)
+}
+
 /// Compares what the planner answers for a network.
 fn try_network(
     rt: &HostRuntime,
@@ -85,31 +101,39 @@ fn try_network(
     files: &Files,
 ) -> io::Result<()> {
     match plan(rt.alloc(), network, Choice::Order)? {
-        Outcome::Planned(plan) => {
-            let text = dbc(rt.alloc(), network, &plan, &files.eds_files)?;
-            compare(
-                rt,
-                format!(in rt.alloc(); "{name}/plan.dbc")?.as_str(),
-                &text,
-            )?;
-            compare_concise(rt, name, network, &plan)
-        }
+        Outcome::Planned(plan) => try_plan(rt, name, network, &plan, files),
         Outcome::Refused(_) => println!(rt; "{name}: no rate passes"),
+    }
+}
+
+/// Tries a sample whose tables are accepted.
+fn try_tables(
+    rt: &HostRuntime,
+    name: &str,
+    files: &Files,
+    nodes: &NodeTable,
+    pdos: &PdoTable,
+) -> io::Result<()> {
+    match network(rt.alloc(), &all_rates(), nodes, pdos, &files.eds_files) {
+        Ok(network) => try_network(rt, name, &network, files),
+        Err(_) => println!(rt; "{name}: the network is refused"),
+    }
+}
+
+/// Tries a sample whose table of nodes is accepted.
+fn try_nodes(rt: &HostRuntime, name: &str, files: &Files, nodes: &NodeTable) -> io::Result<()> {
+    match read_pdos(rt.alloc(), &files.pdos) {
+        Ok(pdos) => try_tables(rt, name, files, nodes, &pdos),
+        Err(_) => println!(rt; "{name}: the table of PDOs is refused"),
     }
 }
 
 /// Tries a sample.
 fn try_sample(rt: &HostRuntime, name: &str) -> io::Result<()> {
     let files = read_files(rt, name)?;
-    let (Ok(nodes), Ok(pdos)) = (
-        read_nodes(rt.alloc(), &files.nodes),
-        read_pdos(rt.alloc(), &files.pdos),
-    ) else {
-        return println!(rt; "{name}: a table is refused");
-    };
-    match network(rt.alloc(), &all_rates(), &nodes, &pdos, &files.eds_files) {
-        Ok(network) => try_network(rt, name, &network, &files),
-        Err(_) => println!(rt; "{name}: the network is refused"),
+    match read_nodes(rt.alloc(), &files.nodes) {
+        Ok(nodes) => try_nodes(rt, name, &files, &nodes),
+        Err(_) => println!(rt; "{name}: the table of nodes is refused"),
     }
 }
 

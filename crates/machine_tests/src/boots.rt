@@ -1,7 +1,7 @@
 //! Boots of a planned network over a port.
 
 use crate::scripts::{Script, Turn};
-use cop_commission::{Commissioned, commission};
+use cop_commission::{Approach, Commissioned, commission};
 use cop_frame::Rate;
 use cop_net::all_rates;
 use cop_plan::{Asked, Choice};
@@ -15,13 +15,13 @@ const UNIT: &[u8] =
 const NODES: &[u8] =
     b"row,node,name,eds,period,jitter\ndevice,5,Valve,unit.eds,0,0\nemcy,5,,,100000,0\nheartbeat,5,,,100000,0\n";
 
-const PDOS: &[u8] = b"node,tpdo,period,jitter,deadline,consumers\n5,1,10000,0,670,\n";
+pub const PDOS: &[u8] = b"node,tpdo,period,jitter,deadline,consumers\n5,1,10000,0,670,\n";
 
 /// A PDO that no rate has in time.
 const TOO_FAST: &[u8] = b"node,tpdo,period,jitter,deadline,consumers\n5,1,10000,0,100,\n";
 
 /// The adapter's answers, 2 s of other traffic; the node's boot-up and its confirmations, in lines that come in parts, among garbage;
-/// and the reads at the end.
+/// what it has, and the reads at the end.
 const TAKES_ALL: &[Turn] = &[
     (0, b"\r\r\x07\r\r"),
     (10, b"t7051"),
@@ -31,8 +31,11 @@ const TAKES_ALL: &[Turn] = &[
     (8_000_800, b"t5858600018010000000012AB\r"),
     (8_001_200, b"\x07t58586000180100000000\r"),
     (8_001_600, b"t58586017100000000000\r"),
-    (8_002_000, b""),
-    (8_002_400, b""),
+    (8_002_000, b"t585843001801"),
+    (8_002_400, b"81010040\r"),
+    (8_002_800, b"t58584B17100064000000\r"),
+    (8_003_200, b""),
+    (8_003_600, b""),
 ];
 
 /// Nothing is switched on, and the adapter is closed.
@@ -50,9 +53,10 @@ const SILENT: &[Turn] = &[
 
 const FAILS: &[Turn] = &[(0, b""), (10, b""), (8_000_010, b"t705100\r")];
 
-/// The adapter is opened at 500 kbit/s; the reset, the node's settings and the start; and it is closed.
+/// The adapter is opened at 500 kbit/s; the reset, the node's settings, the questions whether it has them, and the start; and it is
+/// closed.
 const ALL_WRITTEN: &[u8] =
-    b"\r\rC\rS6\rO\rt00028200\rt605823001801850100C0\rt60582300180181010040\rt60582B17100064000000\rt00020100\rC\r";
+    b"\r\rC\rS6\rO\rt00028200\rt605823001801850100C0\rt60582300180181010040\rt60582B17100064000000\rt60584000180100000000\rt60584017100000000000\rt00020100\rC\r";
 
 const OPENED_AND_CLOSED: &[u8] = b"\r\rC\rS6\rO\rC\r";
 
@@ -84,7 +88,8 @@ fn told(alloc: Global, ended: Commissioned) -> Result<(Vec<u8>, bool), AllocErro
     }
 }
 
-fn booted(alloc: Global, pdos: &[u8], port: &mut Script) -> Result<(Vec<u8>, bool), Fail> {
+/// What is said of a boot of a network with some PDOs, and whether the nodes were started.
+pub fn booted(alloc: Global, pdos: &[u8], port: &mut Script) -> Result<(Vec<u8>, bool), Fail> {
     let file = (
         String::from_str(alloc, "unit.eds")?,
         Vec::from_slice(alloc, UNIT)?,
@@ -93,7 +98,11 @@ fn booted(alloc: Global, pdos: &[u8], port: &mut Script) -> Result<(Vec<u8>, boo
         rates: all_rates(),
         choice: Choice::Order,
     };
-    let ended = commission(alloc, NODES, pdos, &[file], &asked, false, false, port)?;
+    let approach = Approach {
+        take_over: false,
+        identify: false,
+    };
+    let ended = commission(alloc, NODES, pdos, &[file], &asked, approach, port)?;
     Ok(told(alloc, ended)?)
 }
 

@@ -1,7 +1,7 @@
 //! Boots of a planned network whose device is asked who it is.
 
 use crate::scripts::{Script, Turn};
-use cop_commission::{Commissioned, commission};
+use cop_commission::{Approach, Commissioned, commission};
 use cop_net::all_rates;
 use cop_plan::{Asked, Choice};
 use std::alloc::{AllocError, Global};
@@ -16,7 +16,7 @@ const NODES: &[u8] =
 
 const PDOS: &[u8] = b"node,tpdo,period,jitter,deadline,consumers\n5,1,10000,0,670,\n";
 
-/// Its answers, the second in parts, and its boot.
+/// Its answers, the second in parts, its boot, and what it has.
 const AS_PLANNED: &[Turn] = &[
     (0, b"\r\r\x07\r\r"),
     (10, b"z\rt58584300100091010F00\r"),
@@ -27,8 +27,10 @@ const AS_PLANNED: &[Turn] = &[
     (2_000, b"t58586000180100000000\r"),
     (2_400, b"t58586000180100000000\r"),
     (2_800, b"t58586017100000000000\r"),
-    (3_200, b""),
-    (3_600, b""),
+    (3_200, b"t58584300180181010040\r"),
+    (3_600, b"t58584B17100064000000\r"),
+    (4_000, b""),
+    (4_400, b""),
 ];
 
 /// Another product.
@@ -70,12 +72,14 @@ const BOOTED: &[Turn] = &[
     (2_000, b"t58586000180100000000\r"),
     (2_400, b"t58586000180100000000\r"),
     (2_800, b"t58586017100000000000\r"),
-    (3_200, b""),
-    (3_600, b""),
+    (3_200, b"t58584300180181010040\r"),
+    (3_600, b"t58584B17100064000000\r"),
+    (4_000, b""),
+    (4_400, b""),
 ];
 
 const ASKED_AND_BOOTED: &[u8] =
-    b"\r\rC\rS6\rO\rt60584000100000000000\rt60584018100100000000\rt60584018100200000000\rt00028200\rt605823001801850100C0\rt60582300180181010040\rt60582B17100064000000\rt00020100\rC\r";
+    b"\r\rC\rS6\rO\rt60584000100000000000\rt60584018100100000000\rt60584018100200000000\rt00028200\rt605823001801850100C0\rt60582300180181010040\rt60582B17100064000000\rt60584000180100000000\rt60584017100000000000\rt00020100\rC\r";
 
 const ASKED: &[u8] =
     b"\r\rC\rS6\rO\rt60584000100000000000\rt60584018100100000000\rt60584018100200000000\rC\r";
@@ -86,7 +90,7 @@ const ASKED_AND_RESET: &[u8] =
     b"\r\rC\rS6\rO\rt60584000100000000000\rt60584018100100000000\rt60584018100200000000\rt00028200\rC\r";
 
 const NOT_ASKED: &[u8] =
-    b"\r\rC\rS6\rO\rt00028200\rt605823001801850100C0\rt60582300180181010040\rt60582B17100064000000\rt00020100\rC\r";
+    b"\r\rC\rS6\rO\rt00028200\rt605823001801850100C0\rt60582300180181010040\rt60582B17100064000000\rt60584000180100000000\rt60584017100000000000\rt00020100\rC\r";
 
 /// Whether the device is asked, what comes, what is said, and what is written.
 const CASES: &[(bool, &[Turn], &[u8], &[u8])] = &[
@@ -136,7 +140,11 @@ fn said(alloc: Global, identify: bool, port: &mut Script) -> Result<Vec<u8>, Fai
         rates: all_rates(),
         choice: Choice::Order,
     };
-    let ended = commission(alloc, NODES, PDOS, &[file], &asked, true, identify, port)?;
+    let approach = Approach {
+        take_over: true,
+        identify,
+    };
+    let ended = commission(alloc, NODES, PDOS, &[file], &asked, approach, port)?;
     Ok(text_of(alloc, ended)?)
 }
 

@@ -1,9 +1,9 @@
 use cop_frame::{Rate, RateSet};
 use cop_net::{all_rates, network, read_nodes, read_pdos};
+use cop_rules::{RULE_WORDS, explained};
 use cop_warn::warnings_of;
 use cop_words::{
-    Network, RULE_WORDS, Source, explained, late_words, line_at, network_words, record_at,
-    record_words, warning_words,
+    Network, Source, late_words, line_at, network_words, record_at, record_words, warning_words,
 };
 use std::alloc::{AllocError, Global};
 use std::str;

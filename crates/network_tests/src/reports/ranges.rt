@@ -38,6 +38,14 @@ const ONE_ABOVE: Tables<'static> = Tables {
     ..BELOW
 };
 
+/// Three frames of 135 bits take nearly all of the bus at 250 kbit/s: the last one's greatest response is that of its second instance
+/// (after the example of Davis et al. 2007).
+const NEARLY_FULL: Tables<'static> = Tables {
+    transmission: "255",
+    nodes: "row,node,name,eds,period,jitter\ndevice,5,Valve,unit.eds,0,0\ndevice,6,Pump,unit.eds,0,0\ndevice,7,Lamp,unit.eds,0,0\n",
+    pdos: "node,tpdo,period,jitter,deadline,consumers\n5,1,1350,0,1350,\n6,1,1890,0,1890,\n7,1,1890,0,1890,\n",
+};
+
 /// What the pages say.
 const SAID: &[(Tables<'static>, &[&str])] = &[
     (
@@ -52,6 +60,14 @@ const SAID: &[(Tables<'static>, &[&str])] = &[
     (
         TOO_OFTEN,
         &["At 250 kbit/s SYNC itself has no busy time that ends within 10 s"],
+    ),
+    (
+        NEARLY_FULL,
+        &[
+            "<summary>1890</summary><ul><li>jitter <b>0</b></li><li>one from below <b>0</b></li>",
+            "×3 <b>1620</b></li>",
+            "<li>itself ×1 <b>540</b></li><li>periods ×1 <b>−1890</b></li><li>its transfer <b>540</b></li>",
+        ],
     ),
     (
         BELOW,

@@ -1,11 +1,12 @@
 use Rattle.std.proofs.Common.{◌-◌, ◌<◌, sym, ◌∙◌, arith}
+use Rattle.cop_sdo.specs.Message.{message_of}
 use Rattle.cop_identity.proofs.AskingLemmas.{waits_first, waits_on, was_answered}
 use Rattle.cop_identity.proofs.asking.ask.Goals as goal
 
 pub loop-init : goal.loop-init
 loop-init g c =
-    waits_first g.P.Port.reads g.P.Port.writes g.P.Port.asks c.args.question.now c.in-Some.began c.args.port.now c.new-reader.result c.now.new.self c.send.new.port
-    c.in-Some.ensures (c.send.ensures c.if-not-send.false) c.new-reader.ensures
+    waits_first g.P.Port.reads g.P.Port.writes g.P.Port.asks c.args.question.now c.in-Some.began c.args.port.now c.new-reader.result c.now.new.self c.send.new.port (message_of c.request_of.result)
+    c.in-Some.ensures c.request_of.ensures (c.send.ensures c.if-not-send.false) c.new-reader.ensures
 
 pub returns-in-Some-answer_from : goal.returns-in-Some-answer_from
 returns-in-Some-answer_from g c =

@@ -12,15 +12,15 @@ pass-requires g t c κs within =
     let d : length (passed c.args.manager.now c.args.now).frames ≡ t = c.decreases in
     (omega (arith, d, f), within)
 
-pub returns-then-send-clause-manager : goal.returns-then-send-clause-manager
-returns-then-send-clause-manager g t c = λ ok.
+pub returns-then-send_held-clause-manager : goal.returns-then-send_held-clause-manager
+returns-then-send_held-clause-manager g t c = λ ok.
     let s = passed_some c.args.manager.now c.on_moment.new.self c.args.now _ (message_of c.in-Some.frame) (ap (option_map message_of) c.in-Some.is) c.on_moment.ensures in
     c.pass.ensures.manager ok ∙ s.0
 
-pub returns-then-send-clause-sent : goal.returns-then-send-clause-sent
-returns-then-send-clause-sent g t c = λ ok.
+pub returns-then-send_held-clause-sent : goal.returns-then-send_held-clause-sent
+returns-then-send_held-clause-sent g t c = λ ok.
     let s = passed_some c.args.manager.now c.on_moment.new.self c.args.now _ (message_of c.in-Some.frame) (ap (option_map message_of) c.in-Some.is) c.on_moment.ensures in
-    frame_sent g.P.Port.reads g.P.Port.writes g.P.Port.asks c.args.port.now c.send.new.port c.pass.new.port (message_of c.in-Some.frame) _ _ s.1 (c.send.ensures c.if-send.true) (c.pass.ensures.sent ok)
+    frame_sent g.P.Port.reads g.P.Port.writes g.P.Port.asks c.args.port.now c.send_held.new.port c.pass.new.port (message_of c.in-Some.frame) _ _ s.1 (c.send_held.ensures c.if-send_held.true) (c.pass.ensures.sent ok)
 
 pub returns-in-None-clause-manager : goal.returns-in-None-clause-manager
 returns-in-None-clause-manager g t c = λ _.

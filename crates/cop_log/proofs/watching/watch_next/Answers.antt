@@ -11,10 +11,10 @@ refuted b t f = absurd (cc)
 ahead : (x y : ℕ) (b : Bool) → (x ≤ y → b ≡ true) → b ≡ false → y < x
 ahead x y b h f = elim (cases_lt y x) [ inl l ↦ l | inr l ↦ (let t = h l in absurd (refuted b t f)) ]
 
-pub returns-in-None : goal.returns-in-None
-returns-in-None c log clean within short stamped own w =
+pub returns-in_default : goal.returns-in_default
+returns-in_default c log clean within short stamped own w =
     first (lane_of c.args.watch.now) log c.args.number within clean own c.args.at stamped
-    (subst (λ a. IsWatched (lane_of c.args.watch.now) log c.args.number a clean) c.in-None.is w)
+    (subst (λ a. IsWatched (lane_of c.args.watch.now) log c.args.number a clean) c.in_default.is w)
 
 pub returns-then-is_near : goal.returns-then-is_near
 returns-then-is_near c log clean within short stamped own w =
@@ -25,11 +25,11 @@ pub returns-then-is_behind : goal.returns-then-is_behind
 returns-then-is_behind c log clean within short stamped own w =
     let v = subst (λ a. IsWatched (lane_of c.args.watch.now) log c.args.number a clean) c.in-Some.is w in
     let n = few (lane_of c.args.watch.now) log c.args.number c.in-Some.anchor clean v in
-    goes_on (lane_of c.args.watch.now) log c.args.number within clean own c.args.at stamped c.in-Some.anchor c.saturating_add.result (let e = c.saturating_add.ensures in omega (arith, e, n, within, short)) v
+    goes_on (lane_of c.args.watch.now) log c.args.number within clean own c.args.at stamped c.in-Some.anchor c.saturating_add-count.result (let e = c.saturating_add-count.ensures in omega (arith, e, n, within, short)) v
     (λ n. let t = c.is_near.ensures.1 n in refuted c.is_near.result t c.if-is_near.false) (c.is_behind.ensures.0 c.if-is_behind.true)
 
-pub returns-else-is_behind : goal.returns-else-is_behind
-returns-else-is_behind c log clean within short stamped own w =
+pub returns : goal.returns
+returns c log clean within short stamped own w =
     starts_again (lane_of c.args.watch.now) log c.args.number within clean own c.args.at stamped c.in-Some.anchor
     (subst (λ a. IsWatched (lane_of c.args.watch.now) log c.args.number a clean) c.in-Some.is w)
     (λ n. let t = c.is_near.ensures.1 n in refuted c.is_near.result t c.if-is_near.false)

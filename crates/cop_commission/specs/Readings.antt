@@ -1,0 +1,91 @@
+-- What is read back of the settings of nodes, and what is said of it.
+use Rattle.std.specs.Prelude.{ℕ, Bool, false, not, ◌&&◌, List, [], ◌∷◌, ◌++◌, codes, decimal, ◌==◌, if◌then◌else◌, Option, Some, None}
+use Rattle.std.specs.Option.{option_map_or}
+use Rattle.std.specs.List.{flat_map, list_any}
+use Rattle.cop_sdo.specs.declared.address.Address.{Address}
+use Rattle.cop_net.specs.Network.{Net}
+use Rattle.cop_dcf.specs.declared.setting.Setting.{Setting}
+use Rattle.cop_dcf.specs.Settings.{node_settings}
+use Rattle.cop_boot.specs.declared.«end».End.{End}
+use Rattle.cop_boot.specs.declared.«end».End.TheVariants as ends
+use Rattle.cop_boot.specs.Manager.{Managing, end_at}
+use Rattle.cop_engine.specs.Boots.{hexadecimal_of, started_line}
+use Rattle.cop_identity.specs.declared.questions.Question.{Question}
+use Rattle.cop_identity.specs.declared.questions.Answer.{Answer}
+use Rattle.cop_identity.specs.declared.questions.Answer.TheVariants as answers
+use Rattle.cop_identity.specs.declared.asking.Outcome.{Outcome}
+use Rattle.cop_identity.specs.declared.asking.Outcome.TheVariants as outcomes
+use Rattle.cop_identity.specs.declared.asking.Exchange.{Exchange}
+use Rattle.cop_readback.specs.declared.session.ReadBack.{ReadBack}
+use Rattle.cop_readback.specs.Reading.{is_wanted}
+use Rattle.cop_commission.specs.declared.readings.Standing.{Standing}
+use Rattle.cop_commission.specs.declared.readings.Standing.TheVariants.{Ready, Differs, Aborted, Silent, Restarting}
+
+-- a setting is at the address of another, and a later one is
+abbrev pub is_at : Setting → Setting → Bool
+is_at s other = (other.index == s.index) && (other.sub == s.sub)
+
+abbrev pub is_set_again : Setting → List Setting → Bool
+is_set_again s rest = list_any (is_at s) rest
+
+-- the question whether a node has a setting
+abbrev pub question_about : ℕ → Setting → Question
+question_about node s = record { node = node; at = record { index = s.index; sub = s.sub }; wanted = s.value }
+
+-- of settings in their order the last at each address is asked for
+abbrev pub questions_about : ℕ → List Setting → List Question
+questions_about node [] = []
+questions_about node (s ∷ rest) = if is_set_again s rest then questions_about node rest else question_about node s ∷ questions_about node rest
+
+-- the questions whether nodes have the settings of a plan with these identifiers
+abbrev pub settings_questions : Net → List ℕ → List ℕ → List Question
+settings_questions net ids nodes = flat_map (λ node. questions_about node (node_settings net ids node)) nodes
+
+-- where an answer leaves a node, and where the outcome of a question does: it is not asked only where it has booted up since
+abbrev pub answer_leaves : Address → Answer → Standing
+answer_leaves at answers.Wanted = Ready
+answer_leaves at (answers.Other found) = Differs at found
+answer_leaves at (answers.Aborted code) = Aborted at code
+
+abbrev pub outcome_leaves : Address → Outcome → Standing
+outcome_leaves at (outcomes.Answered answer) = answer_leaves at answer
+outcome_leaves at outcomes.Silent = Silent
+outcome_leaves at outcomes.Unasked = Restarting
+
+abbrev pub standing_by : Exchange → Standing
+standing_by asked = outcome_leaves asked.question.at asked.outcome
+
+-- the first question to a node that was not answered by the value that is wanted tells where it stands
+abbrev pub standing_read : ℕ → List Exchange → Standing
+standing_read node [] = Ready
+standing_read node (asked ∷ rest) = if (asked.question.node == node) && not (is_wanted asked.outcome) then standing_by asked else standing_read node rest
+
+-- where a node stands by the end of its boot, and by what was read back; the boot of a node had ended, and it booted up since if it has
+-- no end
+abbrev pub standing_after : Option End → Standing → Standing
+standing_after None told = Restarting
+standing_after (Some ends.Ready) told = told
+standing_after (Some (ends.Silent node)) told = Silent
+standing_after (Some (ends.Restarting node)) told = Restarting
+standing_after (Some (ends.Aborted node index sub code)) told = Aborted (record { index = index; sub = sub }) code
+
+-- where a node stands: the one that was the first to boot up since is restarting
+abbrev pub standing_of : Managing → ReadBack → ℕ → Standing
+standing_of m back node =
+    if option_map_or (λ booted. booted == node) back.booted false then Restarting else standing_after (end_at m.nodes node) (standing_read node back.exchanges.items)
+
+-- what is said of it
+abbrev pub said_of : Standing → List ℕ
+said_of Ready = codes " ready\n"
+said_of Silent = codes " silent\n"
+said_of Restarting = codes " restarting\n"
+said_of (Aborted at code) = codes " aborted " ++ (hexadecimal_of 4 at.index ++ (codes " " ++ (hexadecimal_of 2 at.sub ++ (codes " " ++ (hexadecimal_of 8 code ++ codes "\n")))))
+said_of (Differs at found) = codes " differs " ++ (hexadecimal_of 4 at.index ++ (codes " " ++ (hexadecimal_of 2 at.sub ++ (codes " " ++ (hexadecimal_of 8 found ++ codes "\n")))))
+
+-- the line of a node
+abbrev pub standing_line : ℕ → Standing → List ℕ
+standing_line node standing = codes "node " ++ (decimal node ++ said_of standing)
+
+-- a line for each node, and one that says whether they were started
+abbrev pub standing_text : Managing → List ℕ → ReadBack → List ℕ
+standing_text m nodes back = flat_map (λ node. standing_line node (standing_of m back node)) nodes ++ started_line back.started

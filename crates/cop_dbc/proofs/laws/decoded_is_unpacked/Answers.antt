@@ -1,5 +1,0 @@
-use Rattle.cop_dbc.proofs.DecodingLemmas.{decoded_value}
-use Rattle.cop_dbc.proofs.laws.decoded_is_unpacked.Goals as goal
-
-pub returns : goal.returns
-returns c = decoded_value

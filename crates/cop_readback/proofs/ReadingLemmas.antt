@@ -1,0 +1,231 @@
+-- Steps that go on, and questions that are being asked.
+use Rattle.std.proofs.Common.{◌≡◌, ℕ, ◌-◌, ◌≤◌, ◌<◌, List, [], ◌∷◌, ◌++◌, Bool, true, false, refl, sym, ◌∙◌, ap, subst, Option, Some, None, append_assoc, append-nil}
+use Rattle.std.specs.Prelude.{unwrap_or}
+use Rattle.std.specs.Option.{option_or}
+use Rattle.std.specs.List.{AllByRecursion}
+use Rattle.std.proofs.lemmas.List.{map-append}
+use Rattle.cop_sdo.specs.Message.{Message}
+use Rattle.cop_slcan.specs.Reading.{said_from, left_from}
+use Rattle.cop_live.specs.Log.{Sent, DidAll}
+use Rattle.cop_live.specs.Session.{State, Step, Turn, Request, turns, turn_log, turn_state, steps_log, steps_state, first_boot_up}
+use Rattle.cop_live.proofs.Sessions.{did_both, state_more, log_more, turns_more}
+use Rattle.cop_identity.specs.declared.questions.Question.{Question}
+use Rattle.cop_identity.specs.declared.questions.Answer.{Answer}
+use Rattle.cop_identity.specs.declared.asking.Outcome.{Outcome}
+use Rattle.cop_identity.specs.declared.asking.Outcome.TheVariants.{Answered, Silent, Unasked}
+use Rattle.cop_identity.specs.declared.asking.Exchange.{Exchange}
+use Rattle.cop_identity.specs.Questions.{request_of}
+use Rattle.cop_identity.specs.Asking.{first_answer, answer_heard}
+use Rattle.cop_identity.proofs.AskingLemmas.{left_turns, left_more, heard_more, all_more}
+use Rattle.cop_readback.specs.Reading.{Round, steps_for, round_steps, rounds_steps, exchanges_of, since, Awaits, IsOutcome, IsRoundBy, IsRound, is_asked, AreRounds, booted_in, Steps}
+
+or_assoc : {T : Type 0} (a b c : Option T) → option_or (option_or a b) c ≡ option_or a (option_or b c)
+or_assoc None b c = refl
+or_assoc (Some x) b c = refl
+
+or_none : {T : Type 0} (a : Option T) → option_or a None ≡ a
+or_none None = refl
+or_none (Some x) = refl
+
+booted_more : (began : ℕ) (xs ys : List Step) (s : State) → booted_in s.pending (xs ++ ys) ≡ option_or (booted_in s.pending xs) (booted_in (steps_state began s xs).pending ys)
+booted_more began [] ys s = refl
+booted_more began (Turn now bytes ∷ xs) ys s =
+    let next = turn_state began s now bytes in
+    ap (option_or (first_boot_up (said_from s.pending bytes))) (booted_more began xs ys next)
+    ∙ sym (or_assoc (first_boot_up (said_from s.pending bytes)) (booted_in next.pending xs) (booted_in (steps_state began next xs).pending ys))
+booted_more began (Request frame ∷ xs) ys s = booted_more began xs ys s
+
+module _ {P : Type 0} (reads writes : P → List ℕ → P → Type 0) (asks : P → ℕ → P → Type 0) (began : ℕ) (s : State) (booted : Option ℕ) (p : P) where
+  pub no_steps : Steps reads writes asks began s booted p [] s booted p
+  no_steps = record { did = refl; state = refl; booted_up = sym (or_none booted) }
+
+  pub steps_on : (xs ys : List Step) (t u : State) (after later : Option ℕ) (q r : P) → Steps reads writes asks began s booted p xs t after q → Steps reads writes asks began t after q ys u later r
+      → Steps reads writes asks began s booted p (xs ++ ys) u later r
+  steps_on xs ys t u after later q r a b =
+      let here = steps_state began s xs in
+      let log : DidAll reads writes asks q (steps_log began here ys) r = subst (λ (x : State). DidAll reads writes asks q (steps_log began x ys) r) a.state b.did in
+      record {
+        did = subst (λ l. DidAll reads writes asks p l r) (sym (log_more began xs ys s)) (did_both reads writes asks p q r (steps_log began s xs) (steps_log began here ys) a.did log);
+        state = b.state ∙ ap (λ (x : State). steps_state began x ys) a.state ∙ sym (state_more began xs ys s);
+        booted_up = b.booted_up ∙ ap (λ (x : State). option_or after (booted_in x.pending ys)) a.state ∙ ap (λ o. option_or o (booted_in here.pending ys)) a.booted_up
+            ∙ or_assoc booted (booted_in s.pending xs) (booted_in here.pending ys) ∙ ap (option_or booted) (sym (booted_more began xs ys s));
+      }
+
+  pub one_turn : (now : ℕ) (bytes : List ℕ) (t : State) (after : Option ℕ) (q : P) → DidAll reads writes asks p (turn_log began s now bytes) q → t ≡ turn_state began s now bytes
+      → after ≡ option_or booted (first_boot_up (said_from s.pending bytes)) → Steps reads writes asks began s booted p (Turn now bytes ∷ []) t after q
+  one_turn now bytes t after q did state is = record {
+    did = subst (λ l. DidAll reads writes asks p l q) (sym (append-nil (turn_log began s now bytes))) did;
+    state = state;
+    booted_up = is ∙ ap (option_or booted) (sym (or_none (first_boot_up (said_from s.pending bytes))));
+  }
+
+  pub one_turn_since : (own now : ℕ) (bytes : List ℕ) (t : State) (after : Option ℕ) (q : P) → own ≡ began → DidAll reads writes asks p (turn_log own s now bytes) q → t ≡ turn_state own s now bytes
+      → after ≡ option_or booted (first_boot_up (said_from s.pending bytes)) → Steps reads writes asks began s booted p (Turn now bytes ∷ []) t after q
+  one_turn_since own now bytes t after q same did state is =
+      one_turn now bytes t after q (subst (λ b. DidAll reads writes asks p (turn_log b s now bytes) q) same did) (subst (λ b. t ≡ turn_state b s now bytes) same state) is
+
+  pub one_request : (frame : Message) (question : Question) (q : P) → frame ≡ request_of question → DidAll reads writes asks p (Sent frame ∷ []) q
+      → Steps reads writes asks began s booted p (Request (request_of question) ∷ []) s booted q
+  one_request frame question q is did = record { did = subst (λ f. DidAll reads writes asks p (Sent f ∷ []) q) is did; state = refl; booted_up = sym (or_none booted) }
+
+-- ---- one question
+
+abbrev pub first_of : List (ℕ × List ℕ) → Option ℕ
+first_of [] = None
+first_of ((now, bytes) ∷ rest) = Some now
+
+since_more : (early : List (ℕ × List ℕ)) (now : ℕ) (bytes : List ℕ) → since (early ++ (now, bytes) ∷ []) ≡ unwrap_or (first_of early) now
+since_more [] now bytes = refl
+since_more ((at, got) ∷ early) now bytes = refl
+
+first_more : (early : List (ℕ × List ℕ)) (now : ℕ) (bytes : List ℕ) → first_of (early ++ (now, bytes) ∷ []) ≡ Some (unwrap_or (first_of early) now)
+first_more [] now bytes = refl
+first_more ((at, got) ∷ early) now bytes = refl
+
+abbrev AreSoon : ℕ → List (ℕ × List ℕ) → Type 0
+AreSoon from early = AllByRecursion (λ turn. turn.0 - from < 4000000) early
+
+soon_more : (early : List (ℕ × List ℕ)) (now : ℕ) (bytes : List ℕ) → AreSoon (since early) early → AreSoon (since (early ++ (now, bytes) ∷ [])) early
+soon_more [] now bytes h = tt
+soon_more ((at, got) ∷ early) now bytes h = h
+
+-- a question that is not answered so far
+pub record Waits {P : Type 0} (reads writes : P → List ℕ → P → Type 0) (asks : P → ℕ → P → Type 0) (question : Question) (began : ℕ) (s : State) (booted : Option ℕ) (p : P) (left : List ℕ) (first : Option ℕ) (t : State) (after : Option ℕ) (q : P) : Type 0 where
+  pub early : List (ℕ × List ℕ)
+  pub steps : Steps reads writes asks began s booted p (turns early) t after q
+  pub none_early : answer_heard question [] early ≡ None
+  pub soon : AreSoon (since early) early
+  pub is_left : left ≡ left_turns [] early
+  pub is_first : first ≡ first_of early
+
+module _ {P : Type 0} (reads writes : P → List ℕ → P → Type 0) (asks : P → ℕ → P → Type 0) (question : Question) (began : ℕ) (s : State) (booted : Option ℕ) (p : P) where
+  pub waits_first : (left : List ℕ) → left ≡ [] → Waits reads writes asks question began s booted p left None s booted p
+  waits_first left e = record { early = []; steps = no_steps reads writes asks began s booted p; none_early = refl; soon = tt; is_left = e; is_first = refl }
+
+  -- a turn more, and what is read in it
+  turn_taken : (left : List ℕ) (first : Option ℕ) (t u : State) (after later : Option ℕ) (q r : P) (now : ℕ) (bytes : List ℕ) (w : Waits reads writes asks question began s booted p left first t after q)
+      → Steps reads writes asks began t after q (Turn now bytes ∷ []) u later r → Steps reads writes asks began s booted p (turns (w.early ++ (now, bytes) ∷ [])) u later r
+  turn_taken left first t u after later q r now bytes w turn =
+      subst (λ steps. Steps reads writes asks began s booted p steps u later r) (sym (turns_more w.early now bytes))
+      (steps_on reads writes asks began s booted p (turns w.early) (Turn now bytes ∷ []) t u after later q r w.steps turn)
+
+  heard_then : (left : List ℕ) (first : Option ℕ) (t : State) (after : Option ℕ) (q : P) (now : ℕ) (bytes : List ℕ) (answer : Option Answer) (w : Waits reads writes asks question began s booted p left first t after q)
+      → answer ≡ first_answer question (said_from left bytes) → answer ≡ answer_heard question [] (w.early ++ (now, bytes) ∷ [])
+  heard_then left first t after q now bytes answer w e =
+      e ∙ ap (λ l. first_answer question (said_from l bytes)) w.is_left ∙ ap (λ o. option_or o (first_answer question (said_from (left_turns [] w.early) bytes))) (sym w.none_early)
+      ∙ sym (heard_more question [] w.early now bytes)
+
+  pub awaits : (left : List ℕ) (first : Option ℕ) (t : State) (after : Option ℕ) (q : P) (now : ℕ) (bytes : List ℕ) (answer : Option Answer) (w : Waits reads writes asks question began s booted p left first t after q)
+      → answer ≡ first_answer question (said_from left bytes) → Awaits question (w.early ++ (now, bytes) ∷ []) answer
+  awaits left first t after q now bytes answer w e = record {
+    early = w.early;
+    last = (now, bytes);
+    split = refl;
+    none_early = w.none_early;
+    soon = soon_more w.early now bytes w.soon;
+    heard = heard_then left first t after q now bytes answer w e;
+  }
+
+  pub waits_on : (left rest : List ℕ) (first next : Option ℕ) (t u : State) (after later : Option ℕ) (q r : P) (now : ℕ) (bytes : List ℕ) → Waits reads writes asks question began s booted p left first t after q
+      → Steps reads writes asks began t after q (Turn now bytes ∷ []) u later r → None ≡ first_answer question (said_from left bytes) → rest ≡ left_from left bytes
+      → next ≡ Some (unwrap_or first now) → now - unwrap_or first now < 4000000 → Waits reads writes asks question began s booted p rest next u later r
+  waits_on left rest first next t u after later q r now bytes w turn none er en early = record {
+    early = w.early ++ (now, bytes) ∷ [];
+    steps = turn_taken left first t u after later q r now bytes w turn;
+    none_early = sym (heard_then left first t after q now bytes None w none);
+    soon = all_more (λ (turn : ℕ × List ℕ). turn.0 - since (w.early ++ (now, bytes) ∷ []) < 4000000) w.early (now, bytes) (soon_more w.early now bytes w.soon)
+        (subst (λ from. now - from < 4000000) (ap (λ o. unwrap_or o now) w.is_first ∙ sym (since_more w.early now bytes)) early);
+    is_left = er ∙ ap (λ l. left_from l bytes) w.is_left ∙ sym (left_more [] w.early now bytes);
+    is_first = en ∙ ap (λ o. Some (unwrap_or o now)) w.is_first ∙ sym (first_more w.early now bytes);
+  }
+
+  pub was_answered : (left : List ℕ) (first : Option ℕ) (t u : State) (after later : Option ℕ) (q r : P) (now : ℕ) (bytes : List ℕ) (answer : Answer) → Waits reads writes asks question began s booted p left first t after q
+      → Steps reads writes asks began t after q (Turn now bytes ∷ []) u later r → Some answer ≡ first_answer question (said_from left bytes)
+      → (taken : List (ℕ × List ℕ)) × IsOutcome question taken (Answered answer) × Steps reads writes asks began s booted p (turns taken) u later r
+  was_answered left first t u after later q r now bytes answer w turn e =
+      (w.early ++ (now, bytes) ∷ [], awaits left first t after q now bytes (Some answer) w e, turn_taken left first t u after later q r now bytes w turn)
+
+  pub was_silent : (left : List ℕ) (first : Option ℕ) (t u : State) (after later : Option ℕ) (q r : P) (now : ℕ) (bytes : List ℕ) → Waits reads writes asks question began s booted p left first t after q
+      → Steps reads writes asks began t after q (Turn now bytes ∷ []) u later r → None ≡ first_answer question (said_from left bytes) → 4000000 ≤ now - unwrap_or first now
+      → (taken : List (ℕ × List ℕ)) × IsOutcome question taken Silent × Steps reads writes asks began s booted p (turns taken) u later r
+  unfolding awaits
+  was_silent left first t u after later q r now bytes w turn e late = (
+    w.early ++ (now, bytes) ∷ [],
+    (awaits left first t after q now bytes None w e, subst (λ from. 4000000 ≤ now - from) (ap (λ o. unwrap_or o now) w.is_first ∙ sym (since_more w.early now bytes)) late),
+    turn_taken left first t u after later q r now bytes w turn,
+  )
+
+-- what is done for a question that was asked
+steps_of : (question : Question) (taken : List (ℕ × List ℕ)) (outcome : Outcome) → IsOutcome question taken outcome → Request (request_of question) ∷ turns taken ≡ steps_for question taken outcome
+steps_of question taken (Answered answer) h = refl
+steps_of question taken Silent h = refl
+steps_of question taken Unasked h = absurd h
+
+pub was_asked : {P : Type 0} (reads writes : P → List ℕ → P → Type 0) (asks : P → ℕ → P → Type 0) (began : ℕ) (s t : State) (booted after : Option ℕ) (p q : P) (before : List Exchange) (question : Question) (outcome : Outcome) (is : Bool)
+    → is ≡ is_asked s.manager before question → is ≡ true
+    → (taken : List (ℕ × List ℕ)) × IsOutcome question taken outcome × Steps reads writes asks began s booted p (Request (request_of question) ∷ turns taken) t after q
+    → (taken : List (ℕ × List ℕ)) × IsRound s.manager before (record { exchange = record { question = question; outcome = outcome }; taken = taken })
+    × Steps reads writes asks began s booted p (round_steps (record { exchange = record { question = question; outcome = outcome }; taken = taken })) t after q
+was_asked reads writes asks began s t booted after p q before question outcome is e holds (taken, came, steps) =
+    (taken, subst (λ b. IsRoundBy b question taken outcome) (sym holds ∙ e) came, subst (λ xs. Steps reads writes asks began s booted p xs t after q) (steps_of question taken outcome came) steps)
+
+pub was_left_out : {P : Type 0} (reads writes : P → List ℕ → P → Type 0) (asks : P → ℕ → P → Type 0) (began : ℕ) (s : State) (booted : Option ℕ) (p : P) (before : List Exchange) (question : Question) (is : Bool)
+    → is ≡ is_asked s.manager before question → is ≡ false
+    → (taken : List (ℕ × List ℕ)) × IsRound s.manager before (record { exchange = record { question = question; outcome = Unasked }; taken = taken })
+    × Steps reads writes asks began s booted p (round_steps (record { exchange = record { question = question; outcome = Unasked }; taken = taken })) s booted p
+was_left_out reads writes asks began s booted p before question is e fails =
+    ([], subst (λ b. IsRoundBy b question [] Unasked) (sym fails ∙ e) refl, no_steps reads writes asks began s booted p)
+
+-- ---- all questions
+
+rounds_more : (xs : List Round) (round : Round) → rounds_steps (xs ++ round ∷ []) ≡ rounds_steps xs ++ round_steps round
+rounds_more [] round = append-nil (round_steps round)
+rounds_more (x ∷ xs) round = ap (λ l. round_steps x ++ l) (rounds_more xs round) ∙ sym (append_assoc (round_steps x) (rounds_steps xs) (round_steps round))
+
+are_rounds_more : (began : ℕ) (xs : List Round) (round : Round) (s : State) (before : List Exchange) → AreRounds began s before xs → IsRound (steps_state began s (rounds_steps xs)).manager (before ++ exchanges_of xs) round
+    → AreRounds began s before (xs ++ round ∷ [])
+are_rounds_more began [] round s before h is = (subst (λ b. IsRound s.manager b round) (append-nil before) is, tt)
+are_rounds_more began (x ∷ xs) round s before h is =
+    let next = steps_state began s (round_steps x) in
+    let state : steps_state began s (rounds_steps (x ∷ xs)) ≡ steps_state began next (rounds_steps xs) = state_more began (round_steps x) (rounds_steps xs) s in
+    let one : IsRound (steps_state began next (rounds_steps xs)).manager (before ++ x.exchange ∷ exchanges_of xs) round = subst (λ (u : State). IsRound u.manager (before ++ x.exchange ∷ exchanges_of xs) round) state is in (
+      h.0,
+      are_rounds_more began xs round next (before ++ x.exchange ∷ []) h.1
+          (subst (λ b. IsRound (steps_state began next (rounds_steps xs)).manager b round) (sym (append_assoc before (x.exchange ∷ []) (exchanges_of xs))) one),
+    )
+
+-- rounds so far
+pub record Asks {P : Type 0} (reads writes : P → List ℕ → P → Type 0) (asks : P → ℕ → P → Type 0) (began : ℕ) (s : State) (booted : Option ℕ) (p : P) (all : List Exchange) (t : State) (after : Option ℕ) (q : P) : Type 0 where
+  pub rounds : List Round
+  pub are : all ≡ exchanges_of rounds
+  pub right : AreRounds began s [] rounds
+  pub steps : Steps reads writes asks began s booted p (rounds_steps rounds) t after q
+
+module _ {P : Type 0} (reads writes : P → List ℕ → P → Type 0) (asks : P → ℕ → P → Type 0) (began : ℕ) (s : State) (booted : Option ℕ) (p : P) where
+  pub asks_none : (all : List Exchange) → all ≡ [] → Asks reads writes asks began s booted p all s booted p
+  asks_none all e = record { rounds = []; are = e; right = tt; steps = no_steps reads writes asks began s booted p }
+
+  pub asks_on : (all more : List Exchange) (t u : State) (after later : Option ℕ) (q r : P) (exchange : Exchange) → Asks reads writes asks began s booted p all t after q → more ≡ all ++ exchange ∷ []
+      → (taken : List (ℕ × List ℕ)) × IsRound t.manager all (record { exchange = exchange; taken = taken }) × Steps reads writes asks began t after q (round_steps (record { exchange = exchange; taken = taken })) u later r
+      → Asks reads writes asks began s booted p more u later r
+  asks_on all more t u after later q r exchange a em (taken, is, steps) =
+      let round : Round = record { exchange = exchange; taken = taken } in
+      let here : IsRound (steps_state began s (rounds_steps a.rounds)).manager all round = subst (λ (x : State). IsRound x.manager all round) a.steps.state is in
+      record {
+        rounds = a.rounds ++ round ∷ [];
+        are = em ∙ ap (λ (xs : List Exchange). xs ++ exchange ∷ []) a.are ∙ sym (map-append (λ (x : Round). x.exchange) a.rounds (round ∷ []));
+        right = are_rounds_more began a.rounds round s [] a.right (subst (λ (xs : List Exchange). IsRound (steps_state began s (rounds_steps a.rounds)).manager xs round) a.are here);
+        steps = subst (λ xs. Steps reads writes asks began s booted p xs u later r) (sym (rounds_more a.rounds round))
+            (steps_on reads writes asks began s booted p (rounds_steps a.rounds) (round_steps round) t u after later q r a.steps steps);
+      }
+
+-- a round counts from the moment at which the boot began, behind the exchanges that stand in a list
+pub asked_since : {P : Type 0} (reads writes : P → List ℕ → P → Type 0) (asks : P → ℕ → P → Type 0) (own began : ℕ) (s t : State) (booted after : Option ℕ) (p q : P) (seen all : List Exchange) (question : Question) (outcome : Outcome)
+    → own ≡ began → seen ≡ all
+    → (taken : List (ℕ × List ℕ)) × IsRound s.manager seen (record { exchange = record { question = question; outcome = outcome }; taken = taken })
+    × Steps reads writes asks own s booted p (round_steps (record { exchange = record { question = question; outcome = outcome }; taken = taken })) t after q
+    → (taken : List (ℕ × List ℕ)) × IsRound s.manager all (record { exchange = record { question = question; outcome = outcome }; taken = taken })
+    × Steps reads writes asks began s booted p (round_steps (record { exchange = record { question = question; outcome = outcome }; taken = taken })) t after q
+asked_since reads writes asks own began s t booted after p q seen all question outcome same is (taken, right, steps) =
+    let round : Round = record { exchange = record { question = question; outcome = outcome }; taken = taken } in
+    (taken, subst (λ (xs : List Exchange). IsRound s.manager xs round) is right, subst (λ b. Steps reads writes asks b s booted p (round_steps round) t after q) same steps)
