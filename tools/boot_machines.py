@@ -9,6 +9,8 @@ ready, that each device has what its DCF file says. A case whose name holds one 
 """
 import json
 import os
+import re
+import shutil
 import subprocess
 import sys
 import tempfile
@@ -35,6 +37,7 @@ CASES = {
     "slow answers": ("crane", "--slow 22:0.4", {}),
     "abort": ("valve", "--abort 5:1800:1:06090030", {5: "aborted 1800 01 06090030"}),
     "abort among others": ("crane", "--abort 12:1017:0:08000022", {12: "aborted 1017 00 08000022"}),
+    "abort, as a document": ("valve", "--abort 5:1800:1:06090030", {5: "aborted 1800 01 06090030"}, 3, ["--json"]),
     "confirms another sub": ("valve", "--wrong 5:1800:1", {5: "aborted 1800 01 05040001"}),
     "second boot-up": ("valve", "--reboot 5:2", {}),
     "second boot-up among others": ("crane", "--reboot 13:3 22:1", {}),
@@ -65,6 +68,54 @@ CASES = {
     "pulled out": ("valve", "--gone 2", {}, 5, []),
 }
 
+# How far a boot reaches: the example, the words of the rig and of the program, the lines, the status, the NMT commands, and the devices that
+# have then what their DCF files say.
+CONVEYOR = [1, 11, 12, 13, 14]
+
+
+def lines(form, nodes):
+    return "".join(form.format(node) for node in nodes)
+
+
+READY = lines("node {} ready\n", CONVEYOR)
+
+REACHES = {
+    "one node alone": ("crane", "--running 13", ["--only", "12"], "node 12 ready\nstarted\n", 0, ["820c", "010c"], [12]),
+    "one node alone that runs": ("crane", "--running 12", ["--only", "12"], "", 3, [], []),
+    "one node alone that no row has": ("valve", "--until 3", ["--only", "9"], "", 3, [], []),
+    "one node alone, not started": ("conveyor", "", ["--only", "11", "--no-start"], "node 11 ready\nnot started\n", 0, ["820b"], [11]),
+    "not started": ("conveyor", "", ["--no-start"], READY + "not started\n", 0, ["8200"], CONVEYOR),
+    "not started, since one is silent": ("valve", "--silent 5", ["--no-start"], "node 5 silent\nnot started\n", 3, ["8200"], []),
+    "watched": ("conveyor", "", ["--watch", "2"], READY + "started\n" + lines("node {} operational\n", CONVEYOR), 0, ["8200", "0100"], CONVEYOR),
+    "watched, and one says nothing": (
+        "conveyor", "--quiet 13", ["--watch", "2"],
+        READY + "started\n" + lines("node {} operational\n", [1, 11, 12]) + "node 13 late\nnode 14 operational\n", 3, ["8200", "0100"], CONVEYOR),
+    "watched, as a document": ("valve", "--quiet 5", ["--watch", "1", "--json"], "node 5 ready\nstarted\nnode 5 late\n", 3, ["8200", "0100"], [5]),
+    "given up": ("valve", "--silent 5 --until 6", ["--limit", "3"], "", 5, ["8200"], []),
+    "stored": ("storing", "", ["--store"], "node 5 ready\nstarted\n", 0, ["8200", "0100"], [5]),
+    "not stored": ("storing", "--abort 5:1010:1:08000020", ["--store"], "node 5 aborted 1010 01 08000020\nnot started\n", 3, ["8200"], [5]),
+    "stored by none": ("conveyor", "", ["--store"], READY + "started\n", 0, ["8200", "0100"], CONVEYOR),
+}
+
+# What makes of the valve's EDS file that of a device that can store its settings.
+STORE = "[1010]\nObjectType=0x8\nSubNumber=2\n[1010sub0]\nDataType=0x0005\nAccessType=ro\nDefaultValue=1\n[1010sub1]\nDataType=0x0007\nAccessType=rw\n"
+
+
+def storing(folder):
+    """The valve's tables, with a device that can store its settings."""
+    source = f"{HERE}/examples/valve"
+    for name in ("nodes.csv", "pdos.csv"):
+        shutil.copy(f"{source}/{name}", folder)
+    with open(f"{source}/unit.eds", newline="") as it:
+        text = it.read()
+    end = "\r\n" if "\r\n" in text else "\n"
+    before, after = text.split("[OptionalObjects]", 1)
+    count = int(re.search(r"SupportedObjects=(\d+)", after).group(1))
+    after = re.sub(r"SupportedObjects=\d+", f"SupportedObjects={count + 1}", after, count=1)
+    listed = re.sub(rf"(?m)^{count}=(0x[0-9A-Fa-f]+)", rf"{count}=\1{end}{count + 1}=0x1010", after, count=1)
+    with open(f"{folder}/unit.eds", "w", newline="") as out:
+        out.write(f"{before}[OptionalObjects]{listed}{'' if listed.endswith(end) else end}{STORE.replace(chr(10), end)}")
+
 
 def has_other(ends):
     """Whether some node is another device: then nothing is written to any."""
@@ -88,8 +139,10 @@ def wanted_text(example, ends):
 def lines_of(document):
     """The lines that a document in JSON stands for."""
     value = json.loads(document)
-    lines = [f"node {it['node']} {it['state']}" + (f" {it['index']:04X} {it['sub']:02X} {it['found']:08X}" if "found" in it else "") for it in value["nodes"]]
-    return "\n".join(lines + ["started" if value["started"] else "not started"]) + "\n"
+    lines = [f"node {it['node']} {it['state']}" + (f" {it['index']:04X} {it['sub']:02X} {it.get('found', it.get('code')):08X}" if "index" in it else "")
+             for it in value["nodes"]]
+    beats = [f"node {it['node']} {it['state']}" for it in value["heartbeats"]]
+    return "\n".join(lines + ["started" if value["started"] else "not started"] + beats) + "\n"
 
 
 def run(name, folder):
@@ -127,13 +180,46 @@ def run(name, folder):
     return faults + ([f"standard error: {it.stderr}"] if faults else [])
 
 
+def reach(name, folder):
+    """What is wrong with a case of how far a boot reaches."""
+    example, words, options, text, status, commands, set_up = REACHES[name]
+    if example == "storing":
+        storing(folder)
+    tables = [f"{folder if example == 'storing' else f'{HERE}/examples/{example}'}/{file}" for file in ("nodes.csv", "pdos.csv")]
+    expected = f"{HERE}/examples/{'valve' if example == 'storing' else example}"
+    port, report = f"{folder}/port", f"{folder}/report.json"
+    rig = subprocess.Popen([sys.executable, RIG, tables[0], port, "--expect", expected, "--log", f"{folder}/log", "--report", report, *words.split()],
+                           stdout=subprocess.PIPE, text=True)
+    rig.stdout.readline()
+    it = subprocess.run([PROGRAM, "boot", "--port", port, *options, *tables], capture_output=True, text=True, timeout=120)
+    rig.wait(timeout=60)
+    with open(report) as file:
+        seen = json.load(file)
+    faults = []
+    said = lines_of(it.stdout) if "--json" in options else it.stdout
+    if (said, it.returncode) != (text, status):
+        faults.append(f"says {said!r} with status {it.returncode}, not {text!r} with {status}")
+    if seen["commands"] != commands:
+        faults.append(f"NMT commands {seen['commands']}, not {commands}")
+    for node in set_up:
+        device = seen["devices"][str(node)]
+        if not device["as_dcf"]:
+            faults.append(f"node {node}: {device['wrong']}")
+    written = {int(node): device["writes"] for node, device in seen["devices"].items() if device["writes"]}
+    if "--only" in options and any(node not in set_up for node in written):
+        faults.append(f"other nodes are written to: {written}")
+    if name == "stored" and not seen["devices"]["5"]["stored_as_dcf"]:
+        faults.append("what is stored is not what the DCF file says")
+    return faults + ([f"standard error: {it.stderr}"] if faults else [])
+
+
 def main(words):
     passed, failed = 0, 0
-    for name in CASES:
+    for name in [*CASES, *REACHES]:
         if words and not any(word in name for word in words):
             continue
         with tempfile.TemporaryDirectory() as folder:
-            faults = run(name, folder)
+            faults = run(name, folder) if name in CASES else reach(name, folder)
         print(f"{'FAILED' if faults else 'ok'}: {name}", flush=True)
         for fault in faults:
             print(f"  {fault}")

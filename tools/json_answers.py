@@ -3,7 +3,7 @@
 
     python3 tools/json_answers.py
 
-Each example is planned, checked, booted and judged, and tables that are refused are tried: each answer is one document that meets
+Each example is planned, checked, booted, judged and watched, and tables that are refused are tried: each answer is one document that meets
 the schema (Debian's python3-jsonschema), says what the lines say, and ends with their status.
 """
 import csv
@@ -17,6 +17,7 @@ import tempfile
 import jsonschema
 
 from files import bytes_of, write
+from log_lines import ends_of, line_of, lines_of_document
 
 HERE = os.path.dirname(os.path.dirname(os.path.realpath(__file__)))
 PROGRAM = os.environ.get("CANPLAN", f"{HERE}/bin/canplan")
@@ -67,6 +68,20 @@ def example(folder):
     assert lines == [f"node {it['node']} {it['state']}" for it in value["nodes"]] + ["started" if value["started"] else "not started"], lines
     lines, _, value = answers("judge", *tables, f"{folder}/run.csv")
     assert lines == [f"transfers {value['transfers']}", "on time"] and value["on_time"] and value["planned"], lines
+    watch(tables, f"{folder}/run.csv")
+
+
+def watch(tables, trace):
+    """A log of a run, one of it at a tenth of its time, and one with frames of no stream."""
+    log = [(1000000 + int(end), number, body) for number, body, end in ends_of(trace)]
+    pressed = [(1000000 + (at - 1000000) // 10, number, body) for at, number, body in log]
+    strange = log[:1] + [(log[0][0], 0x7C1, "00"), (log[0][0], 0x20000080, "0000000000000000"), (log[0][0], 0x98FF1234, "R")] + log[1:]
+    for entries in (log, pressed, strange):
+        with tempfile.TemporaryDirectory() as out:
+            write(f"{out}/log", "".join(line_of(*entry) + "\n" for entry in entries).encode())
+            lines, _, value = answers("watch", *tables, f"{out}/log")
+        assert lines_of_document(value) == lines, [pair for pair in zip(lines_of_document(value), lines) if pair[0] != pair[1]][:2]
+        assert value["keeps"] or entries is not log, lines
 
 
 def streams():
@@ -83,12 +98,16 @@ def faults():
     with tempfile.TemporaryDirectory() as out:
         bad = f"{out}/bad.csv"
         write(bad, bytes_of(tables[1]).replace(b"5,1,10000,", b"5,1,10 ms,"))
+        write(f"{out}/empty", b"")
         wanted = [
             (["plan", tables[0], bad, out], (41, 1, "pdos", "period")),
             (["boot", "--seed", "1", tables[1], tables[1]], (40, 0, "nodes", None)),
             (["check", *tables, tables[0]], (31, 0, "refusals", None)),
             (["judge", *tables, tables[0]], (69, 0, "trace", None)),
             (["test", "--rate", "125", tables[0]], (1, 0, "streams", None)),
+            (["watch", *tables, tables[0]], (91, 1, "log", None)),
+            (["watch", *tables, f"{out}/empty"], (94, 0, "log", None)),
+            (["watch", *tables, f"{out}/none.log"], (None, None, None, None)),
             (["plan", f"{out}/none.csv", tables[1], out], (None, None, None, None)),
         ]
         for words, places in wanted:
@@ -97,6 +116,8 @@ def faults():
             found = tuple(error[key] for key in ("number", "record", "table", "column"))
             assert error["line"] == said[0] and error["words"], f"{words[0]}: {error}"
             assert found == places, f"{words[0]}: {found}"
+        lines, _, value = answers("watch", "--rates", "250", *tables, f"{out}/empty")
+        assert lines == lines_of_document(value) == ["no rate passes"], lines
 
 
 def main():

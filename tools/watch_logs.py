@@ -6,12 +6,14 @@
 Each example that has a plan is run by several seeds. The ends of the transfers, by a clock that is shaken and drifts within what is said
 on the command line, make a log as `candump -L` writes it: no breach may be found in it, nor in its middle third, nor where each tenth
 line is lost, nor where a second channel stands between. The page of `report --log` has to have as many distances in the histogram of each
-identifier as the lines have frames but one. Then one breach of each kind is put in: it has to be found at its line. Last a
-log that is refused has to be refused by the number and at the place that it should.
+identifier as the lines have frames but one. Then one breach of each kind is put in: it has to be found at its line. Then frames that are
+worth a word, also more of them than are told. Last a log that is refused has to be refused by the number and at the place that it should.
+Of each of these logs the document of --json has to stand for the same lines, and to end with their status.
 
 By more seeds the log is written in each other form (log_forms.py): nothing may be found in it, and what is said of the streams has to be the
 same in each form that keeps the microseconds; then a breach of some kind is put in, which has to be found at its line.
 """
+import json
 import os
 import random
 import re
@@ -20,6 +22,7 @@ import sys
 import tempfile
 
 from log_forms import FORMS, Frame
+from log_lines import ends_of, line_of, lines_of_document, stamped
 
 HERE = os.path.dirname(os.path.dirname(os.path.realpath(__file__)))
 EXAMPLES = f"{HERE}/examples"
@@ -38,28 +41,6 @@ START = 1436509052000000
 def run(*words, text=None):
     it = subprocess.run([PROGRAM, *words], capture_output=True, input=text)
     return it.returncode, it.stdout.decode(), it.stderr.decode()
-
-
-def ends_of(trace):
-    """The identifier, the data and the microsecond of the end of each transfer of a trace."""
-    data, ends = {}, []
-    with open(trace) as file:
-        next(file)
-        for line in file:
-            kind, moment, number, _, _, body = line.rstrip("\n").split(",")
-            if kind == "queue":
-                data.setdefault(number, []).append(body)
-            elif kind == "end":
-                ends.append((int(number), data[number].pop(0), int(moment) / 4))
-    return ends
-
-
-def stamped(at):
-    return f"({at // 1000000}.{at % 1000000:06d})"
-
-
-def line_of(at, number, body, channel="can0"):
-    return f"{stamped(at)} {channel} {number:03X}#{body}"
 
 
 def log_of(ends, chance):
@@ -113,6 +94,28 @@ def bad_logs(log, chance):
     yield "pressed", lines_of(pressed), None, "the transfers after line"
 
 
+def told_logs(log, chance):
+    """Logs with frames that are worth a word, and the words that have to be said of them; and one with more of each than are told."""
+    lines = lines_of(log)
+    n = chance.randrange(len(log) // 4, len(log) // 2)
+    at = log[n][0]
+    frames = (
+        (0x000, "0105", "NMT start, node 5"), (0x000, "8200", "NMT reset communication, all nodes"), (0x000, "0705", "NMT an unknown command, node 5"),
+        (0x705, "00", "node 5 boots up"), (0x085, "3081000000000000", "EMCY of node 5, code 8130h"),
+        (0x585, "8000180130000906", "SDO abort by the server at node 5, 1800h sub 1, 06090030h: the object does not take the value now"),
+        (0x605, "8017100000000405", "SDO abort by the client at node 5, 1017h sub 0, 05040000h: no answer in time"),
+    )
+    for number, body, words in frames:
+        yield lines[:n] + [line_of(at, number, body)] + lines[n:], f"line {n + 1}: {words}"
+    many = [line_of(at, number, body) for number, body, _ in frames[2:] for _ in range(25)]
+    for words in ("NMT commands", "boot-ups 25", "EMCYs", "SDO aborts 50"):
+        yield lines[:n] + many + lines[n:], words
+    heartbeats = [k for k in range(1, len(log)) if 0x700 < log[k][1] < 0x780]
+    if heartbeats:
+        _, number, body = log[heartbeats[0]]
+        yield lines + [line_of(log[-1][0] + 200000000, number, body)], f"line {len(lines) + 1}: the heartbeat of node {number & 0x7F} comes after 20"
+
+
 def refused_logs(log):
     """Logs that are refused: number and place."""
     lines = lines_of(log[:20])
@@ -125,6 +128,22 @@ def refused_logs(log):
 
 def watched(tables, lines, words=SAID):
     return run("watch", *words, *tables, "-", text="".join(line + "\n" for line in lines).encode())
+
+
+def document_faults(tables, lines, answer):
+    """What is wrong with the document of a log, beside the answer in lines."""
+    status, out, err = answer
+    other, document, said = watched(tables, lines, ("--json", *SAID))
+    if other != status or said or document.count("\n") != 1:
+        yield f"a document with status {other}, and not {status}: {said}"
+        return
+    value = json.loads(document)
+    if "error" in value:
+        error = value["error"]
+        if out or error["table"] != "log" or f"canplan: refused {error['number']} {error['record']}" != err.splitlines()[0] != error["line"]:
+            yield f"a document that says {error}"
+    elif lines_of_document(value) != out.splitlines():
+        yield f"a document that says {[pair for pair in zip(lines_of_document(value), out.splitlines()) if pair[0] != pair[1]][:2]}"
 
 
 def page_faults(tables, lines, folder):
@@ -205,18 +224,30 @@ def faults_of(name, seed, folder):
     run("run", "--seed", str(seed), "--until", str(UNTIL), *tables, trace)
     log = log_of(ends_of(trace), chance)
     for kind, lines in good_logs(log, chance):
-        status, out, err = watched(tables, lines)
+        status, out, err = answer = watched(tables, lines)
+        for fault in document_faults(tables, lines, answer):
+            yield f"{name} {seed} {kind}: {fault}"
         if status != 0 or not out.endswith("keeps to the tables\n"):
             yield f"{name} {seed} {kind}: status {status} {err} {[it for it in out.splitlines() if 'breaks' in it][:2]}"
     for fault in page_faults(tables, lines_of(log), folder):
         yield f"{name} {seed} page: {fault}"
     for kind, lines, place, word in bad_logs(log, chance):
-        status, out, err = watched(tables, lines)
+        status, out, err = answer = watched(tables, lines)
+        for fault in document_faults(tables, lines, answer):
+            yield f"{name} {seed} {kind}: {fault}"
         found = [it for it in out.splitlines() if word in it and (place is None or it.startswith(f"line {place}:"))]
         if status != 3 or not found:
             yield f"{name} {seed} {kind} at {place}: status {status} {err} {[it for it in out.splitlines() if 'breaks' in it][:2]}"
+    for lines, words in told_logs(log, chance):
+        status, out, err = answer = watched(tables, lines)
+        for fault in document_faults(tables, lines, answer):
+            yield f"{name} {seed} told: {fault}"
+        if status not in (0, 3) or not [it for it in out.splitlines() if it.startswith(words)]:
+            yield f"{name} {seed} does not tell {words}: status {status} {err}"
     for number, place, lines in refused_logs(log):
-        status, out, err = watched(tables, lines)
+        status, out, err = answer = watched(tables, lines)
+        for fault in document_faults(tables, lines, answer):
+            yield f"{name} {seed} refused {number}: {fault}"
         if status != 3 or err.splitlines()[:1] != [f"canplan: refused {number} {place}"]:
             yield f"{name} {seed} refused {number} {place}: status {status} {err}"
 

@@ -18,6 +18,9 @@ NO_REFUSAL = b"rate,pdo,what,value\n0,0,version,1\n"
 # The words, the status, and what stands in the answer and on standard error. OUT is a folder of its own.
 CALLS = (
     (("plan", *CRANE, "OUT"), 0, "refused 250", ""),
+    (("plan", "--strict", *CRANE, "OUT"), 3, "refused 250", ""),
+    (("explain", "80"), 0, "rule 80: ", ""),
+    (("explain", "86"), 0, "warning 86: ", ""),
     (("check", "--strict", *CRANE, "OUT/refusals.csv"), 0, "250 holds", ""),
     (("check", "--strict", *CRANE, "OUT/none.csv"), 4, "", ""),
     (("check", "--strict", "--rates", "500,1000", *CRANE, "OUT/none.csv"), 0, "", ""),
@@ -35,6 +38,14 @@ CALLS = (
     (("boot", "--seed", "1", "--port", "-", *CRANE), 2, "", "cannot be used with"),
     (("boot", "--seed", "1", "--no-identity", *CRANE), 2, "", "cannot be used with"),
     (("boot", *CRANE), 2, "", "required"),
+    (("explain", "90"), 0, "", ""),
+    (("explain", "94"), 0, "no frame of the channel", ""),
+    (("explain", "95"), 0, "4096 bytes", ""),
+    (("explain", "96"), 2, "", ""),
+    (("explain", "100"), 0, "--take-over", ""),
+    (("watch", "--json", *CRANE, "OUT/none.csv"), 3, '"number":91', ""),
+    (("report", "--json", *CRANE, "OUT/page.html"), 2, "", "--json"),
+    (("report", "--log", "/dev/null", *CRANE, "OUT/page.html"), 3, "", "canplan: refused 94 0"),
 )
 
 

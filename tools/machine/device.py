@@ -12,6 +12,7 @@ class Device:
         self.boot_at, self.boots, self.pending = None, 0, []
         self.upload = self.download = None
         self.resets = self.starts = self.reads = self.read_back = 0
+        self.stored = None
         if faults.get("running"):
             self.state, self.next_beat = 0x05, now
 
@@ -26,7 +27,8 @@ class Device:
             self.send(ident, data)
         self.pending = [p for p in self.pending if p[0] > now]
         if self.next_beat is not None and now >= self.next_beat and self.boot_at is None:
-            self.send(0x700 + self.node, bytes([self.state]))
+            if not (self.faults.get("quiet") and self.state == 0x05):
+                self.send(0x700 + self.node, bytes([self.state]))
             self.arm(now)
             if self.next_beat is None and self.faults.get("running"):
                 self.next_beat = now + 0.5
@@ -105,6 +107,8 @@ class Device:
 
     def store(self, index, sub, data, now):
         code = 0 if self.faults.get("stores_nothing") else self.check(index, sub, data)
+        if (index, sub) == (0x1010, 1):
+            return self.save(data, code)
         self.writes.append((index, sub, data.hex(), code))
         if code:
             return self.refuse(index, sub, code)
@@ -120,6 +124,15 @@ class Device:
         if self.faults.get("wrong_mux") == (index, sub):
             return bytes([0x60, index & 255, index >> 8, sub ^ 1, 0, 0, 0, 0])
         return bytes([0x60, index & 255, index >> 8, sub, 0, 0, 0, 0])
+
+    def save(self, data, code):
+        """Store parameters (CiA 301, object 1010h): the signature is wanted."""
+        if data != b"save":
+            code = code or 0x08000020
+        if code:
+            return self.refuse(0x1010, 1, code)
+        self.stored = {key: e.value for key, e in self.entries.items()}
+        return bytes([0x60, 0x10, 0x10, 1, 0, 0, 0, 0])
 
     def fall_over(self, now):
         for x in self.entries.values():

@@ -147,6 +147,8 @@ class Rig:
             at(node)["silent"] = True
         for node in self.args.running:
             at(node)["running"] = True
+        for node in self.args.quiet:
+            at(node)["quiet"] = True
         for node in self.args.mute:
             at(node)["mute"] = True
         for text in self.args.late:
@@ -246,7 +248,7 @@ class Rig:
         for node, d in sorted(self.devices.items()):
             changed = {f"{e.index:04X}:{e.sub:02X}": f"{e.value:X}" for e in d.entries.values() if e.size and e.value != e.default}
             one = {"state": d.told(), "boots": d.boots, "resets": d.resets, "starts": d.starts, "reads": d.reads,
-                   "writes": len(d.writes), "aborted": [f"{i:04X}:{s:02X} {c:08X}" for i, s, _, c in d.writes if c], "changed": changed}
+                   "writes": len(d.writes), "stored": d.stored is not None, "aborted": [f"{i:04X}:{s:02X} {c:08X}" for i, s, _, c in d.writes if c], "changed": changed}
             if wanted_all:
                 path = os.path.join(wanted_all, f"node-{node:03}.dcf")
                 wrong = []
@@ -258,6 +260,8 @@ class Rig:
                     wrong.append(f"{index:04X}:{sub:02X} has {found}, the DCF {w.value:X}")
                 one["as_dcf"], good = not wrong, good and not wrong
                 one["wrong"] = wrong
+                one["stored_as_dcf"] = d.stored is not None and all(
+                    d.stored.get(key) == w.value for key, w in eds.dictionary(path, node, "parametervalue").items() if w.value is not None)
             told[node] = one
         summary = {"commands": self.commands, "frames_from_manager": self.adapter.heard, "frames_to_manager": self.adapter.sent,
                    "refused_lines": self.adapter.bad, "rate": self.adapter.rate, "devices": told}
@@ -279,6 +283,7 @@ def words():
     p.add_argument("--rate", type=int, help="the bus's bit rate in kbit/s: at another nothing is heard")
     p.add_argument("--silent", nargs="*", default=[], metavar="NODE", help="never boots and never answers")
     p.add_argument("--running", nargs="*", default=[], metavar="NODE", help="is operational from the beginning, with a heartbeat")
+    p.add_argument("--quiet", nargs="*", default=[], metavar="NODE", help="sends no heartbeat while it is operational")
     p.add_argument("--gone", type=int, default=0, help="the adapter is pulled out after so many frames from the manager")
     p.add_argument("--mute", nargs="*", default=[], metavar="NODE", help="boots, but has no SDO server")
     p.add_argument("--late", nargs="*", default=[], metavar="NODE:S", help="boots so many seconds after the reset")

@@ -12,13 +12,15 @@ use crate::machines::{Form, boot_machine, machine_rule_words};
 use crate::notes::{plan_notes, tell};
 use crate::reporting::write_report;
 use crate::tidying::carry_tidy;
+use crate::warning_rules::warning_rule_words;
+use crate::warnings::status_after;
 use crate::watching::watch_bus;
 use cop_engine::{
-    Fault, Files, RunFault, boot_bytes, deliver, none_passes, outcome_of, plan_bytes, plan_status,
-    run_plan, test_bytes, test_status, text_status,
+    Fault, Files, RunFault, boot_bytes, deliver, none_passes, outcome_of, plan_bytes, run_plan,
+    test_bytes, test_status, text_status,
 };
 use cop_frame::Rate;
-use cop_orders::{MOST_UNTIL, NetworkFiles, Order, Request};
+use cop_orders::{MOST_UNTIL, NetworkFiles, Order, PlanOrder, Request};
 use cop_plan::{Outcome, Plan};
 use cop_tidy::question_words;
 use cop_words::{late_words, rule_words};
@@ -74,12 +76,11 @@ pub fn write_files(rt: &HostRuntime, files: &Files, out: &str) -> Result<(), Fai
 /// The plan of a network: it is printed, and then written into a folder.
 fn plan(
     rt: &HostRuntime,
-    network: NetworkFiles<'_>,
-    out: &str,
+    order: PlanOrder<'_>,
     told: bool,
     inputs: &mut Inputs,
 ) -> Result<u8, Failure> {
-    inputs.network.read(rt, network)?;
+    inputs.network.read(rt, order.network)?;
     let texts = &inputs.network;
     let files = plan_bytes(
         rt.alloc(),
@@ -88,12 +89,13 @@ fn plan(
         &texts.eds_files,
         &texts.asked,
     )?;
+    let status = status_after(rt.alloc(), texts, files.planned, order.strict)?;
     print(rt, &files.plan)?;
-    write_files(rt, &files, out)?;
+    write_files(rt, &files, order.out)?;
     if told {
         tell(rt, plan_notes(rt.alloc(), texts));
     }
-    Ok(plan_status(files.planned))
+    Ok(status)
 }
 
 /// The boot of a network by its plan, by the turns that a seed draws.
@@ -206,6 +208,11 @@ fn explain(rt: &HostRuntime, number: u8) -> Result<u8, Failure> {
     } else {
         words
     };
+    let words = if words.is_empty() {
+        warning_rule_words(number).as_bytes()
+    } else {
+        words
+    };
     if words.is_empty() {
         return Err(Failure::from(Fault::Usage));
     }
@@ -225,7 +232,7 @@ pub fn carry_out(
             let all_pass = test(rt, rate, file, request.explain, inputs)?;
             Ok(test_status(all_pass || !strict))
         }
-        Order::Plan { network, out } => plan(rt, network, out, told, inputs),
+        Order::Plan(order) => plan(rt, order, told, inputs),
         Order::Check {
             network,
             refusals,
@@ -257,7 +264,7 @@ pub fn carry_out(
             out,
         } => export(rt, format, network, out, inputs),
         Order::Tidy(order) => carry_tidy(rt, order, told, inputs),
-        Order::Watch(order) => watch_bus(rt, order, inputs),
+        Order::Watch(order) => watch_bus(rt, order, Form::Lines, inputs),
         Order::Explain { number } => explain(rt, number),
     }
 }

@@ -7,17 +7,18 @@ use crate::failures::Failure;
 use crate::files::print;
 use crate::inputs::{Inputs, Texts, read_file, read_input};
 use crate::machines::{Form, answer, boot_machine};
+use crate::warnings::{all_warned, findings, status_after};
+use crate::watching::watch_bus;
 use cop_documents::{
     Told, boot_document, check_document, fault_document, judge_document, plan_document,
     test_document,
 };
 use cop_engine::{
-    Fault, boot_bytes, judge_bytes, message, plan_bytes, plan_status, test_bytes, test_status,
-    text_status,
+    Fault, boot_bytes, judge_bytes, message, plan_bytes, test_bytes, test_status, text_status,
 };
 use cop_frame::Rate;
 use cop_net::{PlanFault, Table, network, read_nodes, read_pdos};
-use cop_orders::{NetworkFiles, Order, Request};
+use cop_orders::{NetworkFiles, Order, PlanOrder, Request};
 use cop_plan::plan;
 use std::alloc::{AllocError, Global};
 use std::str;
@@ -39,16 +40,13 @@ fn planned(alloc: Global, texts: &Texts) -> Result<String, Fault> {
     let (nodes, pdos) = texts.tables(alloc)?;
     let network = texts.network(alloc, &nodes, &pdos)?;
     let outcome = plan(alloc, &network, texts.asked.choice)?;
-    Ok(plan_document(alloc, &network, &outcome)?)
+    let found = findings(alloc, texts, &nodes, &network)?;
+    let warnings = all_warned(alloc, &found)?;
+    Ok(plan_document(alloc, &network, &outcome, &warnings)?)
 }
 
-fn plan_order(
-    rt: &HostRuntime,
-    network: NetworkFiles<'_>,
-    out: &str,
-    inputs: &mut Inputs,
-) -> Result<u8, Failure> {
-    inputs.network.read(rt, network)?;
+fn plan_order(rt: &HostRuntime, order: PlanOrder<'_>, inputs: &mut Inputs) -> Result<u8, Failure> {
+    inputs.network.read(rt, order.network)?;
     let texts = &inputs.network;
     let files = plan_bytes(
         rt.alloc(),
@@ -58,9 +56,10 @@ fn plan_order(
         &texts.asked,
     )?;
     let document = planned(rt.alloc(), texts)?;
-    write_files(rt, &files, out)?;
+    let status = status_after(rt.alloc(), texts, files.planned, order.strict)?;
+    write_files(rt, &files, order.out)?;
     print_document(rt, &document)?;
-    Ok(plan_status(files.planned))
+    Ok(status)
 }
 
 fn check(
@@ -118,7 +117,7 @@ fn judge(
     Ok(text_status(&text))
 }
 
-/// Carries a request out, and gives its answer as a document. A trace is read as a whole.
+/// Carries a request out, and gives its answer as a document. A trace is read as a whole, and a log as a stream.
 pub fn carry_document(
     rt: &HostRuntime,
     request: Request<'_>,
@@ -129,7 +128,7 @@ pub fn carry_document(
             let all_pass = test(rt, rate, file, inputs)?;
             Ok(test_status(all_pass || !strict))
         }
-        Order::Plan { network, out } => plan_order(rt, network, out, inputs),
+        Order::Plan(order) => plan_order(rt, order, inputs),
         Order::Check {
             network,
             refusals,
@@ -138,6 +137,7 @@ pub fn carry_document(
         Order::Boot { seed, network } => boot(rt, seed, network, inputs),
         Order::Machine(order) => boot_machine(rt, order, Form::Document, inputs),
         Order::Judge { network, trace } => judge(rt, network, trace, inputs),
+        Order::Watch(order) => watch_bus(rt, order, Form::Document, inputs),
         _ => carry_out(rt, request, false, inputs),
     }
 }
@@ -166,6 +166,7 @@ fn table_name(alloc: Global, number: u8, texts: &Texts) -> Option<&'static str> 
         1..=6 => Some("streams"),
         30..=36 => Some("refusals"),
         60..=69 => Some("trace"),
+        90..=95 => Some("log"),
         40..=53 => match table_of(alloc, texts) {
             Some(Table::Nodes) => Some("nodes"),
             Some(Table::Pdos) => Some("pdos"),

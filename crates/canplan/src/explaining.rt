@@ -3,11 +3,11 @@
 use crate::failures::Failure;
 use crate::inputs::{Inputs, beside};
 use crate::log_rules::log_rule_words;
-use crate::machines::{RUNNING, machine_rule_words};
+use crate::machines::{ABSENT, RUNNING, machine_rule_words};
 use crate::tidying::mend_words;
 use cop_engine::Fault;
 use cop_net::read_nodes;
-use cop_orders::{NetworkFiles, Order};
+use cop_orders::{NetworkFiles, Order, PlanOrder};
 use cop_tidy::refusal_words;
 use cop_words::{Network, Source, line_at, network_words, record_words, rule_words};
 use std::alloc::{AllocError, Global};
@@ -16,7 +16,7 @@ use std::{fs, str};
 /// The files of the network of an order.
 fn network_of<'a>(order: Order<'a>) -> Option<NetworkFiles<'a>> {
     match order {
-        Order::Plan { network, .. } => Some(network),
+        Order::Plan(order) => Some(order.network),
         Order::Check { network, .. } => Some(network),
         Order::Boot { network, .. } => Some(network),
         Order::Judge { network, .. } => Some(network),
@@ -107,7 +107,7 @@ fn refused(
     if is_of_log(order, number) {
         return log_words(alloc, number, place);
     }
-    if number == RUNNING {
+    if number == RUNNING || number == ABSENT {
         return Ok(format!(in alloc; "node {place}: {}", machine_rule_words(number))?.into_bytes());
     }
     if let Some(name) = file_of(order, number) {
@@ -197,7 +197,7 @@ fn push_mend(
 
 /// Adds that the files in the folder of a plan that is refused are of an earlier run, where there are any.
 fn push_earlier(words: &mut Vec<u8>, rt: &HostRuntime, order: Order<'_>) -> Result<(), AllocError> {
-    let Order::Plan { out, .. } = order else {
+    let Order::Plan(PlanOrder { out, .. }) = order else {
         return Ok(());
     };
     // The first of the files that a plan writes.

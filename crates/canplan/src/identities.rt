@@ -36,7 +36,12 @@ fn outcome_words(
     exchange: &Exchange,
 ) -> Result<String, AllocError> {
     let Exchange { question, outcome } = exchange;
-    let Question { node, at, wanted } = *question;
+    let Question {
+        node,
+        at,
+        wanted,
+        ..
+    } = *question;
     let (index, sub, name) = (at.index, at.sub, name_of(question));
     match *outcome {
         Outcome::Answered {

@@ -5,7 +5,7 @@ use crate::files::print;
 use crate::identities::identity_notes;
 use crate::inputs::Inputs;
 use crate::serial::{Serial, open_serial};
-use cop_commission::{Approach, Commissioned, commission};
+use cop_commission::{Approach, Commissioned, Reach, commission};
 use cop_documents::boot_document;
 use cop_engine::{Fault, none_passes};
 use cop_frame::Rate;
@@ -18,11 +18,20 @@ use std::str;
 /// The number of the rule that no node of the machine runs.
 pub const RUNNING: u8 = 100;
 
+/// The number of the rule that the node that is booted alone has a device.
+pub const ABSENT: u8 = 101;
+
+/// A second has so many ticks.
+const SECOND: u64 = 4_000_000;
+
 /// What the rule of a number says, and what is right. Nothing for a number that is no rule of a machine.
 pub fn machine_rule_words(number: u8) -> &'static str {
     match number {
         RUNNING => {
             "it runs: its heartbeat says operational, or its PDO comes; no frame was sent\nstop the machine, or give --take-over where it may be reset\n"
+        }
+        ABSENT => {
+            "it has no device row in the table of nodes; nothing was done at the port\ngive --only the number of a node that has one\n"
         }
         _ => "",
     }
@@ -44,11 +53,16 @@ fn say(rt: &HostRuntime, words: &[u8]) {
     let _ = rt.stderr().write_all(words);
 }
 
-/// What is said of a node's line that tells of an abort: the code in words; and of one that tells that a value differs.
+/// What is said of a node's line that tells of an abort: the code in words; and of one that tells that a value differs, or of lateness.
 fn line_words(alloc: Global, line: &str) -> Result<String, AllocError> {
     if line.contains(" differs ") {
         return format!(in alloc;
             "{line}: it confirmed what was set there, and this is what it has\n"
+        );
+    }
+    if line.ends_with(" late") {
+        return format!(in alloc;
+            "{line}: no heartbeat said that it is operational for one and a half of its time\n"
         );
     }
     let code = match line.rsplit_once(' ') {
@@ -122,33 +136,41 @@ fn line_failure(rt: &HostRuntime, name: &str, port: &Serial<'_>) -> Failure {
     if let Some(error) = &port.error {
         return file_failure(rt, name, Use::Read, error);
     }
+    let reason = if port.over {
+        "the limit of time has passed\n"
+    } else {
+        "the line or the clock has ended\n"
+    };
     match String::from_str(rt.alloc(), name) {
         Ok(name) => Failure {
             fault: Fault::File(name),
-            reason: String::from_str(rt.alloc(), "the line or the clock has ended\n").ok(),
+            reason: String::from_str(rt.alloc(), reason).ok(),
         },
         Err(error) => Failure::from(error),
     }
 }
 
-/// Tells what came of a boot, and gives its status: 3 where the nodes were not started.
+/// Tells what came of a boot, and gives its status: 3 where some node is not ready, or late.
 fn tell_ended(
     rt: &HostRuntime,
-    name: &str,
+    order: MachineOrder<'_>,
     form: Form,
     ended: Commissioned,
     port: &Serial<'_>,
 ) -> Result<u8, Failure> {
+    let name = order.port;
     match ended {
         Commissioned::Ended {
             text,
-            started,
+            ready,
+            on_time,
             rate,
+            ..
         } => {
             answer_in(rt, name, form, &text)?;
             let words = str::from_utf8(&text).unwrap_or("");
             say(rt, &boot_notes(rt.alloc(), words, rate)?);
-            Ok(if started { 0 } else { 3 })
+            Ok(if ready && on_time { 0 } else { 3 })
         }
         Commissioned::Others { text, exchanges } => {
             answer_in(rt, name, form, &text)?;
@@ -158,6 +180,10 @@ fn tell_ended(
         Commissioned::Running { node } => Err(Failure::from(Fault::Refused {
             number: RUNNING,
             place: u64::from(node),
+        })),
+        Commissioned::Absent => Err(Failure::from(Fault::Refused {
+            number: ABSENT,
+            place: u64::from(order.only.unwrap_or(0)),
         })),
         Commissioned::NonePasses => {
             answer_in(rt, name, form, &none_passes(rt.alloc())?)?;
@@ -177,6 +203,20 @@ fn said_before(order: MachineOrder<'_>) -> &'static str {
     }
 }
 
+/// How the devices are approached.
+fn approach_of(order: MachineOrder<'_>) -> Approach {
+    Approach {
+        take_over: order.take_over,
+        identify: order.identify,
+        reach: Reach {
+            only: order.only,
+            start: order.start,
+        },
+        store: order.store,
+        watch: order.watch.saturating_mul(SECOND),
+    }
+}
+
 /// The boot of the devices at a port by the plan of their network.
 pub fn boot_machine(
     rt: &HostRuntime,
@@ -186,17 +226,18 @@ pub fn boot_machine(
 ) -> Result<u8, Failure> {
     inputs.network.read(rt, order.network)?;
     let texts = &inputs.network;
-    let mut port = match open_serial(rt, order.port) {
+    let limit = match order.limit {
+        Some(seconds) => seconds.saturating_mul(SECOND),
+        None => u64::MAX,
+    };
+    let mut port = match open_serial(rt, order.port, limit) {
         Ok(port) => port,
         Err(error) => return Err(file_failure(rt, order.port, Use::Read, &error)),
     };
     if form == Form::Told {
         say(rt, said_before(order).as_bytes());
     }
-    let approach = Approach {
-        take_over: order.take_over,
-        identify: order.identify,
-    };
+    let approach = approach_of(order);
     let ended = commission(
         rt.alloc(),
         &texts.nodes,
@@ -208,5 +249,5 @@ pub fn boot_machine(
     )?;
     let started = matches!(ended, Commissioned::Ended { started: true, .. });
     tell_refused(rt, port.refused, started);
-    tell_ended(rt, order.port, form, ended, &port)
+    tell_ended(rt, order, form, ended, &port)
 }

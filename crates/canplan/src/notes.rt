@@ -4,12 +4,12 @@ ghost use Rattle.std.specs.Prelude.{length};
 ghost use Rattle.cop_plan.specs.Plans.{IsOutcome};
 
 use crate::inputs::{Inputs, Texts};
+use crate::warnings::finding_lines;
 use cop_engine::Fault;
 use cop_figures::{Figures, figures_of};
 use cop_net::{Network, NodeTable};
 use cop_plan::{Outcome, plan};
-use cop_warn::warnings_of;
-use cop_words::{margin_words, refused_words, uncovered_words, warning_words};
+use cop_words::{margin_words, refused_words, uncovered_words};
 use std::alloc::{AllocError, Global};
 use std::io::Write;
 
@@ -32,6 +32,7 @@ fn limits(
 /// Why each rate is refused, what limits a margin, and the warnings.
 fn outcome_notes(
     alloc: Global,
+    texts: &Texts,
     nodes: &NodeTable,
     network: &Network<'_>,
     outcome: &Outcome,
@@ -41,8 +42,7 @@ fn outcome_notes(
     let figures = figures_of(alloc, network, outcome)?;
     let mut words = refused_words(alloc, network, &figures.refused)?;
     words.extend_from_slice(&limits(alloc, network, outcome, &figures)?)?;
-    let warnings = warnings_of(alloc, nodes, network)?;
-    words.extend_from_slice(&warning_words(alloc, network, &warnings)?)?;
+    words.extend_from_slice(&finding_lines(alloc, texts, nodes, network)?)?;
     Ok(words)
 }
 
@@ -51,7 +51,7 @@ pub fn plan_notes(alloc: Global, texts: &Texts) -> Result<Vec<u8>, Fault> {
     let (nodes, pdos) = texts.tables(alloc)?;
     let network = texts.network(alloc, &nodes, &pdos)?;
     let outcome = plan(alloc, &network, texts.asked.choice)?;
-    Ok(outcome_notes(alloc, &nodes, &network, &outcome)?)
+    Ok(outcome_notes(alloc, texts, &nodes, &network, &outcome)?)
 }
 
 /// Says what is to be said of an answer, where there was memory for it.

@@ -8,15 +8,17 @@ use crate::failures::Failure;
 use crate::files::write_file;
 use crate::inputs::{Inputs, beside, read_file};
 use crate::judging::judge_inputs;
+use crate::warnings::finding_lines;
 use crate::watching::watched;
 use cop_engine::{Fault, plan_status};
 use cop_figures::{Breakdown, Figures, Timeline, breakdowns_of, figures_of, timeline_of};
 use cop_logbook::Logbook;
-use cop_net::Network;
+use cop_net::{Network, NodeTable};
 use cop_orders::{NetworkFiles, Shown};
 use cop_plan::{Outcome, plan};
 use cop_report::{Input, Report, page_of};
 use std::alloc::AllocError;
+use std::str;
 
 /// The files that a page is made of.
 #[derive(Clone, Copy)]
@@ -118,6 +120,7 @@ fn breakdowns(
 fn page_text(
     rt: &HostRuntime,
     sources: Sources<'_>,
+    nodes: &NodeTable,
     network: &Network<'_>,
     outcome: &Outcome,
     timeline: Option<&Timeline>,
@@ -129,6 +132,7 @@ fn page_text(
     let book = log_book(rt, sources, outcome)?;
     let opened = opened(rt, sources)?;
     let inputs = inputs(rt, sources, &opened)?;
+    let warnings = finding_lines(rt.alloc(), &sources.inputs.network, nodes, network)?;
     let report = Report {
         network,
         outcome,
@@ -138,6 +142,7 @@ fn page_text(
         log: book.as_ref(),
         are_rates_listed: sources.network.rates.are_listed(),
         inputs: &inputs,
+        warnings: str::from_utf8(&warnings).unwrap_or(""),
     };
     Ok(page_of(rt.alloc(), report)?)
 }
@@ -146,13 +151,14 @@ fn page_text(
 fn outcome_page(
     rt: &HostRuntime,
     sources: Sources<'_>,
+    nodes: &NodeTable,
     network: &Network<'_>,
     outcome: &Outcome,
 ) -> Result<Page, Failure>
     requires { IsOutcome network.now.equipment.rates network.now.set (length network.now.rows) outcome.now }
 {
     let timeline = timeline(rt, sources, outcome)?;
-    let text = page_text(rt, sources, network, outcome, timeline.as_ref())?;
+    let text = page_text(rt, sources, nodes, network, outcome, timeline.as_ref())?;
     Ok(Page {
         text,
         planned: matches!(outcome, Outcome::Planned(_)),
@@ -164,11 +170,12 @@ fn outcome_page(
 fn network_page(
     rt: &HostRuntime,
     sources: Sources<'_>,
+    nodes: &NodeTable,
     network: &Network<'_>,
 ) -> Result<Page, Failure> {
     let choice = sources.inputs.network.asked.choice;
     let outcome = plan(rt.alloc(), network, choice)?;
-    outcome_page(rt, sources, network, &outcome)
+    outcome_page(rt, sources, nodes, network, &outcome)
 }
 
 /// The page of the network that the files make.
@@ -176,7 +183,7 @@ fn sources_page(rt: &HostRuntime, sources: Sources<'_>) -> Result<Page, Failure>
     let texts = &sources.inputs.network;
     let (nodes, pdos) = texts.tables(rt.alloc())?;
     let network = texts.network(rt.alloc(), &nodes, &pdos)?;
-    network_page(rt, sources, &network)
+    network_page(rt, sources, &nodes, &network)
 }
 
 /// Writes the page of what was read. A trace that does not keep to the plan ends as its judgement does, and nothing is written.

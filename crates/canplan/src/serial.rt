@@ -32,10 +32,14 @@ pub struct Serial<'a> {
     pub refused: u64,
     /// What the system said of a read or a write that failed.
     pub error: Option<io::Error>,
+    /// After how many ticks the line is given up.
+    limit: u64,
+    /// Whether it was given up.
+    pub over: bool,
 }
 
-/// The line to an adapter by the name of its device file; `-` is standard input and output.
-pub fn open_serial<'a>(rt: &'a HostRuntime, name: &str) -> io::Result<Serial<'a>> {
+/// The line to an adapter by the name of its device file; `-` is standard input and output. It is given up after so many ticks.
+pub fn open_serial<'a>(rt: &'a HostRuntime, name: &str, limit: u64) -> io::Result<Serial<'a>> {
     let line = if name == "-" {
         Line::Streams
     } else {
@@ -47,6 +51,8 @@ pub fn open_serial<'a>(rt: &'a HostRuntime, name: &str) -> io::Result<Serial<'a>
         opened: Instant::now(rt)?,
         refused: 0,
         error: None,
+        limit,
+        over: false,
     })
 }
 
@@ -56,6 +62,14 @@ impl Serial<'_> {
         match &self.line {
             Line::Device(file) => file.is_terminal(),
             Line::Streams => self.rt.stdin().is_terminal(),
+        }
+    }
+
+    /// The ticks since the line was opened.
+    fn ticks(&self) -> Option<u64> {
+        match Instant::now(self.rt) {
+            Ok(now) => u64::try_from(now.duration_since(self.opened).as_nanos() / TICK).ok(),
+            Err(_) => None,
         }
     }
 
@@ -117,9 +131,12 @@ impl Port for Serial<'_> {
     }
 
     fn now(&mut self) -> Option<u64> {
-        match Instant::now(self.rt) {
-            Ok(now) => u64::try_from(now.duration_since(self.opened).as_nanos() / TICK).ok(),
-            Err(_) => None,
+        let now = self.ticks()?;
+        if now < self.limit {
+            Some(now)
+        } else {
+            self.over = true;
+            None
         }
     }
 }

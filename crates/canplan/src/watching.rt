@@ -3,46 +3,17 @@
 use crate::failures::{Failure, Use, file_failure};
 use crate::files::print;
 use crate::inputs::{Inputs, open_file};
-use cop_engine::{Fault, none_passes, outcome_of};
+use crate::machines::Form;
+use cop_documents::watch_document;
+use cop_engine::{none_passes, outcome_of};
 use cop_log::Clock;
 use cop_logbook::Logbook;
 use cop_orders::WatchOrder;
 use cop_plan::{Outcome, Plan};
-use memchr::memchr;
 use std::io::Read;
 
 /// How many bytes are read at once: 256 KiB.
 const PIECE: usize = 256 * 1024;
-
-/// The greatest length of a line, without its end.
-const MOST_LINE: usize = 4096;
-
-/// The number of the rule that lines are no longer than that.
-const LONG_LINE: u8 = 95;
-
-/// Keeps what was read of a line that goes on in the next piece.
-fn keep(book: &Logbook<'_>, begun: &mut Vec<u8>, more: &[u8]) -> Result<(), Failure> {
-    if more.len() > MOST_LINE || begun.len() > MOST_LINE - more.len() {
-        return Err(Failure::from(Fault::Refused {
-            number: LONG_LINE,
-            place: book.lines().saturating_add(1),
-        }));
-    }
-    begun.extend_from_slice(more)?;
-    Ok(())
-}
-
-/// Takes the lines that end in a piece, the first of which may have begun before it.
-fn take_piece(book: &mut Logbook<'_>, begun: &mut Vec<u8>, piece: &[u8]) -> Result<(), Failure> {
-    let mut rest = piece;
-    while let Some(end) = memchr(b'\n', rest) {
-        keep(book, begun, &rest[..end])?;
-        book.take_line(begun)?;
-        begun.clear();
-        rest = &rest[end..][1..];
-    }
-    keep(book, begun, rest)
-}
 
 /// Takes all lines that a reader has left. The last one may lack its end.
 fn take_lines<R: Read + Drop>(
@@ -52,7 +23,6 @@ fn take_lines<R: Read + Drop>(
     book: &mut Logbook<'_>,
 ) -> Result<(), Failure> {
     let mut piece = vec![in rt.alloc(); 0; PIECE]?;
-    let mut begun = Vec::new(rt.alloc());
     for _ in 0..u64::MAX {
         let len = match reader.read(&mut piece) {
             Ok(len) => len,
@@ -61,16 +31,12 @@ fn take_lines<R: Read + Drop>(
         if len == 0 {
             break;
         }
-        take_piece(book, &mut begun, &piece[..len])?;
+        book.take_piece(&piece[..len])?;
     }
-    if begun.is_empty() {
-        Ok(())
-    } else {
-        Ok(book.take_line(&begun)?)
-    }
+    Ok(book.take_rest()?)
 }
 
-/// The log of an order, watched by a plan.
+/// The log of an order, watched by a plan. One in which no frame is of the channel is refused.
 pub fn watched<'p>(
     rt: &HostRuntime,
     order: WatchOrder<'_>,
@@ -88,20 +54,47 @@ pub fn watched<'p>(
         let file = open_file(rt, order.log)?;
         take_lines(rt, order.log, file, &mut book)?;
     }
+    book.end()?;
     Ok(book)
 }
 
-/// Says what a log shows, and gives the status.
-fn watch_by(rt: &HostRuntime, order: WatchOrder<'_>, plan: &Plan) -> Result<u8, Failure> {
+/// Gives a document.
+fn print_document(rt: &HostRuntime, book: Option<&Logbook<'_>>) -> Result<(), Failure> {
+    let document = watch_document(rt.alloc(), book)?;
+    print(rt, format!(in rt.alloc(); "{document}\n")?.as_bytes())
+}
+
+/// Says what a log shows in a form, and gives the status.
+fn watch_by(
+    rt: &HostRuntime,
+    order: WatchOrder<'_>,
+    form: Form,
+    plan: &Plan,
+) -> Result<u8, Failure> {
     let book = watched(rt, order, plan)?;
-    print(rt, book.finish()?.as_bytes())?;
+    if form == Form::Document {
+        print_document(rt, Some(&book))?;
+    } else {
+        print(rt, book.finish()?.as_bytes())?;
+    }
     Ok(if book.breaches() == 0 { 0 } else { 3 })
+}
+
+/// Says in a form that no rate passes, and gives the status.
+fn tell_no_plan(rt: &HostRuntime, form: Form) -> Result<u8, Failure> {
+    if form == Form::Document {
+        print_document(rt, None)?;
+    } else {
+        print(rt, &none_passes(rt.alloc())?)?;
+    }
+    Ok(4)
 }
 
 /// Watches a log by the plan of a network, and says what it shows. Memory does not grow with the log.
 pub fn watch_bus(
     rt: &HostRuntime,
     order: WatchOrder<'_>,
+    form: Form,
     inputs: &mut Inputs,
 ) -> Result<u8, Failure> {
     inputs.network.read(rt, order.network)?;
@@ -114,10 +107,7 @@ pub fn watch_bus(
         &texts.asked,
     )?;
     match &outcome {
-        Outcome::Planned(plan) => watch_by(rt, order, plan),
-        Outcome::Refused(_) => {
-            print(rt, &none_passes(rt.alloc())?)?;
-            Ok(4)
-        }
+        Outcome::Planned(plan) => watch_by(rt, order, form, plan),
+        Outcome::Refused(_) => tell_no_plan(rt, form),
     }
 }

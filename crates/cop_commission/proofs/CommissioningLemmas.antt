@@ -1,16 +1,25 @@
 -- The senders of a plan's PDOs, and what the parts of a boot over a port make of it.
-use Rattle.std.proofs.Common.{◌≡◌, ℕ, zero, suc, ◌+◌, ◌<◌, List, [], ◌∷◌, ◌++◌, length, drop, get_or, Bool, refl, sym, ap, ◌∙◌, arith, append_assoc, append-nil}
+use Rattle.std.proofs.Common.{◌≡◌, ℕ, zero, suc, ◌+◌, ◌<◌, ◌≤◌, List, [], ◌∷◌, ◌++◌, length, drop, get_or, Bool, true, false, Option, Some, None, refl, sym, ap, ◌∙◌, subst, arith, append_assoc, append-nil, All}
+use Rattle.std.specs.Prelude.{◌&&◌, nat_le, is_some, if◌then◌else◌}
+use Rattle.std.specs.List.{AllPairs}
+use Rattle.std.proofs.lemmas.Bool.Decides.{nat_tests}
+use Rattle.std.proofs.lemmas.List.Elements.{All-nil, All-cons}
 use Rattle.cop_frame.specs.declared.rates.Rate.{Rate}
 use Rattle.cop_rows.specs.declared.pdo_table.PdoRow.{PdoRow}
 use Rattle.cop_net.specs.Network.{Net}
 use Rattle.cop_boot.specs.Manager.{Managing}
 use Rattle.cop_live.specs.declared.listening.Sender.{Sender}
 use Rattle.cop_identity.specs.declared.questions.Question.{Question}
-use Rattle.cop_engine.specs.Boots.{device_nodes, manager_of}
+use Rattle.cop_dcf.specs.Settings.{dictionary_of}
+use Rattle.cop_engine.proofs.BootLemmas.{IsUpTo, nodes_low, nodes_rise}
 use Rattle.cop_readback.specs.declared.session.ReadBack.{ReadBack}
-use Rattle.cop_commission.specs.Sessions.{IsWhole}
-use Rattle.cop_commission.specs.Commissioning.{senders_of, IsEnded}
-use Rattle.cop_commission.specs.Readings.{standing_text}
+use Rattle.cop_live.specs.Nodes.{is_empty}
+use Rattle.cop_live.specs.Session.{Closed}
+use Rattle.cop_heartbeats.specs.declared.attending.Awaited.{Awaited}
+use Rattle.cop_readback.specs.declared.session.Reach.{Reach}
+use Rattle.cop_readback.specs.Session.{ReadsBack}
+use Rattle.cop_commission.specs.Sessions.{Way, awaited_if, IsWatched, BootsAndCloses, IsWhole}
+use Rattle.cop_commission.specs.Commissioning.{senders_of, meant_nodes, is_meant_device, ended_text, IsEnded}
 
 -- the senders from a place on
 sender_step : (rows : List PdoRow) (ids : List ℕ) (k : ℕ) (row : PdoRow) → k < length rows → length ids ≡ length rows
@@ -44,17 +53,55 @@ senders_all rows ids done h = sym (append-nil done) ∙ ap (λ xs. done ++ xs) (
     none (r ∷ rows) [] = no_ids (drop (length rows) rows)
     none (r ∷ rows) (i ∷ ids) = none rows ids
 
+-- the nodes that are meant are numbers of nodes, and rise
+pub meant_low : (net : Net) (only : Option ℕ) → All (IsUpTo 127) (meant_nodes net only)
+meant_low net None = nodes_low net 127
+meant_low net (Some node) = by_tests (nat_le 1 node) refl (nat_le node 127) refl (is_some (dictionary_of net node))
+  where
+    by_tests : (a : Bool) → nat_le 1 node ≡ a → (b : Bool) → nat_le node 127 ≡ b → (c : Bool) → All (IsUpTo 127) (if (a && b) && c then node ∷ [] else [])
+    by_tests true ea true eb true =
+        let low : 1 ≤ node = grind (arith, nat_tests) in
+        let high : node ≤ 127 = grind (arith, nat_tests) in
+        All-cons (IsUpTo 127) node [] (low, high) (All-nil (IsUpTo 127))
+    by_tests true ea true eb false = All-nil (IsUpTo 127)
+    by_tests true ea false eb c = All-nil (IsUpTo 127)
+    by_tests false ea b eb c = All-nil (IsUpTo 127)
+
+pub meant_rise : (net : Net) (only : Option ℕ) → AllPairs (λ node later. node < later) (meant_nodes net only)
+meant_rise net None = nodes_rise net 127
+meant_rise net (Some node) = by_test (is_meant_device net node)
+  where
+    by_test : (b : Bool) → AllPairs (λ node later. node < later) (if b then node ∷ [] else [])
+    by_test true = λ i j d lt inside. absurd (omega arith)
+    by_test false = λ i j d lt inside. absurd (omega arith)
+
+-- a boot whose nodes are watched then
+pub closed_so : {P : Type 0} (reads writes : P → List ℕ → P → Type 0) (asks : P → ℕ → P → Type 0) (way : Way) (reach : Reach) (own : List Awaited) (limit : ℕ) (m later : Managing) (nodes : List ℕ) (settings : List Question) (back : ReadBack) (late : List Bool) (p booted watched q : P)
+    → reach ≡ way.reach → limit ≡ way.limit → own ≡ awaited_if back.started way.awaited
+    → ReadsBack reads writes asks reach m nodes settings p back.exchanges.items back.booted back.ready back.started later booted
+    → IsWatched reads writes asks own limit booted late watched → Closed reads writes watched q → BootsAndCloses reads writes asks way m nodes settings p back late later q
+closed_so reads writes asks way reach own limit m later nodes settings back late p booted watched q er el eo boots watches closes = record {
+  booted = booted;
+  watched = watched;
+  boots = rw er at boots;
+  watches = rw (el, eo) at watches;
+  closes = closes;
+}
+
 -- a session of a plan's manager
-pub ended_so : {P : Type 0} (reads writes : P → List ℕ → P → Type 0) (asks : P → ℕ → P → Type 0) (net : Net) (rate own at : Rate) (ids nodes shown : List ℕ) (senders : List Sender) (takes take_over : Bool) (questions wanted settings all : List Question) (manager later : Managing) (back : ReadBack) (p q : P) (text : List ℕ) (started : Bool)
-    → nodes ≡ device_nodes net → manager ≡ manager_of net ids (device_nodes net) → senders ≡ senders_of net.rows ids → own ≡ rate → takes ≡ take_over → questions ≡ wanted → settings ≡ all
-    → IsWhole reads writes asks own senders takes questions manager nodes settings p back later q
-    → shown ≡ device_nodes net → text ≡ standing_text later shown back → started ≡ back.started → at ≡ rate
-    → IsEnded reads writes asks rate (senders_of net.rows ids) take_over wanted (manager_of net ids (device_nodes net)) (device_nodes net) all p q text started at
-ended_so reads writes asks net rate own at ids nodes shown senders takes take_over questions wanted settings all manager later back p q text started en em es er et eq ea whole eo says tells rated = record {
+pub ended_so : {P : Type 0} (reads writes : P → List ℕ → P → Type 0) (asks : P → ℕ → P → Type 0) (own way : Way) (at : Rate) (nodes : List ℕ) (questions wanted settings all : List Question) (manager planned later : Managing) (back : ReadBack) (late : List Bool) (p q : P) (text : List ℕ) (ready started on_time : Bool)
+    → manager ≡ planned → own ≡ way → questions ≡ wanted → settings ≡ all
+    → IsWhole reads writes asks own questions manager nodes settings p back late later q
+    → text ≡ ended_text later nodes back own.awaited late → ready ≡ back.ready → started ≡ back.started → on_time ≡ is_empty late → at ≡ way.rate
+    → IsEnded reads writes asks way wanted planned nodes all p q text ready started on_time at
+ended_so reads writes asks own way at nodes questions wanted settings all manager planned later back late p q text ready started on_time em ew eq ea whole says are tells came rated = record {
   later = later;
   back = back;
-  whole = rw (en, em, es, er, et, eq, ea) at whole;
-  says = says ∙ ap (λ ns. standing_text later ns back) eo;
+  late = late;
+  whole = rw (em, ew, eq, ea) at whole;
+  says = says ∙ ap (λ (w : Way). ended_text later nodes back w.awaited late) ew;
+  are = are;
   tells = tells;
+  came = came;
   rated = rated;
 }

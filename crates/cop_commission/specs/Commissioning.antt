@@ -1,5 +1,5 @@
 -- The boot of the devices of a planned network over a port, and what is said of it.
-use Rattle.std.specs.Prelude.{◌≡◌, ℕ, List, [], ◌∷◌, length, Bool, true, false, Ok}
+use Rattle.std.specs.Prelude.{◌≡◌, ℕ, List, [], ◌∷◌, ◌++◌, length, Bool, true, false, ◌&&◌, ◌==◌, nat_le, is_some, if◌then◌else◌, Option, Some, None, Ok}
 use Rattle.cop_frame.specs.declared.rates.Rate.{Rate}
 use Rattle.cop_rows.specs.declared.pdo_table.PdoRow.{PdoRow}
 use Rattle.cop_rows.specs.NodeReading.{nodes_of}
@@ -13,17 +13,22 @@ use Rattle.cop_plan.specs.declared.assigning.Outcome.TheVariants.{Planned, Refus
 use Rattle.cop_plan.specs.declared.choices.Asked.{Asked}
 use Rattle.cop_plan.specs.declared.choices.Choice.{Choice}
 use Rattle.cop_plan.specs.Plans.{IsOutcome, IsChosenBy}
+use Rattle.cop_dcf.specs.Settings.{dictionary_of}
 use Rattle.cop_boot.specs.Manager.{Managing}
 use Rattle.cop_live.specs.declared.listening.Sender.{Sender}
+use Rattle.cop_live.specs.Nodes.{is_empty}
+use Rattle.cop_heartbeats.specs.declared.attending.Awaited.{Awaited}
 use Rattle.cop_identity.specs.declared.questions.Question.{Question}
 use Rattle.cop_engine.specs.Boots.{device_nodes, manager_of}
+use Rattle.cop_readback.specs.declared.session.Reach.{Reach}
 use Rattle.cop_readback.specs.declared.session.ReadBack.{ReadBack}
 use Rattle.cop_commission.specs.declared.commissioning.Approach.{Approach}
 use Rattle.cop_commission.specs.declared.commissioning.Commissioned.{Commissioned}
-use Rattle.cop_commission.specs.declared.commissioning.Commissioned.TheVariants.{Ended, Running, Others, NonePasses, Failed}
+use Rattle.cop_commission.specs.declared.commissioning.Commissioned.TheVariants.{Ended, Running, Others, Absent, NonePasses, Failed}
+use Rattle.cop_commission.specs.Heartbeats.{awaited_of, attendance_text}
 use Rattle.cop_commission.specs.Identities.{questions_of, identity_text}
-use Rattle.cop_commission.specs.Readings.{settings_questions, standing_text}
-use Rattle.cop_commission.specs.Sessions.{IsWhole, IsRefrained, IsMistaken}
+use Rattle.cop_commission.specs.Readings.{settings_questions, storing_questions, standing_text}
+use Rattle.cop_commission.specs.Sessions.{Way, awaited_if, IsWhole, IsRefrained, IsMistaken}
 
 -- the identifiers of PDOs, and who sends each
 abbrev pub senders_of : List PdoRow → List ℕ → List Sender
@@ -36,32 +41,87 @@ abbrev pub questions_for : Bool → Net → List ℕ → List Question
 questions_for true net nodes = questions_of net nodes
 questions_for false net nodes = []
 
--- a session made this of a manager; the text has a line for each node and whether they were started, which is told, too, and the rate
-pub record IsEnded {P : Type 0} (reads writes : P → List ℕ → P → Type 0) (asks : P → ℕ → P → Type 0) (rate : Rate) (senders : List Sender) (take_over : Bool) (questions : List Question) (m : Managing) (nodes : List ℕ) (settings : List Question) (p q : P) (text : List ℕ) (started : Bool) (at : Rate) : Type 0 where
+-- what nodes are asked after their boot: whether they have the settings of a plan, and to store them, if they are to
+abbrev pub settings_for : Bool → Net → List ℕ → List ℕ → List Question
+settings_for true net ids nodes = settings_questions net ids nodes ++ storing_questions net nodes
+settings_for false net ids nodes = settings_questions net ids nodes
+
+-- a node has a device
+abbrev pub is_meant_device : Net → ℕ → Bool
+is_meant_device net node = (nat_le 1 node && nat_le node 127) && is_some (dictionary_of net node)
+
+-- the nodes that are booted: one alone, if it has a device, or all that have one
+abbrev pub meant_nodes : Net → Option ℕ → List ℕ
+meant_nodes net None = device_nodes net
+meant_nodes net (Some node) = if is_meant_device net node then node ∷ [] else []
+
+-- the heartbeats that are awaited, if nodes are to be watched
+abbrev pub awaited_for : ℕ → Net → List ℕ → List Awaited
+awaited_for watch net nodes = if watch == 0 then [] else awaited_of net nodes
+
+-- how the bus of a network is met by a plan with a rate and these identifiers
+abbrev pub way_of : Net → Rate → List ℕ → List ℕ → Approach → Way
+way_of net rate ids nodes approach = record {
+  rate = rate;
+  senders = senders_of net.rows ids;
+  take_over = approach.take_over;
+  reach = approach.reach;
+  awaited = awaited_for approach.watch net nodes;
+  limit = approach.watch;
+}
+
+-- a line for each node, and whether they were started; and then one for each heartbeat that was awaited
+abbrev pub ended_text : Managing → List ℕ → ReadBack → List Awaited → List Bool → List ℕ
+ended_text m nodes back awaited late = standing_text m nodes back ++ attendance_text (awaited_if back.started awaited) late
+
+-- a session made this of a manager, whose text this is; told are, too, whether all are ready, whether they were started, whether none was
+-- late, and the rate
+pub record IsEnded {P : Type 0} (reads writes : P → List ℕ → P → Type 0) (asks : P → ℕ → P → Type 0) (way : Way) (questions : List Question) (m : Managing) (nodes : List ℕ) (settings : List Question) (p q : P) (text : List ℕ) (ready started on_time : Bool) (at : Rate) : Type 0 where
   pub later : Managing
   pub back : ReadBack
-  pub whole : IsWhole reads writes asks rate senders take_over questions m nodes settings p back later q
-  pub says : text ≡ standing_text later nodes back
+  pub late : List Bool
+  pub whole : IsWhole reads writes asks way questions m nodes settings p back late later q
+  pub says : text ≡ ended_text later nodes back way.awaited late
+  pub are : ready ≡ back.ready
   pub tells : started ≡ back.started
-  pub rated : at ≡ rate
+  pub came : on_time ≡ is_empty late
+  pub rated : at ≡ way.rate
 
--- what came of the boot of a network by a plan with a rate and these identifiers
+-- what came of the boot of some nodes by a plan with a rate and these identifiers
+abbrev pub IsMet : {P : Type 0} → (P → List ℕ → P → Type 0) → (P → List ℕ → P → Type 0) → (P → ℕ → P → Type 0) → Net → Rate → List ℕ → List ℕ → Approach → P → P → Commissioned → Type 0
+IsMet reads writes asks net rate ids nodes approach p q (Ended text ready started on_time at) =
+    IsEnded reads writes asks (way_of net rate ids nodes approach) (questions_for approach.identify net nodes) (manager_of net ids nodes) nodes (settings_for approach.store net ids nodes) p q text.items ready started on_time at
+IsMet reads writes asks net rate ids nodes approach p q (Running node) = (approach.take_over ≡ false) × IsRefrained reads writes asks (way_of net rate ids nodes approach) node p q
+IsMet reads writes asks net rate ids nodes approach p q (Others text all) =
+    IsMistaken reads writes asks (way_of net rate ids nodes approach) (questions_for approach.identify net nodes) all.items p q × (text.items ≡ identity_text nodes all.items)
+IsMet reads writes asks net rate ids nodes approach p q Absent = ⊥
+IsMet reads writes asks net rate ids nodes approach p q NonePasses = ⊥
+IsMet reads writes asks net rate ids nodes approach p q Failed = Unit {0}
+
+-- where there is no such node nothing is done at the port
+abbrev pub IsWithoutNode : {P : Type 0} → P → P → Commissioned → Type 0
+IsWithoutNode p q Absent = p ≡ q
+IsWithoutNode p q (Ended text ready started on_time at) = ⊥
+IsWithoutNode p q (Running node) = ⊥
+IsWithoutNode p q (Others text all) = ⊥
+IsWithoutNode p q NonePasses = ⊥
+IsWithoutNode p q Failed = ⊥
+
+abbrev pub IsMetOrAbsent : {P : Type 0} → (P → List ℕ → P → Type 0) → (P → List ℕ → P → Type 0) → (P → ℕ → P → Type 0) → Net → Rate → List ℕ → List ℕ → Approach → P → P → Commissioned → Type 0
+IsMetOrAbsent reads writes asks net rate ids [] approach p q ended = IsWithoutNode p q ended
+IsMetOrAbsent reads writes asks net rate ids (node ∷ nodes) approach p q ended = IsMet reads writes asks net rate ids (node ∷ nodes) approach p q ended
+
+-- what came of the boot of the nodes of a network that are meant
 abbrev pub IsCommissioned : {P : Type 0} → (P → List ℕ → P → Type 0) → (P → List ℕ → P → Type 0) → (P → ℕ → P → Type 0) → Net → Rate → List ℕ → Approach → P → P → Commissioned → Type 0
-IsCommissioned reads writes asks net rate ids approach p q (Ended text started at) =
-    IsEnded reads writes asks rate (senders_of net.rows ids) approach.take_over (questions_for approach.identify net (device_nodes net)) (manager_of net ids (device_nodes net)) (device_nodes net)
-    (settings_questions net ids (device_nodes net)) p q text.items started at
-IsCommissioned reads writes asks net rate ids approach p q (Running node) = (approach.take_over ≡ false) × IsRefrained reads writes asks rate (senders_of net.rows ids) node p q
-IsCommissioned reads writes asks net rate ids approach p q (Others text all) =
-    IsMistaken reads writes asks rate (senders_of net.rows ids) approach.take_over (questions_for approach.identify net (device_nodes net)) all.items p q × (text.items ≡ identity_text (device_nodes net) all.items)
-IsCommissioned reads writes asks net rate ids approach p q NonePasses = ⊥
-IsCommissioned reads writes asks net rate ids approach p q Failed = Unit {0}
+IsCommissioned reads writes asks net rate ids approach p q ended = IsMetOrAbsent reads writes asks net rate ids (meant_nodes net approach.reach.only) approach p q ended
 
 -- where no rate passes nothing is done at the port
 abbrev pub IsWithoutPlan : {P : Type 0} → P → P → Commissioned → Type 0
 IsWithoutPlan p q NonePasses = p ≡ q
-IsWithoutPlan p q (Ended text started at) = ⊥
+IsWithoutPlan p q (Ended text ready started on_time at) = ⊥
 IsWithoutPlan p q (Running node) = ⊥
 IsWithoutPlan p q (Others text all) = ⊥
+IsWithoutPlan p q Absent = ⊥
 IsWithoutPlan p q Failed = ⊥
 
 abbrev pub IsCommissionedFor : {P : Type 0} → (P → List ℕ → P → Type 0) → (P → List ℕ → P → Type 0) → (P → ℕ → P → Type 0) → Net → Outcome → Approach → P → P → Commissioned → Type 0

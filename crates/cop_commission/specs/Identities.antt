@@ -6,6 +6,7 @@ use Rattle.cop_sdo.specs.declared.address.Address.{Address}
 use Rattle.cop_net.specs.Network.{Net}
 use Rattle.cop_dcf.specs.Settings.{dictionary_of}
 use Rattle.cop_engine.specs.Boots.{hexadecimal_of, started_line}
+use Rattle.cop_identity.specs.declared.questions.Demand.TheVariants.{Tell}
 use Rattle.cop_identity.specs.declared.questions.Question.{Question}
 use Rattle.cop_identity.specs.declared.questions.Answer.{Answer}
 use Rattle.cop_identity.specs.declared.questions.Answer.TheVariants as answers
@@ -25,7 +26,7 @@ identity_at dict at = option_and_then unless_zero (option_and_then unsigned32_of
 
 -- the question to a node about an object, where its dictionary says what is wanted
 abbrev pub question_at : ℕ → List Entry → Address → Option Question
-question_at node dict at = option_map (λ wanted. record { node = node; at = at; wanted = wanted }) (identity_at dict at)
+question_at node dict at = option_map (λ wanted. record { node = node; demand = Tell; at = at; wanted = wanted }) (identity_at dict at)
 
 -- a device is known by its type (1000h), its vendor and its product (1018h sub 1 and 2)
 abbrev pub device_type : Address

@@ -1,4 +1,5 @@
 pub mod Commissioning
+pub mod Heartbeats
 pub mod Identities
 pub mod Readings
 pub mod Sessions

@@ -1,15 +1,17 @@
 -- What is read back of the settings of nodes, and what is said of it.
-use Rattle.std.specs.Prelude.{ℕ, Bool, false, not, ◌&&◌, List, [], ◌∷◌, ◌++◌, codes, decimal, ◌==◌, if◌then◌else◌, Option, Some, None}
-use Rattle.std.specs.Option.{option_map_or}
+use Rattle.std.specs.Prelude.{ℕ, Bool, not, ◌&&◌, List, [], ◌∷◌, ◌++◌, codes, decimal, ◌==◌, is_some, option_and_then, if◌then◌else◌, Option, Some, None}
 use Rattle.std.specs.List.{flat_map, list_any}
+use Rattle.cop_dict.specs.Find.{entry_at}
 use Rattle.cop_sdo.specs.declared.address.Address.{Address}
 use Rattle.cop_net.specs.Network.{Net}
 use Rattle.cop_dcf.specs.declared.setting.Setting.{Setting}
-use Rattle.cop_dcf.specs.Settings.{node_settings}
+use Rattle.cop_dcf.specs.Settings.{node_settings, dictionary_of}
 use Rattle.cop_boot.specs.declared.«end».End.{End}
 use Rattle.cop_boot.specs.declared.«end».End.TheVariants as ends
 use Rattle.cop_boot.specs.Manager.{Managing, end_at}
 use Rattle.cop_engine.specs.Boots.{hexadecimal_of, started_line}
+use Rattle.cop_live.specs.Nodes.{has_node}
+use Rattle.cop_identity.specs.declared.questions.Demand.TheVariants.{Tell, Take}
 use Rattle.cop_identity.specs.declared.questions.Question.{Question}
 use Rattle.cop_identity.specs.declared.questions.Answer.{Answer}
 use Rattle.cop_identity.specs.declared.questions.Answer.TheVariants as answers
@@ -30,7 +32,7 @@ is_set_again s rest = list_any (is_at s) rest
 
 -- the question whether a node has a setting
 abbrev pub question_about : ℕ → Setting → Question
-question_about node s = record { node = node; at = record { index = s.index; sub = s.sub }; wanted = s.value }
+question_about node s = record { node = node; demand = Tell; at = record { index = s.index; sub = s.sub }; wanted = s.value }
 
 -- of settings in their order the last at each address is asked for
 abbrev pub questions_about : ℕ → List Setting → List Question
@@ -40,6 +42,21 @@ questions_about node (s ∷ rest) = if is_set_again s rest then questions_about 
 -- the questions whether nodes have the settings of a plan with these identifiers
 abbrev pub settings_questions : Net → List ℕ → List ℕ → List Question
 settings_questions net ids nodes = flat_map (λ node. questions_about node (node_settings net ids node)) nodes
+
+-- a device can store what it has, where its EDS file has sub 1 of 1010h (CiA 301, "Store parameters")
+abbrev pub can_store : Net → ℕ → Bool
+can_store net node = is_some (option_and_then (λ dict. entry_at dict 0x1010 1) (dictionary_of net node))
+
+-- a node is to store what it has: the bytes of "save" are written
+abbrev pub storing : ℕ → Question
+storing node = record { node = node; demand = Take; at = record { index = 0x1010; sub = 1 }; wanted = 0x65766173 }
+
+-- each of some nodes is, where its device can
+abbrev pub storing_at : Net → ℕ → List Question
+storing_at net node = if can_store net node then storing node ∷ [] else []
+
+abbrev pub storing_questions : Net → List ℕ → List Question
+storing_questions net nodes = flat_map (storing_at net) nodes
 
 -- where an answer leaves a node, and where the outcome of a question does: it is not asked only where it has booted up since
 abbrev pub answer_leaves : Address → Answer → Standing
@@ -55,7 +72,7 @@ outcome_leaves at outcomes.Unasked = Restarting
 abbrev pub standing_by : Exchange → Standing
 standing_by asked = outcome_leaves asked.question.at asked.outcome
 
--- the first question to a node that was not answered by the value that is wanted tells where it stands
+-- the first question to a node that was not answered as it should be tells where it stands
 abbrev pub standing_read : ℕ → List Exchange → Standing
 standing_read node [] = Ready
 standing_read node (asked ∷ rest) = if (asked.question.node == node) && not (is_wanted asked.outcome) then standing_by asked else standing_read node rest
@@ -69,10 +86,10 @@ standing_after (Some (ends.Silent node)) told = Silent
 standing_after (Some (ends.Restarting node)) told = Restarting
 standing_after (Some (ends.Aborted node index sub code)) told = Aborted (record { index = index; sub = sub }) code
 
--- where a node stands: the one that was the first to boot up since is restarting
+-- where a node stands: one that booted up since is restarting
 abbrev pub standing_of : Managing → ReadBack → ℕ → Standing
 standing_of m back node =
-    if option_map_or (λ booted. booted == node) back.booted false then Restarting else standing_after (end_at m.nodes node) (standing_read node back.exchanges.items)
+    if has_node back.booted node then Restarting else standing_after (end_at m.nodes node) (standing_read node back.exchanges.items)
 
 -- what is said of it
 abbrev pub said_of : Standing → List ℕ

@@ -5,7 +5,7 @@ ghost use Rattle.std.specs.String.{string_bytes};
 ghost use Rattle.cop_commission.specs.Identities.{identity_at, question_at, questions_at, questions_to, questions_of, finding_by, weight, worse, finding_of, identity_line, identity_text};
 
 use cop_dict::Dictionary;
-use cop_identity::{Address, Answer, Exchange, Outcome, Question};
+use cop_identity::{Address, Answer, Demand, Exchange, Outcome, Question};
 use cop_net::Network;
 use std::alloc::{AllocError, Global};
 
@@ -42,7 +42,12 @@ fn question_at(node: u8, dict: &Dictionary, at: Address) -> Option<Question>
     ensures { result ≡ question_at node dict.now at }
 {
     match identity_at(dict, at) {
-        Some(wanted) => Some(Question { node, at, wanted }),
+        Some(wanted) => Some(Question {
+            node,
+            demand: Demand::Tell,
+            at,
+            wanted,
+        }),
         None => None,
     }
 }

@@ -2,8 +2,10 @@
 #![tactic(auto)]
 
 mod commissioning;
+mod heartbeats;
 mod identities;
 mod readings;
 mod sessions;
 
 pub use commissioning::{Approach, Commissioned, commission};
+pub use cop_readback::Reach;

@@ -4,11 +4,11 @@ ghost use Rattle.std.specs.Prelude.{◌≡◌, ◌++◌, length, OnOk, IfOk};
 ghost use Rattle.std.specs.String.{string_bytes};
 ghost use Rattle.cop_plan.specs.Plans.{IsPlan};
 ghost use Rattle.cop_engine.specs.Boots.{started_line};
-ghost use Rattle.cop_commission.specs.Readings.{is_at, is_set_again, question_about, questions_about, settings_questions, standing_by, standing_read, standing_after, standing_of, standing_line, standing_text};
+ghost use Rattle.cop_commission.specs.Readings.{is_at, is_set_again, question_about, questions_about, settings_questions, can_store, storing, storing_at, storing_questions, standing_by, standing_read, standing_after, standing_of, standing_line, standing_text};
 
 use cop_boot::{End, Manager, Setting};
 use cop_dcf::settings;
-use cop_identity::{Address, Answer, Exchange, Outcome, Question};
+use cop_identity::{Address, Answer, Demand, Exchange, Outcome, Question};
 use cop_net::Network;
 use cop_plan::Plan;
 use cop_readback::{ReadBack, is_wanted};
@@ -21,7 +21,7 @@ pub enum Standing {
     Ready,
     /// It has another value at an address than was set.
     Differs { at: Address, found: u32 },
-    /// It refused a setting, or does not tell it, by this abort code.
+    /// It refused a setting, or to tell or store it, by this abort code.
     Aborted { at: Address, code: u32 },
     /// It did not answer.
     Silent,
@@ -55,6 +55,7 @@ fn question_about(node: u8, setting: &Setting) -> Question
     } = *setting;
     Question {
         node,
+        demand: Demand::Tell,
         at: Address { index, sub },
         wanted: value,
     }
@@ -93,6 +94,60 @@ pub fn settings_questions(
     for node in nodes {
         let settings = settings(alloc, plan, network, *node)?;
         add_questions(&mut questions, *node, &settings)?;
+    }
+    Ok(questions)
+}
+
+// Whether the device of a node can store what it has, by its EDS file.
+fn can_store(network: &Network<'_>, node: u8) -> bool
+    ensures { result ≡ can_store network.now node }
+{
+    match network.dictionary(node) {
+        Some(dict) => dict.entry(0x1010, 1).is_some(),
+        None => false,
+    }
+}
+
+// That a node is to store what it has: the bytes of "save" are written.
+fn storing(node: u8) -> Question
+    ensures { result ≡ storing node }
+{
+    Question {
+        node,
+        demand: Demand::Take,
+        at: Address {
+            index: 0x1010,
+            sub: 1,
+        },
+        wanted: 0x6576_6173,
+    }
+}
+
+// Adds that a node is to store what it has, if its device can.
+fn add_storing(
+    questions: &mut Vec<Question>,
+    network: &Network<'_>,
+    node: u8,
+) -> Result<(), AllocError>
+    ensures { OnOk result (questions.new.items ≡ questions.old.items ++ storing_at network.now node) }
+{
+    if can_store(network, node) {
+        questions.push(storing(node))?;
+    }
+    Ok(())
+}
+
+/// That each of some nodes is to store what it has, where its device can. Otherwise want of memory.
+pub fn storing_questions(
+    alloc: Global,
+    network: &Network<'_>,
+    nodes: &[u8],
+) -> Result<Vec<Question>, AllocError>
+    ensures { IfOk result (λ questions. questions.items ≡ storing_questions network.now nodes.now) }
+{
+    let mut questions = Vec::new(alloc);
+    for node in nodes {
+        add_storing(&mut questions, network, *node)?;
     }
     Ok(questions)
 }
@@ -159,9 +214,10 @@ fn standing_after(end: Option<End>, read: Standing) -> Standing
 fn standing_of(manager: &Manager, back: &ReadBack, node: u8) -> Standing
     ensures { result ≡ standing_of manager.now back.now node }
 {
-    match back.booted {
-        Some(booted) if booted == node => Standing::Restarting,
-        Some(_) | None => standing_after(manager.end(node), standing_read(node, &back.exchanges)),
+    if back.booted.has(node) {
+        Standing::Restarting
+    } else {
+        standing_after(manager.end(node), standing_read(node, &back.exchanges))
     }
 }
 

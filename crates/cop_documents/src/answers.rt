@@ -1,7 +1,8 @@
 //! Answers that are told line by line.
 
-use crate::objects::Object;
-use crate::values::{identifier, number, time_of};
+use crate::objects::{Object, text_of};
+use crate::values::{identifier, number, number_in, time_of};
+use cop_logbook::abort_words;
 use serde_json::Value;
 use std::alloc::{AllocError, Global};
 use std::str;
@@ -68,8 +69,23 @@ pub fn check_document(alloc: Global, text: &[u8]) -> Result<String, AllocError> 
     document.to_string(alloc)
 }
 
-/// How the boot of a node ended, or what it answered: `node 5 ready`, `node 5 as planned`, `node 5 other 1018 02 00000191` or
-/// `node 5 differs 1800 01 00000191`.
+/// With an index and a sub.
+fn with_address(told: Object, index: &str, sub: &str) -> Object {
+    told.plain("index", identifier(index))
+        .plain("sub", identifier(sub))
+}
+
+/// With the code of an abort and what it says, both null where the word is none.
+fn with_code(alloc: Global, told: Object, word: &str) -> Object {
+    let words = match number_in(word, 16) {
+        Some(code) => text_of(alloc, abort_words(u32::try_from(code).unwrap_or(0))),
+        None => Ok(Value::Null),
+    };
+    told.plain("code", identifier(word)).with("words", words)
+}
+
+/// How the boot of a node ended, or what it answered: `node 5 ready`, `node 5 as planned`, `node 5 aborted 1800 01 06090030`,
+/// `node 5 other 1018 02 00000191` or `node 5 differs 1800 01 00000191`.
 fn node_of(alloc: Global, line: &str) -> Result<Option<Value>, AllocError> {
     let mut words = line.split(' ');
     if words.next().unwrap_or("") != "node" {
@@ -77,13 +93,19 @@ fn node_of(alloc: Global, line: &str) -> Result<Option<Value>, AllocError> {
     }
     let told = Object::new(alloc).plain("node", number(words.next().unwrap_or("")));
     let state = words.next().unwrap_or("");
+    let (index, sub) = (words.next().unwrap_or(""), words.next().unwrap_or(""));
+    let last = words.next().unwrap_or("");
     let told = match state {
         "as" => told.text("state", "as planned"),
-        "other" | "differs" => told
-            .text("state", state)
-            .plain("index", identifier(words.next().unwrap_or("")))
-            .plain("sub", identifier(words.next().unwrap_or("")))
-            .plain("found", identifier(words.next().unwrap_or(""))),
+        "other" | "differs" => with_address(told.text("state", state), index, sub).plain(
+            "found",
+            identifier(last),
+        ),
+        "aborted" => with_code(
+            alloc,
+            with_address(told.text("state", state), index, sub),
+            last,
+        ),
         _ => told.text("state", state),
     };
     Ok(Some(told.end()?))
@@ -94,19 +116,33 @@ fn has_line(text: &[u8], wanted: &str) -> bool {
     lines_of(text).lines().any(|line| line == wanted)
 }
 
-/// The answer of a boot.
-pub fn boot_document(alloc: Global, text: &[u8]) -> Result<String, AllocError> {
+/// Whether a line tells of a heartbeat that was awaited after a start.
+fn is_of_heartbeat(line: &str) -> bool {
+    line.ends_with(" operational") || line.ends_with(" late")
+}
+
+/// What the lines of nodes say that tell of heartbeats, or those that do not.
+fn nodes_of(alloc: Global, text: &[u8], of_heartbeats: bool) -> Result<Value, AllocError> {
     let mut nodes = Vec::new(alloc);
     for line in lines_of(text).lines() {
-        if let Some(node) = node_of(alloc, line)? {
-            nodes.push(node)?;
+        if is_of_heartbeat(line) == of_heartbeats {
+            if let Some(node) = node_of(alloc, line)? {
+                nodes.push(node)?;
+            }
         }
     }
+    Ok(Value::Array(nodes))
+}
+
+/// The answer of a boot.
+pub fn boot_document(alloc: Global, text: &[u8]) -> Result<String, AllocError> {
+    let (nodes, heartbeats) = (nodes_of(alloc, text, false)?, nodes_of(alloc, text, true)?);
     let document = Object::new(alloc)
         .text("command", "boot")
         .plain("planned", !has_line(text, "no rate passes"))
         .plain("started", has_line(text, "started"))
-        .plain("nodes", Value::Array(nodes))
+        .plain("nodes", nodes)
+        .plain("heartbeats", heartbeats)
         .end()?;
     document.to_string(alloc)
 }

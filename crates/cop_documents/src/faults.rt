@@ -16,14 +16,14 @@ pub struct Told<'a> {
     pub words: &'a str,
 }
 
-fn number_if(number: Option<u64>) -> Value {
+pub(crate) fn number_if(number: Option<u64>) -> Value {
     match number {
         Some(number) => Value::from(number),
         None => Value::Null,
     }
 }
 
-fn text_if(alloc: Global, text: Option<&str>) -> Result<Value, AllocError> {
+pub(crate) fn text_if(alloc: Global, text: Option<&str>) -> Result<Value, AllocError> {
     match text {
         Some(text) => text_of(alloc, text),
         None => Ok(Value::Null),

@@ -3,10 +3,14 @@
 
 mod answers;
 mod faults;
+mod logs;
 mod objects;
 mod plans;
 mod values;
+mod warnings;
 
 pub use answers::{boot_document, check_document, judge_document, test_document};
 pub use faults::{Told, fault_document};
+pub use logs::watch_document;
 pub use plans::plan_document;
+pub use warnings::Warned;

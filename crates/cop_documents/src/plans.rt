@@ -5,6 +5,7 @@ ghost use Rattle.cop_plan.specs.Plans.{IsOutcome};
 
 use crate::objects::Object;
 use crate::values::{time, time_if};
+use crate::warnings::{Warned, warnings_of};
 use cop_figures::{FrameTimes, Load, PdoTimes, Reason, RefusedRate, SyncTimes, figures_of};
 use cop_net::{Network, PdoRow};
 use cop_plan::Outcome;
@@ -110,11 +111,13 @@ fn refused_of(
     Ok(Value::Array(values))
 }
 
-/// The numbers of what the planner answers for a network, as its report has them. `Err` is want of memory.
+/// The numbers of what the planner answers for a network, as its report has them, and what is worth a look before one relies on it.
+/// `Err` is want of memory.
 pub fn plan_document(
     alloc: Global,
     network: &Network<'_>,
     outcome: &Outcome,
+    warnings: &[Warned<'_>],
 ) -> Result<String, AllocError>
     requires { IsOutcome network.now.equipment.rates network.now.set (length network.now.rows) outcome.now }
 {
@@ -136,6 +139,7 @@ pub fn plan_document(
         .with("margin", margin)
         .with("loads", loads_of(alloc, &figures.loads))
         .with("refused", refused_of(alloc, network, &figures.refused))
+        .with("warnings", warnings_of(alloc, warnings))
         .end()?;
     document.to_string(alloc)
 }

@@ -20,6 +20,14 @@ pub(crate) fn time(alloc: Global, ticks: u64) -> Result<Value, AllocError> {
         .end()
 }
 
+/// A time of so many microseconds. Its ticks stop at the greatest number of 64 bits.
+pub(crate) fn micros(alloc: Global, micros: u64) -> Result<Value, AllocError> {
+    Object::new(alloc)
+        .plain("ticks", micros.saturating_mul(4))
+        .plain("us", micros)
+        .end()
+}
+
 /// A time that is perhaps not there.
 pub(crate) fn time_if(alloc: Global, ticks: Option<u64>) -> Result<Value, AllocError> {
     match ticks {

@@ -4,3 +4,5 @@ pub mod Spelled
 pub mod Records
 pub mod Compact
 pub mod Hazards
+pub mod Every
+pub mod Counted

@@ -1,11 +1,11 @@
 -- The records of PDOs (CiA 301: RPDO at 1400h to 15FFh, TPDO at 1800h to 19FFh).
-use Rattle.std.specs.Prelude.{ℕ, Bool, false, ◌&&◌, ◌||◌, ◌/◌, ◌%◌, ◌==◌, not, nat_le, List, codes, if◌then◌else◌, Option, Some, None}
-use Rattle.std.specs.Option.{option_map_or}
+use Rattle.std.specs.Prelude.{ℕ, Bool, false, ◌&&◌, ◌||◌, ◌-◌, ◌/◌, ◌%◌, ◌==◌, not, nat_le, List, slice_get, codes, if◌then◌else◌, Option, Some, None}
+use Rattle.std.specs.Option.{option_map, option_map_or, option_and_then}
 use Rattle.cop_eds.specs.declared.line.Kind.TheVariants.{Header}
 use Rattle.cop_eds.specs.declared.line.Line.{Line}
 use Rattle.cop_eds.specs.Text.{name_of}
 use Rattle.cop_eds.specs.Names.{code_of}
-use Rattle.cop_eds.specs.Lines.{text_of, is_kind}
+use Rattle.cop_eds.specs.Lines.{lines_of, text_of, is_kind}
 use Rattle.cop_eds.specs.Objects.{object_section}
 use Rattle.cop_hazard.specs.Stated.{stated}
 use Rattle.cop_hazard.specs.Listed.{names, is_listed}
@@ -43,3 +43,8 @@ is_unidentified_code text code =
 -- hazard 81: the line begins the own section of such a record
 unfoldable pub is_unidentified : List ℕ → Line → Bool
 is_unidentified text line = option_map_or (is_unidentified_code text) (begun text line) false
+
+-- the index of the object whose section begins at the line of this number, from 1
+unfoldable pub index_at : List ℕ → ℕ → Option ℕ
+index_at text line =
+    if line == 0 then None else option_map (λ code. code / 257) (option_and_then (begun text) (slice_get (lines_of text) (line - 1)))

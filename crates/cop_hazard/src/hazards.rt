@@ -72,7 +72,7 @@ fn unlisted_line(
 }
 
 /// The hazard of this number at a line.
-fn hazard_at(number: u8, line: Option<usize>) -> Option<Hazard>
+pub fn hazard_at(number: u8, line: Option<usize>) -> Option<Hazard>
     ensures { result ≡ hazard_at number line }
 {
     match line {

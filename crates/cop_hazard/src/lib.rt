@@ -3,7 +3,10 @@
 
 mod brackets;
 mod compact;
+mod counted;
+mod every;
 mod hazards;
+pub mod laws;
 mod listed;
 mod names;
 mod number;
@@ -13,4 +16,7 @@ mod stated;
 mod tests;
 mod text;
 
+pub use counted::miscounts;
+pub use every::all_hazards;
 pub use hazards::{Hazard, first_hazard};
+pub use records::index_at;

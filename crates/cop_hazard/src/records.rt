@@ -3,7 +3,7 @@
 ghost use Rattle.std.specs.Prelude.{◌≡◌, ◌≤◌, length};
 ghost use Rattle.cop_eds.specs.Lines.{IsInside};
 ghost use Rattle.cop_hazard.specs.Listed.{names, AreListed};
-ghost use Rattle.cop_hazard.specs.Records.{is_record, begun, is_unlisted_code, is_unlisted, is_unsigned, has_identifier, is_unidentified_code, is_unidentified};
+ghost use Rattle.cop_hazard.specs.Records.{is_record, begun, is_unlisted_code, is_unlisted, is_unsigned, has_identifier, is_unidentified_code, is_unidentified, index_at};
 
 use crate::listed::is_listed;
 use crate::names::code_of;
@@ -92,5 +92,20 @@ pub fn is_unidentified(eds: &Eds<'_>, indexes: &BTreeSet<u64>, line: &Line) -> b
     match begun(eds, line) {
         Some(code) => is_unidentified_code(eds, indexes, code),
         None => false,
+    }
+}
+
+/// The index of the object whose section, its own or one of a sub-index, begins at the line of this number, from 1.
+#[tactic(auto, unfolding(crate::specs::Records::index_at))]
+pub fn index_at(eds: &Eds<'_>, line: usize) -> Option<u64>
+    ensures { result ≡ index_at eds.now line }
+{
+    if line == 0 {
+        return None;
+    }
+    let lines = eds.lines();
+    match lines.get(line - 1) {
+        Some(line) => Some(begun(eds, line)? / 257),
+        None => None,
     }
 }

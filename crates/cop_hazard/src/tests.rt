@@ -58,7 +58,7 @@ fn is_there(eds: &Eds<'_>, index: Option<u64>) -> bool
     }
 }
 
-fn is_above(count: u64, number: Option<u64>) -> bool
+pub fn is_above(count: u64, number: Option<u64>) -> bool
     ensures { result ≡ is_above count number }
 {
     match number {
@@ -81,7 +81,7 @@ fn is_beyond(eds: &Eds<'_>, section: usize, count: u64, line: &Line) -> bool
 }
 
 /// Whether a line passes a test.
-fn passes(
+pub fn passes(
     alloc: Global,
     eds: &Eds<'_>,
     indexes: &BTreeSet<u64>,

@@ -12,7 +12,7 @@ use Rattle.cop_live.proofs.Sessions.{did_both}
 use Rattle.cop_identity.specs.declared.questions.Question.{Question}
 use Rattle.cop_identity.specs.declared.questions.Answer.{Answer}
 use Rattle.cop_identity.specs.declared.asking.Exchange.{Exchange}
-use Rattle.cop_identity.specs.Questions.{request_of}
+use Rattle.cop_identity.specs.Questions.{request_of, limit_of}
 use Rattle.cop_identity.specs.Asking.{first_answer, answer_heard, Asks, WereAsked, WasNext, is_silent, silent_after}
 
 or_assoc : {T : Type 0} (a b c : Option T) → option_or (option_or a b) c ≡ option_or a (option_or b c)
@@ -60,16 +60,16 @@ module _ {P : Type 0} (reads writes : P → List ℕ → P → Type 0) (asks : P
 
   -- a turn more
   asks_on : (pending : List ℕ) (q a r : P) (now : ℕ) (bytes : List ℕ) (answer : Option Answer) (h : Waits reads writes asks question began p pending q) → asks q now a → reads a bytes r
-      → now - began < 4000000 → answer ≡ first_answer question (said_from pending bytes) → Asks reads writes asks question began p (h.turns ++ (now, bytes) ∷ []) answer r
+      → now - began < limit_of question.demand → answer ≡ first_answer question (said_from pending bytes) → Asks reads writes asks question began p (h.turns ++ (now, bytes) ∷ []) answer r
   asks_on pending q a r now bytes answer h asked got early e = record {
     did = subst (λ l. DidAll reads writes asks p (log.Asked began ∷ log.Sent (request_of question) ∷ l) r) (sym (log_more h.turns now bytes))
         (did_both reads writes asks p q r (log.Asked began ∷ log.Sent (request_of question) ∷ listening_log h.turns) (log.Asked now ∷ log.Read bytes ∷ []) h.waits.did (a, asked, (r, got, refl)));
     heard = e ∙ ap (λ l. first_answer question (said_from l bytes)) h.left ∙ ap (λ o. option_or o (first_answer question (said_from (left_turns [] h.turns) bytes))) h.waits.heard ∙ sym (heard_more question [] h.turns now bytes);
-    soon = all_more (λ (turn : ℕ × List ℕ). turn.0 - began < 4000000) h.turns (now, bytes) h.waits.soon early;
+    soon = all_more (λ (turn : ℕ × List ℕ). turn.0 - began < limit_of question.demand) h.turns (now, bytes) h.waits.soon early;
   }
 
   pub waits_on : (pending left : List ℕ) (q a r : P) (now : ℕ) (bytes : List ℕ) → Waits reads writes asks question began p pending q → asks q now a → reads a bytes r
-      → now - began < 4000000 → None ≡ first_answer question (said_from pending bytes) → left ≡ left_from pending bytes → Waits reads writes asks question began p left r
+      → now - began < limit_of question.demand → None ≡ first_answer question (said_from pending bytes) → left ≡ left_from pending bytes → Waits reads writes asks question began p left r
   waits_on pending left q a r now bytes h asked got early e el = record {
     turns = h.turns ++ (now, bytes) ∷ [];
     waits = asks_on pending q a r now bytes None h asked got early e;
@@ -77,12 +77,12 @@ module _ {P : Type 0} (reads writes : P → List ℕ → P → Type 0) (asks : P
   }
 
   pub was_answered : (pending : List ℕ) (q a r : P) (now : ℕ) (bytes : List ℕ) (answer : Answer) → Waits reads writes asks question began p pending q → asks q now a → reads a bytes r
-      → now - began < 4000000 → Some answer ≡ first_answer question (said_from pending bytes)
+      → now - began < limit_of question.demand → Some answer ≡ first_answer question (said_from pending bytes)
       → (b : ℕ) × (turns : List (ℕ × List ℕ)) × Asks reads writes asks question b p turns (Some answer) r
   was_answered pending q a r now bytes answer h asked got early e = (began, h.turns ++ (now, bytes) ∷ [], asks_on pending q a r now bytes (Some answer) h asked got early e)
 
-  pub was_silent : (pending : List ℕ) (q r : P) (now : ℕ) → Waits reads writes asks question began p pending q → asks q now r → 4000000 ≤ now - began
-      → (b : ℕ) × (turns : List (ℕ × List ℕ)) × (m : P) × (until : ℕ) × Asks reads writes asks question b p turns None m × asks m until r × (4000000 ≤ until - b)
+  pub was_silent : (pending : List ℕ) (q r : P) (now : ℕ) → Waits reads writes asks question began p pending q → asks q now r → limit_of question.demand ≤ now - began
+      → (b : ℕ) × (turns : List (ℕ × List ℕ)) × (m : P) × (until : ℕ) × Asks reads writes asks question b p turns None m × asks m until r × (limit_of question.demand ≤ until - b)
   was_silent pending q r now h asked late = (began, h.turns, q, now, h.waits, asked, late)
 
 -- ---- all questions

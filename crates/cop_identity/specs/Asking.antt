@@ -13,7 +13,7 @@ use Rattle.cop_identity.specs.declared.questions.Answer.TheVariants as answers
 use Rattle.cop_identity.specs.declared.asking.Outcome.{Outcome}
 use Rattle.cop_identity.specs.declared.asking.Outcome.TheVariants.{Answered, Silent, Unasked}
 use Rattle.cop_identity.specs.declared.asking.Exchange.{Exchange}
-use Rattle.cop_identity.specs.Questions.{request_of, answer_in}
+use Rattle.cop_identity.specs.Questions.{request_of, limit_of, answer_in}
 
 -- what a line answers to a question
 abbrev pub answer_told : Question → Told → Option Answer
@@ -32,18 +32,18 @@ abbrev pub answer_heard : Question → List ℕ → List (ℕ × List ℕ) → O
 answer_heard question pending [] = None
 answer_heard question pending ((now, bytes) ∷ turns) = option_or (first_answer question (said_from pending bytes)) (answer_heard question (left_from pending bytes) turns)
 
--- a question leads a port from one state to another: the clock is asked, the request is sent, and turns are taken, each less than
--- 4,000,000 ticks (1 s) after that; this is the first answer in what is read then, or there is none
+-- a question leads a port from one state to another: the clock is asked, the request is sent, and turns are taken, each sooner after
+-- that than the limit; this is the first answer in what is read then, or there is none
 pub record Asks {P : Type 0} (reads writes : P → List ℕ → P → Type 0) (asks : P → ℕ → P → Type 0) (question : Question) (began : ℕ) (p : P) (turns : List (ℕ × List ℕ)) (answer : Option Answer) (q : P) : Type 0 where
   pub did : DidAll reads writes asks p (log.Asked began ∷ log.Sent (request_of question) ∷ listening_log turns) q
   pub heard : answer ≡ answer_heard question [] turns
-  pub soon : AllByRecursion (λ turn. turn.0 - began < 4000000) turns
+  pub soon : AllByRecursion (λ turn. turn.0 - began < limit_of question.demand) turns
 
--- what came of a question: an answer, or none in 1 s
+-- what came of a question: an answer, or none within the limit
 abbrev pub WasAsked : {P : Type 0} → (P → List ℕ → P → Type 0) → (P → List ℕ → P → Type 0) → (P → ℕ → P → Type 0) → Question → P → Outcome → P → Type 0
 WasAsked reads writes asks question p (Answered answer) q = (began : ℕ) × (turns : List (ℕ × List ℕ)) × Asks reads writes asks question began p turns (Some answer) q
 WasAsked {P} reads writes asks question p Silent q =
-    (began : ℕ) × (turns : List (ℕ × List ℕ)) × (m : P) × (until : ℕ) × Asks reads writes asks question began p turns None m × asks m until q × (4000000 ≤ until - began)
+    (began : ℕ) × (turns : List (ℕ × List ℕ)) × (m : P) × (until : ℕ) × Asks reads writes asks question began p turns None m × asks m until q × (limit_of question.demand ≤ until - began)
 WasAsked reads writes asks question p Unasked q = ⊥
 
 -- whether a node is the one that was silent

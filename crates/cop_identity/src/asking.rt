@@ -5,20 +5,17 @@ ghost use Rattle.cop_slcan.specs.Meaning.{told_of};
 ghost use Rattle.cop_slcan.specs.Reading.{said_from, left_from, taken};
 ghost use Rattle.cop_identity.specs.Asking.{answer_told, first_answer, WasAsked, WasNext, AskedAll, is_silent, silent_after, is_other, has_other};
 
-use crate::questions::{Answer, Question, request_of};
+use crate::questions::{Answer, Question, limit_of, request_of};
 use cop_live::{Port, send};
 use cop_slcan::{Reader, Said};
 use std::alloc::{AllocError, Global};
-
-/// An answer is awaited for so many ticks, 1 s.
-const ANSWERING: u64 = 4_000_000;
 
 /// What came of a question.
 #[derive(Clone, Copy, Debug, PartialEq, Eq)]
 pub enum Outcome {
     /// The device answered.
     Answered { answer: Answer },
-    /// No answer came in 1 s.
+    /// No answer came in 1 s, or in 10 s where a value was to be taken.
     Silent,
     /// It was not asked, since its node had not answered the one before.
     Unasked,
@@ -66,7 +63,7 @@ pub fn answer_from(question: &Question, reader: &mut Reader, bytes: &[u8]) -> Op
     }
 }
 
-/// Asks a question, and waits for the answer, at most 1 s. `None` where the port or its clock fails.
+/// Asks a question, and waits for the answer, as long as `limit_of` says. `None` where the port or its clock fails.
 pub fn ask<P: Port>(question: &Question, port: &mut P) -> Option<Outcome>
     ensures { IfSome result (λ outcome. WasAsked P.reads P.writes P.asks question.now port.old outcome port.new) }
 {
@@ -76,12 +73,13 @@ pub fn ask<P: Port>(question: &Question, port: &mut P) -> Option<Outcome>
     if !send(port, &request_of(question)) {
         return None;
     }
+    let limit = limit_of(question.demand);
     let mut reader = Reader::new();
     for _ in 0..u64::MAX {
         let Some(now) = port.now() else {
             return None;
         };
-        if now.saturating_sub(began) >= ANSWERING {
+        if now.saturating_sub(began) >= limit {
             return Some(Outcome::Silent);
         }
         let mut buffer = [0; 256];
@@ -126,7 +124,7 @@ fn ask_next<P: Port>(silent: Option<u8>, question: &Question, port: &mut P) -> O
     }
 }
 
-/// Asks questions in their order, each at most 1 s long; a node that was silent is not asked again. Those of one node stand together.
+/// Asks questions in their order, and waits for each answer as long as `limit_of` says; a node that was silent is not asked again. Those of one node stand together.
 /// `None` where the port or its clock fails, and otherwise want of memory.
 pub fn ask_all<P: Port>(
     alloc: Global,

@@ -6,4 +6,4 @@ mod questions;
 
 pub use asking::{Exchange, Outcome, answer_from, ask, ask_all, has_other};
 pub use cop_sdo::Address;
-pub use questions::{Answer, Question, request_of};
+pub use questions::{Answer, Demand, Question, limit_of, request_of};

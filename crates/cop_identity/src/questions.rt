@@ -1,20 +1,30 @@
-//! What the device of a node is asked about itself, and what a frame answers.
+//! What the device of a node is asked, and what a frame answers.
 
 ghost use Rattle.std.specs.Prelude.{◌≡◌, slice_index};
 ghost use Rattle.cop_sdo.specs.Message.{message_of};
 ghost use Rattle.cop_sdo.specs.Request.{address_in};
 ghost use Rattle.cop_sdo.specs.Client.{same_address};
 ghost use Rattle.cop_sdo.specs.Reply.{upload_of, reply_of};
-ghost use Rattle.cop_identity.specs.Questions.{request_of, number_of, value_of, judged, answer_by, answer_in};
+ghost use Rattle.cop_identity.specs.Questions.{body_by, request_of, limit_of, number_of, value_of, judged, answer_by, answer_in};
 
 use byteorder::{ByteOrder, LittleEndian};
 use cop_frame::Frame;
 use cop_sdo::Address;
 
-/// A question to the device of a node: an object of it, and the value that this has in the device that is wanted there.
+/// What a device is asked to do with a value.
+#[derive(Clone, Copy, Debug, PartialEq, Eq)]
+pub enum Demand {
+    /// To tell the value that an object has.
+    Tell,
+    /// To take a value of four bytes for an object, which may take it longer.
+    Take,
+}
+
+/// A question to the device of a node: an object of it, and the value that it is to have, or to take.
 #[derive(Clone, Copy, Debug, PartialEq, Eq)]
 pub struct Question {
     pub node: u8,
+    pub demand: Demand,
     pub at: Address,
     pub wanted: u32,
 }
@@ -22,24 +32,58 @@ pub struct Question {
 /// What a device answers.
 #[derive(Clone, Copy, Debug, PartialEq, Eq)]
 pub enum Answer {
-    /// The value that is wanted.
+    /// The value that is wanted, or that it has taken it.
     Wanted,
     /// Another value.
     Other { found: u32 },
-    /// It does not tell, by this abort code.
+    /// It does not tell or take it, by this abort code.
     Aborted { code: u32 },
 }
 
-/// The request of an upload, which asks a question.
+// The body of a request: of an upload, or of a download of four bytes.
+fn body_by(demand: Demand, at: Address, wanted: u32) -> [u8; 8]
+    ensures { result ≡ body_by demand at wanted }
+{
+    let (low, high) = ((at.index % 256) as u8, (at.index / 256) as u8);
+    match demand {
+        Demand::Tell => [0x40, low, high, at.sub, 0, 0, 0, 0],
+        Demand::Take => [
+            0x23,
+            low,
+            high,
+            at.sub,
+            (wanted % 256) as u8,
+            (wanted / 256 % 256) as u8,
+            (wanted / 65_536 % 256) as u8,
+            (wanted / 16_777_216 % 256) as u8,
+        ],
+    }
+}
+
+/// The request that asks a question: that of an upload, or of a download.
 pub fn request_of(question: &Question) -> Frame
     ensures { message_of result ≡ request_of question.now }
 {
-    let Question { node, at, .. } = *question;
-    let (low, high) = ((at.index % 256) as u8, (at.index / 256) as u8);
+    let Question {
+        node,
+        demand,
+        at,
+        wanted,
+    } = *question;
     Frame {
         id: 0x600 + u16::from(node),
-        body: [0x40, low, high, at.sub, 0, 0, 0, 0],
+        body: body_by(demand, at, wanted),
         len: 8,
+    }
+}
+
+/// The ticks for which an answer is awaited: 1 s, and 10 s where a value is to be taken, as devices that store it need seconds.
+pub fn limit_of(demand: Demand) -> u64
+    ensures { result ≡ limit_of demand }
+{
+    match demand {
+        Demand::Tell => 4_000_000,
+        Demand::Take => 40_000_000,
     }
 }
 
@@ -98,14 +142,15 @@ impl Question {
 
     // What a body about its object answers.
     fn answer_by(&self, body: &[u8; 8]) -> Option<Answer>
-        ensures { result ≡ answer_by self.now.wanted (reply_of body.now) }
+        ensures { result ≡ answer_by self.now.demand self.now.wanted (reply_of body.now) }
     {
-        match body[0] / 32 {
-            2 => match value_in(body) {
+        match (self.demand, body[0] / 32) {
+            (Demand::Tell, 2) => match value_in(body) {
                 Some(found) => Some(self.judged(found)),
                 None => None,
             },
-            4 => Some(Answer::Aborted {
+            (Demand::Take, 3) => Some(Answer::Wanted),
+            (_, 4) => Some(Answer::Aborted {
                 code: number_of(&body[4..]),
             }),
             _ => None,

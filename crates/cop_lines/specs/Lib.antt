@@ -1,4 +1,5 @@
 pub mod Words
+pub mod Texts
 pub mod Numbers
 pub mod Lines
 pub mod Columns

@@ -15,6 +15,8 @@ pub enum LineFault {
     Identifier,
     #[error("the data are not up to 8 bytes, as many as the length says")]
     Data,
+    #[error("the line is longer than 4096 bytes")]
+    Long,
 }
 
 impl LineFault {
@@ -29,6 +31,7 @@ impl LineFault {
             LineFault::Stamp => 91,
             LineFault::Identifier => 92,
             LineFault::Data => 93,
+            LineFault::Long => 95,
         }
     }
 }

@@ -1,7 +1,6 @@
 -- Logs that go on, and what is true of a boot's log.
 use Rattle.std.proofs.Common.{◌≡◌, ℕ, ◌-◌, ◌<◌, ◌≤◌, List, [], ◌∷◌, ◌++◌, map, length, take, drop, get_or, refl, sym, ◌∙◌, ap, subst, arith, append_assoc, append-nil, Option, Some, None}
-use Rattle.std.specs.Prelude.{not, option_to_list}
-use Rattle.std.specs.Option.{option_or}
+use Rattle.std.specs.Prelude.{not, Bool, option_to_list}
 use Rattle.std.proofs.lemmas.List.{take_all, map-append}
 use Rattle.std.proofs.lemmas.List.Elements.{filter-append}
 use Rattle.cop_slcan.specs.Meaning as meanings
@@ -13,7 +12,7 @@ use Rattle.cop_boot.proofs.SentLemmas.{reached_some, reached_none}
 use Rattle.cop_boot.proofs.DriveLemmas.{drives}
 use Rattle.cop_boot.proofs.StartLemmas.{ready_was_configured}
 use Rattle.cop_live.specs.Log.{Doing, Asked, Sent, Read, DidAll, heard_in, came_after, came}
-use Rattle.cop_live.specs.Session.{State, told, told_all, is_start, held, boot_up_told, first_boot_up, turn_log, turn_state, Step, Turn, Request, steps_log, steps_state, turns, first_state, boot_log, IsDriven, Booted}
+use Rattle.cop_live.specs.Session.{State, told, told_all, is_start, held, boot_up_told, noting, noted, reset_of, turn_log, turn_state, Step, Turn, Request, steps_log, steps_state, turns, first_state, boot_log, IsDriven, Booted}
 
 -- ---- logs at a port
 
@@ -28,23 +27,18 @@ said_step pending (b ∷ bytes) h =
     let all : take (length (b ∷ bytes) - 1) bytes ≡ bytes = take_all (length (b ∷ bytes) - 1) bytes (omega arith) in
     ap (λ l. option_to_list (taken pending b).1 ++ said_from (taken pending b).0 l) (sym all)
 
--- the first boot-up in two parts
-or_assoc : {T : Type 0} (a b c : Option T) → option_or (option_or a b) c ≡ option_or a (option_or b c)
-or_assoc None b c = refl
-or_assoc (Some x) b c = refl
+-- boot-ups in two parts
+noted_append : (nodes : List Bool) (xs ys : List Told) → noted nodes (xs ++ ys) ≡ noted (noted nodes xs) ys
+noted_append nodes [] ys = refl
+noted_append nodes (x ∷ xs) ys = noted_append (noting nodes (boot_up_told x)) xs ys
 
-boot_up_append : (xs ys : List Told) → first_boot_up (xs ++ ys) ≡ option_or (first_boot_up xs) (first_boot_up ys)
-boot_up_append [] ys = refl
-boot_up_append (x ∷ xs) ys = ap (option_or (boot_up_told x)) (boot_up_append xs ys) ∙ sym (or_assoc (boot_up_told x) (first_boot_up xs) (first_boot_up ys))
-
-pub bytes_booted : (old first new : Option ℕ) (pending left bytes : List ℕ) → 1 ≤ length bytes → left ≡ (taken pending (get_or bytes 0 0)).0
-    → first ≡ option_or old (first_boot_up (option_to_list (taken pending (get_or bytes 0 0)).1)) → new ≡ option_or first (first_boot_up (said_from left (take (length bytes - 1) (drop 1 bytes))))
-    → new ≡ option_or old (first_boot_up (said_from pending bytes))
+pub bytes_booted : (old first new : List Bool) (pending left bytes : List ℕ) → 1 ≤ length bytes → left ≡ (taken pending (get_or bytes 0 0)).0
+    → first ≡ noted old (option_to_list (taken pending (get_or bytes 0 0)).1) → new ≡ noted first (said_from left (take (length bytes - 1) (drop 1 bytes))) → new ≡ noted old (said_from pending bytes)
 bytes_booted old first new pending left bytes some el ef en =
     let said = option_to_list (taken pending (get_or bytes 0 0)).1 in
     let rest = said_from (taken pending (get_or bytes 0 0)).0 (take (length bytes - 1) (drop 1 bytes)) in
-    let later : new ≡ option_or (option_or old (first_boot_up said)) (first_boot_up rest) = rw (el, ef) at en in
-    later ∙ or_assoc old (first_boot_up said) (first_boot_up rest) ∙ ap (option_or old) (sym (ap first_boot_up (said_step pending bytes some) ∙ boot_up_append said rest))
+    let later : new ≡ noted (noted old said) rest = rw (el, ef) at en in
+    later ∙ sym (noted_append old said rest) ∙ ap (noted old) (sym (said_step pending bytes some))
 
 module _ {P : Type 0} (reads writes : P → List ℕ → P → Type 0) (asks : P → ℕ → P → Type 0) where
   abbrev All : P → List Doing → P → Type 0
@@ -218,9 +212,9 @@ steps_met began (Turn now bytes ∷ steps) s =
     ∙ ap (met_all s.manager) (sym (turn_came began s now bytes (steps_log began next steps)))
 steps_met began (Request frame ∷ steps) s = steps_met began steps s
 
-pub boot_driven : (m : Managing) (began : ℕ) (steps : List Step)
-    → out_of (steps_state began (first_state m) steps).manager (reset_all ∷ given began (first_state m) steps) ≡ driven m (came began (boot_log m began steps))
-boot_driven m began steps = ap (behind (reset_all ∷ [])) (steps_met began steps (first_state m))
+pub boot_driven : (only : Option ℕ) (m : Managing) (began : ℕ) (steps : List Step)
+    → out_of (steps_state began (first_state m) steps).manager (reset_all ∷ given began (first_state m) steps) ≡ driven m (came began (boot_log only m began steps))
+boot_driven only m began steps = ap (behind (reset_all ∷ [])) (steps_met began steps (first_state m))
 
 pub is_driven : (m : Managing) (began : ℕ) (log : List Doing) (later : Managing) → later ≡ (driven m (came began log)).manager → IsDriven m began log later
 is_driven m began log later so = record {
@@ -230,30 +224,29 @@ is_driven m began log later so = record {
 }
 
 -- a boot's steps so far make a manager of what came
-pub steps_drive : (m : Managing) (began : ℕ) (steps : List Step) (s : State) → s ≡ steps_state began (first_state m) steps → IsDriven m began (boot_log m began steps) s.manager
-steps_drive m began steps s e = is_driven m began (boot_log m began steps) s.manager (ap (λ (x : State). x.manager) e ∙ ap (λ (x : Managed). x.manager) (boot_driven m began steps))
+pub steps_drive : (only : Option ℕ) (m : Managing) (began : ℕ) (steps : List Step) (s : State) → s ≡ steps_state began (first_state m) steps → IsDriven m began (boot_log only m began steps) s.manager
+steps_drive only m began steps s e = is_driven m began (boot_log only m began steps) s.manager (ap (λ (x : State). x.manager) e ∙ ap (λ (x : Managed). x.manager) (boot_driven only m began steps))
 
 -- ---- a boot
 
-pub boot_begins : {P : Type 0} (reads writes : P → List ℕ → P → Type 0) (asks : P → ℕ → P → Type 0) (m : Managing) (p a q : P) (began : ℕ) (later : Managing) (left : List ℕ) (frame : Message)
-    → asks p began a → (let out : Managed = record { manager = later; frames = frame ∷ [] } in out) ≡ begun_at m 0 → left ≡ [] → DidAll reads writes asks a (Sent frame ∷ []) q
-    → Booted reads writes asks m p began (record { manager = later; pending = left }) q
-boot_begins reads writes asks m p a q began later left frame asked e el sent =
-    let f : frame ∷ [] ≡ reset_all ∷ [] = ap (λ (x : Managed). x.frames) e in
+pub boot_begins : {P : Type 0} (reads writes : P → List ℕ → P → Type 0) (asks : P → ℕ → P → Type 0) (only : Option ℕ) (m : Managing) (p a q : P) (began : ℕ) (later : Managing) (left : List ℕ) (frame to_all : Message)
+    → asks p began a → (let out : Managed = record { manager = later; frames = to_all ∷ [] } in out) ≡ begun_at m 0 → left ≡ [] → frame ≡ reset_of only → DidAll reads writes asks a (Sent frame ∷ []) q
+    → Booted reads writes asks only m p began (record { manager = later; pending = left }) q
+boot_begins reads writes asks only m p a q began later left frame to_all asked e el ef sent =
     let w : later ≡ (begun_at m 0).manager = ap (λ (x : Managed). x.manager) e in
     let state : (let s : State = record { manager = later; pending = left } in s) ≡ first_state m = rw (w, el) refl in
     record {
       asked = a;
       taken = [];
       asks_first = asked;
-      did = subst (λ fs. DidAll reads writes asks a (map Sent fs) q) f sent;
+      did = subst (λ f. DidAll reads writes asks a (Sent f ∷ []) q) ef sent;
       state = state;
-      is = steps_drive m began [] (record { manager = later; pending = left }) state;
+      is = steps_drive only m began [] (record { manager = later; pending = left }) state;
     }
 
-pub boot_goes_on : {P : Type 0} (reads writes : P → List ℕ → P → Type 0) (asks : P → ℕ → P → Type 0) (m : Managing) (p q r : P) (began : ℕ) (s t : State) → Booted reads writes asks m p began s q
-    → (now : ℕ) (bytes : List ℕ) → DidAll reads writes asks q (turn_log began s now bytes) r → t ≡ turn_state began s now bytes → Booted reads writes asks m p began t r
-boot_goes_on reads writes asks m p q r began s t b now bytes turn e =
+pub boot_goes_on : {P : Type 0} (reads writes : P → List ℕ → P → Type 0) (asks : P → ℕ → P → Type 0) (only : Option ℕ) (m : Managing) (p q r : P) (began : ℕ) (s t : State) → Booted reads writes asks only m p began s q
+    → (now : ℕ) (bytes : List ℕ) → DidAll reads writes asks q (turn_log began s now bytes) r → t ≡ turn_state began s now bytes → Booted reads writes asks only m p began t r
+boot_goes_on reads writes asks only m p q r began s t b now bytes turn e =
     let more = turn_more reads writes asks b.did.0 q r began (first_state m) s t b.taken now bytes b.did.2 b.state turn e in
     record {
       asked = b.asked;
@@ -261,5 +254,5 @@ boot_goes_on reads writes asks m p q r began s t b now bytes turn e =
       asks_first = b.asks_first;
       did = (b.did.0, b.did.1, more.0);
       state = more.1;
-      is = steps_drive m began (turns (b.taken ++ (now, bytes) ∷ [])) t more.1;
+      is = steps_drive only m began (turns (b.taken ++ (now, bytes) ∷ [])) t more.1;
     }

@@ -1,3 +1,4 @@
 pub mod Listening
 pub mod Log
+pub mod Nodes
 pub mod Session

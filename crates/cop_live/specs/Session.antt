@@ -1,16 +1,16 @@
 -- A boot over a port: what is done there, and what is true of it. The start of the nodes is held back.
-use Rattle.std.specs.Prelude.{◌≡◌, ℕ, ◌-◌, Bool, not, ◌&&◌, ◌==◌, List, [], ◌∷◌, ◌++◌, map, filter, slice_index, nat_lt, Option, Some, None, option_and_then, if◌then◌else◌}
-use Rattle.std.specs.Option.{option_or}
+use Rattle.std.specs.Prelude.{◌≡◌, ℕ, ◌-◌, Bool, not, ◌&&◌, ◌==◌, List, [], ◌∷◌, ◌++◌, map, filter, slice_index, nat_lt, unwrap_or, Option, Some, None, option_and_then, if◌then◌else◌}
 use Rattle.cop_frame.specs.declared.rates.Rate.{Rate}
 use Rattle.cop_sdo.specs.Message.{Message}
 use Rattle.cop_boot.specs.declared.«end».End.TheVariants.{Ready}
 use Rattle.cop_boot.specs.Node.{Node}
-use Rattle.cop_boot.specs.Manager.{Managing, Managed, heard, passed, and_then, begun_at, driven, reset_all, node_of, end_at, is_command}
+use Rattle.cop_boot.specs.Manager.{Managing, Managed, heard, passed, and_then, begun_at, driven, node_of, end_at, is_command}
 use Rattle.cop_boot.specs.Ends.{events, end_of, IsConfigured}
 use Rattle.cop_slcan.specs.Lines.{rate_digit}
 use Rattle.cop_slcan.specs.Meaning.{Told, Heard, Done, Refused, Other}
 use Rattle.cop_slcan.specs.Reading.{said_from, left_from}
 use Rattle.cop_live.specs.Log.{Doing, Asked, Sent, Read, DidAll, came}
+use Rattle.cop_live.specs.Nodes.{with_node}
 
 -- CR ends a line that is begun, twice; `C` closes the adapter, `S` and a digit set the rate, `O` opens it
 abbrev pub opening : Rate → List ℕ
@@ -73,10 +73,15 @@ boot_up_told Done = None
 boot_up_told Refused = None
 boot_up_told Other = None
 
--- the node whose boot-up is the first in lines
-abbrev pub first_boot_up : List Told → Option ℕ
-first_boot_up [] = None
-first_boot_up (line ∷ rest) = option_or (boot_up_told line) (first_boot_up rest)
+-- a node that boots up is put into a set of nodes
+abbrev pub noting : List Bool → Option ℕ → List Bool
+noting nodes None = nodes
+noting nodes (Some node) = with_node nodes node
+
+-- the nodes whose boot-ups lines tell are put into a set of nodes
+abbrev pub noted : List Bool → List Told → List Bool
+noted nodes [] = nodes
+noted nodes (line ∷ rest) = noted (noting nodes (boot_up_told line)) rest
 
 -- a turn: the clock is asked, and what the manager gives up then is sent; bytes are read, and what it answers to the frames in them
 -- is sent
@@ -111,12 +116,23 @@ abbrev pub turns : List (ℕ × List ℕ) → List Step
 turns [] = []
 turns ((now, bytes) ∷ rest) = Turn now bytes ∷ turns rest
 
--- a boot begins: the communication of all nodes is reset, and their boot-ups are awaited
+-- an NMT command to one node alone, or to all (CiA 301, "NMT node control": the node's number, or 0)
+abbrev pub command_to : ℕ → Option ℕ → Message
+command_to command only = record { id = 0; body = command ∷ unwrap_or only 0 ∷ 0 ∷ 0 ∷ 0 ∷ 0 ∷ 0 ∷ 0 ∷ []; len = 2 }
+
+-- 130 resets the communication, and 1 starts
+abbrev pub reset_of : Option ℕ → Message
+reset_of only = command_to 130 only
+
+abbrev pub start_of : Option ℕ → Message
+start_of only = command_to 1 only
+
+-- a boot begins: the communication of one node alone or of all is reset, and the boot-ups of the manager's nodes are awaited
 abbrev pub first_state : Managing → State
 first_state m = record { manager = (begun_at m 0).manager; pending = [] }
 
-abbrev pub boot_log : Managing → ℕ → List Step → List Doing
-boot_log m began steps = Sent reset_all ∷ steps_log began (first_state m) steps
+abbrev pub boot_log : Option ℕ → Managing → ℕ → List Step → List Doing
+boot_log only m began steps = Sent (reset_of only) ∷ steps_log began (first_state m) steps
 
 -- What is true of a manager that one became by all that came.
 pub record IsDriven (m : Managing) (began : ℕ) (log : List Doing) (later : Managing) : Type 0 where
@@ -126,11 +142,11 @@ pub record IsDriven (m : Managing) (began : ℕ) (log : List Doing) (later : Man
   -- a node that is ready has, since its last boot-up, confirmed each of its settings in turn by an answer that was read
   pub ready : (number : ℕ) (node : Node) → node_of m.nodes number ≡ Some node → end_at later.nodes number ≡ Some Ready → IsConfigured node.settings (events node.number 0 (came began log))
 
--- a boot over a port so far: the clock was asked at which moment it begins, the nodes were reset, and turns were taken
-pub record Booted {P : Type 0} (reads writes : P → List ℕ → P → Type 0) (asks : P → ℕ → P → Type 0) (m : Managing) (p : P) (began : ℕ) (s : State) (q : P) : Type 0 where
+-- a boot over a port so far: the clock was asked at which moment it begins, one node alone or all were reset, and turns were taken
+pub record Booted {P : Type 0} (reads writes : P → List ℕ → P → Type 0) (asks : P → ℕ → P → Type 0) (only : Option ℕ) (m : Managing) (p : P) (began : ℕ) (s : State) (q : P) : Type 0 where
   pub asked : P
   pub taken : List (ℕ × List ℕ)
   pub asks_first : asks p began asked
-  pub did : DidAll reads writes asks asked (boot_log m began (turns taken)) q
+  pub did : DidAll reads writes asks asked (boot_log only m began (turns taken)) q
   pub state : s ≡ steps_state began (first_state m) (turns taken)
-  pub is : IsDriven m began (boot_log m began (turns taken)) s.manager
+  pub is : IsDriven m began (boot_log only m began (turns taken)) s.manager

@@ -4,7 +4,7 @@ ghost use Rattle.std.specs.Prelude.{◌≡◌, None, option_to_list};
 ghost use Rattle.cop_sdo.specs.Message.{message_of};
 ghost use Rattle.cop_slcan.specs.Meaning.{told_of};
 ghost use Rattle.cop_slcan.specs.Reading.{said_from, left_from, taken};
-ghost use Rattle.cop_live.specs.Listening.{beat_of, sender_of, runner_by, runner_told, first_runner, Listened};
+ghost use Rattle.cop_live.specs.Listening.{beat_of, sender_of, is_meant, runner_of, runner_by, runner_told, first_runner, Listened};
 
 use crate::port::Port;
 use cop_frame::Frame;
@@ -20,8 +20,8 @@ pub struct Sender {
     pub node: u8,
 }
 
-// The node whose heartbeat says operational.
-fn beat_of(frame: &Frame) -> Option<u8>
+/// The node whose heartbeat says operational.
+pub fn beat_of(frame: &Frame) -> Option<u8>
     ensures { result ≡ beat_of (message_of frame.now) }
 {
     if frame.id > 0x700 && frame.id < 0x780 && frame.len == 1 && frame.body[0] == 5 {
@@ -43,9 +43,9 @@ fn sender_of(senders: &[Sender], id: u16) -> Option<u8>
     None
 }
 
-// The node that a frame shows to run.
-fn runner_by(senders: &[Sender], frame: &Frame) -> Option<u8>
-    ensures { result ≡ runner_by senders.now (message_of frame.now) }
+// The node that a frame comes from that runs.
+fn runner_of(senders: &[Sender], frame: &Frame) -> Option<u8>
+    ensures { result ≡ runner_of senders.now (message_of frame.now) }
 {
     match beat_of(frame) {
         Some(node) => Some(node),
@@ -53,37 +53,57 @@ fn runner_by(senders: &[Sender], frame: &Frame) -> Option<u8>
     }
 }
 
+// Whether a node is meant, where it is one alone, or all are.
+fn is_meant(only: Option<u8>, node: u8) -> bool
+    ensures { result ≡ is_meant only node }
+{
+    match only {
+        Some(wanted) => node == wanted,
+        None => true,
+    }
+}
+
+// The node that a frame shows to run, if it is meant.
+fn runner_by(senders: &[Sender], only: Option<u8>, frame: &Frame) -> Option<u8>
+    ensures { result ≡ runner_by senders.now only (message_of frame.now) }
+{
+    match runner_of(senders, frame) {
+        Some(node) if is_meant(only, node) => Some(node),
+        Some(_) | None => None,
+    }
+}
+
 // The node that a line shows to run.
-fn runner_told(senders: &[Sender], said: &Said) -> Option<u8>
-    ensures { result ≡ runner_told senders.now (told_of said.now) }
+fn runner_told(senders: &[Sender], only: Option<u8>, said: &Said) -> Option<u8>
+    ensures { result ≡ runner_told senders.now only (told_of said.now) }
 {
     match said {
-        Said::Heard(frame) => runner_by(senders, frame),
+        Said::Heard(frame) => runner_by(senders, only, frame),
         Said::Done | Said::Refused | Said::Other => None,
     }
 }
 
 // The node that is shown to run by what a byte says, if it ends a line.
-fn runner_at(senders: &[Sender], reader: &mut Reader, byte: u8) -> Option<u8>
+fn runner_at(senders: &[Sender], only: Option<u8>, reader: &mut Reader, byte: u8) -> Option<u8>
     ensures reader { reader.new ≡ (taken reader.old byte).0 }
-    ensures found { result ≡ first_runner senders.now (option_to_list (taken reader.old byte).1) }
+    ensures found { result ≡ first_runner senders.now only (option_to_list (taken reader.old byte).1) }
 {
     match reader.take(byte) {
-        Some(said) => runner_told(senders, &said),
+        Some(said) => runner_told(senders, only, &said),
         None => None,
     }
 }
 
 // The first node that bytes show to run.
-fn runner_in(senders: &[Sender], reader: &mut Reader, bytes: &[u8]) -> Option<u8>
-    ensures found { result ≡ first_runner senders.now (said_from reader.old bytes.now) }
+fn runner_in(senders: &[Sender], only: Option<u8>, reader: &mut Reader, bytes: &[u8]) -> Option<u8>
+    ensures found { result ≡ first_runner senders.now only (said_from reader.old bytes.now) }
     ensures reader { result ≡ None → reader.new ≡ left_from reader.old bytes.now }
 {
     match bytes {
         [] => None,
-        [byte, rest @ ..] => match runner_at(senders, reader, *byte) {
+        [byte, rest @ ..] => match runner_at(senders, only, reader, *byte) {
             Some(node) => Some(node),
-            None => runner_in(senders, reader, rest),
+            None => runner_in(senders, only, reader, rest),
         },
     }
 }
@@ -99,10 +119,10 @@ pub enum Found {
     Failed,
 }
 
-/// Listens for 2 s, or until a node is heard to run: its heartbeat says operational, or one of some PDOs comes. Nothing is written.
-/// `Failed` where the port or its clock fails.
-pub fn listen<P: Port>(senders: &[Sender], port: &mut P) -> Found
-    ensures { Listened P.reads P.writes P.asks senders.now port.old result port.new }
+/// Listens for 2 s, or until a node is heard to run: its heartbeat says operational, or one of some PDOs comes. Where one node alone is
+/// meant, others may run. Nothing is written. `Failed` where the port or its clock fails.
+pub fn listen<P: Port>(senders: &[Sender], only: Option<u8>, port: &mut P) -> Found
+    ensures { Listened P.reads P.writes P.asks senders.now only port.old result port.new }
 {
     let mut reader = Reader::new();
     let Some(began) = port.now() else {
@@ -119,7 +139,7 @@ pub fn listen<P: Port>(senders: &[Sender], port: &mut P) -> Found
         let Some(count) = port.read(&mut buffer) else {
             return Found::Failed;
         };
-        if let Some(node) = runner_in(senders, &mut reader, &buffer[..count]) {
+        if let Some(node) = runner_in(senders, only, &mut reader, &buffer[..count]) {
             return Found::Running { node };
         }
     }

@@ -2,14 +2,14 @@
 
 ghost use Rattle.std.specs.Prelude.{◌≡◌, ◌≤◌, ◌∷◌, [], true, map, take, is_some, option_to_list, IfSome};
 ghost use Rattle.std.specs.List.{list_all};
-ghost use Rattle.std.specs.Option.{option_or};
 ghost use Rattle.cop_sdo.specs.Message.{message_of};
 ghost use Rattle.cop_boot.specs.Manager.{passed, heard, end_at};
 ghost use Rattle.cop_slcan.specs.Meaning.{told_of};
 ghost use Rattle.cop_slcan.specs.Reading.{taken, said_from, left_from};
 ghost use Rattle.cop_live.specs.Log.{Sent, DidAll};
-ghost use Rattle.cop_live.specs.Session.{State, told, told_all, is_start, held, boot_up_of, boot_up_told, first_boot_up, turn_log, turn_state, Opened, Closed, Booted};
+ghost use Rattle.cop_live.specs.Session.{State, told, told_all, is_start, held, boot_up_of, boot_up_told, noting, noted, turn_log, turn_state, command_to, reset_of, start_of, Opened, Closed, Booted};
 
+use crate::nodes::NodeSet;
 use crate::port::Port;
 use cop_boot::Manager;
 use cop_frame::{Frame, Rate};
@@ -97,21 +97,21 @@ fn boot_up_told(said: &Said) -> Option<u8>
     }
 }
 
-/// A boot over a port: the moment at which it began, the reader of what comes, and the node that was the first to boot up.
+/// A boot over a port: the moment at which it began, the reader of what comes, and the nodes that booted up.
 #[derive(Drop)]
 pub struct Boot {
     pub began: u64,
     pub reader: Reader,
-    pub booted: Option<u8>,
+    pub booted: NodeSet,
 }
 
-// The node that was the first to boot up, once a line was told.
-fn booted_after(booted: Option<u8>, said: &Said) -> Option<u8>
-    ensures { result ≡ option_or booted (boot_up_told (told_of said.now)) }
+// Notes the node whose boot-up a line tells.
+fn note(booted: &mut NodeSet, said: &Said)
+    ensures { booted.new ≡ noting booted.old (boot_up_told (told_of said.now)) }
 {
-    match booted {
-        Some(node) => Some(node),
-        None => boot_up_told(said),
+    match boot_up_told(said) {
+        Some(node) => booted.add(node),
+        None => {}
     }
 }
 
@@ -119,13 +119,13 @@ fn booted_after(booted: Option<u8>, said: &Said) -> Option<u8>
 fn take_byte<P: Port>(manager: &mut Manager, boot: &mut Boot, port: &mut P, byte: u8) -> bool
     ensures began { boot.new.began ≡ boot.old.began }
     ensures reader { boot.new.reader ≡ (taken boot.old.reader byte).0 }
-    ensures booted { boot.new.booted ≡ option_or boot.old.booted (first_boot_up (option_to_list (taken boot.old.reader byte).1)) }
+    ensures booted { boot.new.booted ≡ noted boot.old.booted (option_to_list (taken boot.old.reader byte).1) }
     ensures manager { result ≡ true → manager.new ≡ (told_all manager.old (option_to_list (taken boot.old.reader byte).1)).manager }
     ensures sent { result ≡ true → DidAll P.reads P.writes P.asks port.old (map Sent (held (told_all manager.old (option_to_list (taken boot.old.reader byte).1)).frames)) port.new }
 {
     match boot.reader.take(byte) {
         Some(said) => {
-            boot.booted = booted_after(boot.booted, &said);
+            note(&mut boot.booted, &said);
             tell(manager, port, &said)
         }
         None => true,
@@ -136,7 +136,7 @@ fn take_byte<P: Port>(manager: &mut Manager, boot: &mut Boot, port: &mut P, byte
 fn take_bytes<P: Port>(manager: &mut Manager, boot: &mut Boot, port: &mut P, bytes: &[u8]) -> bool
     ensures began { boot.new.began ≡ boot.old.began }
     ensures reader { result ≡ true → boot.new.reader ≡ left_from boot.old.reader bytes.now }
-    ensures booted { result ≡ true → boot.new.booted ≡ option_or boot.old.booted (first_boot_up (said_from boot.old.reader bytes.now)) }
+    ensures booted { result ≡ true → boot.new.booted ≡ noted boot.old.booted (said_from boot.old.reader bytes.now) }
     ensures manager { result ≡ true → manager.new ≡ (told_all manager.old (said_from boot.old.reader bytes.now)).manager }
     ensures sent { result ≡ true → DidAll P.reads P.writes P.asks port.old (map Sent (held (told_all manager.old (said_from boot.old.reader bytes.now)).frames)) port.new }
 {
@@ -177,7 +177,7 @@ pub fn take_turn<P: Port>(
     ensures count { IfSome result (λ turn. turn.count ≤ 256) }
     ensures began { boot.new.began ≡ boot.old.began }
     ensures did { IfSome result (λ turn. DidAll P.reads P.writes P.asks port.old (turn_log boot.old.began (record { manager = manager.old; pending = boot.old.reader }) turn.now (take turn.count buffer.new)) port.new) }
-    ensures booted { IfSome result (λ turn. boot.new.booted ≡ option_or boot.old.booted (first_boot_up (said_from boot.old.reader (take turn.count buffer.new)))) }
+    ensures booted { IfSome result (λ turn. boot.new.booted ≡ noted boot.old.booted (said_from boot.old.reader (take turn.count buffer.new))) }
     ensures state { IfSome result (λ turn. (let later : State = record { manager = manager.new; pending = boot.new.reader } in later) ≡ turn_state boot.old.began (record { manager = manager.old; pending = boot.old.reader }) turn.now (take turn.count buffer.new)) }
 {
     let Some(now) = port.now() else {
@@ -223,19 +223,37 @@ pub fn close<P: Port>(port: &mut P) -> bool
     port.read(&mut buffer).is_some() && port.read(&mut buffer).is_some() && port.write(b"C\r")
 }
 
-// Asks the clock when the boot begins, and resets the nodes.
-fn begin<P: Port>(manager: &mut Manager, port: &mut P) -> Option<Boot>
-    ensures { IfSome result (λ boot. Booted P.reads P.writes P.asks manager.old port.old boot.began (record { manager = manager.new; pending = boot.reader }) port.new) }
+// An NMT command to one node alone, or to all.
+fn command_to(command: u8, only: Option<u8>) -> Frame
+    ensures { message_of result ≡ command_to command only }
+{
+    Frame {
+        id: 0,
+        body: [command, only.unwrap_or(0), 0, 0, 0, 0, 0, 0],
+        len: 2,
+    }
+}
+
+/// The NMT command that starts one node alone, or all.
+pub fn start_of(only: Option<u8>) -> Frame
+    ensures { message_of result ≡ start_of only }
+{
+    command_to(1, only)
+}
+
+// Asks the clock when the boot begins, and resets the communication of one node alone, or of all.
+fn begin<P: Port>(manager: &mut Manager, only: Option<u8>, port: &mut P) -> Option<Boot>
+    ensures { IfSome result (λ boot. Booted P.reads P.writes P.asks only manager.old port.old boot.began (record { manager = manager.new; pending = boot.reader }) port.new) }
 {
     let Some(began) = port.now() else {
         return None;
     };
-    let reset = manager.begin(0);
-    if send(port, &reset) {
+    let _to_all = manager.begin(0);
+    if send(port, &command_to(130, only)) {
         Some(Boot {
             began,
             reader: Reader::new(),
-            booted: None,
+            booted: NodeSet::new(),
         })
     } else {
         None
@@ -243,12 +261,18 @@ fn begin<P: Port>(manager: &mut Manager, port: &mut P) -> Option<Boot>
 }
 
 /// Boots the nodes of a manager over a port, until the boot of each of some nodes has ended: whatever bytes come, and at whatever
-/// moments. The start of the nodes is held back. `None` where the port or its clock fails.
-pub fn boot_over<P: Port>(manager: &mut Manager, nodes: &[u8], port: &mut P) -> Option<Boot>
-    ensures booted { IfSome result (λ boot. Booted P.reads P.writes P.asks manager.old port.old boot.began (record { manager = manager.new; pending = boot.reader }) port.new) }
+/// moments. The communication of one node alone is reset, or of all; the start of the nodes is held back. `None` where the port or its
+/// clock fails.
+pub fn boot_over<P: Port>(
+    manager: &mut Manager,
+    nodes: &[u8],
+    only: Option<u8>,
+    port: &mut P,
+) -> Option<Boot>
+    ensures booted { IfSome result (λ boot. Booted P.reads P.writes P.asks only manager.old port.old boot.began (record { manager = manager.new; pending = boot.reader }) port.new) }
     ensures ended { IfSome result (λ boot. list_all (λ node. is_some (end_at manager.new.nodes node)) nodes.now ≡ true) }
 {
-    let Some(mut boot) = begin(manager, port) else {
+    let Some(mut boot) = begin(manager, only, port) else {
         return None;
     };
     let mut buffer = [0; 256];

@@ -10,5 +10,6 @@ pub mod Stepped
 pub mod Sought
 pub mod Taken
 pub mod Answered
-pub mod CutLines
 pub mod BoundLemmas
+pub mod ReadLemmas
+pub mod WatchLemmas

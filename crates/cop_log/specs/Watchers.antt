@@ -1,5 +1,5 @@
 -- What a watcher knows of the entries that it took.
-use Rattle.std.specs.Prelude.{◌≡◌, ◌≢◌, ℕ, ◌^◌, ◌<◌, Bool, ◌&&◌, List, [], ◌∷◌, ◌++◌, Option, Some, None, suc, length, is_none}
+use Rattle.std.specs.Prelude.{◌≡◌, ◌≢◌, ℕ, ◌^◌, ◌<◌, Bool, ◌&&◌, List, [], ◌∷◌, ◌++◌, Option, Some, None, true, suc, length, is_none, All}
 use Rattle.std.specs.Option.{ForSome}
 use Rattle.cop_rta.specs.Streams.{AreDistinct}
 use Rattle.cop_lines.specs.declared.entries.Entry.{Entry}
@@ -49,3 +49,11 @@ listed (Some f) = f ∷ []
 
 abbrev pub findings_of : Told → List Finding
 findings_of told = listed told.named ++ (listed told.soon ++ listed told.crowded)
+
+-- Some entries were watched, whatever comes behind them: what was found is evident, and as long as nothing was, nothing is.
+pub record HasWatched (t : Terms) (log : List Entry) (w : Watcher) (found : List Finding) : Type 0 where
+  pub terms : terms_of w ≡ t
+  pub number : w.number ≡ length log
+  pub kept : (more : List Entry) → length (log ++ more) < 2 ^ 64 → IsKept w (log ++ more)
+  pub evident : (more : List Entry) → length (log ++ more) < 2 ^ 64 → All (IsEvidence t (log ++ more)) found
+  pub clean : found ≡ [] → w.is_clean ≡ true

@@ -1,41 +1,44 @@
-//! Reading a whole log.
+//! A log as a whole text.
 
-ghost use Rattle.std.specs.Prelude.{◌≡◌};
+ghost use Rattle.std.specs.Prelude.{Ok};
 ghost use Rattle.cop_table.specs.Reading.{Gives};
-ghost use Rattle.cop_lines.specs.Lines.{line_in};
-ghost use Rattle.cop_log.specs.Reading.{with_line, log_in, fault_of_text};
+ghost use Rattle.cop_log.specs.Reading.{entries_with, log_in, fault_of_text, name_of};
 
 use crate::faults::LogFault;
-use cop_lines::{Entry, back, front, line_in};
+use crate::reader::LogReader;
+use cop_lines::{Entry, Message};
 use std::alloc::Global;
 
-// Reads a line, which has a number, and puts its entry behind those before it.
-fn take_line(number: u64, channel: &[u8], line: &[u8], log: &mut Vec<Entry>) -> Result<(), LogFault>
-    ensures { Gives (λ _. log.new.items) fault_of_text result (with_line number log.old.items (line_in channel.now line.now)) }
+// Puts an entry behind those before it.
+fn note(message: Option<Message>, log: &mut Vec<Entry>) -> Result<(), LogFault>
+    ensures { Gives (λ _. log.new.items) fault_of_text result (Ok (entries_with log.old.items message)) }
 {
-    match line_in(channel, line) {
-        Ok(Some(entry)) => {
-            if log.push(entry).is_err() {
-                return Err(LogFault::Memory);
-            }
+    if let Some(message) = message {
+        if log.push(message.entry).is_err() {
+            return Err(LogFault::Memory);
         }
-        Ok(None) => {}
-        Err(fault) => return Err(LogFault::Line { number, fault }),
     }
     Ok(())
 }
 
-/// The entries of a channel in a log as `candump -L` writes it, or the first line that is wrong, or want of memory.
-pub fn read_log(alloc: Global, channel: &[u8], text: &[u8]) -> Result<Vec<Entry>, LogFault>
-    ensures { Gives (λ log. log.items) fault_of_text result (log_in channel.now text.now) }
+/// The entries of a channel in a log of any form, or the first line that is wrong, or want of memory. [`LogReader::new`] says what the
+/// channel and `are_distances` are.
+pub fn read_log(
+    alloc: Global,
+    channel: Option<Vec<u8>>,
+    are_distances: bool,
+    text: &[u8],
+) -> Result<Vec<Entry>, LogFault>
+    ensures { Gives (λ log. log.items) fault_of_text result (log_in (record { channel = name_of channel; are_distances = are_distances }) text.now) }
 {
     let mut log = Vec::new(alloc);
-    let mut number = 1;
+    let mut reader = LogReader::new(alloc, channel, are_distances);
     let mut rest = text;
-    'lines: while !rest.is_empty() {
-        take_line(number, channel, front(b'\n', rest), &mut log)?;
-        number += 1;
-        rest = back(b'\n', rest);
+    'frames: while let Some(found) = reader.next(rest)? {
+        note(Some(found.message), &mut log)?;
+        rest = found.rest;
     }
+    let last = reader.end()?;
+    note(last, &mut log)?;
     Ok(log)
 }

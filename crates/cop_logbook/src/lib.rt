@@ -4,14 +4,20 @@
 
 mod abort_codes;
 mod breaches;
+mod heartbeats;
 mod loads;
 mod logbook;
 mod noticed;
 mod seen;
 mod spread;
+mod strangers;
 
 pub use abort_codes::abort_words;
+pub use breaches::{Breach, Broken, Nearest};
+pub use heartbeats::LateHeartbeat;
 pub use loads::{Loads, PARTS};
 pub use logbook::{BookFault, Logbook};
+pub use noticed::{Counts, Notice, Notices, command_words};
 pub use seen::Seen;
 pub use spread::{STEPS, Spread};
+pub use strangers::Stranger;

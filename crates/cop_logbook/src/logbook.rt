@@ -1,12 +1,17 @@
 //! A log that is watched, line by line, and what is said of it at its end.
 
-use crate::breaches::{Breaches, Scene};
+ghost use Rattle.std.specs.Prelude.{◌≡◌, ◌<◌, ◌↔◌, [], IsOk, OnOk};
+ghost use Rattle.cop_logbook.specs.Books.{count_told, Takes, IsWith, Notes, Ends};
+
+use crate::breaches::{Breach, Breaches, Scene};
+use crate::heartbeats::{LateHeartbeat, late_heartbeat};
 use crate::loads::Loads;
 use crate::noticed::Notices;
 use crate::seen::{Seen, least_bits_of};
 use crate::spread::Spread;
-use cop_lines::{Entry, LineReader, Message};
-use cop_log::{Clock, Finding, Told, Watcher, bounds_of};
+use crate::strangers::Stranger;
+use cop_lines::{Entry, Message};
+use cop_log::{Clock, LogFault, LogReader, Told, Watcher, bounds_of};
 use cop_plan::Plan;
 use std::alloc::{AllocError, Global};
 use std::collections::BTreeMap;
@@ -35,6 +40,18 @@ impl From<AllocError> for BookFault {
     }
 }
 
+impl From<LogFault> for BookFault {
+    fn from(fault: LogFault) -> BookFault {
+        match fault {
+            LogFault::Line { number, fault } => BookFault::Refused {
+                number: fault.number(),
+                line: number,
+            },
+            LogFault::Memory => BookFault::Memory,
+        }
+    }
+}
+
 /// A log that is watched.
 #[derive(Drop)]
 pub struct Logbook<'a> {
@@ -43,10 +60,7 @@ pub struct Logbook<'a> {
     clock: Clock,
     bounds: Vec<Option<u64>>,
     watcher: Watcher<'a>,
-    reader: LineReader,
-    // That of the first frame, where none is wanted.
-    channel: Option<Vec<u8>>,
-    line: u64,
+    log: LogReader,
     all: Seen,
     // By identifier, and of each stream how its frames are spread.
     seen: Vec<Seen>,
@@ -87,9 +101,7 @@ impl<'a> Logbook<'a> {
             clock,
             bounds,
             watcher,
-            reader: LineReader::new(are_distances),
-            channel,
-            line: 0,
+            log: LogReader::new(alloc, channel, are_distances),
             all: Seen::NOTHING,
             seen: vec![in alloc; Seen::NOTHING; usize::from(IDS)]?,
             spreads: vec![in alloc; Spread::NOTHING; count]?,
@@ -102,19 +114,33 @@ impl<'a> Logbook<'a> {
         })
     }
 
-    /// How many lines were taken.
-    pub fn lines(&self) -> u64 {
-        self.line
-    }
-
     /// How many breaches there are.
-    pub fn breaches(&self) -> u64 {
+    pub fn breaches(&self) -> u64
+        ensures { result ≡ self.now.breaches.count }
+    {
         self.breaches.count()
     }
 
+    /// The breaches that are told: of each identifier the first 20, and as many of all that no stream can have.
+    pub fn told(&self) -> &[Breach] {
+        self.breaches.told()
+    }
+
     /// The words of the breaches that are told, a line each.
-    pub fn words(&self) -> &str {
-        self.breaches.words()
+    pub fn words(&self) -> Result<String, AllocError> {
+        let mut text = String::new(self.alloc);
+        self.breaches.write(&mut text, self.clock)?;
+        Ok(text)
+    }
+
+    /// What was noticed that breaks nothing.
+    pub fn notices(&self) -> &Notices {
+        &self.notices
+    }
+
+    /// What is taken of the log's clock.
+    pub fn clock(&self) -> Clock {
+        self.clock
     }
 
     /// What was seen of all identifiers.
@@ -150,37 +176,31 @@ impl<'a> Logbook<'a> {
         }
     }
 
-    /// Whether frames of a channel are taken: those of the first one, where none is wanted.
-    fn is_wanted(&mut self, channel: &[u8]) -> Result<bool, AllocError> {
-        if let Some(wanted) = &self.channel {
-            return Ok(wanted.as_slice() == channel);
+    /// Takes the next piece of the log, of any length.
+    pub fn take_piece(&mut self, piece: &[u8]) -> Result<(), BookFault>
+        ensures { OnOk result (Takes self.old piece.now self.new []) }
+    {
+        let mut rest = piece;
+        'frames: while let Some(found) = self.log.next(rest)? {
+            self.take_message(&found.message)?;
+            rest = found.rest;
         }
-        let mut bytes = Vec::new(self.alloc);
-        bytes.extend_from_slice(channel)?;
-        self.channel = Some(bytes);
-        Ok(true)
+        Ok(())
     }
 
-    /// Takes the next line.
-    pub fn take_line(&mut self, line: &[u8]) -> Result<(), BookFault> {
-        self.line = self.line.saturating_add(1);
-        match self.reader.read(line) {
-            Ok(Some(message)) => {
-                let channel = self.reader.channel_in(line);
-                if self.is_wanted(channel)? {
-                    self.take_message(&message)?;
-                }
-                Ok(())
-            }
-            Ok(None) => Ok(()),
-            Err(fault) => Err(BookFault::Refused {
-                number: fault.number(),
-                line: self.line,
-            }),
+    /// Takes the last line, where it lacks its end, once all pieces were taken.
+    pub fn take_rest(&mut self) -> Result<(), BookFault>
+        ensures { OnOk result (Ends self.old self.new) }
+    {
+        match self.log.end()? {
+            Some(message) => Ok(self.take_message(&message)?),
+            None => Ok(()),
         }
     }
 
-    fn take_message(&mut self, message: &Message) -> Result<(), AllocError> {
+    fn take_message(&mut self, message: &Message) -> Result<(), AllocError>
+        ensures { OnOk result (Notes message.now.entry self.old self.new) }
+    {
         let entry = &message.entry;
         let place = self.place_of(entry.id);
         self.count(entry, place)?;
@@ -188,16 +208,26 @@ impl<'a> Logbook<'a> {
         let told = self.watcher.take(entry);
         self.tell(&scene, &told)?;
         self.remember(place);
-        let len = usize::from(entry.len).min(8);
-        match u16::try_from(entry.id) {
-            Ok(id) => self.notices.note(self.line, id, &message.body[..len]),
+        self.notice(message)?;
+        Ok(())
+    }
+
+    /// Notices what is worth a word and breaks nothing.
+    fn notice(&mut self, message: &Message) -> Result<(), AllocError>
+        ensures { IsWith self.old self.new self.old.log }
+    {
+        let len = usize::from(message.entry.len).min(8);
+        match u16::try_from(message.entry.id) {
+            Ok(id) => self.notices.note(self.log.line(), id, &message.body[..len]),
             Err(_) => Ok(()),
         }
     }
 
     /// Counts an entry, whose identifier's stream is at this place.
-    fn count(&mut self, entry: &Entry, place: Option<usize>) -> Result<(), AllocError> {
-        let line = self.line;
+    fn count(&mut self, entry: &Entry, place: Option<usize>) -> Result<(), AllocError>
+        ensures { OnOk result (IsWith self.old self.new self.old.log) }
+    {
+        let line = self.log.line();
         let _ = self.all.note(line, entry.at, entry.len);
         self.loads.note(entry.at, least_bits_of(entry.len));
         let Some(seen) = self.seen.get_mut(entry.id as usize) else {
@@ -211,7 +241,9 @@ impl<'a> Logbook<'a> {
     }
 
     /// Counts the distance of two frames of a stream.
-    fn spread(&mut self, place: usize, distance: u64) {
+    fn spread(&mut self, place: usize, distance: u64)
+        ensures { IsWith self.old self.new self.old.log }
+    {
         let Some(stream) = self.plan.streams().streams().get(place) else {
             return;
         };
@@ -222,13 +254,15 @@ impl<'a> Logbook<'a> {
     }
 
     /// Counts an entry whose identifier no stream can have.
-    fn count_other(&mut self, entry: &Entry) -> Result<(), AllocError> {
+    fn count_other(&mut self, entry: &Entry) -> Result<(), AllocError>
+        ensures { OnOk result (IsWith self.old self.new self.old.log) }
+    {
         let mut seen = match self.others.get(&entry.id) {
             Some(seen) => *seen,
             None => Seen::NOTHING,
         };
         if seen.frames > 0 || self.others.len() < MOST_OTHERS {
-            let _ = seen.note(self.line, entry.at, entry.len);
+            let _ = seen.note(self.log.line(), entry.at, entry.len);
             let _ = self.others.insert(entry.id, seen)?;
         }
         Ok(())
@@ -237,10 +271,9 @@ impl<'a> Logbook<'a> {
     /// What is known before an entry is taken.
     fn scene<'e>(&self, entry: &'e Entry, place: Option<usize>) -> Scene<'e> {
         let mut scene = Scene {
-            line: self.line,
+            line: self.log.line(),
             entry,
             rate: self.plan.rate(),
-            clock: self.clock,
             stream: None,
             bound: None,
             anchor: None,
@@ -258,33 +291,34 @@ impl<'a> Logbook<'a> {
     }
 
     /// Tells what the entry shows.
-    fn tell(&mut self, scene: &Scene<'_>, told: &Told) -> Result<(), AllocError> {
-        let findings: [Option<Finding>; 3] = [told.named, told.soon, told.crowded];
-        for finding in findings {
-            if let Some(finding) = finding {
-                self.breaches.add(scene, finding)?;
-            }
-        }
-        Ok(())
+    fn tell(&mut self, scene: &Scene<'_>, told: &Told) -> Result<(), AllocError>
+        ensures { OnOk result ((self.new.log ≡ self.old.log) × (self.new.watcher ≡ self.old.watcher)
+            × (self.new.breaches.count ≡ count_told self.old.breaches.count told.now)) }
+    {
+        self.breaches.note(scene, told.named)?;
+        self.breaches.note(scene, told.soon)?;
+        self.breaches.note(scene, told.crowded)
     }
 
     /// Keeps the lines of the entries from which is counted.
-    fn remember(&mut self, place: Option<usize>) {
+    fn remember(&mut self, place: Option<usize>)
+        ensures { IsWith self.old self.new self.old.log }
+    {
         let own = self.watcher.number().saturating_sub(1);
         if matches!(self.watcher.pile(), Some(pile) if pile.from == own) {
-            self.pile_line = self.line;
+            self.pile_line = self.log.line();
         }
         let Some(place) = place else {
             return;
         };
         if matches!(self.watcher.anchor(place), Some(anchor) if anchor.from == own) {
             if let Some(line) = self.anchor_lines.get_mut(place) {
-                *line = self.line;
+                *line = self.log.line();
             }
         }
     }
 
-    /// Adds the lines of the streams, and of heartbeats that stayed away.
+    /// Adds the lines of the streams.
     fn write_streams(&self, text: &mut String, span: u64) -> Result<(), AllocError> {
         let rate = self.plan.rate();
         for stream in self.plan.streams().streams() {
@@ -295,54 +329,66 @@ impl<'a> Logbook<'a> {
         Ok(())
     }
 
-    fn write_heartbeats(&self, text: &mut String) -> Result<(), AllocError> {
+    /// The heartbeats that stayed away, by the places of their streams.
+    pub fn late_heartbeats(&self) -> Result<Vec<LateHeartbeat>, AllocError> {
+        let mut late = Vec::new(self.alloc);
         for stream in self.plan.streams().streams() {
-            let (id, time) = (stream.id, stream.period / 4);
-            let Some(seen) = self.seen.get(usize::from(id)) else {
+            let Some(seen) = self.seen(stream.id) else {
                 continue;
             };
-            if id > 0x700 && id < 0x780 && seen.greatest > time.saturating_mul(2) {
-                let (line, away, node) = (seen.greatest_line, seen.greatest, id & 0x7F);
-                write!(
-                    text,
-                    "line {line}: the heartbeat of node {node} comes after {away} us, its time is {time} us\n"
-                )?;
+            if let Some(heartbeat) = late_heartbeat(stream, seen) {
+                late.push(heartbeat)?;
             }
         }
-        Ok(())
+        Ok(late)
     }
 
-    fn write_unknown(&self, text: &mut String) -> Result<(), AllocError> {
+    /// The identifiers that no stream of the plan has, by rising number: all that a stream can have, and of the others those that are
+    /// counted.
+    pub fn strangers(&self) -> Result<Vec<Stranger>, AllocError> {
+        let mut strangers = Vec::new(self.alloc);
         for id in 0..IDS {
-            let Some(seen) = self.seen.get(usize::from(id)) else {
-                continue;
-            };
+            let seen = self.seen(id).copied().unwrap_or(Seen::NOTHING);
             if seen.frames > 0 && !self.plan.streams().has_id(id) {
-                let (frames, line) = (seen.frames, seen.first_line);
-                write!(
-                    text,
-                    "unknown {id:03X}h frames {frames} first in line {line}\n"
-                )?;
+                let id = u32::from(id);
+                strangers.push(Stranger { id, seen })?;
             }
         }
         for (id, seen) in self.others.iter() {
-            let (frames, line) = (seen.frames, seen.first_line);
-            write!(
-                text,
-                "unknown {id:08X}h frames {frames} first in line {line}\n"
-            )?;
+            strangers.push(Stranger {
+                id: *id,
+                seen: *seen,
+            })?;
         }
-        Ok(())
+        Ok(strangers)
     }
 
-    /// What is said of the log, once all lines were taken.
-    pub fn finish(&self) -> Result<String, BookFault> {
+    /// Refuses a log in which no line is of the channel, once all lines were taken.
+    pub fn end(&self) -> Result<(), BookFault>
+        ensures { IsOk result ↔ (0 < self.now.all.frames) }
+    {
         if self.all.frames == 0 {
             return Err(BookFault::Refused {
                 number: NO_LINE,
                 line: 0,
             });
         }
+        Ok(())
+    }
+
+    /// Adds what is worth a look: identifiers of no stream, heartbeats that stayed away, and what was noticed.
+    fn write_asides(&self, text: &mut String) -> Result<(), AllocError> {
+        for stranger in &self.strangers()? {
+            stranger.write(text)?;
+        }
+        for heartbeat in &self.late_heartbeats()? {
+            heartbeat.write(text)?;
+        }
+        self.notices.write(text)
+    }
+
+    /// What is said of the log, once all lines were taken.
+    pub fn finish(&self) -> Result<String, AllocError> {
         let mut text = String::new(self.alloc);
         let (frames, kbits) = (self.all.frames, self.plan.rate().kbits());
         let span = self.all.span();
@@ -353,10 +399,8 @@ impl<'a> Logbook<'a> {
             "rate {kbits} frames {frames} time {span} us load {whole}.{part:02}%\n"
         )?;
         self.write_streams(&mut text, span)?;
-        self.write_unknown(&mut text)?;
-        self.write_heartbeats(&mut text)?;
-        self.notices.write(&mut text)?;
-        text.push_str(self.breaches.words())?;
+        self.write_asides(&mut text)?;
+        self.breaches.write(&mut text, self.clock)?;
         match self.breaches.count() {
             0 => text.push_str("keeps to the tables\n")?,
             count => write!(text, "breaches {count}\n")?,

@@ -8,8 +8,8 @@ const MOST: u64 = 20;
 
 /// A frame that is told.
 #[derive(Clone, Copy)]
-enum Notice {
-    /// A command of the NMT master (CiA 301, 7.2.8.3.1).
+pub enum Notice {
+    /// A command of the NMT master to a node, or to all for 0 (CiA 301, 7.2.8.3.1).
     Command {
         command: u8,
         node: u8,
@@ -23,7 +23,7 @@ enum Notice {
         node: u8,
         code: u16,
     },
-    /// An SDO transfer was aborted (CiA 301, 7.2.4.3.17).
+    /// An SDO transfer was aborted at the server of a node, by it or by its client (CiA 301, 7.2.4.3.17).
     Abort {
         node: u8,
         is_client: bool,
@@ -33,7 +33,16 @@ enum Notice {
     },
 }
 
-/// What was noticed, the first of each kind.
+/// How many frames of each kind were noticed.
+#[derive(Clone, Copy)]
+pub struct Counts {
+    pub commands: u64,
+    pub boot_ups: u64,
+    pub emergencies: u64,
+    pub aborts: u64,
+}
+
+/// What was noticed: how many of each kind, and the first of each with their lines.
 #[derive(Drop)]
 pub struct Notices {
     kept: Vec<(u64, Notice)>,
@@ -49,7 +58,8 @@ fn kind_of(notice: Notice) -> usize {
     }
 }
 
-fn command_words(command: u8) -> &'static str {
+/// What a command of the NMT master says (CiA 301, 7.2.8.3.1).
+pub fn command_words(command: u8) -> &'static str {
     match command {
         1 => "start",
         2 => "stop",
@@ -67,12 +77,12 @@ fn notice_of(function: u16, node: u8, data: &[u8]) -> Option<Notice> {
             command: *command,
             node: *named,
         }),
-        (0x700, [0]) => Some(Notice::BootUp { node }),
+        (0x700, [0]) if node != 0 => Some(Notice::BootUp { node }),
         (0x080, [low, high, ..]) if node != 0 => Some(Notice::Emergency {
             node,
             code: u16::from_le_bytes([*low, *high]),
         }),
-        (0x580 | 0x600, [0x80, low, high, sub, a, b, c, d]) => Some(Notice::Abort {
+        (0x580 | 0x600, [0x80, low, high, sub, a, b, c, d]) if node != 0 => Some(Notice::Abort {
             node,
             is_client: function == 0x600,
             index: u16::from_le_bytes([*low, *high]),
@@ -124,7 +134,7 @@ fn write_count(text: &mut String, words: &str, count: u64) -> Result<(), AllocEr
 
 impl Notices {
     /// Nothing yet.
-    pub fn new(alloc: Global) -> Notices {
+    pub(crate) fn new(alloc: Global) -> Notices {
         Notices {
             kept: Vec::new(alloc),
             counts: [0; 4],
@@ -132,7 +142,7 @@ impl Notices {
     }
 
     /// Looks at a data frame with an 11-bit identifier.
-    pub fn note(&mut self, line: u64, id: u16, data: &[u8]) -> Result<(), AllocError> {
+    pub(crate) fn note(&mut self, line: u64, id: u16, data: &[u8]) -> Result<(), AllocError> {
         let Some(notice) = notice_of(id & 0x780, (id % 128) as u8, data) else {
             return Ok(());
         };
@@ -146,15 +156,31 @@ impl Notices {
         Ok(())
     }
 
+    /// Those that are told, each with its line: the first of each kind, in the order of the log.
+    pub fn told(&self) -> &[(u64, Notice)] {
+        &self.kept
+    }
+
+    /// How many there are of each kind.
+    pub fn counts(&self) -> Counts {
+        let [commands, boot_ups, emergencies, aborts] = self.counts;
+        Counts {
+            commands,
+            boot_ups,
+            emergencies,
+            aborts,
+        }
+    }
+
     /// Adds a line for each, and how many there are of each kind of which not all are kept.
-    pub fn write(&self, text: &mut String) -> Result<(), AllocError> {
+    pub(crate) fn write(&self, text: &mut String) -> Result<(), AllocError> {
         for (line, notice) in &self.kept {
             write_notice(text, *line, *notice)?;
         }
-        let [commands, boot_ups, emergencies, aborts] = self.counts;
-        write_count(text, "NMT commands", commands)?;
-        write_count(text, "boot-ups", boot_ups)?;
-        write_count(text, "EMCYs", emergencies)?;
-        write_count(text, "SDO aborts", aborts)
+        let counts = self.counts();
+        write_count(text, "NMT commands", counts.commands)?;
+        write_count(text, "boot-ups", counts.boot_ups)?;
+        write_count(text, "EMCYs", counts.emergencies)?;
+        write_count(text, "SDO aborts", counts.aborts)
     }
 }

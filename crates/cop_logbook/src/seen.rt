@@ -1,6 +1,7 @@
 //! What was seen of an identifier in a log.
 
-ghost use Rattle.std.specs.Prelude.{◌≡◌, ◌+◌, ◌*◌};
+ghost use Rattle.std.specs.Prelude.{◌≡◌, ◌+◌, ◌-◌, ◌*◌, ◌/◌, ◌^◌, ◌≤◌, ◌<◌, min, max, Some, None};
+ghost use Rattle.cop_frame.specs.Rate.{ticks_of};
 
 use cop_frame::Rate;
 use cop_rta::Stream;
@@ -42,7 +43,12 @@ impl Seen {
     };
 
     /// One frame more was seen: its distance from the one before, where there is one.
-    pub(crate) fn note(&mut self, line: u64, at: u64, len: u8) -> Option<u64> {
+    pub(crate) fn note(&mut self, line: u64, at: u64, len: u8) -> Option<u64>
+        ensures frames { self.new.frames ≡ min (self.old.frames + 1) (2 ^ 64 - 1) }
+        ensures last { self.new.last ≡ at }
+        ensures first { self.old.frames ≡ 0 → (result ≡ None) × (self.new.first ≡ at) }
+        ensures next { 0 < self.old.frames → (result ≡ Some (at - self.old.last)) × (self.new.first ≡ self.old.first) }
+    {
         let distance = if self.frames == 0 {
             self.first_line = line;
             self.first = at;
@@ -59,7 +65,11 @@ impl Seen {
         distance
     }
 
-    fn note_distance(&mut self, line: u64, distance: u64) {
+    fn note_distance(&mut self, line: u64, distance: u64)
+        ensures same { (self.new.frames ≡ self.old.frames) × (self.new.first ≡ self.old.first) }
+        ensures least { self.new.least ≡ min self.old.least distance }
+        ensures greatest { self.new.greatest ≡ max self.old.greatest distance }
+    {
         self.least = self.least.min(distance);
         if distance > self.greatest {
             self.greatest = distance;
@@ -68,25 +78,48 @@ impl Seen {
     }
 
     /// The time from the first frame to the last.
-    pub fn span(&self) -> u64 {
+    pub fn span(&self) -> u64
+        ensures { result ≡ self.now.last - self.now.first }
+    {
         self.last.saturating_sub(self.first)
     }
 
     /// The mean distance, 0 where there are not two frames.
-    pub fn mean(&self) -> u64 {
+    pub fn mean(&self) -> u64
+        ensures { 2 ≤ self.now.frames → result ≡ (self.now.last - self.now.first) / (self.now.frames - 1) }
+    {
         match self.span().checked_div(self.frames.saturating_sub(1)) {
             Some(mean) => mean,
             None => 0,
         }
     }
 
-    /// The share of the bus that the frames have at least in a time, in hundredths of a percent.
-    pub fn load(&self, rate: Rate, span: u64) -> u64 {
+    /// The share of the bus that the frames have at least in a time, where the whole bus is so many.
+    fn share(&self, rate: Rate, span: u64, whole: u32) -> u64
+        ensures { 0 < span → self.now.bits * ticks_of rate * whole / (4 * span) < 2 ^ 64
+            → result ≡ self.now.bits * ticks_of rate * whole / (4 * span) }
+    {
         let ticks = u128::from(self.bits) * u128::from(rate.ticks_per_bit());
-        match (ticks * 2500).checked_div(u128::from(span)) {
+        match (ticks * u128::from(whole)).checked_div(4 * u128::from(span)) {
             Some(load) => u64::try_from(load).unwrap_or(u64::MAX),
             None => 0,
         }
+    }
+
+    /// The share of the bus that the frames have at least in a time, in hundredths of a percent.
+    pub fn load(&self, rate: Rate, span: u64) -> u64
+        ensures { 0 < span → self.now.bits * ticks_of rate * 10000 / (4 * span) < 2 ^ 64
+            → result ≡ self.now.bits * ticks_of rate * 10000 / (4 * span) }
+    {
+        self.share(rate, span, 10_000)
+    }
+
+    /// The same in billionths of the bus.
+    pub fn billionths(&self, rate: Rate, span: u64) -> u64
+        ensures { 0 < span → self.now.bits * ticks_of rate * 1000000000 / (4 * span) < 2 ^ 64
+            → result ≡ self.now.bits * ticks_of rate * 1000000000 / (4 * span) }
+    {
+        self.share(rate, span, 1_000_000_000)
     }
 
     /// Adds the line of the identifier of a stream of the plan.

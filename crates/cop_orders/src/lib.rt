@@ -7,7 +7,7 @@ mod subcommands;
 mod words;
 
 pub use orders::{
-    Format, MachineOrder, NetworkFiles, Order, Rates, Request, Shown, TidyOrder, WatchOrder,
-    read_request,
+    Format, MachineOrder, NetworkFiles, Order, PlanOrder, Rates, Request, Shown, TidyOrder,
+    WatchOrder, read_request,
 };
 pub use subcommands::MOST_UNTIL;

@@ -50,6 +50,16 @@ pub struct NetworkFiles<'a> {
     pub choice: Choice,
 }
 
+/// A network that is to be planned.
+#[derive(Clone, Copy)]
+pub struct PlanOrder<'a> {
+    pub network: NetworkFiles<'a>,
+    /// The folder that the files of the plan are written to.
+    pub out: &'a str,
+    /// Whether something that is worth a look before one relies on the plan is a failure.
+    pub strict: bool,
+}
+
 /// The devices at the adapter of a port, which are to be booted by the plan of their network.
 #[derive(Clone, Copy)]
 pub struct MachineOrder<'a> {
@@ -59,6 +69,16 @@ pub struct MachineOrder<'a> {
     pub take_over: bool,
     /// Whether the devices are asked who they are before anything is written to them.
     pub identify: bool,
+    /// The node that is booted alone. Otherwise all are.
+    pub only: Option<u8>,
+    /// Whether the nodes are started.
+    pub start: bool,
+    /// Whether the devices store their settings.
+    pub store: bool,
+    /// For how many seconds the heartbeats of nodes that were started are awaited.
+    pub watch: u64,
+    /// After how many seconds the port is given up, if it ever is.
+    pub limit: Option<u64>,
 }
 
 /// An EDS file that is to be made one that plan reads.
@@ -115,10 +135,7 @@ pub enum Order<'a> {
         strict: bool,
     },
     /// The plan of a network, into a folder.
-    Plan {
-        network: NetworkFiles<'a>,
-        out: &'a str,
-    },
+    Plan(PlanOrder<'a>),
     /// The check of a refusal file against a network.
     Check {
         network: NetworkFiles<'a>,
@@ -201,10 +218,11 @@ fn test_order<'a>(matches: &ArgMatches<'a>) -> Order<'a> {
 }
 
 fn plan_order<'a>(matches: &ArgMatches<'a>) -> Order<'a> {
-    Order::Plan {
+    Order::Plan(PlanOrder {
         network: network_of(matches),
         out: matches.get_str("OUT").unwrap_or("-"),
-    }
+        strict: matches.get_flag("strict"),
+    })
 }
 
 fn check_order<'a>(matches: &ArgMatches<'a>) -> Order<'a> {
@@ -215,6 +233,12 @@ fn check_order<'a>(matches: &ArgMatches<'a>) -> Order<'a> {
     }
 }
 
+/// The node that is booted alone; 0, which is no node's number, where the word is none.
+fn only_of(matches: &ArgMatches<'_>) -> Option<u8> {
+    let number: u64 = matches.get_one("only")?;
+    Some(u8::try_from(number).unwrap_or(0))
+}
+
 fn boot_order<'a>(matches: &ArgMatches<'a>) -> Order<'a> {
     let network = network_of(matches);
     match matches.get_str("port") {
@@ -223,6 +247,11 @@ fn boot_order<'a>(matches: &ArgMatches<'a>) -> Order<'a> {
             port,
             take_over: matches.get_flag("take-over"),
             identify: !matches.get_flag("no-identity"),
+            only: only_of(matches),
+            start: !matches.get_flag("no-start"),
+            store: matches.get_flag("store"),
+            watch: matches.get_one("watch").unwrap_or(0),
+            limit: matches.get_one("limit"),
         }),
         None => Order::Boot {
             seed: matches.get_one("seed").unwrap_or(0),
@@ -365,7 +394,7 @@ fn order_of<'a>(name: &str, matches: &ArgMatches<'a>) -> Order<'a> {
 
 /// Whether the answer of a subcommand can be a document.
 fn has_document(name: &str) -> bool {
-    matches!(name, "plan" | "check" | "test" | "judge" | "boot")
+    matches!(name, "plan" | "check" | "test" | "judge" | "boot" | "watch")
 }
 
 /// What the words ask for, the program's name being the first. With no other word it is `test --rate 125 -`.

@@ -8,6 +8,12 @@ use crate::words::{
 /// The greatest end of a run, in microseconds.
 pub const MOST_UNTIL: u64 = 1000000000;
 
+/// The greatest number of a node.
+const MOST_NODE: u64 = 127;
+
+/// The greatest time at a port, a day in seconds.
+const MOST_SECONDS: u64 = 86400;
+
 /// The greatest number of a rule.
 const MOST_RULE: u64 = 255;
 
@@ -34,13 +40,19 @@ static TEST: [Word; 5] = [
     EXPLAIN,
 ];
 
-static PLAN: [Word; 7] = [
+static PLAN: [Word; 8] = [
     NODES,
     PDOS,
     LISTED_RATES,
     MARGIN,
     EXPLAIN,
     JSON,
+    Word {
+        name: "strict",
+        kind: Kind::Flag,
+        need: Need::Optional,
+        help: "Ends with status 3 where something is worth a look before one relies on the plan, as --explain tells it",
+    },
     Word {
         name: "OUT",
         kind: Kind::Place,
@@ -70,7 +82,7 @@ static CHECK: [Word; 8] = [
     },
 ];
 
-static BOOT: [Word; 10] = [
+static BOOT: [Word; 15] = [
     NODES,
     PDOS,
     LISTED_RATES,
@@ -100,6 +112,36 @@ static BOOT: [Word; 10] = [
         kind: Kind::Flag,
         need: Need::Against("seed"),
         help: "Does not ask the devices for their type, vendor and product; without it nothing is written to them where one is another than its EDS file says",
+    },
+    Word {
+        name: "only",
+        kind: Kind::Number(MOST_NODE),
+        need: Need::Against("seed"),
+        help: "The node that is reset, set and started alone; the others may run",
+    },
+    Word {
+        name: "no-start",
+        kind: Kind::Flag,
+        need: Need::Against("seed"),
+        help: "Leaves the nodes in pre-operational, for another manager to start them",
+    },
+    Word {
+        name: "store",
+        kind: Kind::Flag,
+        need: Need::Against("seed"),
+        help: "Has each device store its settings (1010h sub 1), where its EDS file has that",
+    },
+    Word {
+        name: "watch",
+        kind: Kind::Number(MOST_SECONDS),
+        need: Need::Against("seed"),
+        help: "The seconds after the start in which each node with a heartbeat has to say that it is operational",
+    },
+    Word {
+        name: "limit",
+        kind: Kind::Number(MOST_SECONDS),
+        need: Need::Against("seed"),
+        help: "The seconds after which the port is given up",
     },
 ];
 
@@ -256,12 +298,13 @@ static TIDY: [Word; 9] = [
     },
 ];
 
-static WATCH: [Word; 10] = [
+static WATCH: [Word; 11] = [
     NODES,
     PDOS,
     LISTED_RATES,
     MARGIN,
     EXPLAIN,
+    JSON,
     Word {
         name: "LOG",
         kind: Kind::Place,

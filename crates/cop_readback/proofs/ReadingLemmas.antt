@@ -7,39 +7,29 @@ use Rattle.std.proofs.lemmas.List.{map-append}
 use Rattle.cop_sdo.specs.Message.{Message}
 use Rattle.cop_slcan.specs.Reading.{said_from, left_from}
 use Rattle.cop_live.specs.Log.{Sent, DidAll}
-use Rattle.cop_live.specs.Session.{State, Step, Turn, Request, turns, turn_log, turn_state, steps_log, steps_state, first_boot_up}
+use Rattle.cop_live.specs.Session.{State, Step, Turn, Request, turns, turn_log, turn_state, steps_log, steps_state, noted}
 use Rattle.cop_live.proofs.Sessions.{did_both, state_more, log_more, turns_more}
 use Rattle.cop_identity.specs.declared.questions.Question.{Question}
 use Rattle.cop_identity.specs.declared.questions.Answer.{Answer}
 use Rattle.cop_identity.specs.declared.asking.Outcome.{Outcome}
 use Rattle.cop_identity.specs.declared.asking.Outcome.TheVariants.{Answered, Silent, Unasked}
 use Rattle.cop_identity.specs.declared.asking.Exchange.{Exchange}
-use Rattle.cop_identity.specs.Questions.{request_of}
+use Rattle.cop_identity.specs.Questions.{request_of, limit_of}
 use Rattle.cop_identity.specs.Asking.{first_answer, answer_heard}
 use Rattle.cop_identity.proofs.AskingLemmas.{left_turns, left_more, heard_more, all_more}
 use Rattle.cop_readback.specs.Reading.{Round, steps_for, round_steps, rounds_steps, exchanges_of, since, Awaits, IsOutcome, IsRoundBy, IsRound, is_asked, AreRounds, booted_in, Steps}
 
-or_assoc : {T : Type 0} (a b c : Option T) → option_or (option_or a b) c ≡ option_or a (option_or b c)
-or_assoc None b c = refl
-or_assoc (Some x) b c = refl
+booted_more : (began : ℕ) (booted : List Bool) (xs ys : List Step) (s : State)
+    → booted_in booted s.pending (xs ++ ys) ≡ booted_in (booted_in booted s.pending xs) (steps_state began s xs).pending ys
+booted_more began booted [] ys s = refl
+booted_more began booted (Turn now bytes ∷ xs) ys s = booted_more began (noted booted (said_from s.pending bytes)) xs ys (turn_state began s now bytes)
+booted_more began booted (Request frame ∷ xs) ys s = booted_more began booted xs ys s
 
-or_none : {T : Type 0} (a : Option T) → option_or a None ≡ a
-or_none None = refl
-or_none (Some x) = refl
-
-booted_more : (began : ℕ) (xs ys : List Step) (s : State) → booted_in s.pending (xs ++ ys) ≡ option_or (booted_in s.pending xs) (booted_in (steps_state began s xs).pending ys)
-booted_more began [] ys s = refl
-booted_more began (Turn now bytes ∷ xs) ys s =
-    let next = turn_state began s now bytes in
-    ap (option_or (first_boot_up (said_from s.pending bytes))) (booted_more began xs ys next)
-    ∙ sym (or_assoc (first_boot_up (said_from s.pending bytes)) (booted_in next.pending xs) (booted_in (steps_state began next xs).pending ys))
-booted_more began (Request frame ∷ xs) ys s = booted_more began xs ys s
-
-module _ {P : Type 0} (reads writes : P → List ℕ → P → Type 0) (asks : P → ℕ → P → Type 0) (began : ℕ) (s : State) (booted : Option ℕ) (p : P) where
+module _ {P : Type 0} (reads writes : P → List ℕ → P → Type 0) (asks : P → ℕ → P → Type 0) (began : ℕ) (s : State) (booted : List Bool) (p : P) where
   pub no_steps : Steps reads writes asks began s booted p [] s booted p
-  no_steps = record { did = refl; state = refl; booted_up = sym (or_none booted) }
+  no_steps = record { did = refl; state = refl; booted_up = refl }
 
-  pub steps_on : (xs ys : List Step) (t u : State) (after later : Option ℕ) (q r : P) → Steps reads writes asks began s booted p xs t after q → Steps reads writes asks began t after q ys u later r
+  pub steps_on : (xs ys : List Step) (t u : State) (after later : List Bool) (q r : P) → Steps reads writes asks began s booted p xs t after q → Steps reads writes asks began t after q ys u later r
       → Steps reads writes asks began s booted p (xs ++ ys) u later r
   steps_on xs ys t u after later q r a b =
       let here = steps_state began s xs in
@@ -47,26 +37,25 @@ module _ {P : Type 0} (reads writes : P → List ℕ → P → Type 0) (asks : P
       record {
         did = subst (λ l. DidAll reads writes asks p l r) (sym (log_more began xs ys s)) (did_both reads writes asks p q r (steps_log began s xs) (steps_log began here ys) a.did log);
         state = b.state ∙ ap (λ (x : State). steps_state began x ys) a.state ∙ sym (state_more began xs ys s);
-        booted_up = b.booted_up ∙ ap (λ (x : State). option_or after (booted_in x.pending ys)) a.state ∙ ap (λ o. option_or o (booted_in here.pending ys)) a.booted_up
-            ∙ or_assoc booted (booted_in s.pending xs) (booted_in here.pending ys) ∙ ap (option_or booted) (sym (booted_more began xs ys s));
+        booted_up = b.booted_up ∙ ap (λ (x : State). booted_in after x.pending ys) a.state ∙ ap (λ (nodes : List Bool). booted_in nodes here.pending ys) a.booted_up ∙ sym (booted_more began booted xs ys s);
       }
 
-  pub one_turn : (now : ℕ) (bytes : List ℕ) (t : State) (after : Option ℕ) (q : P) → DidAll reads writes asks p (turn_log began s now bytes) q → t ≡ turn_state began s now bytes
-      → after ≡ option_or booted (first_boot_up (said_from s.pending bytes)) → Steps reads writes asks began s booted p (Turn now bytes ∷ []) t after q
+  pub one_turn : (now : ℕ) (bytes : List ℕ) (t : State) (after : List Bool) (q : P) → DidAll reads writes asks p (turn_log began s now bytes) q → t ≡ turn_state began s now bytes
+      → after ≡ noted booted (said_from s.pending bytes) → Steps reads writes asks began s booted p (Turn now bytes ∷ []) t after q
   one_turn now bytes t after q did state is = record {
     did = subst (λ l. DidAll reads writes asks p l q) (sym (append-nil (turn_log began s now bytes))) did;
     state = state;
-    booted_up = is ∙ ap (option_or booted) (sym (or_none (first_boot_up (said_from s.pending bytes))));
+    booted_up = is;
   }
 
-  pub one_turn_since : (own now : ℕ) (bytes : List ℕ) (t : State) (after : Option ℕ) (q : P) → own ≡ began → DidAll reads writes asks p (turn_log own s now bytes) q → t ≡ turn_state own s now bytes
-      → after ≡ option_or booted (first_boot_up (said_from s.pending bytes)) → Steps reads writes asks began s booted p (Turn now bytes ∷ []) t after q
+  pub one_turn_since : (own now : ℕ) (bytes : List ℕ) (t : State) (after : List Bool) (q : P) → own ≡ began → DidAll reads writes asks p (turn_log own s now bytes) q → t ≡ turn_state own s now bytes
+      → after ≡ noted booted (said_from s.pending bytes) → Steps reads writes asks began s booted p (Turn now bytes ∷ []) t after q
   one_turn_since own now bytes t after q same did state is =
       one_turn now bytes t after q (subst (λ b. DidAll reads writes asks p (turn_log b s now bytes) q) same did) (subst (λ b. t ≡ turn_state b s now bytes) same state) is
 
   pub one_request : (frame : Message) (question : Question) (q : P) → frame ≡ request_of question → DidAll reads writes asks p (Sent frame ∷ []) q
       → Steps reads writes asks began s booted p (Request (request_of question) ∷ []) s booted q
-  one_request frame question q is did = record { did = subst (λ f. DidAll reads writes asks p (Sent f ∷ []) q) is did; state = refl; booted_up = sym (or_none booted) }
+  one_request frame question q is did = record { did = subst (λ f. DidAll reads writes asks p (Sent f ∷ []) q) is did; state = refl; booted_up = refl }
 
 -- ---- one question
 
@@ -82,76 +71,76 @@ first_more : (early : List (ℕ × List ℕ)) (now : ℕ) (bytes : List ℕ) →
 first_more [] now bytes = refl
 first_more ((at, got) ∷ early) now bytes = refl
 
-abbrev AreSoon : ℕ → List (ℕ × List ℕ) → Type 0
-AreSoon from early = AllByRecursion (λ turn. turn.0 - from < 4000000) early
+abbrev AreSoon : ℕ → ℕ → List (ℕ × List ℕ) → Type 0
+AreSoon limit from early = AllByRecursion (λ turn. turn.0 - from < limit) early
 
-soon_more : (early : List (ℕ × List ℕ)) (now : ℕ) (bytes : List ℕ) → AreSoon (since early) early → AreSoon (since (early ++ (now, bytes) ∷ [])) early
-soon_more [] now bytes h = tt
-soon_more ((at, got) ∷ early) now bytes h = h
+soon_more : (limit : ℕ) (early : List (ℕ × List ℕ)) (now : ℕ) (bytes : List ℕ) → AreSoon limit (since early) early → AreSoon limit (since (early ++ (now, bytes) ∷ [])) early
+soon_more limit [] now bytes h = tt
+soon_more limit ((at, got) ∷ early) now bytes h = h
 
 -- a question that is not answered so far
-pub record Waits {P : Type 0} (reads writes : P → List ℕ → P → Type 0) (asks : P → ℕ → P → Type 0) (question : Question) (began : ℕ) (s : State) (booted : Option ℕ) (p : P) (left : List ℕ) (first : Option ℕ) (t : State) (after : Option ℕ) (q : P) : Type 0 where
+pub record Waits {P : Type 0} (reads writes : P → List ℕ → P → Type 0) (asks : P → ℕ → P → Type 0) (question : Question) (began : ℕ) (s : State) (booted : List Bool) (p : P) (left : List ℕ) (first : Option ℕ) (t : State) (after : List Bool) (q : P) : Type 0 where
   pub early : List (ℕ × List ℕ)
   pub steps : Steps reads writes asks began s booted p (turns early) t after q
   pub none_early : answer_heard question [] early ≡ None
-  pub soon : AreSoon (since early) early
+  pub soon : AreSoon (limit_of question.demand) (since early) early
   pub is_left : left ≡ left_turns [] early
   pub is_first : first ≡ first_of early
 
-module _ {P : Type 0} (reads writes : P → List ℕ → P → Type 0) (asks : P → ℕ → P → Type 0) (question : Question) (began : ℕ) (s : State) (booted : Option ℕ) (p : P) where
+module _ {P : Type 0} (reads writes : P → List ℕ → P → Type 0) (asks : P → ℕ → P → Type 0) (question : Question) (began : ℕ) (s : State) (booted : List Bool) (p : P) where
   pub waits_first : (left : List ℕ) → left ≡ [] → Waits reads writes asks question began s booted p left None s booted p
   waits_first left e = record { early = []; steps = no_steps reads writes asks began s booted p; none_early = refl; soon = tt; is_left = e; is_first = refl }
 
   -- a turn more, and what is read in it
-  turn_taken : (left : List ℕ) (first : Option ℕ) (t u : State) (after later : Option ℕ) (q r : P) (now : ℕ) (bytes : List ℕ) (w : Waits reads writes asks question began s booted p left first t after q)
+  turn_taken : (left : List ℕ) (first : Option ℕ) (t u : State) (after later : List Bool) (q r : P) (now : ℕ) (bytes : List ℕ) (w : Waits reads writes asks question began s booted p left first t after q)
       → Steps reads writes asks began t after q (Turn now bytes ∷ []) u later r → Steps reads writes asks began s booted p (turns (w.early ++ (now, bytes) ∷ [])) u later r
   turn_taken left first t u after later q r now bytes w turn =
       subst (λ steps. Steps reads writes asks began s booted p steps u later r) (sym (turns_more w.early now bytes))
       (steps_on reads writes asks began s booted p (turns w.early) (Turn now bytes ∷ []) t u after later q r w.steps turn)
 
-  heard_then : (left : List ℕ) (first : Option ℕ) (t : State) (after : Option ℕ) (q : P) (now : ℕ) (bytes : List ℕ) (answer : Option Answer) (w : Waits reads writes asks question began s booted p left first t after q)
+  heard_then : (left : List ℕ) (first : Option ℕ) (t : State) (after : List Bool) (q : P) (now : ℕ) (bytes : List ℕ) (answer : Option Answer) (w : Waits reads writes asks question began s booted p left first t after q)
       → answer ≡ first_answer question (said_from left bytes) → answer ≡ answer_heard question [] (w.early ++ (now, bytes) ∷ [])
   heard_then left first t after q now bytes answer w e =
       e ∙ ap (λ l. first_answer question (said_from l bytes)) w.is_left ∙ ap (λ o. option_or o (first_answer question (said_from (left_turns [] w.early) bytes))) (sym w.none_early)
       ∙ sym (heard_more question [] w.early now bytes)
 
-  pub awaits : (left : List ℕ) (first : Option ℕ) (t : State) (after : Option ℕ) (q : P) (now : ℕ) (bytes : List ℕ) (answer : Option Answer) (w : Waits reads writes asks question began s booted p left first t after q)
+  pub awaits : (left : List ℕ) (first : Option ℕ) (t : State) (after : List Bool) (q : P) (now : ℕ) (bytes : List ℕ) (answer : Option Answer) (w : Waits reads writes asks question began s booted p left first t after q)
       → answer ≡ first_answer question (said_from left bytes) → Awaits question (w.early ++ (now, bytes) ∷ []) answer
   awaits left first t after q now bytes answer w e = record {
     early = w.early;
     last = (now, bytes);
     split = refl;
     none_early = w.none_early;
-    soon = soon_more w.early now bytes w.soon;
+    soon = soon_more (limit_of question.demand) w.early now bytes w.soon;
     heard = heard_then left first t after q now bytes answer w e;
   }
 
-  pub waits_on : (left rest : List ℕ) (first next : Option ℕ) (t u : State) (after later : Option ℕ) (q r : P) (now : ℕ) (bytes : List ℕ) → Waits reads writes asks question began s booted p left first t after q
+  pub waits_on : (left rest : List ℕ) (first next : Option ℕ) (t u : State) (after later : List Bool) (q r : P) (now : ℕ) (bytes : List ℕ) → Waits reads writes asks question began s booted p left first t after q
       → Steps reads writes asks began t after q (Turn now bytes ∷ []) u later r → None ≡ first_answer question (said_from left bytes) → rest ≡ left_from left bytes
-      → next ≡ Some (unwrap_or first now) → now - unwrap_or first now < 4000000 → Waits reads writes asks question began s booted p rest next u later r
+      → next ≡ Some (unwrap_or first now) → now - unwrap_or first now < limit_of question.demand → Waits reads writes asks question began s booted p rest next u later r
   waits_on left rest first next t u after later q r now bytes w turn none er en early = record {
     early = w.early ++ (now, bytes) ∷ [];
     steps = turn_taken left first t u after later q r now bytes w turn;
     none_early = sym (heard_then left first t after q now bytes None w none);
-    soon = all_more (λ (turn : ℕ × List ℕ). turn.0 - since (w.early ++ (now, bytes) ∷ []) < 4000000) w.early (now, bytes) (soon_more w.early now bytes w.soon)
-        (subst (λ from. now - from < 4000000) (ap (λ o. unwrap_or o now) w.is_first ∙ sym (since_more w.early now bytes)) early);
+    soon = all_more (λ (turn : ℕ × List ℕ). turn.0 - since (w.early ++ (now, bytes) ∷ []) < limit_of question.demand) w.early (now, bytes) (soon_more (limit_of question.demand) w.early now bytes w.soon)
+        (subst (λ from. now - from < limit_of question.demand) (ap (λ o. unwrap_or o now) w.is_first ∙ sym (since_more w.early now bytes)) early);
     is_left = er ∙ ap (λ l. left_from l bytes) w.is_left ∙ sym (left_more [] w.early now bytes);
     is_first = en ∙ ap (λ o. Some (unwrap_or o now)) w.is_first ∙ sym (first_more w.early now bytes);
   }
 
-  pub was_answered : (left : List ℕ) (first : Option ℕ) (t u : State) (after later : Option ℕ) (q r : P) (now : ℕ) (bytes : List ℕ) (answer : Answer) → Waits reads writes asks question began s booted p left first t after q
+  pub was_answered : (left : List ℕ) (first : Option ℕ) (t u : State) (after later : List Bool) (q r : P) (now : ℕ) (bytes : List ℕ) (answer : Answer) → Waits reads writes asks question began s booted p left first t after q
       → Steps reads writes asks began t after q (Turn now bytes ∷ []) u later r → Some answer ≡ first_answer question (said_from left bytes)
       → (taken : List (ℕ × List ℕ)) × IsOutcome question taken (Answered answer) × Steps reads writes asks began s booted p (turns taken) u later r
   was_answered left first t u after later q r now bytes answer w turn e =
       (w.early ++ (now, bytes) ∷ [], awaits left first t after q now bytes (Some answer) w e, turn_taken left first t u after later q r now bytes w turn)
 
-  pub was_silent : (left : List ℕ) (first : Option ℕ) (t u : State) (after later : Option ℕ) (q r : P) (now : ℕ) (bytes : List ℕ) → Waits reads writes asks question began s booted p left first t after q
-      → Steps reads writes asks began t after q (Turn now bytes ∷ []) u later r → None ≡ first_answer question (said_from left bytes) → 4000000 ≤ now - unwrap_or first now
+  pub was_silent : (left : List ℕ) (first : Option ℕ) (t u : State) (after later : List Bool) (q r : P) (now : ℕ) (bytes : List ℕ) → Waits reads writes asks question began s booted p left first t after q
+      → Steps reads writes asks began t after q (Turn now bytes ∷ []) u later r → None ≡ first_answer question (said_from left bytes) → limit_of question.demand ≤ now - unwrap_or first now
       → (taken : List (ℕ × List ℕ)) × IsOutcome question taken Silent × Steps reads writes asks began s booted p (turns taken) u later r
   unfolding awaits
   was_silent left first t u after later q r now bytes w turn e late = (
     w.early ++ (now, bytes) ∷ [],
-    (awaits left first t after q now bytes None w e, subst (λ from. 4000000 ≤ now - from) (ap (λ o. unwrap_or o now) w.is_first ∙ sym (since_more w.early now bytes)) late),
+    (awaits left first t after q now bytes None w e, subst (λ from. limit_of question.demand ≤ now - from) (ap (λ o. unwrap_or o now) w.is_first ∙ sym (since_more w.early now bytes)) late),
     turn_taken left first t u after later q r now bytes w turn,
   )
 
@@ -161,7 +150,7 @@ steps_of question taken (Answered answer) h = refl
 steps_of question taken Silent h = refl
 steps_of question taken Unasked h = absurd h
 
-pub was_asked : {P : Type 0} (reads writes : P → List ℕ → P → Type 0) (asks : P → ℕ → P → Type 0) (began : ℕ) (s t : State) (booted after : Option ℕ) (p q : P) (before : List Exchange) (question : Question) (outcome : Outcome) (is : Bool)
+pub was_asked : {P : Type 0} (reads writes : P → List ℕ → P → Type 0) (asks : P → ℕ → P → Type 0) (began : ℕ) (s t : State) (booted after : List Bool) (p q : P) (before : List Exchange) (question : Question) (outcome : Outcome) (is : Bool)
     → is ≡ is_asked s.manager before question → is ≡ true
     → (taken : List (ℕ × List ℕ)) × IsOutcome question taken outcome × Steps reads writes asks began s booted p (Request (request_of question) ∷ turns taken) t after q
     → (taken : List (ℕ × List ℕ)) × IsRound s.manager before (record { exchange = record { question = question; outcome = outcome }; taken = taken })
@@ -169,7 +158,7 @@ pub was_asked : {P : Type 0} (reads writes : P → List ℕ → P → Type 0) (a
 was_asked reads writes asks began s t booted after p q before question outcome is e holds (taken, came, steps) =
     (taken, subst (λ b. IsRoundBy b question taken outcome) (sym holds ∙ e) came, subst (λ xs. Steps reads writes asks began s booted p xs t after q) (steps_of question taken outcome came) steps)
 
-pub was_left_out : {P : Type 0} (reads writes : P → List ℕ → P → Type 0) (asks : P → ℕ → P → Type 0) (began : ℕ) (s : State) (booted : Option ℕ) (p : P) (before : List Exchange) (question : Question) (is : Bool)
+pub was_left_out : {P : Type 0} (reads writes : P → List ℕ → P → Type 0) (asks : P → ℕ → P → Type 0) (began : ℕ) (s : State) (booted : List Bool) (p : P) (before : List Exchange) (question : Question) (is : Bool)
     → is ≡ is_asked s.manager before question → is ≡ false
     → (taken : List (ℕ × List ℕ)) × IsRound s.manager before (record { exchange = record { question = question; outcome = Unasked }; taken = taken })
     × Steps reads writes asks began s booted p (round_steps (record { exchange = record { question = question; outcome = Unasked }; taken = taken })) s booted p
@@ -195,17 +184,17 @@ are_rounds_more began (x ∷ xs) round s before h is =
     )
 
 -- rounds so far
-pub record Asks {P : Type 0} (reads writes : P → List ℕ → P → Type 0) (asks : P → ℕ → P → Type 0) (began : ℕ) (s : State) (booted : Option ℕ) (p : P) (all : List Exchange) (t : State) (after : Option ℕ) (q : P) : Type 0 where
+pub record Asks {P : Type 0} (reads writes : P → List ℕ → P → Type 0) (asks : P → ℕ → P → Type 0) (began : ℕ) (s : State) (booted : List Bool) (p : P) (all : List Exchange) (t : State) (after : List Bool) (q : P) : Type 0 where
   pub rounds : List Round
   pub are : all ≡ exchanges_of rounds
   pub right : AreRounds began s [] rounds
   pub steps : Steps reads writes asks began s booted p (rounds_steps rounds) t after q
 
-module _ {P : Type 0} (reads writes : P → List ℕ → P → Type 0) (asks : P → ℕ → P → Type 0) (began : ℕ) (s : State) (booted : Option ℕ) (p : P) where
+module _ {P : Type 0} (reads writes : P → List ℕ → P → Type 0) (asks : P → ℕ → P → Type 0) (began : ℕ) (s : State) (booted : List Bool) (p : P) where
   pub asks_none : (all : List Exchange) → all ≡ [] → Asks reads writes asks began s booted p all s booted p
   asks_none all e = record { rounds = []; are = e; right = tt; steps = no_steps reads writes asks began s booted p }
 
-  pub asks_on : (all more : List Exchange) (t u : State) (after later : Option ℕ) (q r : P) (exchange : Exchange) → Asks reads writes asks began s booted p all t after q → more ≡ all ++ exchange ∷ []
+  pub asks_on : (all more : List Exchange) (t u : State) (after later : List Bool) (q r : P) (exchange : Exchange) → Asks reads writes asks began s booted p all t after q → more ≡ all ++ exchange ∷ []
       → (taken : List (ℕ × List ℕ)) × IsRound t.manager all (record { exchange = exchange; taken = taken }) × Steps reads writes asks began t after q (round_steps (record { exchange = exchange; taken = taken })) u later r
       → Asks reads writes asks began s booted p more u later r
   asks_on all more t u after later q r exchange a em (taken, is, steps) =
@@ -220,7 +209,7 @@ module _ {P : Type 0} (reads writes : P → List ℕ → P → Type 0) (asks : P
       }
 
 -- a round counts from the moment at which the boot began, behind the exchanges that stand in a list
-pub asked_since : {P : Type 0} (reads writes : P → List ℕ → P → Type 0) (asks : P → ℕ → P → Type 0) (own began : ℕ) (s t : State) (booted after : Option ℕ) (p q : P) (seen all : List Exchange) (question : Question) (outcome : Outcome)
+pub asked_since : {P : Type 0} (reads writes : P → List ℕ → P → Type 0) (asks : P → ℕ → P → Type 0) (own began : ℕ) (s t : State) (booted after : List Bool) (p q : P) (seen all : List Exchange) (question : Question) (outcome : Outcome)
     → own ≡ began → seen ≡ all
     → (taken : List (ℕ × List ℕ)) × IsRound s.manager seen (record { exchange = record { question = question; outcome = outcome }; taken = taken })
     × Steps reads writes asks own s booted p (round_steps (record { exchange = record { question = question; outcome = outcome }; taken = taken })) t after q

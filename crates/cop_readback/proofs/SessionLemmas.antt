@@ -1,18 +1,19 @@
 -- What is true of a session's log.
-use Rattle.std.proofs.Common.{◌≡◌, ℕ, ◌+◌, ◌++◌, List, [], ◌∷◌, map, Bool, true, false, refl, sym, ◌∙◌, ap, subst, arith, Option, None, ◌==◌, inl, inr}
+use Rattle.std.proofs.Common.{◌≡◌, ℕ, ◌+◌, ◌++◌, List, [], ◌∷◌, map, Bool, true, false, refl, sym, ◌∙◌, ap, subst, arith, Option, ◌==◌, inl, inr}
 use Rattle.std.specs.Prelude.{filter, not, ◌&&◌, ◌⊎◌, is_some}
-use Rattle.std.specs.Option.{option_or, is_none}
 use Rattle.std.specs.List.{AllByRecursion, list_all}
 use Rattle.std.proofs.lemmas.Bool.Decides.{nat_tests}
 use Rattle.std.proofs.lemmas.List.Elements.{filter-append}
 use Rattle.cop_sdo.specs.Message.{Message}
-use Rattle.cop_boot.specs.Manager.{Managing, Managed, driven, reset_all, start_all, starts_of, is_command, commands_of, end_at}
+use Rattle.cop_boot.specs.Manager.{Managing, Managed, driven, reset_all, start_all, is_command, end_at}
+use Rattle.cop_boot.specs.Manager as all
 use Rattle.cop_boot.specs.Sent.{MaySend, WereConfigured}
 use Rattle.cop_boot.proofs.CommandLemmas.{driven_commands}
 use Rattle.cop_boot.proofs.StartLemmas.{start_was_late, all_sent_may}
 use Rattle.cop_slcan.specs.Reading.{left_from}
 use Rattle.cop_live.specs.Log.{Doing, Asked, Sent, Read, DidAll, sent_in, came_after, came}
-use Rattle.cop_live.specs.Session.{State, is_start, held, turn_log, turn_state, Step, Turn, Request, steps_log, steps_state, turns, first_state, boot_log, Booted}
+use Rattle.cop_live.specs.Nodes.{nobody, is_empty}
+use Rattle.cop_live.specs.Session.{State, is_start, held, reset_of, turn_log, turn_state, Step, Turn, Request, steps_log, steps_state, turns, first_state, boot_log, Booted}
 use Rattle.cop_live.proofs.Sessions.{did_both, state_more, log_more, turn_then, given_up, answered, given, boot_driven, is_driven}
 use Rattle.cop_identity.specs.declared.questions.Question.{Question}
 use Rattle.cop_identity.specs.declared.asking.Outcome.{Outcome}
@@ -20,7 +21,8 @@ use Rattle.cop_identity.specs.declared.asking.Outcome.TheVariants.{Answered, Sil
 use Rattle.cop_identity.specs.declared.asking.Exchange.{Exchange}
 use Rattle.cop_identity.specs.Questions.{request_of}
 use Rattle.cop_readback.specs.Reading.{Round, steps_for, round_steps, rounds_steps, exchanges_of, AreRounds, booted_in, Steps, are_ready, all_wanted}
-use Rattle.cop_readback.specs.Session.{session_log, booted_state, may_start, IsRequest, IsSession, ReadsBack}
+use Rattle.cop_readback.specs.declared.session.Reach.{Reach}
+use Rattle.cop_readback.specs.Session.{starts_of, commands_of, session_log, booted_state, may_start, IsRequest, IsCommand, IsSession, ReadsBack}
 
 -- ---- lists of frames
 
@@ -178,20 +180,25 @@ each_request (round ∷ rest) =
 
 -- ---- the whole session
 
-held_commands : (started : Bool) → held (commands_of started) ≡ reset_all ∷ []
+held_commands : (started : Bool) → held (all.commands_of started) ≡ reset_all ∷ []
 held_commands true = refl
 held_commands false = refl
 
-started_late : (Q : Message → Type 0) (frames : List Message) (started : Bool) → commands frames ≡ commands_of started → started ≡ true → AllByRecursion (λ frame. frame ≡ start_all → Q frame) frames → Q start_all
+started_late : (Q : Message → Type 0) (frames : List Message) (started : Bool) → commands frames ≡ all.commands_of started → started ≡ true → AllByRecursion (λ frame. frame ≡ start_all → Q frame) frames → Q start_all
 started_late Q frames true e is h = ((subst (AllByRecursion (λ frame. frame ≡ start_all → Q frame)) e (all_filter (λ frame. frame ≡ start_all → Q frame) is_command frames h)).1).0 refl
 started_late Q frames false e is h = absurd (cc)
 
-module _ (m : Managing) (began : ℕ) (booting : List (ℕ × List ℕ)) (rounds : List Round) (started : Bool) where
+-- what stands behind the reset
+behind_reset : (xs : List Message) → reset_all ∷ xs ≡ reset_all ∷ [] → xs ≡ []
+behind_reset [] e = refl
+behind_reset (x ∷ xs) e = absurd (cc)
+
+module _ (only : Option ℕ) (m : Managing) (began : ℕ) (booting : List (ℕ × List ℕ)) (rounds : List Round) (started : Bool) where
   abbrev steps : List Step
   steps = turns booting ++ rounds_steps rounds
 
   abbrev log : List Doing
-  log = session_log m began booting rounds started
+  log = session_log only m began booting rounds started
 
   abbrev later : Managing
   later = (steps_state began (first_state m) steps).manager
@@ -199,11 +206,11 @@ module _ (m : Managing) (began : ℕ) (booting : List (ℕ × List ℕ)) (rounds
   abbrev frames : List Message
   frames = reset_all ∷ given began (first_state m) steps
 
-  came_so : came began log ≡ came began (boot_log m began steps)
-  came_so = came_end began (boot_log m began steps) [] (starts_of started)
+  came_so : came began log ≡ came began (boot_log only m began steps)
+  came_so = came_end began (boot_log only m began steps) [] (starts_of only started)
 
   drives : (let out : Managed = record { manager = later; frames = frames } in out) ≡ driven m (came began log)
-  drives = boot_driven m began steps ∙ ap (driven m) (sym came_so)
+  drives = boot_driven only m began steps ∙ ap (driven m) (sym came_so)
 
   manager_so : later ≡ (driven m (came began log)).manager
   manager_so = ap (λ (x : Managed). x.manager) drives
@@ -211,31 +218,34 @@ module _ (m : Managing) (began : ℕ) (booting : List (ℕ × List ℕ)) (rounds
   frames_so : frames ≡ (driven m (came began log)).frames
   frames_so = ap (λ (x : Managed). x.frames) drives
 
-  sent_so : sent_in log ≡ reset_all ∷ (sent_in (steps_log began (first_state m) steps) ++ starts_of started)
-  sent_so = sent_both (boot_log m began steps) (map Sent (starts_of started)) ∙ ap (λ l. reset_all ∷ (sent_in (steps_log began (first_state m) steps) ++ l)) (sent_sent (starts_of started))
+  sent_so : sent_in log ≡ reset_of only ∷ (sent_in (steps_log began (first_state m) steps) ++ starts_of only started)
+  sent_so = sent_both (boot_log only m began steps) (map Sent (starts_of only started)) ∙ ap (λ l. reset_of only ∷ (sent_in (steps_log began (first_state m) steps) ++ l)) (sent_sent (starts_of only started))
 
-  commands_so : commands frames ≡ commands_of later.started
-  commands_so = ap commands frames_so ∙ driven_commands m (came began log) ∙ ap (λ (x : Managing). commands_of x.started) (sym manager_so)
+  commands_so : commands frames ≡ all.commands_of later.started
+  commands_so = ap commands frames_so ∙ driven_commands m (came began log) ∙ ap (λ (x : Managing). all.commands_of x.started) (sym manager_so)
 
-  starts_plain : (b : Bool) → commands (starts_of b) ≡ starts_of b
+  starts_plain : (b : Bool) → commands (starts_of only b) ≡ starts_of only b
   starts_plain true = refl
   starts_plain false = refl
 
-  commands_sent : commands (sent_in log) ≡ commands_of started
+  -- in its steps no command is sent
+  none_in_steps : commands (sent_in (steps_log began (first_state m) steps)) ≡ []
+  none_in_steps = behind_reset _
+      (ap (λ l. reset_all ∷ l) (steps_commands began steps (first_state m) (whole_all IsPlain booting rounds (each_plain rounds)))
+      ∙ filter_swap is_command (λ frame. not (is_start frame)) frames ∙ ap held commands_so ∙ held_commands later.started)
+
+  commands_sent : commands (sent_in log) ≡ commands_of only started
   commands_sent =
-      let inner : reset_all ∷ commands (sent_in (steps_log began (first_state m) steps)) ≡ reset_all ∷ [] =
-      ap (λ l. reset_all ∷ l) (steps_commands began steps (first_state m) (whole_all IsPlain booting rounds (each_plain rounds)))
-      ∙ filter_swap is_command (λ frame. not (is_start frame)) frames ∙ ap held commands_so ∙ held_commands later.started in
       ap commands sent_so
-      ∙ ap (λ l. reset_all ∷ l) (filter-append is_command (sent_in (steps_log began (first_state m) steps)) (starts_of started))
-      ∙ ap (λ l. l ++ commands (starts_of started)) inner
-      ∙ ap (λ l. reset_all ∷ l) (starts_plain started)
+      ∙ ap (λ l. reset_of only ∷ l) (filter-append is_command (sent_in (steps_log began (first_state m) steps)) (starts_of only started))
+      ∙ ap (λ l. reset_of only ∷ (l ++ commands (starts_of only started))) none_in_steps
+      ∙ ap (λ l. reset_of only ∷ l) (starts_plain started)
 
   abbrev May : Message → Type 0
-  May frame = MaySend m.nodes frame ⊎ IsRequest (questions_of rounds) frame
+  May frame = MaySend m.nodes frame ⊎ (IsRequest (questions_of rounds) frame ⊎ IsCommand only frame)
 
-  start_may : (b : Bool) → AllByRecursion May (starts_of b)
-  start_may true = (inl (inr (inl refl)), tt)
+  start_may : (b : Bool) → AllByRecursion May (starts_of only b)
+  start_may true = (inr (inr (inr refl)), tt)
   start_may false = tt
 
   all_may : AllByRecursion May (sent_in log)
@@ -243,39 +253,41 @@ module _ (m : Managing) (began : ℕ) (booting : List (ℕ × List ℕ)) (rounds
       let given_may : AllByRecursion May frames =
       all_so (MaySend m.nodes) May frames (λ x h. inl h) (subst (AllByRecursion (MaySend m.nodes)) (sym frames_so) (all_sent_may m (came began log))) in
       let asked_may : AllByRecursion May (requests steps) =
-      all_so (IsRequest (questions_of rounds)) May (requests steps) (λ x h. inr h) (whole_all (IsRequest (questions_of rounds)) booting rounds (each_request rounds)) in
+      all_so (IsRequest (questions_of rounds)) May (requests steps) (λ x h. inr (inl h)) (whole_all (IsRequest (questions_of rounds)) booting rounds (each_request rounds)) in
+      let reset_may : May (reset_of only) = inr (inr (inl refl)) in
       subst (AllByRecursion May) (sym sent_so)
-      (given_may.0, all_both May (sent_in (steps_log began (first_state m) steps)) (starts_of started) (steps_all May began steps (first_state m) given_may.1 asked_may) (start_may started))
+      (reset_may, all_both May (sent_in (steps_log began (first_state m) steps)) (starts_of only started) (steps_all May began steps (first_state m) given_may.1 asked_may) (start_may started))
 
-  pub is_session : (own : Managing) (questions : List Question) → own ≡ later → questions_of rounds ≡ questions → (started ≡ true → own.started ≡ true) → IsSession m questions began log own started
-  is_session own questions eo eq only = record {
+  pub is_session : (own : Managing) (questions : List Question) → own ≡ later → questions_of rounds ≡ questions → (started ≡ true → own.started ≡ true) → IsSession only m questions began log own started
+  is_session own questions eo eq late = record {
     driven = is_driven m began log own (eo ∙ manager_so);
     commands = commands_sent;
-    sent = subst (λ qs. AllByRecursion (λ frame. MaySend m.nodes frame ⊎ IsRequest qs frame) (sent_in log)) eq all_may;
+    sent = subst (λ qs. AllByRecursion (λ frame. MaySend m.nodes frame ⊎ (IsRequest qs frame ⊎ IsCommand only frame)) (sent_in log)) eq all_may;
     configured = λ yes'. started_late (λ _. WereConfigured m.nodes (came began log)) (driven m (came began log)).frames (driven m (came began log)).manager.started (driven_commands m (came began log))
-        (ap (λ (x : Managing). x.started) (sym (eo ∙ manager_so)) ∙ only yes') (start_was_late m (came began log));
+        (ap (λ (x : Managing). x.started) (sym (eo ∙ manager_so)) ∙ late yes') (start_was_late m (came began log));
   }
 
-may_only : (a b c d started : Bool) → started ≡ (a && b) && (c && d) → started ≡ true → a ≡ true
-may_only true b c d started e h = refl
-may_only false b c d started e h = sym e ∙ h
+may_only : (wanted a b c d ready started : Bool) → ready ≡ (a && b) && (c && d) → started ≡ wanted && ready → started ≡ true → a ≡ true
+may_only true true b c d ready started er es h = refl
+may_only true false b c d ready started er es h = sym er ∙ sym es ∙ h
+may_only false a b c d ready started er es h = absurd (cc)
 
-pub reads_back : {P : Type 0} (reads writes : P → List ℕ → P → Type 0) (asks : P → ℕ → P → Type 0) (m : Managing) (nodes : List ℕ) (questions : List Question) (p x y q : P) (began : ℕ) (s t : State) (exchanges : List Exchange) (booted before : Option ℕ) (started : Bool)
-    → Booted reads writes asks m p began s x → list_all (λ node. is_some (end_at s.manager.nodes node)) nodes ≡ true → before ≡ None
+pub reads_back : {P : Type 0} (reads writes : P → List ℕ → P → Type 0) (asks : P → ℕ → P → Type 0) (reach : Reach) (m : Managing) (nodes : List ℕ) (questions : List Question) (p x y q : P) (began : ℕ) (s t : State) (exchanges : List Exchange) (booted before : List Bool) (ready started : Bool)
+    → Booted reads writes asks reach.only m p began s x → list_all (λ node. is_some (end_at s.manager.nodes node)) nodes ≡ true → before ≡ nobody
     → (rounds : List Round) × (exchanges ≡ exchanges_of rounds) × (map (λ one. one.question) (exchanges_of rounds) ≡ questions) × AreRounds began s [] rounds × Steps reads writes asks began s before x (rounds_steps rounds) t booted y
-    → started ≡ may_start t.manager nodes exchanges booted → DidAll reads writes asks y (map Sent (starts_of started)) q
-    → ReadsBack reads writes asks m nodes questions p exchanges booted started t.manager q
-reads_back reads writes asks m nodes questions p x y q began s t exchanges booted before started b ended en (rounds, came_of, each, right, done) starts sent =
+    → ready ≡ may_start t.manager nodes exchanges booted → started ≡ reach.start && ready → DidAll reads writes asks y (map Sent (starts_of reach.only started)) q
+    → ReadsBack reads writes asks reach m nodes questions p exchanges booted ready started t.manager q
+reads_back reads writes asks reach m nodes questions p x y q began s t exchanges booted before ready started b ended en (rounds, came_of, each, right, done) may starts sent =
     let here = booted_state m began b.taken in
     let steps = turns b.taken ++ rounds_steps rounds in
     let asked : DidAll reads writes asks x (steps_log began here (rounds_steps rounds)) y = subst (λ (u : State). DidAll reads writes asks x (steps_log began u (rounds_steps rounds)) y) b.state done.did in
     let both : DidAll reads writes asks b.did.0 (steps_log began (first_state m) steps) y =
     subst (λ l. DidAll reads writes asks b.did.0 l y) (sym (log_more began (turns b.taken) (rounds_steps rounds) (first_state m)))
     (did_both reads writes asks b.did.0 x y (steps_log began (first_state m) (turns b.taken)) (steps_log began here (rounds_steps rounds)) b.did.2 asked) in
-    let whole : DidAll reads writes asks b.asked (session_log m began b.taken rounds started) q =
-    (b.did.0, b.did.1, did_both reads writes asks b.did.0 y q (steps_log began (first_state m) steps) (map Sent (starts_of started)) both sent) in
+    let whole : DidAll reads writes asks b.asked (session_log reach.only m began b.taken rounds started) q =
+    (b.did.0, b.did.1, did_both reads writes asks b.did.0 y q (steps_log began (first_state m) steps) (map Sent (starts_of reach.only started)) both sent) in
     let state : t ≡ steps_state began here (rounds_steps rounds) = done.state ∙ ap (λ (u : State). steps_state began u (rounds_steps rounds)) b.state in
-    let all : t ≡ steps_state began (first_state m) steps = state ∙ sym (state_more began (turns b.taken) (rounds_steps rounds) (first_state m)) in
+    let whole_state : t ≡ steps_state began (first_state m) steps = state ∙ sym (state_more began (turns b.taken) (rounds_steps rounds) (first_state m)) in
     record {
       began = began;
       asked = b.asked;
@@ -287,9 +299,10 @@ reads_back reads writes asks m nodes questions p x y q began s t exchanges boote
       each = each;
       came_of = came_of;
       right = subst (λ (u : State). AreRounds began u [] rounds) b.state right;
-      booted_up = done.booted_up ∙ ap (λ o. option_or o (booted_in s.pending (rounds_steps rounds))) en ∙ ap (λ (u : State). booted_in u.pending (rounds_steps rounds)) b.state;
+      booted_up = done.booted_up ∙ ap (λ (ns : List Bool). booted_in ns s.pending (rounds_steps rounds)) en ∙ ap (λ (u : State). booted_in nobody u.pending (rounds_steps rounds)) b.state;
       later_is = ap (λ (u : State). u.manager) state;
+      may = may;
       starts = starts;
-      is = is_session m began b.taken rounds started t.manager questions (ap (λ (u : State). u.manager) all) each
-          (may_only t.manager.started (are_ready t.manager.nodes nodes) (all_wanted exchanges) (is_none booted) started starts);
+      is = is_session reach.only m began b.taken rounds started t.manager questions (ap (λ (u : State). u.manager) whole_state) each
+          (may_only reach.start t.manager.started (are_ready t.manager.nodes nodes) (all_wanted exchanges) (is_empty booted) ready started may starts);
     }

@@ -1,6 +1,5 @@
 -- Settings are read back, question after question, while the manager goes on to meet all that comes.
 use Rattle.std.specs.Prelude.{◌≡◌, ◌<◌, ◌≤◌, ℕ, ◌-◌, Bool, true, false, not, ◌&&◌, ◌||◌, List, [], ◌∷◌, ◌++◌, map, ◌==◌, Option, Some, None}
-use Rattle.std.specs.Option.{option_or}
 use Rattle.std.specs.List.{AllByRecursion, list_all}
 use Rattle.cop_boot.specs.declared.«end».End.{End}
 use Rattle.cop_boot.specs.declared.«end».End.TheVariants as ends
@@ -8,14 +7,14 @@ use Rattle.cop_boot.specs.Node.{Node}
 use Rattle.cop_boot.specs.Manager.{Managing, end_at}
 use Rattle.cop_slcan.specs.Reading.{said_from, left_from}
 use Rattle.cop_live.specs.Log.{DidAll}
-use Rattle.cop_live.specs.Session.{State, Step, Turn, Request, turns, steps_log, steps_state, first_boot_up}
+use Rattle.cop_live.specs.Session.{State, Step, Turn, Request, turns, steps_log, steps_state, noted}
 use Rattle.cop_identity.specs.declared.questions.Question.{Question}
 use Rattle.cop_identity.specs.declared.questions.Answer.{Answer}
 use Rattle.cop_identity.specs.declared.questions.Answer.TheVariants.{Wanted, Other, Aborted}
 use Rattle.cop_identity.specs.declared.asking.Outcome.{Outcome}
 use Rattle.cop_identity.specs.declared.asking.Outcome.TheVariants.{Answered, Silent, Unasked}
 use Rattle.cop_identity.specs.declared.asking.Exchange.{Exchange}
-use Rattle.cop_identity.specs.Questions.{request_of}
+use Rattle.cop_identity.specs.Questions.{request_of, limit_of}
 use Rattle.cop_identity.specs.Asking.{answer_heard}
 
 -- a question, what came of it, and the turns in which an answer was awaited
@@ -45,23 +44,23 @@ abbrev pub since : List (ℕ × List ℕ) → ℕ
 since [] = 0
 since ((now, bytes) ∷ rest) = now
 
--- turns in which an answer to a question is awaited: no answer comes before the last, which alone may be 4,000,000 ticks (1 s) after
--- the first; and this is the first answer in what is read in all of them, if there is one
+-- turns in which an answer to a question is awaited: no answer comes before the last, which alone may be as long after the first as the
+-- limit is; and this is the first answer in what is read in all of them, if there is one
 pub record Awaits (question : Question) (taken : List (ℕ × List ℕ)) (answer : Option Answer) : Type 0 where
   pub early : List (ℕ × List ℕ)
   pub last : ℕ × List ℕ
   pub split : taken ≡ early ++ last ∷ []
   pub none_early : answer_heard question [] early ≡ None
-  pub soon : AllByRecursion (λ turn. turn.0 - since taken < 4000000) early
+  pub soon : AllByRecursion (λ turn. turn.0 - since taken < limit_of question.demand) early
   pub heard : answer ≡ answer_heard question [] taken
 
--- what came of a question that was asked: an answer, or none in 1 s
+-- what came of a question that was asked: an answer, or none within the limit
 abbrev pub IsOutcome : Question → List (ℕ × List ℕ) → Outcome → Type 0
 IsOutcome question taken (Answered answer) = Awaits question taken (Some answer)
-IsOutcome question taken Silent = (awaits : Awaits question taken None) × (4000000 ≤ awaits.last.0 - since taken)
+IsOutcome question taken Silent = (awaits : Awaits question taken None) × (limit_of question.demand ≤ awaits.last.0 - since taken)
 IsOutcome question taken Unasked = ⊥
 
--- the value is the one that is wanted
+-- the answer is the one that is wanted
 abbrev pub is_wanted_answer : Answer → Bool
 is_wanted_answer Wanted = true
 is_wanted_answer (Other found) = false
@@ -72,7 +71,7 @@ is_wanted (Answered answer) = is_wanted_answer answer
 is_wanted Silent = false
 is_wanted Unasked = false
 
--- each question was answered by the value that is wanted
+-- each question was answered as it should be
 abbrev pub all_wanted : List Exchange → Bool
 all_wanted all = list_all (λ asked. is_wanted asked.outcome) all
 
@@ -94,7 +93,7 @@ is_ready_at nodes number = is_ready_end (end_at nodes number)
 abbrev pub are_ready : List Node → List ℕ → Bool
 are_ready nodes numbers = list_all (is_ready_at nodes) numbers
 
--- a question is asked where its node is ready, and each question to that node before was answered by the value that is wanted
+-- a question is asked where its node is ready, and each question to that node before was answered as it should be
 abbrev pub is_asked : Managing → List Exchange → Question → Bool
 is_asked m before question = is_ready_at m.nodes question.node && are_right_at question.node before
 
@@ -111,14 +110,14 @@ abbrev pub AreRounds : ℕ → State → List Exchange → List Round → Type 0
 AreRounds began s before [] = Unit {0}
 AreRounds began s before (round ∷ rest) = IsRound s.manager before round × AreRounds began (steps_state began s (round_steps round)) (before ++ round.exchange ∷ []) rest
 
--- the node that is the first to boot up in steps, where bytes of a line had come before
-abbrev pub booted_in : List ℕ → List Step → Option ℕ
-booted_in pending [] = None
-booted_in pending (Turn now bytes ∷ steps) = option_or (first_boot_up (said_from pending bytes)) (booted_in (left_from pending bytes) steps)
-booted_in pending (Request frame ∷ steps) = booted_in pending steps
+-- the nodes that boot up in steps are put into a set of nodes, where bytes of a line had come before
+abbrev pub booted_in : List Bool → List ℕ → List Step → List Bool
+booted_in booted pending [] = booted
+booted_in booted pending (Turn now bytes ∷ steps) = booted_in (noted booted (said_from pending bytes)) (left_from pending bytes) steps
+booted_in booted pending (Request frame ∷ steps) = booted_in booted pending steps
 
--- steps lead a manager's state, the node that was the first to boot up, and a port to others
-pub record Steps {P : Type 0} (reads writes : P → List ℕ → P → Type 0) (asks : P → ℕ → P → Type 0) (began : ℕ) (s : State) (booted : Option ℕ) (p : P) (steps : List Step) (t : State) (after : Option ℕ) (q : P) : Type 0 where
+-- steps lead a manager's state, the nodes that booted up, and a port to others
+pub record Steps {P : Type 0} (reads writes : P → List ℕ → P → Type 0) (asks : P → ℕ → P → Type 0) (began : ℕ) (s : State) (booted : List Bool) (p : P) (steps : List Step) (t : State) (after : List Bool) (q : P) : Type 0 where
   pub did : DidAll reads writes asks p (steps_log began s steps) q
   pub state : t ≡ steps_state began s steps
-  pub booted_up : after ≡ option_or booted (booted_in s.pending steps)
+  pub booted_up : after ≡ booted_in booted s.pending steps

@@ -5,4 +5,4 @@ mod reading;
 mod session;
 
 pub use reading::is_wanted;
-pub use session::{ReadBack, boot_and_read_back};
+pub use session::{Reach, ReadBack, boot_and_read_back};

@@ -7,15 +7,12 @@ ghost use Rattle.cop_live.specs.Session.{Request};
 ghost use Rattle.cop_readback.specs.Reading.{Round, round_steps, rounds_steps, exchanges_of, IsOutcome, IsRound, AreRounds, Steps, is_wanted, are_right_at, all_wanted, is_ready_end, is_ready_at, are_ready, is_asked};
 
 use cop_boot::{End, Manager};
-use cop_identity::{Answer, Exchange, Outcome, Question, answer_from, request_of};
+use cop_identity::{Answer, Exchange, Outcome, Question, answer_from, limit_of, request_of};
 use cop_live::{Boot, Port, send, take_turn};
 use cop_slcan::Reader;
 use std::alloc::{AllocError, Global};
 
-/// An answer is awaited for so many ticks, 1 s.
-const ANSWERING: u64 = 4_000_000;
-
-/// Whether the answer is the value that is wanted.
+/// Whether the answer is the one that is wanted.
 pub fn is_wanted(outcome: &Outcome) -> bool
     ensures { result ≡ is_wanted outcome.now }
 {
@@ -27,14 +24,14 @@ pub fn is_wanted(outcome: &Outcome) -> bool
     )
 }
 
-/// Whether each question was answered by the value that is wanted.
+/// Whether each question was answered as it should be.
 pub fn all_wanted(all: &[Exchange]) -> bool
     ensures { result ≡ all_wanted all.now }
 {
     all.iter().all(|asked| is_wanted(&asked.outcome))
 }
 
-// Whether each question to a node was answered by the value that is wanted.
+// Whether each question to a node was.
 fn are_right_at(node: u8, all: &[Exchange]) -> bool
     ensures { result ≡ are_right_at node all.now }
 {
@@ -72,7 +69,7 @@ fn is_asked(manager: &Manager, before: &[Exchange], question: &Question) -> bool
     is_ready_at(manager, question.node) && are_right_at(question.node, before)
 }
 
-// Takes turns until a question is answered, or 1 s has passed.
+// Takes turns until a question is answered, or its limit has passed.
 fn await_answer<P: Port>(
     question: &Question,
     manager: &mut Manager,
@@ -84,6 +81,7 @@ fn await_answer<P: Port>(
         × Steps P.reads P.writes P.asks boot.old.began (record { manager = manager.old; pending = boot.old.reader }) boot.old.booted port.old (turns taken)
         (record { manager = manager.new; pending = boot.new.reader }) boot.new.booted port.new) }
 {
+    let limit = limit_of(question.demand);
     let mut reader = Reader::new();
     let mut first = None;
     let mut buffer = [0; 256];
@@ -95,7 +93,7 @@ fn await_answer<P: Port>(
             return Some(Outcome::Answered { answer });
         }
         let since = first.unwrap_or(turn.now);
-        if turn.now.saturating_sub(since) >= ANSWERING {
+        if turn.now.saturating_sub(since) >= limit {
             return Some(Outcome::Silent);
         }
         first = Some(since);
@@ -141,7 +139,7 @@ fn ask_next<P: Port>(
     }
 }
 
-/// Asks questions in their order after a boot, each at most 1 s long, while the manager meets all that comes. A question is left out where its
+/// Asks questions in their order after a boot, and waits for each answer as long as `limit_of` says, while the manager meets all that comes. A question is left out where its
 /// node is not ready, or has answered one before otherwise than it should. `None` where the port or its clock fails, and otherwise want
 /// of memory.
 pub(crate) fn read_back<P: Port>(

@@ -16,6 +16,7 @@ mod script;
 mod senders;
 mod style;
 mod units;
+mod warnings;
 
 pub use page::{Input, Report, page_of};
 pub use units::{Escaped, Identifier, Micros, Percent};

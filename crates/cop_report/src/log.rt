@@ -83,7 +83,8 @@ fn push_breaches(page: &mut String, log: &Logbook<'_>) -> Result<(), AllocError>
         return Ok(());
     }
     page.push_str("<ul>\n")?;
-    for line in log.words().lines() {
+    let words = log.words()?;
+    for line in words.lines() {
         let line = Escaped(line);
         write!(page, "<li>{line}</li>\n")?;
     }

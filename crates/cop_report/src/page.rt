@@ -14,6 +14,7 @@ use crate::rates::{push_loads, push_rates};
 use crate::senders::fixed_sender;
 use crate::style::STYLE;
 use crate::units::{Count, Identifier, Micros, Percent};
+use crate::warnings::push_warnings;
 use cop_figures::{Breakdown, Figures, Timeline};
 use cop_logbook::Logbook;
 use cop_net::Network;
@@ -41,6 +42,8 @@ pub struct Report<'a, 'n> {
     /// Whether the rates that the plan may have were listed.
     pub are_rates_listed: bool,
     pub inputs: &'a [Input<'a>],
+    /// What is worth a look before one relies on the plan, a line each.
+    pub warnings: &'a str,
 }
 
 /// Adds the rate in large.
@@ -164,6 +167,12 @@ fn push_contents(page: &mut String, report: Report<'_, '_>) -> Result<(), AllocE
     let is_planned = matches!(report.outcome, Outcome::Planned(_));
     let has_frames = is_planned && !report.figures.frames.is_empty();
     page.push_str("<nav>")?;
+    push_link(
+        page,
+        !report.warnings.is_empty(),
+        "warnings",
+        "Before you rely on this",
+    )?;
     push_link(page, true, "rates", "Why no slower rate")?;
     push_link(page, true, "load", "Load")?;
     push_link(page, is_planned, "pdos", "PDOs")?;
@@ -269,6 +278,7 @@ fn push_page(page: &mut String, alloc: Global, report: Report<'_, '_>) -> Result
     page.push_str("</style>\n</head>\n<body>\n<main>\n")?;
     push_header(page, report)?;
     push_contents(page, report)?;
+    push_warnings(page, report.warnings)?;
     push_margin(page, report)?;
     push_rates(
         page,

@@ -2,8 +2,11 @@
 
 use crate::tidying::Tidied;
 use cop_change::{Cause, Change, TextChange};
+use cop_eds::{Eds, EdsFault, parse};
+use cop_hazard::{Hazard, all_hazards, index_at, miscounts};
 use cop_spelling::text::NOTHING;
 use std::alloc::{AllocError, Global};
+use std::collections::BTreeSet;
 
 /// The most bytes of a line that are shown.
 const MOST: usize = 160;
@@ -99,13 +102,46 @@ fn text_change(alloc: Global, change: TextChange) -> Result<String, AllocError> 
     }
 }
 
-/// What was changed: a line for each change of the whole text, one for each change of a line, and their number.
+/// Adds the lines of warnings, each with its number and its line of the text. A PDO's record that no list names is told at its first
+/// section alone.
+fn put_warnings(
+    alloc: Global,
+    text: &mut Vec<u8>,
+    eds: &Eds<'_>,
+    warnings: &[Hazard],
+) -> Result<(), AllocError> {
+    let mut records = BTreeSet::new(alloc);
+    for warning in warnings {
+        let (number, line) = (warning.number, warning.line);
+        if number == 80 && !records.insert(index_at(eds, line))? {
+            continue;
+        }
+        text.extend_from_slice(format!(in alloc; "warning {number} {line}\n")?.as_bytes())?;
+    }
+    Ok(())
+}
+
+/// Adds what a text leaves implicit that is read: the hazards that were left, and numbers of PDOs that its lists do not name.
+fn put_all_warnings(alloc: Global, text: &mut Vec<u8>, source: &[u8]) -> Result<(), AllocError> {
+    match parse(alloc, source) {
+        Ok(eds) => {
+            put_warnings(alloc, text, &eds, &all_hazards(alloc, &eds)?)?;
+            put_warnings(alloc, text, &eds, &miscounts(alloc, &eds)?)
+        }
+        Err(EdsFault::Refused(_)) => Ok(()),
+        Err(EdsFault::Memory) => Err(AllocError),
+    }
+}
+
+/// What was changed: a line for each change of the whole text, one for each change of a line, one for each warning on the text that
+/// came of it, by its line, and the number of changes.
 pub fn told(alloc: Global, tidied: &Tidied) -> Result<Vec<u8>, AllocError> {
     let mut text = Vec::from_slice(alloc, NOTHING)?;
     for change in tidied.text_changes.iter() {
         text.extend_from_slice(text_change(alloc, *change)?.as_bytes())?;
     }
     put_changes(alloc, &mut text, &tidied.changes)?;
+    put_all_warnings(alloc, &mut text, &tidied.text)?;
     let count = tidied
         .changes
         .len()

@@ -151,3 +151,19 @@ of_devices net frames (row ∷ rows) = of_device_by frames row.node (dictionary_
 -- all of a network, by the frames of its table of nodes
 unfoldable pub warnings_of : List FrameRow → Net → List Warning
 warnings_of frames net = of_rows net 1 net.rows ++ of_devices net frames net.nodes.devices
+
+-- ---- their numbers: of EMCY 88, of SYNC 89
+
+abbrev pub number_of_kind : FrameKind → Option ℕ
+number_of_kind kind = if rank_of kind == rank_of kinds.Emcy then Some 88 else None
+
+abbrev pub number_of_index : ℕ → Option ℕ
+number_of_index index = if index == 0x1014 then Some 88 else if index == 0x1005 then Some 89 else None
+
+abbrev pub number_of : Warning → Option ℕ
+number_of (warnings.DeadlineWithinJitter place) = None
+number_of (warnings.EventTimer place millis) = Some 86
+number_of (warnings.InhibitTime place units) = Some 87
+number_of (warnings.NoRow node kind) = number_of_kind kind
+number_of (warnings.OtherIdentifier node index sub cob_id) = number_of_index index
+number_of (warnings.MakesSync node) = Some 89

@@ -1,5 +1,8 @@
 //! A warning.
 
+ghost use Rattle.std.specs.Prelude.{◌≡◌};
+ghost use Rattle.cop_warn.specs.Warnings.{number_of};
+
 use cop_net::FrameKind;
 
 /// Something under which a plan may be no plan of the machine. The values are those that devices begin with, by their EDS files.
@@ -37,4 +40,25 @@ pub enum Warning {
     MakesSync {
         node: u8,
     },
+}
+
+impl Warning {
+    /// Its number: 86 of an event timer, 87 of an inhibit time, 88 of EMCY, 89 of SYNC. Others have none.
+    pub fn number(self) -> Option<u8>
+        ensures { result ≡ number_of self }
+    {
+        match self {
+            Warning::EventTimer { .. } => Some(86),
+            Warning::InhibitTime { .. } => Some(87),
+            Warning::NoRow {
+                kind: FrameKind::Emcy,
+                ..
+            } => Some(88),
+            Warning::OtherIdentifier { index: 0x1014, .. } => Some(88),
+            Warning::OtherIdentifier { index: 0x1005, .. } | Warning::MakesSync { .. } => Some(89),
+            Warning::DeadlineWithinJitter { .. }
+            | Warning::NoRow { .. }
+            | Warning::OtherIdentifier { .. } => None,
+        }
+    }
 }

@@ -2,6 +2,8 @@
 #![tactic(auto)]
 
 mod devices;
+mod findings;
+mod hazards;
 mod mappings;
 mod margins;
 mod networks;
@@ -15,10 +17,10 @@ mod separators;
 mod warnings;
 mod words;
 
+pub use findings::{EdsLine, Finding, finding_words, findings_of};
 pub use margins::margin_words;
 pub use networks::{Network, network_words};
 pub use places::{Place, line_at, record_at};
 pub use refusals::{refused_words, uncovered_words};
 pub use reports::late_words;
-pub use warnings::warning_words;
 pub use words::{Source, record_words, rule_words};

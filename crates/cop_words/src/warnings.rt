@@ -7,7 +7,7 @@ use cop_warn::Warning;
 use std::alloc::{AllocError, Global};
 
 /// The row of a record.
-fn row_at<'b>(network: &'b Network<'_>, place: u64) -> Option<&'b PdoRow> {
+pub(crate) fn row_at<'b>(network: &'b Network<'_>, place: u64) -> Option<&'b PdoRow> {
     let before = usize::try_from(place.checked_sub(1)?).ok()?;
     network.rows().get(before)
 }
@@ -82,6 +82,12 @@ fn without_row(warning: Warning, wanted: FrameKind) -> Option<u8> {
     }
 }
 
+/// What is said of frames of a node that have no row.
+fn missing_words(alloc: Global, node: u8, kind: FrameKind) -> Result<String, AllocError> {
+    let (row, said) = (row_word(kind), described(kind));
+    format!(in alloc; "no row {row} of node {node}: by its EDS file {said}\n")
+}
+
 /// Adds the nodes whose frames of a kind have no row, in one line.
 fn push_missing(
     words: &mut Vec<u8>,
@@ -148,7 +154,7 @@ fn device_words(alloc: Global, warning: Warning) -> Result<String, AllocError> {
 }
 
 /// The record of a row that a warning is about.
-fn place_of(warning: Warning) -> Option<u64> {
+pub(crate) fn place_of(warning: Warning) -> Option<u64> {
     match warning {
         Warning::DeadlineWithinJitter { place } => Some(place),
         Warning::EventTimer { place, .. } => Some(place),
@@ -168,6 +174,18 @@ fn words_of(alloc: Global, network: &Network<'_>, warning: Warning) -> Result<St
     }
 }
 
+/// What is said of a warning, of each node for itself.
+pub(crate) fn sentence_of(
+    alloc: Global,
+    network: &Network<'_>,
+    warning: Warning,
+) -> Result<String, AllocError> {
+    match warning {
+        Warning::NoRow { node, kind } => missing_words(alloc, node, kind),
+        _ => words_of(alloc, network, warning),
+    }
+}
+
 /// Adds what is said of a warning, if it is not on a row that is missing.
 fn push_warning(
     words: &mut Vec<u8>,
@@ -184,7 +202,7 @@ fn push_warning(
 }
 
 /// What is said of the warnings of a network: a line each, and one for all nodes that lack a row of one kind.
-pub fn warning_words(
+pub(crate) fn warning_words(
     alloc: Global,
     network: &Network<'_>,
     warnings: &[Warning],

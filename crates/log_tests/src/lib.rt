@@ -8,3 +8,5 @@ mod forms;
 mod lines;
 #[cfg(test)]
 mod logs;
+#[cfg(test)]
+mod pieces;

@@ -2,6 +2,7 @@
 
 use cop_lines::{Entry, LineFault, line_in};
 use cop_log::{LogFault, read_log};
+use std::alloc::AllocError;
 use std::test::Fail;
 
 const LINE: &[u8] = b"(1436509052.249713) can0 181#0011223344556677";
@@ -53,10 +54,17 @@ fn a_wrong_line_is_told(rt: HostRuntime) -> Result<(), Fail> {
     Ok(())
 }
 
+// The channel of a name.
+pub(crate) fn named(rt: &HostRuntime, name: &[u8]) -> Result<Option<Vec<u8>>, AllocError> {
+    let mut bytes = Vec::new(rt.alloc());
+    bytes.extend_from_slice(name)?;
+    Ok(Some(bytes))
+}
+
 #[test]
 fn a_log_is_read_up_to_its_end(rt: HostRuntime) -> Result<(), Fail> {
     let text = b"(1.000000) can0 181#00\n(1.000001) can1 182#\n(1.000002) can0 183#";
-    let log = read_log(rt.alloc(), b"can0", text)?;
+    let log = read_log(rt.alloc(), named(&rt, b"can0")?, false, text)?;
     let last = Entry {
         at: 1000002,
         id: 0x183,
@@ -68,6 +76,7 @@ fn a_log_is_read_up_to_its_end(rt: HostRuntime) -> Result<(), Fail> {
         number: 2,
         fault: LineFault::Stamp,
     };
-    assert!(rt; read_log(rt.alloc(), b"can0", broken).err() == Some(fault));
+    let wanted = named(&rt, b"can0")?;
+    assert!(rt; read_log(rt.alloc(), wanted, false, broken).err() == Some(fault));
     Ok(())
 }

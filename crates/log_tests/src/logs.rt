@@ -1,5 +1,6 @@
 //! Logs that are watched.
 
+use crate::lines::named;
 use cop_frame::Rate;
 use cop_log::{Clock, Finding, bounds_of, watch_log};
 use cop_rta::read_streams;
@@ -18,7 +19,8 @@ const CLOCK: Clock = Clock {
 fn found(rt: &HostRuntime, text: &[u8]) -> Result<Vec<Finding>, Fail> {
     let streams = read_streams(rt.alloc(), TABLE)?;
     let rate = Rate::Kbit250;
-    Ok(watch_log(rt.alloc(), &streams, rate, CLOCK, b"can0", text)?)
+    let wanted = named(rt, b"can0")?;
+    Ok(watch_log(rt.alloc(), &streams, rate, CLOCK, wanted, false, text)?)
 }
 
 const GOOD: &[u8] = b"(1.000600) can0 181#0011223344556677\n\

@@ -1,7 +1,7 @@
 //! Questions to devices over a port.
 
 use crate::scripts::{Script, Turn};
-use cop_identity::{Address, Answer, Exchange, Outcome, Question, ask_all, has_other};
+use cop_identity::{Address, Answer, Demand, Exchange, Outcome, Question, ask_all, has_other};
 use std::test::Fail;
 
 const TYPE: Address = Address {
@@ -17,26 +17,31 @@ const PRODUCT: Address = Address {
 const QUESTIONS: &[Question] = &[
     Question {
         node: 5,
+        demand: Demand::Tell,
         at: TYPE,
         wanted: 0x000F_0191,
     },
     Question {
         node: 5,
+        demand: Demand::Tell,
         at: PRODUCT,
         wanted: 0x191,
     },
     Question {
         node: 6,
+        demand: Demand::Tell,
         at: TYPE,
         wanted: 0x000F_0191,
     },
     Question {
         node: 6,
+        demand: Demand::Tell,
         at: PRODUCT,
         wanted: 0x191,
     },
     Question {
         node: 7,
+        demand: Demand::Tell,
         at: TYPE,
         wanted: 0x191,
     },

@@ -1,7 +1,7 @@
 //! Boots of a planned network over a port.
 
 use crate::scripts::{Script, Turn};
-use cop_commission::{Approach, Commissioned, commission};
+use cop_commission::{Approach, Commissioned, Reach, commission};
 use cop_frame::Rate;
 use cop_net::all_rates;
 use cop_plan::{Asked, Choice};
@@ -72,17 +72,32 @@ const BOOTS: &[(&[Turn], &[u8], bool, &[u8])] = &[
     (FAILS, b"failed", false, BEGUN),
 ];
 
+/// It is listened first, and all nodes are booted and started.
+pub const PLAIN: Approach = Approach {
+    take_over: false,
+    identify: false,
+    reach: Reach {
+        only: None,
+        start: true,
+    },
+    store: false,
+    watch: 0,
+};
+
 /// What came of a boot, as a text, and whether the nodes were started at 500 kbit/s.
-fn told(alloc: Global, ended: Commissioned) -> Result<(Vec<u8>, bool), AllocError> {
+pub fn told(alloc: Global, ended: Commissioned) -> Result<(Vec<u8>, bool), AllocError> {
     match ended {
         Commissioned::Ended {
             text,
+            ready,
             started,
             rate,
-        } => Ok((text, started && rate == Rate::Kbit500)),
+            ..
+        } => Ok((text, started && ready && rate == Rate::Kbit500)),
         Commissioned::Running { node: 5 } => Ok((Vec::from_slice(alloc, b"running")?, false)),
         Commissioned::Running { .. } => Ok((Vec::from_slice(alloc, b"another runs")?, false)),
         Commissioned::Others { .. } => Ok((Vec::from_slice(alloc, b"others")?, false)),
+        Commissioned::Absent => Ok((Vec::from_slice(alloc, b"absent")?, false)),
         Commissioned::NonePasses => Ok((Vec::from_slice(alloc, b"none passes")?, false)),
         Commissioned::Failed => Ok((Vec::from_slice(alloc, b"failed")?, false)),
     }
@@ -98,11 +113,7 @@ pub fn booted(alloc: Global, pdos: &[u8], port: &mut Script) -> Result<(Vec<u8>,
         rates: all_rates(),
         choice: Choice::Order,
     };
-    let approach = Approach {
-        take_over: false,
-        identify: false,
-    };
-    let ended = commission(alloc, NODES, pdos, &[file], &asked, approach, port)?;
+    let ended = commission(alloc, NODES, pdos, &[file], &asked, PLAIN, port)?;
     Ok(told(alloc, ended)?)
 }
 

@@ -1,5 +1,6 @@
 //! Boots of a planned network whose device is asked who it is.
 
+use crate::boots::PLAIN;
 use crate::scripts::{Script, Turn};
 use cop_commission::{Approach, Commissioned, commission};
 use cop_net::all_rates;
@@ -125,6 +126,7 @@ fn text_of(alloc: Global, ended: Commissioned) -> Result<Vec<u8>, AllocError> {
             exchanges: _exchanges,
         } => Ok(text),
         Commissioned::Running { .. } => Vec::from_slice(alloc, b"running"),
+        Commissioned::Absent => Vec::from_slice(alloc, b"absent"),
         Commissioned::NonePasses => Vec::from_slice(alloc, b"none passes"),
         Commissioned::Failed => Vec::from_slice(alloc, b"failed"),
     }
@@ -143,6 +145,7 @@ fn said(alloc: Global, identify: bool, port: &mut Script) -> Result<Vec<u8>, Fai
     let approach = Approach {
         take_over: true,
         identify,
+        ..PLAIN
     };
     let ended = commission(alloc, NODES, PDOS, &[file], &asked, approach, port)?;
     Ok(text_of(alloc, ended)?)

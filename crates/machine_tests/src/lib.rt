@@ -1,4 +1,4 @@
-//! Tests of the boot over a port: of listening, of questions, of a planned network, and of what is read back, over a port that gives what a script has.
+//! Tests of the boot over a port: of listening, of questions, of a planned network, of one node alone, and of what is read back, over a port that gives what a script has.
 
 #![tactic(auto)]
 
@@ -10,6 +10,8 @@ mod boots;
 mod identities;
 #[cfg(test)]
 mod listening;
+#[cfg(test)]
+mod reaches;
 #[cfg(test)]
 mod readings;
 #[cfg(test)]

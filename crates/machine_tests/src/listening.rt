@@ -21,6 +21,26 @@ const BEATS: &[Turn] = &[(0, b"z\rt705"), (100, b"105\rt705105\r"), (8_000_000, 
 /// A PDO of the plan, whose line has a moment.
 const PDO: &[Turn] = &[(0, b"t1811FFA0B1\r"), (8_000_000, b"")];
 
+/// The heartbeat of a node that runs, and the PDO of another, in parts.
+const OTHERS: &[Turn] = &[(0, b"t706105\rz\rt181"), (100, b"1FF\r"), (8_000_000, b"")];
+
+#[test]
+fn listens_to_one_alone(rt: HostRuntime) -> Result<(), Fail> {
+    let mut port = Script::new(rt.alloc(), OTHERS);
+    assert_eq!(rt; listen(SENDERS, Some(7), &mut port), Found::Nobody);
+    let mut port = Script::new(rt.alloc(), OTHERS);
+    assert_eq!(rt;
+        listen(SENDERS, Some(6), &mut port),
+        Found::Running { node: 6 }
+    );
+    let mut port = Script::new(rt.alloc(), OTHERS);
+    assert_eq!(rt;
+        listen(SENDERS, Some(5), &mut port),
+        Found::Running { node: 5 }
+    );
+    Ok(())
+}
+
 /// Less than 2 s, and then a failure.
 const FAILS: &[Turn] = &[(0, b""), (7_999_999, b"")];
 
@@ -37,7 +57,7 @@ const CASES: &[(&[Turn], Found)] = &[
 fn listens(rt: HostRuntime) -> Result<(), Fail> {
     for (turns, wanted) in CASES {
         let mut port = Script::new(rt.alloc(), *turns);
-        let found = listen(SENDERS, &mut port);
+        let found = listen(SENDERS, None, &mut port);
         assert_eq!(rt; found, *wanted);
         assert!(rt; port.written.is_empty(), "nothing is written");
     }

@@ -16,4 +16,6 @@ mod orders;
 #[cfg(test)]
 mod reports;
 #[cfg(test)]
+mod warnings;
+#[cfg(test)]
 mod words;

@@ -45,9 +45,10 @@ fn write_log(text: &mut String, order: WatchOrder<'_>) -> Result<(), AllocError>
 /// Adds an order on a network.
 fn write_planned(text: &mut String, order: Order<'_>) -> Result<(), AllocError> {
     match order {
-        Order::Plan { network, out } => {
-            write!(text, "plan {out}")?;
-            write_network(text, network)
+        Order::Plan(order) => {
+            let (out, strict) = (order.out, order.strict);
+            write!(text, "plan {out} {strict}")?;
+            write_network(text, order.network)
         }
         Order::Check {
             network,
@@ -156,10 +157,11 @@ const ASKED: &[(&str, &str)] = &[
     ("", "test 125 - false"),
     ("test --rate 500 s.csv", "test 500 s.csv false"),
     ("test --strict --rate 10 --json -", "test 10 - true json"),
-    ("plan n p out", "plan out n p"),
+    ("plan n p out", "plan out false n p"),
+    ("plan --strict n p out", "plan out true n p"),
     (
         "plan --explain --rates 250,500 --margin n p out",
-        "plan out n p at 250 at 500 margin explain",
+        "plan out false n p at 250 at 500 margin explain",
     ),
     (
         "check --strict --json n p r.csv",
@@ -185,8 +187,8 @@ const ASKED: &[(&str, &str)] = &[
     ("tidy --clamp in out", "tidy in out true"),
     ("tidy --check in", "tidy in no false"),
     (
-        "watch --drift 9 --channel can1 n p -",
-        "watch log - 1000 9 can1 n p",
+        "watch --json --drift 9 --channel can1 n p -",
+        "watch log - 1000 9 can1 n p json",
     ),
     ("explain 41", "explain 41"),
 ];

@@ -1,20 +1,17 @@
 use cop_frame::{Rate, RateSet};
-use cop_net::{all_rates, network, read_nodes, read_pdos};
+use cop_net::all_rates;
 use cop_rules::{RULE_WORDS, explained};
-use cop_warn::warnings_of;
-use cop_words::{
-    Network, Source, late_words, line_at, network_words, record_at, record_words, warning_words,
-};
+use cop_words::{Network, Source, late_words, line_at, network_words, record_at, record_words};
 use std::alloc::{AllocError, Global};
 use std::str;
 use std::test::Fail;
 
-const NODES: &str = "row,node,name,eds,period,jitter\ndevice,5,Valve,unit.eds,0,0\n";
+pub(crate) const NODES: &str = "row,node,name,eds,period,jitter\ndevice,5,Valve,unit.eds,0,0\n";
 
 const PDOS: &str = "node,tpdo,period,jitter,deadline,consumers\n5,1,10000,0,670,\n";
 
 /// A device that sends one PDO of 32 bits and receives one.
-const UNIT: &str = "[DeviceInfo]
+pub(crate) const UNIT: &str = "[DeviceInfo]
 BaudRate_250=1
 [OptionalObjects]
 SupportedObjects=5
@@ -71,7 +68,10 @@ AccessType=rw
 PDOMapping=1
 ";
 
-fn files(alloc: Global, texts: &[(&str, &str)]) -> Result<Vec<(String, Vec<u8>)>, AllocError> {
+pub(crate) fn files(
+    alloc: Global,
+    texts: &[(&str, &str)],
+) -> Result<Vec<(String, Vec<u8>)>, AllocError> {
     let mut files = Vec::new(alloc);
     for named in texts {
         let (name, text) = *named;
@@ -609,89 +609,6 @@ fn mistakes_of_a_consumer(rt: HostRuntime) -> Result<(), Fail> {
     let said = words_of(rt.alloc(), NODES, PDOS, &[("unit.eds", UNIT)], &wanted)?;
     let part = "unit.eds supports 250 kbit/s\n--rates lists 125 kbit/s\nrule 52: no bit rate that ";
     assert!(rt; said.contains(part), "{said}");
-    Ok(())
-}
-
-/// What is warned of: a part of the EDS text of the device and what stands in its place, what is appended to it, the row of the
-/// PDO, and the words.
-const WARNED: &[(&str, &str, &str, &str, &str)] = &[
-    ("BaudRate", "BaudRate", "", "5,1,10000,669,670,", ""),
-    (
-        "BaudRate",
-        "BaudRate",
-        "",
-        "5,1,10000,670,670,",
-        "warning: TPDO 1 of node 5: its deadline of 670 us is not above its jitter of 670 us, so it is late at every rate\n",
-    ),
-    (
-        "BaudRate",
-        "BaudRate",
-        "[1800sub5]\nDataType=6\nAccessType=rw\nDefaultValue=9\n[1800sub3]\nDataType=6\nAccessType=rw\nDefaultValue=100\n",
-        "5,1,10000,0,670,",
-        "warning: TPDO 1 of node 5: its event timer (1800h sub 5) is 9 ms and its row's period 10000 us, so it is sent more often than planned: set the timer to 0 or to the period, or the row to the timer\n",
-    ),
-    (
-        "BaudRate",
-        "BaudRate",
-        "[1800sub5]\nDataType=6\nAccessType=rw\nDefaultValue=10\n[1800sub3]\nDataType=6\nAccessType=rw\nDefaultValue=101\n",
-        "5,1,10000,0,670,",
-        "warning: TPDO 1 of node 5: its inhibit time (1800h sub 3) is 10100 us and its row's period 10000 us, so it may wait longer than planned: set the inhibit time to the period at most\n",
-    ),
-    (
-        "AccessType=rw\n[1400]",
-        "AccessType=rw\nDefaultValue=1000\n[1400]",
-        "",
-        "5,1,10000,0,670,",
-        "warning: no row heartbeat of node 5: by its EDS file it begins with a heartbeat (1017h), which the plan switches off\n",
-    ),
-    (
-        "SupportedObjects=5",
-        "SupportedObjects=6\n6=0x1014",
-        "[1014]\nDataType=7\nAccessType=rw\nDefaultValue=0x85\n",
-        "5,1,10000,0,670,",
-        "warning: no row emcy of node 5: by its EDS file it sends EMCY frames (1014h), and these are not counted\n",
-    ),
-    (
-        "SupportedObjects=5",
-        "SupportedObjects=6\n6=0x1005",
-        "[1005]\nDataType=7\nAccessType=rw\nDefaultValue=0x181\n",
-        "5,1,10000,0,670,",
-        "warning: node 5: 1005h sub 0 is 00000181h by its EDS file, another identifier than the one that the plan counts on, and perhaps that of a PDO: set it back in the device\n",
-    ),
-    (
-        "SupportedObjects=5",
-        "SupportedObjects=6\n6=0x1005",
-        "[1005]\nDataType=7\nAccessType=rw\nDefaultValue=0x40000080\n",
-        "5,1,10000,0,670,",
-        "warning: node 5 makes SYNC itself by its EDS file (bit 30 of 1005h): it alone may, with the period of the row sync\n",
-    ),
-];
-
-/// The words on the warnings of a network of one device.
-fn warned(alloc: Global, eds: &str, pdo: &str) -> Result<String, Fail> {
-    let pdos = format!(in alloc; "node,tpdo,period,jitter,deadline,consumers\n{pdo}\n")?;
-    let files = files(alloc, &[("unit.eds", eds)])?;
-    let nodes = read_nodes(alloc, NODES.as_bytes())?;
-    let pdos = read_pdos(alloc, pdos.as_bytes())?;
-    let network = network(alloc, &all_rates(), &nodes, &pdos, &files)?;
-    let said = warning_words(alloc, &network, &warnings_of(alloc, &nodes, &network)?)?;
-    match str::from_utf8(&said) {
-        Ok(text) => Ok(String::from_str(alloc, text)?),
-        Err(_) => Err(Fail::from("no text")),
-    }
-}
-
-#[test]
-fn what_devices_say_otherwise_is_warned_of(rt: HostRuntime) -> Result<(), Fail> {
-    for case in WARNED {
-        let (old, new, more, pdo, wanted) = *case;
-        let Some((before, after)) = UNIT.split_once(old) else {
-            return Err(Fail::from("no such part"));
-        };
-        let eds = format!(in rt.alloc(); "{before}{new}{after}{more}")?;
-        let said = warned(rt.alloc(), &eds, pdo)?;
-        assert!(rt; said.as_str() == wanted, "{said}");
-    }
     Ok(())
 }
 

@@ -2,7 +2,7 @@
 //! beside it, or to be refused.
 #![tactic(auto)]
 
-use cop_tidy::{Digits, TidyFault, Words, tidy, told};
+use cop_tidy::{Digits, TidyFault, Unlisted, Words, tidy, told};
 use std::{fs, io};
 
 /// The choices that a word stands for.
@@ -12,6 +12,7 @@ fn words_of(word: &str) -> Words {
         "--octal" => words.digits = Some(Digits::Octal),
         "--decimal" => words.digits = Some(Digits::Decimal),
         "--clamp" => words.clamp = true,
+        "--unlisted leave" => words.unlisted = Some(Unlisted::Leave),
         _ => {}
     }
     words

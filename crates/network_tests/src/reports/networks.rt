@@ -146,6 +146,7 @@ fn page<'a>(
             timeline,
             log: None,
             are_rates_listed: false,
+            warnings: "",
             inputs: INPUTS,
         },
     )

@@ -1,12 +1,9 @@
-use Rattle.std.proofs.Common.{◌≡◌, ◌≤◌, ◌+◌, length}
-use Rattle.cop_log.specs.Reading.{log_from, log_in, lines_of}
+use Rattle.std.proofs.Common.{length}
+use Rattle.cop_log.specs.Reading.{HasRead, name_of}
 use Rattle.cop_log.proofs.reading.read_log.Given as goal
 
-abbrev pub invariant-lines : goal.invariant-lines
-invariant-lines l = record {
-  reads : log_from l.number l.channel l.log.items (lines_of l.rest) ≡ log_in l.channel l.text;
-  few : l.number + length l.rest ≤ 1 + length l.text;
-}
+abbrev pub invariant-frames : goal.invariant-frames
+invariant-frames l = HasRead (record { channel = name_of l.fn.channel; are_distances = l.are_distances }) l.text l.rest l.reader l.log.items
 
-abbrev pub decreases-lines : goal.decreases-lines
-decreases-lines l = length l.rest
+abbrev pub decreases-frames : goal.decreases-frames
+decreases-frames l = length l.rest

@@ -1,6 +1,7 @@
 use Rattle.std.proofs.Common.{◌≤◌, ◌<◌, ◌-◌, ◌∙◌, sym, ap, Some}
 use Rattle.std.specs.Prelude.{unwrap_or}
 use Rattle.cop_live.specs.Session.{State}
+use Rattle.cop_identity.specs.Questions.{limit_of}
 use Rattle.cop_readback.proofs.ReadingLemmas.{waits_on, was_answered, was_silent, one_turn_since}
 use Rattle.cop_readback.proofs.reading.await_answer.Goals as goal
 
@@ -14,11 +15,11 @@ returns-in-Some-answer_from-clause-awaited g c =
     c.loop.invariant.same c.in-Some.ensures.did c.in-Some.ensures.state c.in-Some.ensures.booted)
     (sym c.in-Some-answer_from.is ∙ c.answer_from.ensures.found)
 
-pub returns-then-saturating_sub-ge-ANSWERING-clause-awaited : goal.returns-then-saturating_sub-ge-ANSWERING-clause-awaited
-returns-then-saturating_sub-ge-ANSWERING-clause-awaited g c =
+pub returns-then-saturating_sub-limit-clause-awaited : goal.returns-then-saturating_sub-limit-clause-awaited
+returns-then-saturating_sub-limit-clause-awaited g c =
     let before : State = record { manager = c.loop.manager; pending = c.loop.boot.reader } in
     let later : State = record { manager = c.take_turn.new.manager; pending = c.take_turn.new.boot.reader } in
-    let late : 4000000 ≤ c.in-Some.turn.now - unwrap_or c.loop.first c.in-Some.turn.now = rw c.unwrap_or-since.ensures at (rw c.saturating_sub.ensures at c.if-saturating_sub-ge-ANSWERING.true) in
+    let late : limit_of c.args.question.now.demand ≤ c.in-Some.turn.now - unwrap_or c.loop.first c.in-Some.turn.now = rw (c.limit_of-limit.ensures, c.unwrap_or-since.ensures) at (rw c.saturating_sub.ensures at c.if-saturating_sub-limit.true) in
     was_silent g.P.Port.reads g.P.Port.writes g.P.Port.asks c.args.question.now c.args.boot.now.began (record { manager = c.args.manager.now; pending = c.args.boot.now.reader }) c.args.boot.now.booted c.args.port.now
     c.loop.reader c.loop.first before later c.loop.boot.booted c.take_turn.new.boot.booted c.loop.port c.take_turn.new.port c.in-Some.turn.now _ c.loop.invariant.waits
     (one_turn_since g.P.Port.reads g.P.Port.writes g.P.Port.asks c.args.boot.now.began before c.loop.boot.booted c.loop.port c.loop.boot.began c.in-Some.turn.now _ later c.take_turn.new.boot.booted c.take_turn.new.port
@@ -29,7 +30,7 @@ pub loop-preserved : goal.loop-preserved
 loop-preserved g c =
     let before : State = record { manager = c.loop.manager; pending = c.loop.boot.reader } in
     let later : State = record { manager = c.take_turn.new.manager; pending = c.take_turn.new.boot.reader } in
-    let early : c.in-Some.turn.now - unwrap_or c.loop.first c.in-Some.turn.now < 4000000 = rw c.unwrap_or-since.ensures at (rw c.saturating_sub.ensures at c.if-saturating_sub-ge-ANSWERING.false) in
+    let early : c.in-Some.turn.now - unwrap_or c.loop.first c.in-Some.turn.now < limit_of c.args.question.now.demand = rw (c.limit_of-limit.ensures, c.unwrap_or-since.ensures) at (rw c.saturating_sub.ensures at c.if-saturating_sub-limit.false) in
     record {
       same = c.take_turn.ensures.began ∙ c.loop.invariant.same;
       waits = waits_on g.P.Port.reads g.P.Port.writes g.P.Port.asks c.args.question.now c.args.boot.now.began (record { manager = c.args.manager.now; pending = c.args.boot.now.reader }) c.args.boot.now.booted c.args.port.now

@@ -1,0 +1,23 @@
+//! The warnings by their numbers.
+
+/// What the warning of a number from 85 on says, what is usually behind it, and what is right. Nothing for a number that none has.
+pub fn warning_rule_words(number: u8) -> &'static str {
+    match number {
+        85 => {
+            "warning 85: NrOfRXPDO or NrOfTXPDO of an EDS file is above the number of PDOs that its lists name\nusually: a wrong number; else the device has PDOs that a plan does not switch off\nright: the number of PDOs that the device has, each in a list\n"
+        }
+        86 => {
+            "warning 86: a TPDO's event timer (1800h sub 5 and on) is less than its row's period: it is sent more often than planned\nusually: the maker's value, which the table does not have\nright: 0 or the period in the device, or the timer as the row's period\n"
+        }
+        87 => {
+            "warning 87: a TPDO's inhibit time (1800h sub 3 and on) is more than its row's period: it may wait longer than planned\nusually: the maker's value, in units of 100 us\nright: at most the period\n"
+        }
+        88 => {
+            "warning 88: a device sends EMCY frames (1014h exists) that no row emcy has, or under another identifier than 80h + node\nusually: a row that was left out\nright: emcy,5,,,100000,0 and 80h + node in 1014h\n"
+        }
+        89 => {
+            "warning 89: 1005h of a device has another identifier than 80h, or bit 30, so that the device makes SYNC itself\nusually: the maker's value\nright: 80h in 1005h, and bit 30 in one device of the network at most\n"
+        }
+        _ => "",
+    }
+}

@@ -1,0 +1,30 @@
+-- The nodes whose heartbeats are awaited after a start, and what is said of them.
+use Rattle.std.specs.Prelude.{ℕ, ◌*◌, Bool, not, List, [], ◌∷◌, ◌++◌, codes, decimal, ◌==◌, if◌then◌else◌}
+use Rattle.std.specs.List.{flat_map}
+use Rattle.cop_net.specs.Heartbeats.{heartbeat_of}
+use Rattle.cop_net.specs.Network.{Net}
+use Rattle.cop_live.specs.Nodes.{has_node}
+use Rattle.cop_heartbeats.specs.declared.attending.Awaited.{Awaited}
+
+-- a node has a heartbeat, whose time is not 0
+abbrev pub has_heartbeat : Net → ℕ → Bool
+has_heartbeat net node = not (heartbeat_of net.nodes.frames node == 0)
+
+-- it has to come within one and a half of its time: 6,000 ticks of 250 ns for each ms
+abbrev pub awaited_from : Net → ℕ → Awaited
+awaited_from net node = record { node = node; time = heartbeat_of net.nodes.frames node * 6000 }
+
+abbrev pub awaited_at : Net → ℕ → List Awaited
+awaited_at net node = if has_heartbeat net node then awaited_from net node ∷ [] else []
+
+-- those of some nodes that have one
+abbrev pub awaited_of : Net → List ℕ → List Awaited
+awaited_of net nodes = flat_map (awaited_at net) nodes
+
+-- the line of a node
+abbrev pub beat_line : ℕ → Bool → List ℕ
+beat_line node is_late = codes "node " ++ (decimal node ++ (if is_late then codes " late\n" else codes " operational\n"))
+
+-- a line for each
+abbrev pub attendance_text : List Awaited → List Bool → List ℕ
+attendance_text awaited late = flat_map (λ one. beat_line one.node (has_node late one.node)) awaited

@@ -1,0 +1,85 @@
+-- Nodes that are being attended to.
+use Rattle.std.proofs.Common.{◌≡◌, ℕ, ◌-◌, ◌≤◌, ◌<◌, Bool, List, [], ◌∷◌, ◌++◌, length, take, drop, get_or, refl, sym, ◌∙◌, ap, subst, arith}
+use Rattle.std.specs.Prelude.{option_to_list}
+use Rattle.std.specs.List.{AllByRecursion}
+use Rattle.std.proofs.lemmas.List.{take_all}
+use Rattle.cop_slcan.specs.Meaning.{Told}
+use Rattle.cop_slcan.specs.Reading.{taken, said_from, left_from}
+use Rattle.cop_live.specs.Log.{Asked, Read, DidAll}
+use Rattle.cop_live.proofs.Sessions.{did_both}
+use Rattle.cop_heartbeats.specs.declared.attending.Awaited.{Awaited}
+use Rattle.cop_heartbeats.specs.Attending.{beat_at, beats_in, Hearing, beginning, turned, attended, attending_log, Attended}
+
+-- what bytes say and leave, by the first and the others
+rest_of : (pending : List ℕ) (b : ℕ) (bytes : List ℕ) → take (length (b ∷ bytes) - 1) bytes ≡ bytes
+rest_of pending b bytes = take_all (length (b ∷ bytes) - 1) bytes (omega arith)
+
+beats_append : (now : ℕ) (last : List ℕ) (xs ys : List Told) → beats_in now last (xs ++ ys) ≡ beats_in now (beats_in now last xs) ys
+beats_append now last [] ys = refl
+beats_append now last (x ∷ xs) ys = beats_append now (beat_at now last x) xs ys
+
+pub bytes_heard : (now : ℕ) (old first new pending left bytes : List ℕ) → 1 ≤ length bytes → left ≡ (taken pending (get_or bytes 0 0)).0
+    → first ≡ beats_in now old (option_to_list (taken pending (get_or bytes 0 0)).1) → new ≡ beats_in now first (said_from left (take (length bytes - 1) (drop 1 bytes)))
+    → new ≡ beats_in now old (said_from pending bytes)
+bytes_heard now old first new pending left [] some el ef en = absurd (omega arith)
+bytes_heard now old first new pending left (b ∷ bytes) some el ef en =
+    en ∙ ap (λ l. beats_in now first (said_from left l)) (rest_of pending b bytes) ∙ ap (λ l. beats_in now first (said_from l bytes)) el ∙ ap (λ l. beats_in now l (said_from (taken pending b).0 bytes)) ef
+    ∙ sym (beats_append now old (option_to_list (taken pending b).1) (said_from (taken pending b).0 bytes))
+
+pub bytes_left : (pending left later bytes : List ℕ) → 1 ≤ length bytes → left ≡ (taken pending (get_or bytes 0 0)).0 → later ≡ left_from left (take (length bytes - 1) (drop 1 bytes)) → later ≡ left_from pending bytes
+bytes_left pending left later [] some el e = absurd (omega arith)
+bytes_left pending left later (b ∷ bytes) some el e = e ∙ ap (λ l. left_from left l) (rest_of pending b bytes) ∙ ap (λ l. left_from l bytes) el
+
+-- turns and one more
+log_more : (turns : List (ℕ × List ℕ)) (now : ℕ) (bytes : List ℕ) → attending_log (turns ++ (now, bytes) ∷ []) ≡ attending_log turns ++ Read bytes ∷ Asked now ∷ []
+log_more [] now bytes = refl
+log_more ((at, got) ∷ turns) now bytes = ap (λ log. Read got ∷ Asked at ∷ log) (log_more turns now bytes)
+
+attended_more : (awaited : List Awaited) (h : Hearing) (turns : List (ℕ × List ℕ)) (now : ℕ) (bytes : List ℕ) → attended awaited h (turns ++ (now, bytes) ∷ []) ≡ turned awaited (attended awaited h turns) now bytes
+attended_more awaited h [] now bytes = refl
+attended_more awaited h ((at, got) ∷ turns) now bytes = attended_more awaited (turned awaited h at got) turns now bytes
+
+all_more : {A : Type 0} (Q : A → Type 0) (xs : List A) (x : A) → AllByRecursion Q xs → Q x → AllByRecursion Q (xs ++ x ∷ [])
+all_more Q [] x h q = (q, tt)
+all_more Q (y ∷ xs) x h q = (h.0, all_more Q xs x h.1 q)
+
+-- nodes are attended to so far
+pub record Attends {P : Type 0} (reads writes : P → List ℕ → P → Type 0) (asks : P → ℕ → P → Type 0) (awaited : List Awaited) (limit began : ℕ) (p : P) (h : Hearing) (q : P) : Type 0 where
+  pub turns : List (ℕ × List ℕ)
+  pub did : DidAll reads writes asks p (Asked began ∷ attending_log turns) q
+  pub soon : AllByRecursion (λ turn. turn.0 - began < limit) turns
+  pub is : h ≡ attended awaited (beginning began) turns
+
+module _ {P : Type 0} (reads writes : P → List ℕ → P → Type 0) (asks : P → ℕ → P → Type 0) (awaited : List Awaited) (limit began : ℕ) (p : P) where
+  pub attends_first : (h : Hearing) (q : P) → asks p began q → h ≡ beginning began → Attends reads writes asks awaited limit began p h q
+  attends_first h q asked e = record { turns = []; did = (q, asked, refl); soon = tt; is = e }
+
+  turn_done : (h : Hearing) (q r s : P) (now : ℕ) (bytes : List ℕ) (a : Attends reads writes asks awaited limit began p h q) → reads q bytes r → asks r now s
+      → DidAll reads writes asks p (Asked began ∷ attending_log (a.turns ++ (now, bytes) ∷ [])) s
+  turn_done h q r s now bytes a got asked =
+      subst (λ log. DidAll reads writes asks p (Asked began ∷ log) s) (sym (log_more a.turns now bytes))
+      (did_both reads writes asks p q s (Asked began ∷ attending_log a.turns) (Read bytes ∷ Asked now ∷ []) a.did (r, got, (s, asked, refl)))
+
+  turn_is : (h later : Hearing) (q : P) (now : ℕ) (bytes : List ℕ) (a : Attends reads writes asks awaited limit began p h q) → later ≡ turned awaited h now bytes → later ≡ attended awaited (beginning began) (a.turns ++ (now, bytes) ∷ [])
+  turn_is h later q now bytes a e = e ∙ ap (λ (x : Hearing). turned awaited x now bytes) a.is ∙ sym (attended_more awaited (beginning began) a.turns now bytes)
+
+  pub attends_on : (h later : Hearing) (q r s : P) (now : ℕ) (bytes : List ℕ) → Attends reads writes asks awaited limit began p h q → reads q bytes r → asks r now s → later ≡ turned awaited h now bytes → now - began < limit
+      → Attends reads writes asks awaited limit began p later s
+  attends_on h later q r s now bytes a got asked e early = record {
+    turns = a.turns ++ (now, bytes) ∷ [];
+    did = turn_done h q r s now bytes a got asked;
+    soon = all_more (λ (turn : ℕ × List ℕ). turn.0 - began < limit) a.turns (now, bytes) a.soon early;
+    is = turn_is h later q now bytes a e;
+  }
+
+  pub attends_all : (h later : Hearing) (q r s : P) (now : ℕ) (bytes : List ℕ) (late : List Bool) → Attends reads writes asks awaited limit began p h q → reads q bytes r → asks r now s → later ≡ turned awaited h now bytes → limit ≤ now - began
+      → late ≡ later.late → Attended reads writes asks awaited limit p late s
+  attends_all h later q r s now bytes late a got asked e enough el = record {
+    began = began;
+    early = a.turns;
+    last = (now, bytes);
+    did = turn_done h q r s now bytes a got asked;
+    soon = a.soon;
+    reaches = enough;
+    late_are = el ∙ ap (λ (x : Hearing). x.late) (turn_is h later q now bytes a e);
+  }

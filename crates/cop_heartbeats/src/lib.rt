@@ -1,0 +1,6 @@
+//! Nodes are heard to be operational over an adapter that speaks slcan, or not.
+#![tactic(auto)]
+
+mod attending;
+
+pub use attending::{Awaited, attend};

@@ -1,0 +1,200 @@
+//! What is said of what EDS texts leave implicit.
+
+ghost use Rattle.std.specs.Prelude.{◌≤◌};
+
+use crate::devices::{accepted, text_named};
+use crate::findings::{EdsLine, Finding};
+use crate::words::push_shown;
+use cop_eds::Eds;
+use cop_hazard::{Hazard, all_hazards, index_at, miscounts};
+use cop_net::{DeviceRow, NodeTable};
+use std::alloc::{AllocError, Global};
+use std::collections::BTreeSet;
+use std::str;
+
+/// A device's EDS text, with the first row that names it, and how many other rows do.
+#[derive(Clone, Copy)]
+struct Text<'t, 's, 'n> {
+    eds: &'t Eds<'s>,
+    row: &'n DeviceRow,
+    others: usize,
+}
+
+/// The bytes of a line by its number, from 1.
+fn line_of<'a>(eds: &Eds<'a>, number: usize) -> &'a [u8] {
+    let Some(place) = number.checked_sub(1) else {
+        return b"";
+    };
+    match eds.lines().get(place) {
+        Some(line) => eds.source().get(line.from..line.to).unwrap_or(b""),
+        None => b"",
+    }
+}
+
+/// What stands between the brackets of a header.
+fn name_in(line: &[u8]) -> &[u8] {
+    let inside = match line {
+        [b'[', rest @ ..] => rest,
+        _ => line,
+    };
+    inside.split(|byte| *byte == b']').next().unwrap_or(inside)
+}
+
+/// The PDO of a communication record: TPDO 2 of 1801h.
+fn pdo_at(alloc: Global, index: u64) -> Result<String, AllocError> {
+    if index < 0x1800 {
+        let number = index.saturating_sub(0x13FF);
+        return format!(in alloc; "RPDO {number}");
+    }
+    let number = index.saturating_sub(0x17FF);
+    format!(in alloc; "TPDO {number}")
+}
+
+/// The devices that have a text: Valve, or Valve and 2 more.
+fn devices_of(alloc: Global, text: Text<'_, '_, '_>) -> Result<String, AllocError> {
+    let name = str::from_utf8(text.row.name.as_bytes()).unwrap_or("the device");
+    let others = text.others;
+    if others == 0 {
+        return String::from_str(alloc, name);
+    }
+    format!(in alloc; "{name} and {others} more")
+}
+
+/// Bytes of a text as they may be shown.
+fn shown(alloc: Global, bytes: &[u8]) -> Result<String, AllocError> {
+    let mut said = Vec::new(alloc);
+    push_shown(&mut said, bytes)?;
+    match str::from_utf8(&said) {
+        Ok(said) => String::from_str(alloc, said),
+        Err(_) => Ok(String::new(alloc)),
+    }
+}
+
+/// What is said of a record of a PDO.
+fn record_words(
+    alloc: Global,
+    text: Text<'_, '_, '_>,
+    hazard: Hazard,
+) -> Result<String, AllocError> {
+    let name = name_in(line_of(text.eds, hazard.line));
+    let pdo = pdo_at(alloc, index_at(text.eds, hazard.line).unwrap_or(0))?;
+    let (devices, section) = (devices_of(alloc, text)?, shown(alloc, name)?);
+    if hazard.number == 80 {
+        return format!(in alloc;
+            "{pdo} of {devices} stands in [{section}], which no list names: it is not switched off. canplan tidy --unlisted add lists it"
+        );
+    }
+    format!(in alloc;
+        "{pdo} of {devices} has no UNSIGNED32 at sub 1 of [{section}]: it is not switched off. Describe sub 1 as the device has it"
+    )
+}
+
+/// What is said of a line that states something which is not as it is read.
+fn line_words(alloc: Global, text: Text<'_, '_, '_>, hazard: Hazard) -> Result<String, AllocError> {
+    let line = shown(alloc, line_of(text.eds, hazard.line))?;
+    let devices = devices_of(alloc, text)?;
+    match hazard.number {
+        82 => format!(in alloc;
+            "by {line} {devices} may have PDOs that no section describes: they are not switched off. canplan tidy writes them out"
+        ),
+        83 => format!(in alloc;
+            "{line} stands behind the number of entries of its list: nothing reads it. canplan tidy counts it"
+        ),
+        84 => format!(in alloc;
+            "{line} is spelled otherwise than CiA 306 says: nothing reads that section. canplan tidy respells it"
+        ),
+        _ => format!(in alloc;
+            "{line} is more than the lists of {devices} name: the number is wrong, or PDOs are not switched off"
+        ),
+    }
+}
+
+/// A hazard of a text as a finding.
+fn finding_of(
+    alloc: Global,
+    text: Text<'_, '_, '_>,
+    hazard: Hazard,
+) -> Result<Finding, AllocError> {
+    let words = match hazard.number {
+        80 | 81 => record_words(alloc, text, hazard)?,
+        _ => line_words(alloc, text, hazard)?,
+    };
+    let file = str::from_utf8(text.row.eds.as_bytes()).unwrap_or("");
+    Ok(Finding {
+        number: Some(hazard.number),
+        node: Some(text.row.node),
+        record: Some(text.row.place),
+        at: Some(EdsLine {
+            file: String::from_str(alloc, file)?,
+            line: hazard.line,
+        }),
+        words,
+    })
+}
+
+/// Adds hazards of a text. A PDO's record that no list names is told at its first section alone.
+fn push_hazards(
+    findings: &mut Vec<Finding>,
+    alloc: Global,
+    text: Text<'_, '_, '_>,
+    hazards: &[Hazard],
+) -> Result<(), AllocError> {
+    let mut told = BTreeSet::new(alloc);
+    for hazard in hazards {
+        if hazard.number == 80 && !told.insert(index_at(text.eds, hazard.line))? {
+            continue;
+        }
+        findings.push(finding_of(alloc, text, *hazard)?)?;
+    }
+    Ok(())
+}
+
+/// Adds what an EDS text leaves implicit.
+fn push_text(
+    findings: &mut Vec<Finding>,
+    alloc: Global,
+    text: Text<'_, '_, '_>,
+) -> Result<(), AllocError> {
+    push_hazards(findings, alloc, text, &all_hazards(alloc, text.eds)?)?;
+    push_hazards(findings, alloc, text, &miscounts(alloc, text.eds)?)
+}
+
+/// How many rows name the same EDS file as one.
+fn rows_with(nodes: &NodeTable, row: &DeviceRow) -> usize {
+    nodes
+        .devices()
+        .iter()
+        .filter(|other| other.eds.as_bytes() == row.eds.as_bytes())
+        .count()
+}
+
+/// Adds what the EDS texts of a network leave implicit, each text once, by the first row that names it.
+pub(crate) fn push_texts(
+    findings: &mut Vec<Finding>,
+    alloc: Global,
+    eds_files: &[(String, Vec<u8>)],
+    nodes: &NodeTable,
+) -> Result<(), AllocError> {
+    let mut known = BTreeSet::new(alloc);
+    for row in nodes.devices() {
+        if !known.insert(row.eds.as_bytes())? {
+            continue;
+        }
+        let Some(text) = text_named(eds_files, row.eds.as_bytes()) else {
+            continue;
+        };
+        if let Some(eds) = accepted(alloc, text)? {
+            let others = rows_with(nodes, row).saturating_sub(1);
+            push_text(
+                findings,
+                alloc,
+                Text {
+                    eds: &eds,
+                    row,
+                    others,
+                },
+            )?;
+        }
+    }
+    Ok(())
+}

@@ -1,0 +1,155 @@
+use crate::words::{NODES, UNIT, files};
+use cop_net::{all_rates, network, read_nodes, read_pdos};
+use cop_warn::warnings_of;
+use cop_words::{finding_words, findings_of};
+use std::alloc::Global;
+use std::str;
+use std::test::Fail;
+
+/// What is warned of: a part of the EDS text of the device and what stands in its place, what is appended to it, the row of the
+/// PDO, and the words.
+const WARNED: &[(&str, &str, &str, &str, &str)] = &[
+    ("BaudRate", "BaudRate", "", "5,1,10000,669,670,", ""),
+    (
+        "BaudRate",
+        "BaudRate",
+        "",
+        "5,1,10000,670,670,",
+        "warning: TPDO 1 of node 5: its deadline of 670 us is not above its jitter of 670 us, so it is late at every rate\n",
+    ),
+    (
+        "BaudRate",
+        "BaudRate",
+        "[1800sub5]\nDataType=6\nAccessType=rw\nDefaultValue=9\n[1800sub3]\nDataType=6\nAccessType=rw\nDefaultValue=100\n",
+        "5,1,10000,0,670,",
+        "warning: TPDO 1 of node 5: its event timer (1800h sub 5) is 9 ms and its row's period 10000 us, so it is sent more often than planned: set the timer to 0 or to the period, or the row to the timer\n",
+    ),
+    (
+        "BaudRate",
+        "BaudRate",
+        "[1800sub5]\nDataType=6\nAccessType=rw\nDefaultValue=10\n[1800sub3]\nDataType=6\nAccessType=rw\nDefaultValue=101\n",
+        "5,1,10000,0,670,",
+        "warning: TPDO 1 of node 5: its inhibit time (1800h sub 3) is 10100 us and its row's period 10000 us, so it may wait longer than planned: set the inhibit time to the period at most\n",
+    ),
+    (
+        "AccessType=rw\n[1400]",
+        "AccessType=rw\nDefaultValue=1000\n[1400]",
+        "",
+        "5,1,10000,0,670,",
+        "warning: no row heartbeat of node 5: by its EDS file it begins with a heartbeat (1017h), which the plan switches off\n",
+    ),
+    (
+        "SupportedObjects=5",
+        "SupportedObjects=6\n6=0x1014",
+        "[1014]\nDataType=7\nAccessType=rw\nDefaultValue=0x85\n",
+        "5,1,10000,0,670,",
+        "warning: no row emcy of node 5: by its EDS file it sends EMCY frames (1014h), and these are not counted\n",
+    ),
+    (
+        "SupportedObjects=5",
+        "SupportedObjects=6\n6=0x1005",
+        "[1005]\nDataType=7\nAccessType=rw\nDefaultValue=0x181\n",
+        "5,1,10000,0,670,",
+        "warning: node 5: 1005h sub 0 is 00000181h by its EDS file, another identifier than the one that the plan counts on, and perhaps that of a PDO: set it back in the device\n",
+    ),
+    (
+        "SupportedObjects=5",
+        "SupportedObjects=6\n6=0x1005",
+        "[1005]\nDataType=7\nAccessType=rw\nDefaultValue=0x40000080\n",
+        "5,1,10000,0,670,",
+        "warning: node 5 makes SYNC itself by its EDS file (bit 30 of 1005h): it alone may, with the period of the row sync\n",
+    ),
+    (
+        "BaudRate",
+        "BaudRate",
+        "[1801]\nObjectType=9\n[1801sub1]\nDataType=7\nAccessType=rw\n",
+        "5,1,10000,0,670,",
+        "warning: unit.eds, line 56: TPDO 2 of Valve stands in [1801], which no list names: it is not switched off. canplan tidy --unlisted add lists it\n",
+    ),
+    (
+        "SupportedObjects=5",
+        "SupportedObjects=6\n6=0x1801",
+        "[1801]\nObjectType=9\n[1801sub0]\nDataType=5\nAccessType=ro\nDefaultValue=2\n",
+        "5,1,10000,0,670,",
+        "warning: unit.eds, line 57: TPDO 2 of Valve has no UNSIGNED32 at sub 1 of [1801]: it is not switched off. Describe sub 1 as the device has it\n",
+    ),
+    (
+        "BaudRate_250=1",
+        "BaudRate_250=1\nCompactPDO=7",
+        "",
+        "5,1,10000,0,670,",
+        "warning: unit.eds, line 3: by CompactPDO=7 Valve may have PDOs that no section describes: they are not switched off. canplan tidy writes them out\n",
+    ),
+    (
+        "5=0x1A00",
+        "5=0x1A00\n6=0x2000",
+        "",
+        "5,1,10000,0,670,",
+        "warning: unit.eds, line 10: 6=0x2000 stands behind the number of entries of its list: nothing reads it. canplan tidy counts it\n",
+    ),
+    (
+        "BaudRate",
+        "BaudRate",
+        "[0x2001]\nDataType=7\n",
+        "5,1,10000,0,670,",
+        "warning: unit.eds, line 56: [0x2001] is spelled otherwise than CiA 306 says: nothing reads that section. canplan tidy respells it\n",
+    ),
+    (
+        "BaudRate_250=1",
+        "BaudRate_250=1\nNrOfTXPDO=2",
+        "",
+        "5,1,10000,0,670,",
+        "warning: unit.eds, line 3: NrOfTXPDO=2 is more than the lists of Valve name: the number is wrong, or PDOs are not switched off\n",
+    ),
+];
+
+/// The words on the warnings of a network of one device.
+fn warned(alloc: Global, eds: &str, pdo: &str) -> Result<String, Fail> {
+    let pdos = format!(in alloc; "node,tpdo,period,jitter,deadline,consumers\n{pdo}\n")?;
+    let files = files(alloc, &[("unit.eds", eds)])?;
+    let nodes = read_nodes(alloc, NODES.as_bytes())?;
+    let pdos = read_pdos(alloc, pdos.as_bytes())?;
+    let network = network(alloc, &all_rates(), &nodes, &pdos, &files)?;
+    let warnings = warnings_of(alloc, &nodes, &network)?;
+    let said = finding_words(alloc, &files, &nodes, &network, &warnings)?;
+    match str::from_utf8(&said) {
+        Ok(text) => Ok(String::from_str(alloc, text)?),
+        Err(_) => Err(Fail::from("no text")),
+    }
+}
+
+#[test]
+fn what_devices_say_otherwise_is_warned_of(rt: HostRuntime) -> Result<(), Fail> {
+    for case in WARNED {
+        let (old, new, more, pdo, wanted) = *case;
+        let Some((before, after)) = UNIT.split_once(old) else {
+            return Err(Fail::from("no such part"));
+        };
+        let eds = format!(in rt.alloc(); "{before}{new}{after}{more}")?;
+        let said = warned(rt.alloc(), &eds, pdo)?;
+        assert!(rt; said.as_str() == wanted, "{said}");
+    }
+    Ok(())
+}
+
+#[test]
+fn findings_have_numbers_and_places(rt: HostRuntime) -> Result<(), Fail> {
+    let eds = format!(in rt.alloc(); "{UNIT}[1801]\nObjectType=9\n")?;
+    let files = files(rt.alloc(), &[("unit.eds", eds.as_str())])?;
+    let rows = b"node,tpdo,period,jitter,deadline,consumers\n5,1,10000,670,670,\n".as_slice();
+    let (nodes, pdos) = (
+        read_nodes(rt.alloc(), NODES.as_bytes())?,
+        read_pdos(rt.alloc(), rows)?,
+    );
+    let network = network(rt.alloc(), &all_rates(), &nodes, &pdos, &files)?;
+    let warnings = warnings_of(rt.alloc(), &nodes, &network)?;
+    let found = findings_of(rt.alloc(), &files, &nodes, &network, &warnings)?;
+    let [unlisted, late] = found.as_slice() else {
+        return Err(Fail::from("not two"));
+    };
+    assert!(rt; unlisted.number == Some(80) && late.number.is_none());
+    assert!(rt; unlisted.node == Some(5) && unlisted.record == Some(1));
+    assert!(rt; late.node == Some(5) && late.record == Some(1) && late.at.is_none());
+    assert!(rt; unlisted.at.as_ref().is_some_and(|at| at.line == 56));
+    Ok(())
+}

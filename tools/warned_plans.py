@@ -1,0 +1,126 @@
+#!/usr/bin/env python3
+"""Plans devices of which each has one thing that is worth a look before one relies on the plan, and looks at how that is told.
+
+    python3 tools/warned_plans.py
+
+Of each device `plan --explain` has to tell its line, `plan --json` its number, node, record and place, the page of `report` its words, and
+`plan --strict` has to end with status 3; `plan` with none of these words says the same as ever, with status 0 and no word on
+standard error.
+"""
+import html
+import json
+import os
+import subprocess
+import sys
+import tempfile
+
+from files import bytes_of, write
+
+HERE = os.path.dirname(os.path.dirname(os.path.realpath(__file__)))
+PROGRAM = os.environ.get("CANPLAN", f"{HERE}/bin/canplan")
+UNIT = bytes_of(f"{HERE}/examples/valve/unit.eds").decode().replace("\r\n", "\n")
+TABLE = "node,tpdo,period,jitter,deadline,consumers\n"
+NODES = "row,node,name,eds,period,jitter\ndevice,5,Valve,unit.eds,0,0\n"
+ROW = "5,1,10000,0,8000,\n"
+TWO = NODES + "device,6,Pump,unit.eds,0,0\n"
+
+
+def listed(index, *sections):
+    """Lists an index, and appends its sections."""
+    return [("SupportedObjects=3\n", f"SupportedObjects=4\n4={index}\n"), ("", "\n".join(sections) + "\n")]
+
+
+RECORD = "[1801]\nObjectType=9\n[1801sub1]\nDataType=7\nAccessType=rw"
+SHORT = "[1801]\nObjectType=9\n[1801sub0]\nDataType=5\nAccessType=ro\nDefaultValue=2"
+# The number, the parts of the EDS text that become others (none: appended), the nodes, the rows of PDOs, the node, and a part of the words.
+DEVICES = (
+    (None, [], NODES, ROW, None, ""),
+    (80, [("", RECORD + "\n")], NODES, ROW, 5, "TPDO 2 of Valve stands in [1801], which no list names: it is not switched off"),
+    (80, [("", RECORD + "\n")], TWO, ROW, 5, "TPDO 2 of Valve and 1 more stands in [1801], "),
+    (81, listed("0x1801", SHORT), NODES, ROW, 5, "TPDO 2 of Valve has no UNSIGNED32 at sub 1 of [1801]"),
+    (82, [("[DeviceInfo]\n", "[DeviceInfo]\nCompactPDO=7\n")], NODES, ROW, 5, "by CompactPDO=7 Valve may have PDOs"),
+    (83, [("3=0x1A00\n", "3=0x1A00\n4=0x2000\n")], NODES, ROW, 5, "4=0x2000 stands behind the number of entries"),
+    (84, [("", "[0x2001]\nDataType=7\n")], NODES, ROW, 5, "[0x2001] is spelled otherwise"),
+    (85, [("[DeviceInfo]\n", "[DeviceInfo]\nNrOfTXPDO=2\n")], NODES, ROW, 5, "NrOfTXPDO=2 is more than the lists of Valve name"),
+    (86, [("", "[1800sub5]\nDataType=6\nAccessType=rw\nDefaultValue=9\n")], NODES, ROW, 5, "its event timer (1800h sub 5) is 9 ms"),
+    (87, [("", "[1800sub3]\nDataType=6\nAccessType=rw\nDefaultValue=101\n")], NODES, ROW, 5, "its inhibit time (1800h sub 3) is 10100 us"),
+    (88, listed("0x1014", "[1014]\nDataType=7\nAccessType=rw\nDefaultValue=0x85"), NODES, ROW, 5, "no row emcy of node 5"),
+    (89, listed("0x1005", "[1005]\nDataType=7\nAccessType=rw\nDefaultValue=0x181"), NODES, ROW, 5, "1005h sub 0 is 00000181h"),
+    (89, listed("0x1005", "[1005]\nDataType=7\nAccessType=rw\nDefaultValue=0x40000080"), NODES, ROW, 5, "node 5 makes SYNC itself"),
+    (None, [], NODES, "5,1,10000,8000,8000,\n", 5, "is not above its jitter"),
+)
+
+
+def run(*words):
+    it = subprocess.run([PROGRAM, *words], capture_output=True, timeout=60)
+    return it.returncode, it.stdout, it.stderr.decode()
+
+
+def changed(parts):
+    text = UNIT
+    for old, new in parts:
+        assert text.count(old) == 1 or not old or old.startswith("SupportedObjects"), old
+        text = text.replace(old, new, 1) if old else text + new
+    return text
+
+
+def of_place(text, warning):
+    """What is wrong with the place of a warning of an EDS text."""
+    if warning["number"] is None or warning["number"] > 85:
+        if warning["file"] is not None or warning["line"] is not None:
+            yield f"a place: {warning}"
+        return
+    line = text.splitlines()[warning["line"] - 1]
+    shown = line if line.startswith("[0x") or "=" in line else "[1801]"
+    if warning["file"] != "unit.eds" or (line != shown) or shown not in warning["words"]:
+        yield f"another line: {warning}"
+
+
+def of_told(tables, out, words):
+    """What is wrong with the words of --explain and of the page."""
+    told = run("plan", "--explain", *tables, out)[2]
+    page = f"{out}/page.html"
+    run("report", *tables, page)
+    has_list = "Before you rely on this" in bytes_of(page).decode()
+    lines = [line for line in told.splitlines() if line.startswith("warning: ")]
+    if [words in line for line in lines] != ([True] if words else []):
+        yield f"--explain: {told}"
+    if has_list != bool(words) or html.escape(words) not in bytes_of(page).decode().replace("&#39;", "&#x27;"):
+        yield "the page has not the words"
+
+
+def of_device(folder, number, parts, nodes, rows, node, words):
+    """What is wrong with what is told of a device."""
+    text, out, tables = changed(parts), f"{folder}/out", (f"{folder}/nodes.csv", f"{folder}/pdos.csv")
+    for name, content in (("unit.eds", text), ("nodes.csv", nodes), ("pdos.csv", TABLE + rows)):
+        write(f"{folder}/{name}", content.encode())
+    os.makedirs(out, exist_ok=True)
+    plain = run("plan", *tables, out)
+    if plain[0] not in (0, 4) or plain[2]:
+        yield f"plan: {plain}"
+        return
+    strict = run("plan", "--strict", *tables, out)
+    if strict != (plain[0] or (3 if words else 0), plain[1], ""):
+        yield f"--strict: {strict}"
+    status, answer, _ = run("plan", "--json", *tables, out)
+    warnings = json.loads(answer)["warnings"]
+    if status != plain[0] or [(it["number"], it["node"], it["record"]) for it in warnings] != ([(number, node, 1)] if words else []):
+        yield f"--json: {warnings}"
+    for warning in warnings:
+        yield from of_place(text, warning)
+    yield from of_told(tables, out, words)
+
+
+def main():
+    faults = []
+    for device in DEVICES:
+        with tempfile.TemporaryDirectory() as folder:
+            faults += [f"{device[0]} {device[5]}: {fault}" for fault in of_device(folder, *device)]
+    for fault in faults:
+        print(fault)
+    print("ok" if not faults else f"{len(faults)} faults")
+    return 1 if faults else 0
+
+
+if __name__ == "__main__":
+    sys.exit(main())
