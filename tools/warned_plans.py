@@ -14,7 +14,7 @@ import subprocess
 import sys
 import tempfile
 
-from files import bytes_of, write
+from files import bytes_of, status_of, write
 
 HERE = os.path.dirname(os.path.dirname(os.path.realpath(__file__)))
 PROGRAM = os.environ.get("CANPLAN", f"{HERE}/bin/canplan")
@@ -116,10 +116,7 @@ def main():
     for device in DEVICES:
         with tempfile.TemporaryDirectory() as folder:
             faults += [f"{device[0]} {device[5]}: {fault}" for fault in of_device(folder, *device)]
-    for fault in faults:
-        print(fault)
-    print("ok" if not faults else f"{len(faults)} faults")
-    return 1 if faults else 0
+    return status_of(faults)
 
 
 if __name__ == "__main__":

@@ -8,7 +8,7 @@ import subprocess
 import sys
 import tempfile
 
-from files import bytes_of, write
+from files import bytes_of, status_of, write
 
 HERE = os.path.dirname(os.path.dirname(os.path.realpath(__file__)))
 PROGRAM = os.environ.get("CANPLAN", f"{HERE}/bin/canplan")
@@ -65,10 +65,7 @@ def main():
         faults = [fault for fault in (fault_of(*call, folder) for call in CALLS) if fault]
         if os.path.exists(f"{folder}/node-099.cdcf") or bytes_of(f"{folder}/node-099.txt") != b"mine":
             faults.append("files of an earlier plan, and they alone, are to be removed")
-    for fault in faults:
-        print(fault)
-    print("ok" if not faults else f"{len(faults)} faults")
-    return 1 if faults else 0
+    return status_of(faults)
 
 
 if __name__ == "__main__":
