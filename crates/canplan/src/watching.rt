@@ -7,33 +7,28 @@ use crate::machines::Form;
 use cop_documents::watch_document;
 use cop_engine::{none_passes, outcome_of};
 use cop_log::Clock;
-use cop_logbook::Logbook;
+use cop_logbook::{Logbook, WatchFault};
 use cop_orders::WatchOrder;
 use cop_plan::{Outcome, Plan};
 use std::io::Read;
 
-/// How many bytes are read at once: 256 KiB.
-const PIECE: usize = 256 * 1024;
-
-/// Takes all lines that a reader has left. The last one may lack its end.
-fn take_lines<R: Read + Drop>(
+/// The log that a reader has, watched by a plan as an order says.
+fn watched_in<'p, R: Read + Drop>(
     rt: &HostRuntime,
-    name: &str,
-    mut reader: R,
-    book: &mut Logbook<'_>,
-) -> Result<(), Failure> {
-    let mut piece = vec![in rt.alloc(); 0; PIECE]?;
-    for _ in 0..u64::MAX {
-        let len = match reader.read(&mut piece) {
-            Ok(len) => len,
-            Err(error) => return Err(file_failure(rt, name, Use::Read, &error)),
-        };
-        if len == 0 {
-            break;
-        }
-        book.take_piece(&piece[..len])?;
+    order: WatchOrder<'_>,
+    plan: &'p Plan,
+    reader: R,
+) -> Result<Logbook<'p>, Failure> {
+    let clock = Clock {
+        error: order.error,
+        drift: order.drift,
+    };
+    let (channel, are_distances) = (order.channel, order.are_distances);
+    match cop_logbook::watched(rt.alloc(), plan, clock, channel, are_distances, reader) {
+        Ok(book) => Ok(book),
+        Err(WatchFault::Book(fault)) => Err(Failure::from(fault)),
+        Err(WatchFault::Read(error)) => Err(file_failure(rt, order.log, Use::Read, &error)),
     }
-    Ok(book.take_rest()?)
 }
 
 /// The log of an order, watched by a plan. One in which no frame is of the channel is refused.
@@ -42,20 +37,11 @@ pub fn watched<'p>(
     order: WatchOrder<'_>,
     plan: &'p Plan,
 ) -> Result<Logbook<'p>, Failure> {
-    let clock = Clock {
-        error: order.error,
-        drift: order.drift,
-    };
-    let (channel, are_distances) = (order.channel, order.are_distances);
-    let mut book = Logbook::new(rt.alloc(), plan, clock, channel, are_distances)?;
     if order.log == "-" {
-        take_lines(rt, "-", rt.stdin(), &mut book)?;
+        watched_in(rt, order, plan, rt.stdin())
     } else {
-        let file = open_file(rt, order.log)?;
-        take_lines(rt, order.log, file, &mut book)?;
+        watched_in(rt, order, plan, open_file(rt, order.log)?)
     }
-    book.end()?;
-    Ok(book)
 }
 
 /// Gives a document.

@@ -5,6 +5,7 @@ use Rattle.std.proofs.lemmas.List.Sums.{prefix_len-le-length}
 use Rattle.std.proofs.lemmas.Bool.Decides.{nat_tests}
 use Rattle.cop_eds.specs.Text.{cut, end_len, mark_len}
 use Rattle.cop_eds.proofs.LawLemmas.{concat_cut}
+use Rattle.cop_change.specs.Told.{are_told_from, are_told}
 use Rattle.cop_change.specs.Applied.{body_of, ending_of, ended, newline_of, line_with, lines_with, lines_of, applied}
 
 either : (m n : ℕ) → m ≤ n → unwrap_or (cond (nat_lt m n) (Some m) None) n ≡ m
@@ -33,3 +34,11 @@ pub applied_nothing : (text : List ℕ) → applied text [] ≡ text
 applied_nothing text =
     ap (λ a. take (mark_len text) text ++ a) (lines_nothing (newline_of (lines_of text)) 1 (lines_of text) ∙ concat_cut (drop (mark_len text) text))
     ∙ take-append-drop (mark_len text) text
+
+-- no change tells all that there is to tell
+none_told : (place : ℕ) (raws : List (List ℕ)) → are_told_from place raws [] ≡ true
+none_told place [] = refl
+none_told place (raw ∷ raws) = none_told (place + 1) raws
+
+pub nothing_told : (text : List ℕ) → are_told text [] ≡ true
+nothing_told text = none_told 1 (lines_of text)

@@ -25,7 +25,7 @@ fn place_of(text: &[u8]) -> usize
 
 /// How many bytes the first line takes, its end among them.
 #[tactic(auto, using(cop_eds::proofs::TextLemmas::cut_ended, cop_eds::proofs::TextLemmas::cut_open))]
-fn line_len(text: &[u8]) -> usize
+pub(crate) fn line_len(text: &[u8]) -> usize
     requires { 0 < length text.now }
     ensures positive { 0 < result }
     ensures bound { result ≤ length text.now }
@@ -48,7 +48,7 @@ fn end_len(line: &[u8]) -> usize
 }
 
 /// How many bytes a mark at the front of a text takes.
-fn mark_len(text: &[u8]) -> usize
+pub(crate) fn mark_len(text: &[u8]) -> usize
     ensures value { result ≡ mark_len text.now }
     ensures bound { result ≤ length text.now }
 {
@@ -59,7 +59,7 @@ fn mark_len(text: &[u8]) -> usize
     }
 }
 
-fn body_of(raw: &[u8]) -> &[u8]
+pub(crate) fn body_of(raw: &[u8]) -> &[u8]
     ensures { result.now ≡ body_of raw.now }
 {
     &raw[..raw.len() - end_len(raw)]
@@ -93,7 +93,7 @@ fn other_place(changes: &[Change], place: usize) -> Option<usize>
 
 /// How many changes at the front are of the line of this number.
 #[tactic(auto, using(crate::proofs::ApplyLemmas::position_or))]
-fn here(changes: &[Change], place: usize) -> usize
+pub(crate) fn here(changes: &[Change], place: usize) -> usize
     ensures value { result ≡ here place changes.now }
     ensures bound { result ≤ length changes.now }
 {

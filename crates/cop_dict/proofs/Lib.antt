@@ -16,3 +16,4 @@ pub mod BuiltLemmas
 pub mod FittingLemmas
 pub mod PointwiseLemmas
 pub mod ExistingLemmas
+pub mod NodeLemmas

@@ -13,6 +13,10 @@ pub record Entry : Type 0 where
   pub initial : List ℕ
   pub value : List ℕ
 
+-- an entry has the type, access, flag, limits and value of another
+abbrev pub AreAlike : Entry → Entry → Type 0
+AreAlike entry other = (other.description ≡ entry.description) × (other.value ≡ entry.value)
+
 -- the number that an UNSIGNED32 holds
 abbrev pub unsigned32_of : Entry → Option ℕ
 unsigned32_of entry = if is_unsigned32 entry.description.data_type then Some (number entry.value) else None

@@ -1,17 +1,17 @@
 //! Laws of the definitions that contracts cite.
 
-ghost use Rattle.std.specs.Prelude.{◌≡◌, ◌==◌, ◌<◌, ◌+◌, ◌%◌, ◌^◌, ◌&&◌, ℕ, ℤ, List, All, length, true, false, Option, option_map, Some, IfSome, Ok, Err, Contains};
+ghost use Rattle.std.specs.Prelude.{◌≡◌, ◌==◌, ◌<◌, ◌≤◌, ◌+◌, ◌%◌, ◌^◌, ◌&&◌, ℕ, ℤ, List, All, length, true, false, Option, option_map, Some, IfSome, Ok, Err, Contains};
 ghost use Rattle.std.specs.Int.{bytes_low_first};
 ghost use Rattle.cop_eds.specs.declared.amount.Amount.{Amount};
 ghost use Rattle.cop_dict.specs.declared.data_type.DataType.{DataType};
-ghost use Rattle.cop_dict.specs.Types.{greatest_of};
+ghost use Rattle.cop_dict.specs.Types.{greatest_of, type_numbered};
 ghost use Rattle.cop_dict.specs.Number.{number, value_of};
 ghost use Rattle.cop_dict.specs.Patterns.{pattern_of, number_written};
 ghost use Rattle.cop_eds.specs.declared.description.Object.{Object};
 ghost use Rattle.cop_eds.specs.Objects.{objects_of};
 ghost use Rattle.cop_dict.specs.Build.{built, entry_built, AgreesWith};
 ghost use Rattle.cop_dict.specs.Pdo.{is_mapping, is_communication, pdo_exists, exists_by, cob_id_at};
-ghost use Rattle.cop_dict.specs.Find.{Entry, entry_at, IsSorted};
+ghost use Rattle.cop_dict.specs.Find.{Entry, entry_at, IsSorted, AreAlike};
 ghost use Rattle.cop_dict.specs.Dict.{admitted, unless_broken, refused_alone, with_value, valued, as_built, reset_communication, initial, initial_communication, written, Replaces};
 ghost use Rattle.cop_dict.specs.Fitting.{FitsType, HasFittingValues};
 ghost use Rattle.cop_dict.specs.declared.abort.Abort.{Abort};
@@ -124,4 +124,19 @@ pub fn values_fit_their_types()
     ensures changes { (dict : List Entry) (index sub : ℕ) (bytes : List ℕ) → IfSome (entry_at dict index sub) (λ entry. FitsType entry.description.data_type bytes)
         → HasFittingValues dict → HasFittingValues (with_value index sub bytes dict) }
     ensures resets { (dict : List Entry) → HasFittingValues dict → HasFittingValues (initial dict) × HasFittingValues (initial_communication dict) }
+{}
+
+/// A text of which a dictionary is built for the last node, 127, has one for each node before it, and each has entries of the same
+/// types: a value or a limit is one for all nodes, or a number and the node's.
+pub fn built_for_the_last_node_is_built_for_each()
+    ensures all { (text : List ℕ) (node : ℕ) (last : List Entry) → node ≤ 127 → built text 127 ≡ Ok last → (dict : List Entry) × (built text node ≡ Ok dict) }
+    ensures types { (text : List ℕ) (node : ℕ) (object : Object) (entry : Entry) → entry_built text node object ≡ Ok entry → entry.description.data_type ≡ type_numbered object.data_type }
+{}
+
+/// Objects of two texts whose entries are alike for the first node and for the last one have entries that are alike for each.
+pub fn alike_at_both_ends_is_alike()
+    ensures { (old new : List ℕ) (node : ℕ) (object other : Object) (a b c d entry changed : Entry)
+        → entry_built old 1 object ≡ Ok a → entry_built new 1 other ≡ Ok b → AreAlike a b
+        → entry_built old 127 object ≡ Ok c → entry_built new 127 other ≡ Ok d → AreAlike c d
+        → entry_built old node object ≡ Ok entry → entry_built new node other ≡ Ok changed → AreAlike entry changed }
 {}

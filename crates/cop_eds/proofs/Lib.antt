@@ -22,3 +22,4 @@ pub mod RawLemmas
 pub mod SpelledLemmas
 pub mod KeepsLemmas
 pub mod InsideLemmas
+pub mod FollowLemmas

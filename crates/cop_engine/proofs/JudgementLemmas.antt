@@ -32,7 +32,7 @@ use Rattle.cop_engine.specs.declared.faults.Fault.TheVariants as faults
 use Rattle.cop_engine.specs.Networks.{ExplainsNetwork}
 use Rattle.cop_watch.specs.Knowing.{is_a_start, sent}
 use Rattle.cop_watch.specs.Reading.{IsLawful}
-use Rattle.cop_watch.specs.Pieces.{HoldsOfAll}
+use Rattle.cop_table.specs.Pieces.{HoldsOfAll}
 use Rattle.cop_engine.specs.Judgements.{IsJudged, IsCleared, IsJudgedBy, ExplainsTrace, IsPlannedNetwork, IsJudgement, ExplainsJudgement, SaysOnTime, is_start, judged_text, transfers_in}
 use Rattle.cop_engine.proofs.GuaranteeLemmas.{all_kept}
 use Rattle.cop_engine.proofs.NetworkLemmas.{network_found}

@@ -4,7 +4,7 @@ ghost use Rattle.std.specs.Prelude.{◌≡◌, ℕ, List, map, None, IfOk, IfSom
 ghost use Rattle.std.specs.String.{string_bytes};
 ghost use Rattle.cop_net.specs.Devices.{File};
 ghost use Rattle.cop_plan.specs.declared.choices.Asked.{Asked};
-ghost use Rattle.cop_watch.specs.Pieces.{HoldsOfAll};
+ghost use Rattle.cop_table.specs.Pieces.{HoldsOfAll};
 ghost use Rattle.cop_engine.specs.Judgements.{transfers_in, judged_text, none_passes, IsCleared, ExplainsTrace, IsPlannedNetwork, IsJudgement, ExplainsJudgement};
 
 use crate::faults::Fault;

@@ -11,6 +11,7 @@ mod noticed;
 mod seen;
 mod spread;
 mod strangers;
+mod watching;
 
 pub use abort_codes::abort_words;
 pub use breaches::{Breach, Broken, Nearest};
@@ -21,3 +22,4 @@ pub use noticed::{Counts, Notice, Notices, command_words};
 pub use seen::Seen;
 pub use spread::{STEPS, Spread};
 pub use strangers::Stranger;
+pub use watching::{WatchFault, watched};

@@ -1,7 +1,9 @@
 //! A log that is watched, line by line, and what is said of it at its end.
 
-ghost use Rattle.std.specs.Prelude.{◌≡◌, ◌<◌, ◌↔◌, [], IsOk, OnOk};
-ghost use Rattle.cop_logbook.specs.Books.{count_told, Takes, IsWith, Notes, Ends};
+ghost use Rattle.std.specs.Prelude.{◌≡◌, ◌<◌, ◌↔◌, [], IfOk, IsOk, OnOk};
+ghost use Rattle.std.specs.Option.{option_copied};
+ghost use Rattle.cop_log.specs.Reading.{name_of};
+ghost use Rattle.cop_logbook.specs.Books.{count_told, Begins, Takes, IsWith, Notes, Ends};
 
 use crate::breaches::{Breach, Breaches, Scene};
 use crate::heartbeats::{LateHeartbeat, late_heartbeat};
@@ -52,6 +54,27 @@ impl From<LogFault> for BookFault {
     }
 }
 
+/// The same bounds once more.
+fn copied(alloc: Global, bounds: &[Option<u64>]) -> Result<Vec<Option<u64>>, AllocError>
+    ensures { IfOk result (λ own. own.items ≡ bounds.now) }
+{
+    bounds.iter().copied().collect(alloc)
+}
+
+/// The bytes of a channel's name.
+fn bytes_of(alloc: Global, channel: Option<&str>) -> Result<Option<Vec<u8>>, AllocError>
+    ensures { IfOk result (λ bytes. name_of bytes ≡ option_copied channel.entry) }
+{
+    match channel {
+        Some(name) => {
+            let mut bytes = Vec::new(alloc);
+            bytes.extend_from_slice(name.as_bytes())?;
+            Ok(Some(bytes))
+        }
+        None => Ok(None),
+    }
+}
+
 /// A log that is watched.
 #[derive(Drop)]
 pub struct Logbook<'a> {
@@ -82,26 +105,22 @@ impl<'a> Logbook<'a> {
         clock: Clock,
         channel: Option<&str>,
         are_distances: bool,
-    ) -> Result<Logbook<'a>, AllocError> {
-        let bounds = bounds_of(alloc, plan.streams(), plan.rate())?;
-        let own = bounds.clone()?;
+    ) -> Result<Logbook<'a>, AllocError>
+        ensures { IfOk result (λ book. Begins plan.now clock (record { channel = option_copied channel.entry; are_distances = are_distances }) book) }
+    {
+        let (streams, rate) = (plan.streams(), plan.rate());
+        let bounds = bounds_of(alloc, streams, rate)?;
+        let own = copied(alloc, &bounds)?;
         let count = bounds.len();
-        let watcher = Watcher::new(alloc, plan.streams(), own, plan.rate(), clock)?;
-        let channel = match channel {
-            Some(name) => {
-                let mut bytes = Vec::new(alloc);
-                bytes.extend_from_slice(name.as_bytes())?;
-                Some(bytes)
-            }
-            None => None,
-        };
+        let watcher = Watcher::new(alloc, streams, own, rate, clock)?;
+        let wanted = bytes_of(alloc, channel)?;
         Ok(Logbook {
             alloc,
             plan,
             clock,
             bounds,
             watcher,
-            log: LogReader::new(alloc, channel, are_distances),
+            log: LogReader::new(alloc, wanted, are_distances),
             all: Seen::NOTHING,
             seen: vec![in alloc; Seen::NOTHING; usize::from(IDS)]?,
             spreads: vec![in alloc; Spread::NOTHING; count]?,

@@ -88,14 +88,13 @@ received_leaves : (now : List Entry) (direction : Direction) (m : Mapped) (bits 
 received_leaves now direction m bits index sub true h = refl
 received_leaves now direction m bits index sub false h = others now m.index m.sub index sub (bytes_of_bits (bytes_for m.bits) bits) h
 
--- what no entry maps stays as it is
-pub leaves_others : (dict : List Entry) (direction : Direction) (entries : List Mapped) (now : List Entry) (index sub : ℕ) → is_mapped direction entries index sub ≡ false
-    → entry_at (unpacked now direction entries (bits_of_entries dict direction entries)) index sub ≡ entry_at now index sub
-leaves_others dict direction [] now index sub h = refl
-leaves_others dict direction (m ∷ rest) now index sub h =
-    rw (one_entry dict now direction m rest)
-    (leaves_others dict direction rest (received now direction m (bits_of_number m.bits (mapped_number dict direction m))) index sub (or_parts _ _ h).1
-    ∙ received_leaves now direction m (bits_of_number m.bits (mapped_number dict direction m)) index sub (is_dummy direction m) (or_parts _ _ h).0)
+-- what no entry maps stays as it is, whatever is received
+pub leaves_others : (direction : Direction) (entries : List Mapped) (now : List Entry) (bits : List Bool) (index sub : ℕ) → is_mapped direction entries index sub ≡ false
+    → entry_at (unpacked now direction entries bits) index sub ≡ entry_at now index sub
+leaves_others direction [] now bits index sub h = refl
+leaves_others direction (m ∷ rest) now bits index sub h =
+    leaves_others direction rest (received now direction m (take m.bits bits)) (drop m.bits bits) index sub (or_parts _ _ h).1
+    ∙ received_leaves now direction m (take m.bits bits) index sub (is_dummy direction m) (or_parts _ _ h).0
 
 negated : (a : Bool) → not a ≡ true → a ≡ false
 negated true h = absurd (true≢false (sym h))
@@ -153,7 +152,7 @@ restores dict direction (m ∷ rest) now index sub there here proper h =
         → value_at (unpacked (received now direction m (bits_of_number m.bits (mapped_number dict direction m))) direction rest (bits_of_entries dict direction rest)) index sub ≡ value_at dict index sub
     by true e below = below e
     by false e below =
-        ap (λ (o : Option Entry). option_map (λ entry. entry.value) o) (leaves_others dict direction rest (received now direction m (bits_of_number m.bits (mapped_number dict direction m))) index sub e)
+        ap (λ (o : Option Entry). option_map (λ entry. entry.value) o) (leaves_others direction rest (received now direction m (bits_of_number m.bits (mapped_number dict direction m))) (bits_of_entries dict direction rest) index sub e)
         ∙ received_gives dict now direction m index sub
         (All-head (λ mapped. is_there dict direction mapped ≡ true) m rest there)
         (All-head (λ mapped. is_there now direction mapped ≡ true) m rest here)

@@ -22,13 +22,14 @@ pub fn objects_stay()
     ensures unpacking { (dict : List Entry) (direction : Direction) (entries : List Mapped) (bits : List Bool) (layout : Layout) → HasObjects dict layout → HasObjects (unpacked dict direction entries bits) layout }
 {}
 
-/// To unpack what was packed gives each mapped object the value that it had then, and leaves each other entry as it is now.
+/// To unpack what was packed gives each mapped object the value that it had then. Whatever is unpacked leaves each entry that is not
+/// mapped as it is.
 pub fn unpacking_restores()
     ensures mapped { (dict now : List Entry) (layout : Layout) (index sub : ℕ) → HasObjects dict layout → HasObjects now layout → HasProperValues dict layout
         → is_mapped layout.direction layout.entries index sub ≡ true
         → value_at (unpacked now layout.direction layout.entries (payload_bits dict layout)) index sub ≡ value_at dict index sub }
-    ensures others { (dict now : List Entry) (layout : Layout) (index sub : ℕ) → is_mapped layout.direction layout.entries index sub ≡ false
-        → entry_at (unpacked now layout.direction layout.entries (payload_bits dict layout)) index sub ≡ entry_at now index sub }
+    ensures others { (now : List Entry) (layout : Layout) (bits : List Bool) (index sub : ℕ) → is_mapped layout.direction layout.entries index sub ≡ false
+        → entry_at (unpacked now layout.direction layout.entries bits) index sub ≡ entry_at now index sub }
 {}
 
 /// Where values fit their types, each object of a mapping has a value of its bits, and no more bits, so that unpacking

@@ -3,3 +3,4 @@ pub mod KeptLemmas
 pub mod LineLemmas
 pub mod LoopLemmas
 pub mod StandingLemmas
+pub mod EachNode

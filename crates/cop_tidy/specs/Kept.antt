@@ -2,7 +2,7 @@
 use Rattle.std.specs.Prelude.{ℕ, ◌≡◌, ◌⊎◌, Bool, not, true, false, ◌&&◌, ◌||◌, ◌==◌, List, Option, Some, None, Ok, All}
 use Rattle.cop_eds.specs.Reading.{reading}
 use Rattle.cop_dict.specs.Types.{is_unsigned32}
-use Rattle.cop_dict.specs.Find.{Entry, entry_at}
+use Rattle.cop_dict.specs.Find.{Entry, AreAlike, entry_at}
 use Rattle.cop_dict.specs.Mapping.{is_between}
 use Rattle.cop_dict.specs.Build.{built}
 
@@ -29,7 +29,7 @@ is_unidentified dict entry = is_record entry.index && (is_mistyped entry || is_a
 -- another entry has the type, the access, the flag, the limits and the value of this one
 abbrev pub IsLike : Entry → Option Entry → Type 0
 IsLike entry None = Unit {0} → ⊥
-IsLike entry (Some other) = (other.description ≡ entry.description) × (other.value ≡ entry.value)
+IsLike entry (Some other) = AreAlike entry other
 
 -- the entry of the first dictionary stands in the second, unless the record of a PDO has no identifier by it
 abbrev pub IsKept : List Entry → List Entry → Entry → Type 0

@@ -1,7 +1,9 @@
 //! A maker's text as one that the strict reading takes.
 
-ghost use Rattle.std.specs.Prelude.{◌≡◌, ◌≤◌, None, Some, IfOk, IfErr, IfSome, OnOk, vec_len};
+ghost use Rattle.std.specs.Prelude.{◌≡◌, ◌≤◌, ℕ, true, None, Some, IfOk, IfErr, IfSome, IsOk, OnOk, vec_len};
 ghost use Rattle.cop_change.specs.Applied.{applied};
+ghost use Rattle.cop_change.specs.Told.{are_told};
+ghost use Rattle.cop_dict.specs.Build.{built};
 ghost use Rattle.cop_tidy.specs.Accepted.{IsAccepted};
 ghost use Rattle.cop_tidy.specs.Identified.{AreIdentified};
 ghost use Rattle.cop_tidy.specs.Kept.{Stays};
@@ -9,7 +11,7 @@ ghost use Rattle.cop_tidy.specs.Standing.{IsReason, standing};
 
 use crate::judging::{Left, judged};
 use crate::keeping::stays;
-use cop_change::{Change, Question, TextChange, TidyFault, Words, applied, refused};
+use cop_change::{Change, Question, TextChange, TidyFault, Words, applied, are_told, refused};
 use cop_rewrite::row::{Row, rows_of};
 use cop_rewrite::{prepared, rewritten};
 use std::alloc::{AllocError, Global};
@@ -98,18 +100,31 @@ fn take_up(
     }
 }
 
+/// The changes that rows have come through, each of which tells what stood there.
+fn told_changes(alloc: Global, base: &[u8], rows: &[Row<'_>]) -> Result<Vec<Change>, TidyFault>
+    ensures { IfOk result (λ changes. are_told base.now changes.items ≡ true) }
+{
+    let changes = changes_of(alloc, rows)?;
+    if are_told(base, &changes) {
+        Ok(changes)
+    } else {
+        Err(refused(Question::Left(0), 0))
+    }
+}
+
 /// The text after the rules.
 fn mended(alloc: Global, source: &[u8], words: &Words, left: Left) -> Result<Tidied, TidyFault>
     ensures settled { IfOk result (λ t. standing words.now t.text.items ≡ None) }
     ensures found { IfOk result (λ t. t.found ≡ Some left) }
     ensures told { IfOk result (λ t. t.text.items ≡ applied t.base.items t.changes.items) }
+    ensures each_told { IfOk result (λ t. are_told t.base.items t.changes.items ≡ true) }
     ensures base { IfOk result (λ t. vec_len t.text_changes ≡ 0 → t.base.items ≡ source.now) }
     ensures first { IfOk result (λ t. Stays 1 source.now t.text.items) }
     ensures last { IfOk result (λ t. Stays 127 source.now t.text.items) }
 {
     let (base, text_changes) = prepared(alloc, source)?;
     let rows = rewritten(alloc, &base, words)?;
-    let changes = changes_of(alloc, &rows)?;
+    let changes = told_changes(alloc, &base, &rows)?;
     let text = applied(alloc, &base, &changes)?;
     take_up(alloc, source, &text, &rows, words)?;
     drop(rows);
@@ -123,13 +138,14 @@ fn mended(alloc: Global, source: &[u8], words: &Words, left: Left) -> Result<Tid
 }
 
 /// The text as it stands.
-#[tactic(auto, using(cop_change::proofs::ApplyLemmas::applied_nothing, crate::proofs::KeptLemmas::stays_of))]
+#[tactic(auto, using(cop_change::proofs::ApplyLemmas::applied_nothing, cop_change::proofs::ApplyLemmas::nothing_told, crate::proofs::KeptLemmas::stays_of))]
 fn unchanged(alloc: Global, text: &[u8]) -> Result<Tidied, AllocError>
     ensures found { IfOk result (λ t. t.found ≡ None) }
     ensures changes { IfOk result (λ t. vec_len t.changes ≡ 0) }
     ensures text_changes { IfOk result (λ t. vec_len t.text_changes ≡ 0) }
     ensures same { IfOk result (λ t. t.text.items ≡ text.now) }
     ensures told { IfOk result (λ t. t.text.items ≡ applied t.base.items t.changes.items) }
+    ensures each_told { IfOk result (λ t. are_told t.base.items t.changes.items ≡ true) }
     ensures base { IfOk result (λ t. t.base.items ≡ text.now) }
     ensures first { IfOk result (λ t. Stays 1 text.now t.text.items) }
     ensures last { IfOk result (λ t. Stays 127 text.now t.text.items) }
@@ -147,7 +163,7 @@ fn unchanged(alloc: Global, text: &[u8]) -> Result<Tidied, AllocError>
 /// result, and it is the text with exactly the changes that are told. A text against which nothing stands comes back byte
 /// for byte; nothing stands against a result, so that it comes back as it is with the same words. A text is refused only
 /// where something stands against it.
-#[tactic(auto, using(crate::proofs::StandingLemmas::accepted_of, crate::proofs::StandingLemmas::first_identified_of, crate::proofs::StandingLemmas::last_identified_of))]
+#[tactic(auto, using(crate::proofs::StandingLemmas::accepted_of, crate::proofs::EachNode::built_of, crate::proofs::EachNode::identified_of, crate::proofs::EachNode::stays_for_each))]
 pub fn tidy(alloc: Global, text: &[u8], words: &Words) -> Result<Tidied, TidyFault>
     // What stood against the text, and that nothing stands against the result.
     ensures found { IfOk result (λ t. t.found ≡ standing words.now text.now) }
@@ -156,14 +172,20 @@ pub fn tidy(alloc: Global, text: &[u8], words: &Words) -> Result<Tidied, TidyFau
     ensures reason { IfErr result (λ fault. IsReason fault (standing words.now text.now)) }
 
     ensures accepted { IfOk result (λ t. IsAccepted t.text.items) }
+    ensures built { IfOk result (λ t. (node : ℕ) → node ≤ 127 → IsOk (built t.text.items node)) }
+
+    // The result is the text with exactly the changes that are told, each of which tells what stood there.
     ensures told { IfOk result (λ t. t.text.items ≡ applied t.base.items t.changes.items) }
+    ensures each_told { IfOk result (λ t. are_told t.base.items t.changes.items ≡ true) }
     ensures base { IfOk result (λ t. vec_len t.text_changes ≡ 0 → t.base.items ≡ text.now) }
+
+    // The objects of an accepted text stay, as each node has them.
     ensures first { IfOk result (λ t. Stays 1 text.now t.text.items) }
     ensures last { IfOk result (λ t. Stays 127 text.now t.text.items) }
+    ensures each { IfOk result (λ t. (node : ℕ) → IsAccepted text.now → Stays node text.now t.text.items) }
 
     // Each PDO of the result that has a record in its dictionary can be switched off.
-    ensures first_identified { IfOk result (λ t. AreIdentified 1 t.text.items) }
-    ensures last_identified { IfOk result (λ t. AreIdentified 127 t.text.items) }
+    ensures identified { IfOk result (λ t. (node : ℕ) → AreIdentified node t.text.items) }
 
     // A text against which nothing stands comes back as it is.
     ensures same { IfOk result (λ t. t.found ≡ None → t.text.items ≡ text.now) }

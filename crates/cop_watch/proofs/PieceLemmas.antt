@@ -5,7 +5,8 @@ use Rattle.std.proofs.KnownBytes.{Consumes-trans, Consumes-all}
 use Rattle.cop_rta.specs.declared.streams.Stream.{Stream}
 use Rattle.cop_watch.specs.declared.reading.TraceWatch.{TraceWatch}
 use Rattle.cop_watch.specs.Reading.{HasRead, IsLawful}
-use Rattle.cop_watch.specs.Pieces.{Feeds, HoldsOfAll}
+use Rattle.cop_table.specs.Pieces.{HoldsOfAll}
+use Rattle.cop_watch.specs.Pieces.{Feeds}
 
 -- a piece more
 pub feeds_more : (left mid rest : Option (List ℕ)) (a b c : TraceWatch) (piece : List ℕ) → Feeds left mid a b → Consumes mid rest piece

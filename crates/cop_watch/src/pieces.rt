@@ -3,7 +3,8 @@
 ghost use Rattle.std.specs.Prelude.{◌≡◌, ◌<◌, true, length, IfSome};
 ghost use Rattle.std.specs.Io.KnownBytes.{IsAtEnd};
 ghost use Rattle.cop_frame.specs.Rate.{ticks_of};
-ghost use Rattle.cop_watch.specs.Pieces.{Feeds, HoldsOfAll};
+ghost use Rattle.cop_table.specs.Pieces.{HoldsOfAll};
+ghost use Rattle.cop_watch.specs.Pieces.{Feeds};
 ghost use Rattle.cop_watch.specs.Reading.{IsLawful};
 
 use crate::reading::TraceWatch;

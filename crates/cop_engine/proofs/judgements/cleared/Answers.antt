@@ -1,7 +1,7 @@
 use Rattle.cop_frame.specs.Rate.{ticks_of}
 use Rattle.cop_rta.specs.Streams.{AreDistinct}
 use Rattle.cop_watch.specs.Reading.{IsLawful}
-use Rattle.cop_watch.specs.Pieces.{HoldsOfAll}
+use Rattle.cop_table.specs.Pieces.{HoldsOfAll}
 use Rattle.cop_engine.proofs.JudgementLemmas.{lawful_gives}
 use Rattle.cop_engine.proofs.judgements.cleared.Goals as goal
 

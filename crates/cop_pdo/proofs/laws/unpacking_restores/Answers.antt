@@ -6,5 +6,4 @@ returns-clause-mapped c = λ dict now layout index sub there here proper h.
     restores dict layout.direction layout.entries now index sub there here proper h
 
 pub returns-clause-others : goal.returns-clause-others
-returns-clause-others c = λ dict now layout index sub h.
-    leaves_others dict layout.direction layout.entries now index sub h
+returns-clause-others c = λ now layout bits index sub h. leaves_others layout.direction layout.entries now bits index sub h

@@ -1,0 +1,88 @@
+//! A log that is watched to its end, in pieces that are not kept.
+
+ghost use Rattle.std.specs.Prelude.{◌≡◌, ◌<◌, ◌^◌, length, IfOk, OnOk};
+ghost use Rattle.std.specs.Option.{option_copied};
+ghost use Rattle.std.specs.Io.KnownBytes.{IsAtEnd};
+ghost use Rattle.cop_table.specs.Pieces.{HoldsOfAll};
+ghost use Rattle.cop_logbook.specs.Books.{IsWatched};
+ghost use Rattle.cop_logbook.specs.Pieces.{TakesAlong};
+
+use crate::logbook::{BookFault, Logbook};
+use cop_log::Clock;
+use cop_plan::Plan;
+use std::alloc::{AllocError, AllocFailed, Global};
+use std::io;
+use std::io::Read;
+
+/// How many bytes are read at once: 256 KiB.
+const PIECE: usize = 256 * 1024;
+
+/// Why a log is not watched to its end.
+#[derive(Drop)]
+pub enum WatchFault {
+    /// A line is refused, or memory is wanting.
+    Book(BookFault),
+    /// It cannot be read.
+    Read(io::Error),
+}
+
+impl From<BookFault> for WatchFault {
+    fn from(fault: BookFault) -> WatchFault {
+        WatchFault::Book(fault)
+    }
+}
+
+impl From<AllocError> for WatchFault {
+    fn from(_error: AllocError) -> WatchFault {
+        WatchFault::Book(BookFault::Memory)
+    }
+}
+
+impl<T: Drop> From<AllocFailed<T>> for WatchFault {
+    fn from(_error: AllocFailed<T>) -> WatchFault {
+        WatchFault::Book(BookFault::Memory)
+    }
+}
+
+/// Takes all pieces that a reader has left. Each takes the place of the one before.
+fn take_pieces<R: Read>(
+    book: &mut Logbook<'_>,
+    reader: &mut R,
+    piece: &mut [u8],
+) -> Result<(), WatchFault>
+    requires { 0 < length piece.old }
+    ensures taken { OnOk result (TakesAlong (R.remaining reader.old) (R.remaining reader.new) book.old book.new) }
+    ensures all { OnOk result (IsAtEnd (R.remaining reader.new)) }
+{
+    'pieces: for _ in 0..u64::MAX {
+        match reader.read(piece) {
+            Ok(0) => return Ok(()),
+            Ok(len) => book.take_piece(&piece[..len])?,
+            Err(error) => return Err(WatchFault::Read(error)),
+        }
+    }
+    Err(WatchFault::Book(BookFault::Memory))
+}
+
+/// A log that a reader has left, watched to its end by a plan: each breach is evident from it, and where a legal run in which all streams
+/// obey has it, within the error of its clock, there is none. The frames of the channel count, those of the first frame's where none is
+/// given; `are_distances` says that the stamps of a log in columns are distances. The last line may lack its end, and memory does
+/// not grow with the log. It is refused where a line is, or where no frame is of the channel.
+pub fn watched<'a, R: Read + Drop>(
+    alloc: Global,
+    plan: &'a Plan,
+    clock: Clock,
+    channel: Option<&str>,
+    are_distances: bool,
+    mut reader: R,
+) -> Result<Logbook<'a>, WatchFault>
+    ensures { IfOk result (λ book. HoldsOfAll (R.remaining reader) (λ text. length text < 2 ^ 64
+        → IsWatched plan.now clock (record { channel = option_copied channel.entry; are_distances = are_distances }) text book)) }
+{
+    let mut book = Logbook::new(alloc, plan, clock, channel, are_distances)?;
+    let mut piece = vec![in alloc; 0; PIECE]?;
+    take_pieces(&mut book, &mut reader, &mut piece)?;
+    book.take_rest()?;
+    book.end()?;
+    Ok(book)
+}
