@@ -1,9 +1,9 @@
 -- Changes at the front of others.
-use Rattle.std.proofs.Common.{◌≡◌, ℕ, ◌+◌, ◌-◌, ◌<◌, ◌≤◌, Bool, true, false, ◌&&◌, ◌==◌, cond, List, [], ◌∷◌, ◌++◌, length, take, drop, slice_index, arith, nat_lt, Some, None, position, unwrap_or, refl, ap, ◌∙◌, take-append-drop, append-nil}
+use Rattle.std.proofs.Common.{◌≡◌, ℕ, ◌+◌, ◌-◌, ◌≤◌, Bool, true, false, ◌&&◌, ◌==◌, cond, List, [], ◌∷◌, ◌++◌, length, take, drop, slice_index, arith, nat_lt, Some, None, position, unwrap_or, refl, ap, ◌∙◌, take-append-drop, append-nil}
 use Rattle.std.specs.List.{position_or_len, concat}
 use Rattle.std.proofs.lemmas.List.Sums.{prefix_len-le-length}
 use Rattle.std.proofs.lemmas.Bool.Decides.{nat_tests}
-use Rattle.cop_eds.specs.Text.{cut, end_len, mark_len}
+use Rattle.cop_eds.specs.Text.{end_len, mark_len}
 use Rattle.cop_eds.proofs.LawLemmas.{concat_cut}
 use Rattle.cop_change.specs.Told.{are_told_from, are_told}
 use Rattle.cop_change.specs.Applied.{body_of, ending_of, ended, newline_of, line_with, lines_with, lines_of, applied}

@@ -1,6 +1,6 @@
 //! Whether a list of changes tells of each line what stood there.
 
-ghost use Rattle.std.specs.Prelude.{◌≡◌, ◌==◌, ◌&&◌, ◌+◌, length};
+ghost use Rattle.std.specs.Prelude.{◌≡◌};
 ghost use Rattle.std.specs.List.{list_all};
 ghost use Rattle.cop_eds.specs.Text.{cut};
 ghost use Rattle.cop_change.specs.Told.{is_addition, is_told, is_line_told, are_told_from, are_told};

@@ -1,12 +1,10 @@
 -- What a dictionary built for one node has to do with those for the others: each value and limit is the same for all, or a number and the
 -- node's.
-use Rattle.std.proofs.Common.{◌≡◌, zero, suc, pow-suc, ◌≤◌, ◌<◌, ◌+◌, ◌-◌, ◌^◌, ◌==◌, ◌⊎◌, inl, inr, ℕ, ℤ, pos, Bool, true, false, cond, nat_le, List, [], ◌∷◌, Option, Some, None, Result, Ok, Err, codes, refl, ap, sym, ◌∙◌, subst, arith}
+use Rattle.std.proofs.Common.{◌≡◌, zero, suc, pow-suc, ◌≤◌, ◌<◌, ◌+◌, ◌-◌, ◌^◌, ◌⊎◌, inl, inr, ℕ, ℤ, pos, Bool, true, false, cond, nat_le, List, [], ◌∷◌, Option, Some, None, Result, Ok, Err, codes, refl, ap, sym, ◌∙◌, subst, arith}
 use Rattle.std.specs.Prelude.{unwrap_or}
 use Rattle.std.specs.Int.{bytes_low_first}
-use Rattle.std.proofs.lemmas.Option.{cond_some}
 use Rattle.std.proofs.lemmas.Bool.Decides.{nat_tests}
 use Rattle.cop_eds.specs.declared.fault.Rule.{Rule}
-use Rattle.cop_eds.specs.declared.fault.Rule.TheVariants.{Number}
 use Rattle.cop_eds.specs.declared.fault.Refusal.{Refusal}
 use Rattle.cop_eds.specs.declared.amount.Amount.{Amount}
 use Rattle.cop_eds.specs.declared.amount.Amount.TheVariants.{Decimal, Negative, Hexadecimal, PlusNode}
@@ -16,7 +14,7 @@ use Rattle.cop_eds.specs.Amount.{amount_of}
 use Rattle.cop_eds.specs.Steps.{◌>>=◌, standing_at}
 use Rattle.cop_eds.specs.Sections.{entry_of}
 use Rattle.cop_eds.specs.Objects.{objects_of}
-use Rattle.cop_eds.proofs.ReadingLemmas.{bind_ok, then_ok}
+use Rattle.cop_eds.proofs.ReadingLemmas.{bind_ok}
 use Rattle.cop_dict.specs.declared.data_type.DataType.{DataType}
 use Rattle.cop_dict.specs.declared.description.Description.{Description}
 use Rattle.cop_dict.specs.declared.data_type.DataType.TheVariants as types

@@ -1,9 +1,9 @@
 -- Lines that follow one another.
-use Rattle.std.proofs.Common.{◌≡◌, ◌∙◌, ◌≤◌, ℕ, zero, suc, ◌+◌, ◌-◌, List, [], ◌∷◌, ◌++◌, length, drop, Option, Some, None, refl, sym, ap, arith, length-append, length-drop}
+use Rattle.std.proofs.Common.{◌≡◌, ◌∙◌, ℕ, zero, suc, ◌+◌, ◌-◌, List, [], ◌∷◌, length, drop, Some, sym, ap, arith, length-append, length-drop}
 use Rattle.std.specs.Prelude.{slice_get}
 use Rattle.std.specs.List.{concat}
 use Rattle.cop_eds.specs.declared.line.Line.{Line}
-use Rattle.cop_eds.specs.Text.{mark_len, cut, end_len}
+use Rattle.cop_eds.specs.Text.{mark_len, cut}
 use Rattle.cop_eds.specs.Lines.{line_of, lines_from, lines_of}
 use Rattle.cop_eds.proofs.InsideLemmas.{mark_inside}
 use Rattle.cop_eds.proofs.LawLemmas.{concat_cut}

@@ -1,16 +1,15 @@
 -- A log that a reader gives in pieces.
-use Rattle.std.proofs.Common.{◌≡◌, ◌∙◌, ℕ, ◌+◌, ◌^◌, ◌<◌, List, [], ◌++◌, length, refl, sym, ap, subst, arith, append_assoc, append-nil, length-append, Option, Bool, true}
+use Rattle.std.proofs.Common.{◌≡◌, ◌∙◌, ℕ, ◌+◌, ◌^◌, ◌<◌, List, [], ◌++◌, length, refl, sym, ap, subst, arith, append_assoc, append-nil, length-append, Option, true}
 use Rattle.std.specs.Prelude.{slice_index_or, None, Some}
 use Rattle.std.specs.Io.KnownBytes.{Consumes, IsAtEnd}
 use Rattle.std.proofs.KnownBytes.{Consumes-nil, Consumes-trans, Consumes-all}
 use Rattle.cop_rta.specs.Test.{place_by_id}
 use Rattle.cop_rta.specs.Verdict.{PassesBy}
 use Rattle.cop_rta.specs.Greatest.{AreSynced}
-use Rattle.cop_bus.specs.Run.{Instance}
 use Rattle.cop_lines.specs.declared.entries.Entry.{Entry}
 use Rattle.cop_log.specs.declared.clocks.Clock.{Clock}
 use Rattle.cop_log.specs.declared.findings.Finding.{Finding}
-use Rattle.cop_log.specs.Log.{Terms, IsRunWith}
+use Rattle.cop_log.specs.Log.{Terms}
 use Rattle.cop_log.specs.Reading.{Wanted, HasRead}
 use Rattle.cop_log.specs.Watchers.{terms_of, IsKept}
 use Rattle.cop_log.proofs.ReadLemmas.{piece_more}

@@ -1,6 +1,6 @@
 //! A log that is watched to its end, in pieces that are not kept.
 
-ghost use Rattle.std.specs.Prelude.{◌≡◌, ◌<◌, ◌^◌, length, IfOk, OnOk};
+ghost use Rattle.std.specs.Prelude.{◌<◌, ◌^◌, length, IfOk, OnOk};
 ghost use Rattle.std.specs.Option.{option_copied};
 ghost use Rattle.std.specs.Io.KnownBytes.{IsAtEnd};
 ghost use Rattle.cop_table.specs.Pieces.{HoldsOfAll};

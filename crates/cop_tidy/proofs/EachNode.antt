@@ -1,11 +1,10 @@
 -- What holds of the dictionaries of the first and the last node holds of each.
-use Rattle.std.proofs.Common.{◌≡◌, ◌≤◌, ◌⊎◌, inl, inr, ℕ, Bool, true, false, not, ◌&&◌, ◌||◌, ◌==◌, List, Option, Some, None, Result, Ok, Err, IsOk, get_or, refl, ap, sym, ◌∙◌, subst, arith, Contains, All}
+use Rattle.std.proofs.Common.{◌≡◌, ◌≤◌, inl, inr, ℕ, true, List, Option, Some, None, Result, Ok, Err, IsOk, get_or, refl, ap, sym, ◌∙◌, subst, Contains, All}
 use Rattle.std.proofs.lemmas.List.Elements.{All-contains, All-contains_itself}
 use Rattle.cop_eds.specs.declared.fault.Refusal.{Refusal}
 use Rattle.cop_eds.specs.declared.description.Object.{Object}
 use Rattle.cop_eds.specs.Objects.{objects_of}
-use Rattle.cop_eds.specs.Reading.{reading}
-use Rattle.cop_dict.specs.Types.{is_unsigned32, type_numbered}
+use Rattle.cop_dict.specs.Types.{is_unsigned32}
 use Rattle.cop_dict.specs.Find.{Entry, AreAlike, entry_at}
 use Rattle.cop_dict.specs.Build.{entry_built, built}
 use Rattle.cop_dict.proofs.BuildLemmas.{built_sorted}
@@ -17,7 +16,7 @@ use Rattle.cop_tidy.specs.Accepted.{IsAccepted}
 use Rattle.cop_tidy.specs.Identified.{is_identifier, identified, IsIdentified, AreIdentified}
 use Rattle.cop_tidy.specs.Standing.{standing}
 use Rattle.cop_tidy.proofs.StandingLemmas.{accepted_of, last_identified_of}
-use Rattle.cop_tidy.specs.Kept.{is_record, is_mistyped, is_absent, is_alone, is_unidentified, IsLike, IsKept, Stays}
+use Rattle.cop_tidy.specs.Kept.{is_absent, is_unidentified, IsLike, IsKept, Stays}
 
 -- the dictionary that is built
 is_built : (r : Result (List Entry) Refusal) → IsOk r → (dict : List Entry) × (r ≡ Ok dict)
