@@ -1,1 +1,2 @@
 pub mod ApplyLemmas
+pub mod ToldLemmas

@@ -1,5 +1,5 @@
 -- A list of changes that tells of each line what stood there.
-use Rattle.std.specs.Prelude.{ℕ, ◌+◌, Bool, true, ◌&&◌, List, [], ◌∷◌, length, take, drop, ◌==◌, if◌then◌else◌}
+use Rattle.std.specs.Prelude.{ℕ, ◌≡◌, ◌+◌, ◌<◌, Bool, true, false, ◌&&◌, List, [], ◌∷◌, length, take, drop, slice_index_or, ◌==◌, if◌then◌else◌}
 use Rattle.std.specs.List.{list_all}
 use Rattle.std.specs.Str.{bytes_eq}
 use Rattle.cop_change.specs.declared.change.Change.{Change}
@@ -25,3 +25,12 @@ are_told_from place (raw ∷ raws) changes = is_line_told raw (take (here place 
 
 abbrev pub are_told : List ℕ → List Change → Bool
 are_told text changes = are_told_from 1 (lines_of text) changes
+
+-- A change is of one of these lines, the first of which has this number, and tells what stood there: the line's text without its end, or
+-- nothing where it adds a line behind it.
+pub record IsOfLine (first : ℕ) (raws : List (List ℕ)) (change : Change) : Type 0 where
+  pub line : ℕ
+  pub within : line < length raws
+  pub its : change.place ≡ first + line
+  pub changed : change.is_added ≡ false → change.old.items ≡ body_of (slice_index_or raws line [])
+  pub added : change.is_added ≡ true → change.old.items ≡ []
