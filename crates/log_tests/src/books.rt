@@ -1,0 +1,167 @@
+//! Logs that are watched by a plan to their end.
+
+use cop_log::Clock;
+use cop_logbook::{BookFault, WatchFault, watched};
+use cop_net::{all_rates, network, read_nodes, read_pdos};
+use cop_plan::{Choice, Outcome, Plan, plan};
+use std::alloc::Global;
+use std::io::{self, Read};
+use std::test::Fail;
+
+const NODES: &[u8] = b"row,node,name,eds,period,jitter\ndevice,5,Valve,unit.eds,0,0\n";
+
+const PDOS: &[u8] = b"node,tpdo,period,jitter,deadline,consumers\n5,1,10000,0,5000,\n";
+
+/// A device that sends one PDO of 32 bits.
+const UNIT: &[u8] = b"[DeviceInfo]
+BaudRate_250=1
+[OptionalObjects]
+SupportedObjects=2
+1=0x1800
+2=0x1A00
+[ManufacturerObjects]
+SupportedObjects=1
+1=0x2000
+[1800]
+ObjectType=9
+[1800sub1]
+DataType=7
+AccessType=rw
+DefaultValue=$NODEID+0x40000180
+[1800sub2]
+DataType=5
+AccessType=rw
+DefaultValue=255
+[1A00]
+ObjectType=9
+[1A00sub0]
+DataType=5
+AccessType=rw
+DefaultValue=1
+[1A00sub1]
+DataType=7
+AccessType=rw
+DefaultValue=0x20000020
+[2000]
+DataType=7
+AccessType=rw
+PDOMapping=1
+";
+
+/// The PDO has the identifier 181h, and an event every 10 ms.
+fn planned(alloc: Global) -> Result<Plan, Fail> {
+    let nodes = read_nodes(alloc, NODES)?;
+    let pdos = read_pdos(alloc, PDOS)?;
+    let mut files = Vec::new(alloc);
+    files.push((
+        String::from_str(alloc, "unit.eds")?,
+        Vec::from_slice(alloc, UNIT)?,
+    ))?;
+    let network = network(alloc, &all_rates(), &nodes, &pdos, &files)?;
+    match plan(alloc, &network, Choice::Order)? {
+        Outcome::Planned(plan) => Ok(plan),
+        Outcome::Refused(_) => Err(Fail::from("no rate passes")),
+    }
+}
+
+/// Gives a text in pieces of 1 to 7 bytes, and at its end fails, if it is to.
+#[derive(Drop)]
+struct Pieces<'a> {
+    left: &'a [u8],
+    len: usize,
+    fails: bool,
+}
+
+impl Read for Pieces<'_> {
+    fn read(&mut self, buf: &mut [u8]) -> io::Result<usize> {
+        if self.left.is_empty() && self.fails {
+            return Err(io::Error::from(io::ErrorKind::Other));
+        }
+        self.len = self.len % 7 + 1;
+        let len = self.len.min(self.left.len()).min(buf.len());
+        buf[..len].copy_from_slice(&self.left[..len]);
+        self.left = &self.left[len..];
+        Ok(len)
+    }
+}
+
+fn in_pieces(log: &str, fails: bool) -> Pieces<'_> {
+    Pieces {
+        left: log.as_bytes(),
+        len: 0,
+        fails,
+    }
+}
+
+/// How many breaches a log shows, or what is wrong with it.
+fn breaches(
+    alloc: Global,
+    plan: &Plan,
+    channel: Option<&str>,
+    log: Pieces<'_>,
+) -> Result<u64, WatchFault> {
+    let clock = Clock { error: 1, drift: 0 };
+    let book = watched(alloc, plan, clock, channel, false, log)?;
+    Ok(book.breaches())
+}
+
+const LOGS: &[(&str, u64)] = &[
+    (
+        "(0.000000) can0 181#00112233\n(0.010000) can0 181#00112233\n",
+        0,
+    ),
+    // The last line lacks its end.
+    (
+        "(0.000000) can0 181#00112233\n(0.001000) can0 181#00112233",
+        1,
+    ),
+    (
+        "(0.000000) can0 181#00112233\n(0.010000) can0 123#\n(0.011000) can0 181#0011223344\n",
+        2,
+    ),
+    // Frames of another channel do not count.
+    (
+        "(0.000000) can0 181#00112233\n(0.001000) can1 181#00112233\n",
+        0,
+    ),
+];
+
+#[test]
+fn a_log_is_watched_to_its_end(rt: HostRuntime) -> Result<(), Fail> {
+    let plan = planned(rt.alloc())?;
+    for case in LOGS {
+        let (log, wanted) = *case;
+        let found = breaches(rt.alloc(), &plan, None, in_pieces(log, false));
+        assert!(rt; matches!(found, Ok(found) if found == wanted));
+    }
+    Ok(())
+}
+
+#[test]
+fn a_log_that_is_refused_has_its_line(rt: HostRuntime) -> Result<(), Fail> {
+    let plan = planned(rt.alloc())?;
+    let log = in_pieces("(0.000000) can0 181#00112233\n(0.01 can0 181#\n", false);
+    let found = breaches(rt.alloc(), &plan, None, log);
+    let refused = matches!(
+        found,
+        Err(WatchFault::Book(BookFault::Refused { line: 2, .. }))
+    );
+    assert!(rt; refused);
+    let log = in_pieces("(0.000000) can0 181#00112233\n", false);
+    let found = breaches(rt.alloc(), &plan, Some("can1"), log);
+    let none = BookFault::Refused {
+        number: 94,
+        line: 0,
+    };
+    assert!(rt; matches!(found, Err(WatchFault::Book(fault)) if fault == none));
+    Ok(())
+}
+
+#[test]
+fn a_log_that_is_not_read_to_its_end_is_not_watched(rt: HostRuntime) -> Result<(), Fail> {
+    let plan = planned(rt.alloc())?;
+    let log = in_pieces("(0.000000) can0 181#00112233\n", true);
+    let found = breaches(rt.alloc(), &plan, None, log);
+    assert!(rt; matches!(found, Err(WatchFault::Read(_))));
+    Ok(())
+}
