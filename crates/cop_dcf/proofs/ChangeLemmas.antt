@@ -273,7 +273,7 @@ lines_append (x ∷ xs) ys h k = (h.0, lines_append xs ys h.1 k)
 
 -- ---- sections that a name has
 
-has_own : (name : List ℕ) (rows : List Row) → ((newline : List ℕ) (section : ℕ) → has_name name (header_row newline section name) ≡ true) → list_any (has_name name) (with_section name rows) ≡ true
+pub has_own : (name : List ℕ) (rows : List Row) → ((newline : List ℕ) (section : ℕ) → has_name name (header_row newline section name) ≡ true) → list_any (has_name name) (with_section name rows) ≡ true
 has_own name rows own = by_test (list_any (has_name name) rows) refl
   where
     or_true : (b : Bool) → b || (true || false) ≡ true
@@ -308,11 +308,11 @@ number_past name rows spelled h = by_found (find (has_name name) rows) refl
     by_found None is = absurd (missed (has_name name) rows is h)
     by_found (Some row) is = header_past 0 (has_name name) rows row spelled is (kind_is_header row.kind (and_left _ _ (found_test (has_name name) rows row is)))
 
-own_file : (newline : List ℕ) (section : ℕ) → has_name (codes "FileInfo") (header_row newline section (codes "FileInfo")) ≡ true
+pub own_file : (newline : List ℕ) (section : ℕ) → has_name (codes "FileInfo") (header_row newline section (codes "FileInfo")) ≡ true
 unfolding same_section
 own_file newline section = refl
 
-own_device : (newline : List ℕ) (section : ℕ) → has_name (codes "DeviceComissioning") (header_row newline section (codes "DeviceComissioning")) ≡ true
+pub own_device : (newline : List ℕ) (section : ℕ) → has_name (codes "DeviceComissioning") (header_row newline section (codes "DeviceComissioning")) ≡ true
 unfolding same_section
 own_device newline section = refl
 

@@ -254,7 +254,7 @@ fine_back (x ∷ xs) h =
     let here : nat_lt 47 x ≡ true = and_left _ _ h in
     ap (list_all is_fine) (reverse_onto xs x []) ∙ list_all-append is_fine (reverse xs) (x ∷ []) ∙ (rw (fine_back xs (and_right (nat_lt 47 x) _ h), here) refl)
 
-fine_trim : (xs : List ℕ) → list_all is_fine xs ≡ true → trim xs ≡ xs
+pub fine_trim : (xs : List ℕ) → list_all is_fine xs ≡ true → trim xs ≡ xs
 fine_trim xs h =
     ap (λ ys. reverse (trim_start (reverse ys))) (fine_first xs h) ∙ ap reverse (fine_first (reverse xs) (fine_back xs h)) ∙ reverse-reverse xs
 
@@ -272,7 +272,7 @@ set_value r section s body =
     by_value value own some = rw (own, some) refl
 
 -- ends of lines are of no account
-closed_find : {B : Type 0} (q : Row → Bool) (f : Row → B) (newline : List ℕ) (rows : List Row) → ((row : Row) (ending : List ℕ) → q (record row { ending = ending }) ≡ q row)
+pub closed_find : {B : Type 0} (q : Row → Bool) (f : Row → B) (newline : List ℕ) (rows : List Row) → ((row : Row) (ending : List ℕ) → q (record row { ending = ending }) ≡ q row)
     → ((row : Row) (ending : List ℕ) → f (record row { ending = ending }) ≡ f row) → option_map f (find q (closed newline rows)) ≡ option_map f (find q rows)
 closed_find {B = B} q f newline [] same value = refl
 closed_find {B = B} q f newline (row ∷ []) same value = refl
@@ -305,7 +305,7 @@ section_keys section key name rows = by_test (list_any (has_name name) rows)
 both_keys : (section : ℕ) (key : List ℕ) (rows : List Row) → find (has_key section key) (with_both rows) ≡ find (has_key section key) rows
 both_keys section key rows = section_keys section key (codes "DeviceComissioning") (with_section (codes "FileInfo") rows) ∙ section_keys section key (codes "FileInfo") rows
 
-and_then_by : (o p : Option Row) → option_map row_value o ≡ option_map row_value p → option_and_then row_value o ≡ option_and_then row_value p
+pub and_then_by : (o p : Option Row) → option_map row_value o ≡ option_map row_value p → option_and_then row_value o ≡ option_and_then row_value p
 and_then_by None None e = refl
 and_then_by None (Some y) e = cc
 and_then_by (Some x) None e = cc

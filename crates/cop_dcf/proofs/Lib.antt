@@ -16,3 +16,5 @@ pub mod HeldLemmas
 pub mod RoundLemmas
 pub mod NumberLemmas
 pub mod DeviceLemmas
+pub mod SaidLemmas
+pub mod KeptRowLemmas

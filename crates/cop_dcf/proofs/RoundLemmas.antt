@@ -52,38 +52,42 @@ module _ (text : List ℕ) (settings : List Setting) (node : ℕ) (name : List �
   abbrev all : List Change
   all = all_set text settings (file_number (rows_of text)) (device_number (rows_of text)) node eds_name name rate
 
-  changes_are : changes_of text settings node name rate eds_name ≡ all
+  pub changes_are : changes_of text settings node name rate eds_name ≡ all
   changes_are =
       append_assoc (values_from (setting_in text settings) 0 (section_count (rows_of text) + 1)) (origin_set (file_number (rows_of text)) eds_name) (device_set (device_number (rows_of text)) node name rate)
       ∙ ap (λ n. values_from (setting_in text settings) 0 n ++ places_set (file_number (rows_of text)) eds_name (device_number (rows_of text)) node name rate) (add-one (section_count (rows_of text)))
 
+  abbrev dcf : List ℕ
+  dcf = dcf_of text settings node name rate eds_name
+
+  module _ (accepted : reading text ≡ Ok text) (own : IsTrue (is_name name)) (other : IsTrue (is_name eds_name)) (low : node < 2 ^ 8) where
+    good : AreGood all
+    good =
+        all_good (setting_in text settings) (section_count (rows_of text)) (file_number (rows_of text)) (device_number (rows_of text)) node eds_name name rate
+        (none_before text settings) (file_past text) (device_past text) number_plain (name_plain eds_name other) (name_plain name own) (omega arith)
+
+    -- the DCF is the text with these changes
+    pub edited : IsEdit text dcf all
+    edited = record {
+      newline = newline_of (with_keys all (with_both (rows_of text)));
+      rows = ap (λ cs. rows_of (text_with text (with_keys cs (with_both (rows_of text))))) changes_are ∙ rows_written text all accepted good.clean good.apart good.lines;
+      clean = good.clean;
+      apart = good.apart;
+      ours = good.ours;
+    }
+
+  collected : (es : List Entry) → map (λ e. settled (entry_set (last_word settings) e)) es ≡ map settled (map (entry_set (last_word settings)) es)
+  collected [] = refl
+  collected (e ∷ es) = ap (λ rest. settled (entry_set (last_word settings) e) ∷ rest) (collected es)
+
   pub round : (dict : List Entry) → reading text ≡ Ok text → built text node ≡ Ok dict → All (IsNumber dict) settings → IsTrue (is_name name) → IsTrue (is_name eds_name) → node < 2 ^ 8
       → length (dcf_of text settings node name rate eds_name) ≤ 4 * 1024 * 1024 → IsReadAgain (dcf_of text settings node name rate eds_name) node dict settings
-  round dict accepted described numbers own other low small = record {
-    accepted = edit_accepted text dcf all edit accepted small;
-    dictionary =
-        edit_built text dcf all node (last_word settings) dict edit accepted
-        (are_set text dcf settings (file_number (rows_of text)) (device_number (rows_of text)) node node eds_name name rate dict edit described numbers) described
-        ∙ ap Ok (collected dict ∙ ap (map settled) (sym (planned_is settings dict)));
-  }
-    where
-      dcf : List ℕ
-      dcf = dcf_of text settings node name rate eds_name
-
-      good : AreGood all
-      good =
-          all_good (setting_in text settings) (section_count (rows_of text)) (file_number (rows_of text)) (device_number (rows_of text)) node eds_name name rate
-          (none_before text settings) (file_past text) (device_past text) number_plain (name_plain eds_name other) (name_plain name own) (omega arith)
-
-      edit : IsEdit text dcf all
-      edit = record {
-        newline = newline_of (with_keys all (with_both (rows_of text)));
-        rows = ap (λ cs. rows_of (text_with text (with_keys cs (with_both (rows_of text))))) changes_are ∙ rows_written text all accepted good.clean good.apart good.lines;
-        clean = good.clean;
-        apart = good.apart;
-        ours = good.ours;
+  round dict accepted described numbers own other low small =
+      let edit = edited accepted own other low in
+      record {
+        accepted = edit_accepted text dcf all edit accepted small;
+        dictionary =
+            edit_built text dcf all node (last_word settings) dict edit accepted
+            (are_set text dcf settings (file_number (rows_of text)) (device_number (rows_of text)) node node eds_name name rate dict edit described numbers) described
+            ∙ ap Ok (collected dict ∙ ap (map settled) (sym (planned_is settings dict)));
       }
-
-      collected : (es : List Entry) → map (λ e. settled (entry_set (last_word settings) e)) es ≡ map settled (map (entry_set (last_word settings)) es)
-      collected [] = refl
-      collected (e ∷ es) = ap (λ rest. settled (entry_set (last_word settings) e) ∷ rest) (collected es)

@@ -4,3 +4,4 @@ pub mod Dcf
 pub mod Changes
 pub mod Pieces
 pub mod Planned
+pub mod Free

@@ -1,6 +1,9 @@
 -- The planned dictionary of a node, and what its DCF says when it is read again.
-use Rattle.std.specs.Prelude.{◌≡◌, ◌<◌, ◌≤◌, ◌^◌, ◌*◌, ℕ, Bool, true, false, ◌==◌, List, length, map, fold, Some, Ok}
+use Rattle.std.specs.Prelude.{◌≡◌, ◌<◌, ◌≤◌, ◌^◌, ◌*◌, ℕ, Bool, true, false, ◌==◌, if◌then◌else◌, List, length, map, fold, codes, decimal, Some, None, Ok}
 use Rattle.cop_frame.specs.declared.rates.Rate.{Rate}
+use Rattle.cop_frame.specs.Rate.{kbits_of}
+use Rattle.cop_eds.specs.Text.{trim}
+use Rattle.cop_eds.specs.Sections.{section_of, value_in}
 use Rattle.cop_eds.specs.Reading.{reading}
 use Rattle.cop_dict.specs.declared.data_type.DataType.{DataType}
 use Rattle.cop_dict.specs.declared.data_type.DataType.TheVariants as types
@@ -44,6 +47,17 @@ pub record IsNumber (dict : List Entry) (setting : Setting) : Type 0 where
 pub record IsReadAgain (dcf : List ℕ) (node : ℕ) (dict : List Entry) (settings : List Setting) : Type 0 where
   pub accepted : reading dcf ≡ Ok dcf
   pub dictionary : built dcf node ≡ Ok (map settled (planned dict settings))
+
+-- What the DCF says of itself (CiA 306): the number of its node and the rate in kbit/s, in decimal digits, and the name of the EDS file that it
+-- was made of, without blanks at its ends.
+pub record SaysNode (dcf : List ℕ) (node : ℕ) (rate : Rate) (eds_name : List ℕ) : Type 0 where
+  pub device : ℕ
+  pub commissioning : section_of dcf (codes "DeviceComissioning") ≡ Some device
+  pub node_id : value_in dcf device (codes "NodeID") ≡ Some (decimal node)
+  pub baudrate : value_in dcf device (codes "Baudrate") ≡ Some (decimal (kbits_of rate))
+  pub file : ℕ
+  pub info : section_of dcf (codes "FileInfo") ≡ Some file
+  pub origin : value_in dcf file (codes "LastEDS") ≡ (if length (trim eds_name) == 0 then None else Some (trim eds_name))
 
 -- The same of a node of a network, whose device's text is one of some files and whose PDOs have these identifiers: its
 -- dictionary is the planned one.

@@ -10,7 +10,10 @@ mod section_keys;
 mod setting;
 mod writing;
 
-pub use laws::{node_round_trip, round_trip, settings_fit, settings_have_objects};
+pub use laws::{
+    dcf_keeps_other_lines, dcf_says_its_node, node_round_trip, round_trip, settings_fit,
+    settings_have_objects,
+};
 pub use node_settings::settings;
 pub use setting::Setting;
 pub use writing::write;
