@@ -11,6 +11,9 @@ pub mod MarginLemmas
 pub mod MarginOutcome
 pub mod MarginSteps
 pub mod MarginKept
+pub mod LeavesLemmas
+pub mod OneKeeps
+pub mod RenamedLeaves
 pub mod PlannedLemmas
 pub mod DeadlineLemmas
 pub mod NetworkLemmas

@@ -7,8 +7,7 @@ use Rattle.cop_frame.specs.declared.rates.Rate.{Rate}
 use Rattle.cop_rta.specs.declared.streams.Stream.{Stream}
 use Rattle.cop_rta.specs.Entries.{Entry, entry_of}
 use Rattle.cop_rta.specs.Greatest.{AreSynced}
-use Rattle.cop_rta.specs.Test.{of_stream}
-use Rattle.cop_cert.specs.Assignments.{least_id, id_under}
+use Rattle.cop_cert.specs.Assignments.{least_id}
 use Rattle.cop_plan.specs.Margins.{lower, AreLowered, IsOrderWith, IsChosenOrder}
 use Rattle.cop_plan.specs.Plans.{IsPlan}
 use Rattle.cop_plan.specs.Values.{PlanValue, Timing, timing_of, id_of, margin_of, HaveIds, HaveDeadlines, ArePdosHigh, AreOnTime}
@@ -54,7 +53,7 @@ less_entry : (margin : ℕ) (s : Stream) (above : ForSome s.deadline (λ d. marg
 unfolding less
 less_entry margin s above = refl
 
-can_be_lowered : (margin : ℕ) (streams : List Stream) → All (λ s. ForSome s.deadline (λ d. margin < d)) streams → (lowered : List Stream) × AreLowered margin streams lowered
+pub can_be_lowered : (margin : ℕ) (streams : List Stream) → All (λ s. ForSome s.deadline (λ d. margin < d)) streams → (lowered : List Stream) × AreLowered margin streams lowered
 can_be_lowered margin [] above = ([], refl)
 can_be_lowered margin (s ∷ ss) above =
     let here : ForSome s.deadline (λ d. margin < d) = above 0 s (omega arith) in
@@ -82,7 +81,7 @@ timings_less margin (s ∷ ss) = ap (λ (ts : List Timing). less_timing margin (
 lowered_timings : (margin : ℕ) (streams lowered : List Stream) → AreLowered margin streams lowered → map timing_of lowered ≡ map (less_timing margin) (map timing_of streams)
 lowered_timings margin streams lowered is = sym (timings_of lowered) ∙ ap (λ (es : List Entry). map timing_in es) is ∙ timings_less margin streams
 
-order_kept : (margin : Option ℕ) (rate : Rate) (streams : List Stream) (pdos : ℕ) (ids : ℕ → ℕ) → IsChosenOrder margin rate streams pdos ids → IsOrderWith (unwrap_or margin 0) rate streams pdos ids
+pub order_kept : (margin : Option ℕ) (rate : Rate) (streams : List Stream) (pdos : ℕ) (ids : ℕ → ℕ) → IsChosenOrder margin rate streams pdos ids → IsOrderWith (unwrap_or margin 0) rate streams pdos ids
 order_kept None rate streams pdos ids h = order_plain rate streams pdos ids h
 order_kept (Some margin) rate streams pdos ids h = h.0
 

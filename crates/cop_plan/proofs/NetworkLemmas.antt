@@ -10,9 +10,13 @@ use Rattle.cop_plan.specs.Values.{PlanValue}
 use Rattle.cop_plan.proofs.FillingLemmas.{no_bit}
 use Rattle.cop_plan.proofs.AssignLemmas.{also}
 
-the_deadline : (o : Option ℕ) → IsSome o → (d : ℕ) × (o ≡ Some d)
+pub the_deadline : (o : Option ℕ) → IsSome o → (d : ℕ) × (o ≡ Some d)
 the_deadline None h = absurd (no_bit false h refl)
 the_deadline (Some d) h = (d, refl)
+
+pub none_undated : (o : Option ℕ) (d : ℕ) → o ≡ Some d → IsSome o
+none_undated None d e = absurd (cc)
+none_undated (Some x) d e = refl
 
 pub can_assign_network : (n : Net) → IsNetwork n → length n.rows ≤ 512 → CanAssign n.set (length n.rows)
 can_assign_network n h few = record {

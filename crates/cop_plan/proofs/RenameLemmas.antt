@@ -1,6 +1,7 @@
 -- Streams under other identifiers, one more.
 use Rattle.std.proofs.Common.{◌≡◌, ◌≢◌, ◌==◌, ℕ, zero, suc, ◌+◌, ◌*◌, ◌<◌, ◌≤◌, ◌⊎◌, inl, inr, true, false, nat_lt, List, [], ◌∷◌, ◌++◌, length, map, take, get_or, slice_get, Option, Some, None, refl, sym, ap, subst, ◌∙◌, arith, ⊎_elim, length-append}
 use Rattle.std.proofs.lemmas.Bool.{cases_lt, lt-ltb, le-ltb, ltb-true, ne_eqb, cond-true, cond-false}
+use Rattle.std.proofs.lemmas.Option.{slice_get_cases}
 use Rattle.std.proofs.lemmas.List.{map-append, get_or-map, take_more, take_all}
 use Rattle.std.proofs.lemmas.List.Folds.{list_any_none}
 use Rattle.cop_rta.specs.declared.streams.Stream.{Stream}
@@ -11,6 +12,7 @@ use Rattle.cop_rta.specs.Streams.{AreDistinct, has_id, place_of_id}
 use Rattle.cop_frame.specs.declared.rates.Rate.{Rate}
 use Rattle.cop_rta.specs.Test.{of_stream, Passes, has_lower_id, place_by_id, ahead_of, sync_id}
 use Rattle.cop_rta.proofs.IdentifierLemmas.{of_stream_at, two_apart}
+use Rattle.cop_rta.specs.Witnesses.{under, HasMoreAbove}
 use Rattle.cop_rta.proofs.MoreAbove.{passes_under_fewer}
 use Rattle.cop_cert.specs.Assignments.{least_id, IsAssignment, AreOutside, IsSdo, IsTested, id_under, is_lower, place_under, AllTestedPass}
 use Rattle.cop_cert.proofs.AboveLemmas.{more_above}
@@ -132,7 +134,7 @@ none_lower pdos ids assigned p h = go (assigned.permitted p h)
 -- ---- the test under the identifiers
 
 module _ (rate : Rate) (streams renamed : List Stream) (pdos : ℕ) (ids : ℕ → ℕ) (have : HaveIds streams pdos ids renamed) where
-  same_count : length renamed ≡ length streams
+  pub same_count : length renamed ≡ length streams
   same_count = same_length renamed streams have.timings
 
   id_renamed : (k : ℕ) → k < length streams → of_stream (λ s. s.id) renamed k ≡ id_under streams pdos ids k
@@ -149,25 +151,42 @@ module _ (rate : Rate) (streams renamed : List Stream) (pdos : ℕ) (ids : ℕ �
       omega (arith, number, ltb-true s.id (of_stream (λ s. s.id) renamed index) (sym test ∙ h))
 
   -- both before and after, PDOs stand below SYNC, and what is ahead of latencies is the same
-  sync_alike : ArePdosHigh streams pdos → ((p : ℕ) → p < pdos → least_id ≤ ids p) → AreAlike streams renamed
+  pub sync_alike : ArePdosHigh streams pdos → ((p : ℕ) → p < pdos → least_id ≤ ids p) → AreAlike streams renamed
   sync_alike provisional low k inside = ⊎_elim
       (λ (pdo : k < pdos). inr (omega (arith, provisional k pdo), omega (arith, low k pdo, id_of_pdo streams pdos ids k pdo, id_renamed k inside)))
       (λ (fixed : pdos ≤ k). inl (sym (id_renamed k inside ∙ id_of_fixed streams pdos ids k fixed)))
       (cases_lt k pdos)
 
-  -- a PDO that passes under an assignment passes where the streams have its identifiers
-  pub passes_renamed : ArePdosHigh streams pdos → ((p : ℕ) → p < pdos → least_id ≤ ids p) → (p : ℕ) → p < length streams → Passes (place_under rate streams pdos ids p) → Passes (place_by_id renamed p rate)
-  passes_renamed provisional low p h passes =
-      passes_under_fewer (place_by_id renamed p rate) (is_lower streams pdos ids p) (omega (arith, h, same_count))
-      (more_above (place_by_id renamed p rate) (is_lower streams pdos ids p) above)
-      (subst (λ (ahead : ℕ). Passes (place_at renamed (is_lower streams pdos ids p) p rate ahead))
-      (ahead_same streams renamed (askings streams renamed (sym have.timings)) (sync_alike provisional low) rate)
-      (passes_same streams renamed (sym have.timings) (is_lower streams pdos ids p) p rate (ahead_of streams rate) passes))
+  -- who is above by the identifiers that the streams have is above under the assignment, and the other way
+  pub lower_before : (p : ℕ) → p < length streams → HasMoreAbove (place_by_id renamed p rate) (is_lower streams pdos ids p)
+  lower_before p h = more_above (place_by_id renamed p rate) (is_lower streams pdos ids p) above
     where
       above : (k : ℕ) → k < length renamed → k ≢ p → has_lower_id renamed p k ≡ true → is_lower streams pdos ids p k ≡ true
       above k low other e =
           lt-ltb (id_under streams pdos ids k) (id_under streams pdos ids p)
           (omega (arith, above_is_lower p k (slice_get renamed k) refl e, id_renamed k (omega (arith, low, same_count)), id_renamed p h))
+
+  pub lower_after : (p : ℕ) → p < length streams → HasMoreAbove (under (place_by_id renamed p rate) (is_lower streams pdos ids p)) (has_lower_id renamed p)
+  lower_after p h = more_above (under (place_by_id renamed p rate) (is_lower streams pdos ids p)) (has_lower_id renamed p) above
+    where
+      at_some : (k : ℕ) (s : Stream) → slice_get renamed k ≡ Some s → of_stream (λ s. s.id) renamed k < of_stream (λ s. s.id) renamed p → has_lower_id renamed p k ≡ true
+      at_some k s there lt =
+          let number : of_stream (λ s. s.id) renamed k ≡ s.id = rw there refl in
+          let test : has_lower_id renamed p k ≡ nat_lt s.id (of_stream (λ s. s.id) renamed p) = rw there refl in
+          test ∙ lt-ltb s.id (of_stream (λ s. s.id) renamed p) (omega (arith, lt, number))
+
+      above : (k : ℕ) → k < length renamed → k ≢ p → is_lower streams pdos ids p k ≡ true → has_lower_id renamed p k ≡ true
+      above k low other e =
+          let lt : of_stream (λ s. s.id) renamed k < of_stream (λ s. s.id) renamed p = omega (arith, ltb-true (id_under streams pdos ids k) (id_under streams pdos ids p) e, id_renamed k (omega (arith, low, same_count)), id_renamed p h) in
+          ⊎_elim (λ s. at_some k s.0 s.2 lt) (λ past. absurd (omega (arith, low, past.0))) (slice_get_cases renamed k).1
+
+  -- a PDO that passes under an assignment passes where the streams have its identifiers
+  pub passes_renamed : ArePdosHigh streams pdos → ((p : ℕ) → p < pdos → least_id ≤ ids p) → (p : ℕ) → p < length streams → Passes (place_under rate streams pdos ids p) → Passes (place_by_id renamed p rate)
+  passes_renamed provisional low p h passes =
+      passes_under_fewer (place_by_id renamed p rate) (is_lower streams pdos ids p) (omega (arith, h, same_count)) (lower_before p h)
+      (subst (λ (ahead : ℕ). Passes (place_at renamed (is_lower streams pdos ids p) p rate ahead))
+      (ahead_same streams renamed (askings streams renamed (sym have.timings)) (sync_alike provisional low) rate)
+      (passes_same streams renamed (sym have.timings) (is_lower streams pdos ids p) p rate (ahead_of streams rate) passes))
 
   same_fixed : (f : ℕ) → pdos ≤ f → f < length streams → of_stream (λ s. s.id) renamed f ≡ of_stream (λ s. s.id) streams f
   same_fixed f fixed inside = id_renamed f inside ∙ id_of_fixed streams pdos ids f fixed

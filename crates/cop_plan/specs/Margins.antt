@@ -1,9 +1,10 @@
 -- Deadlines lowered by a margin, and the greatest margin with which some assignment passes.
-use Rattle.std.specs.Prelude.{◌≡◌, ℕ, ◌-◌, ◌<◌, Bool, true, false, List, map, Option, None, Some, is_some, option_map}
+use Rattle.std.specs.Prelude.{◌≡◌, ℕ, ◌+◌, ◌-◌, ◌<◌, Bool, true, false, List, map, Option, None, Some, is_some, option_map}
 use Rattle.std.specs.List.{list_any}
 use Rattle.cop_frame.specs.declared.rates.Rate.{Rate}
 use Rattle.cop_rta.specs.declared.streams.Stream.{Stream}
 use Rattle.cop_rta.specs.Entries.{Entry, entry_of}
+use Rattle.cop_rta.specs.Test.{StreamPlace, deadline_at, greatest_response}
 use Rattle.cop_cert.specs.Assignments.{NoAssignmentPasses}
 use Rattle.cop_plan.specs.Orders.{IsPlanOrder}
 
@@ -35,3 +36,11 @@ IsOrderWith margin rate streams pdos ids = (lowered : List Stream) × AreLowered
 abbrev pub IsChosenOrder : Option ℕ → Rate → List Stream → ℕ → (ℕ → ℕ) → Type 0
 IsChosenOrder None rate streams pdos ids = IsPlanOrder rate streams pdos ids
 IsChosenOrder (Some margin) rate streams pdos ids = IsOrderWith margin rate streams pdos ids × IsGreatestMargin rate streams pdos margin
+
+-- the stream at a place has a deadline, and its greatest response is so many ticks before it
+pub record Leaves (p : StreamPlace) (margin : ℕ) : Type 0 where
+  pub deadline : ℕ
+  pub dated : deadline_at p ≡ Some deadline
+  pub response : ℕ
+  pub greatest : greatest_response p ≡ Some response
+  pub left : response + margin ≡ deadline

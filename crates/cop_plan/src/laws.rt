@@ -1,6 +1,6 @@
 //! What holds of plans, whatever the streams are.
 
-ghost use Rattle.std.specs.Prelude.{◌≡◌, ◌<◌, ◌≤◌, ◌↔◌, ℕ, Bool, false, nat_lt, nat_le, if◌then◌else◌, List, [], length};
+ghost use Rattle.std.specs.Prelude.{◌≡◌, ◌<◌, ◌≤◌, ◌↔◌, ℕ, Bool, true, false, Some, nat_lt, nat_le, if◌then◌else◌, List, [], length};
 ghost use Rattle.cop_frame.specs.declared.rates.Rate.{Rate};
 ghost use Rattle.cop_rta.specs.declared.streams.Stream.{Stream};
 ghost use Rattle.cop_cert.specs.declared.refusals.Refusal.{Refusal};
@@ -10,6 +10,9 @@ ghost use Rattle.cop_cert.specs.Assignments.{AreOutside, IsTested, IsPassing};
 ghost use Rattle.cop_cert.specs.Causes.{kept, PassesBelow};
 ghost use Rattle.cop_cert.specs.Sets.{IsStuckSet, IsGreatestStuckSet};
 ghost use Rattle.cop_cert.specs.Writable.{AreWritable};
+ghost use Rattle.cop_rta.specs.Test.{place_by_id};
+ghost use Rattle.cop_net.specs.Network.{Net, IsNetwork};
+ghost use Rattle.cop_plan.specs.Margins.{has_deadline, Leaves};
 ghost use Rattle.cop_plan.specs.Orders.{HasPdos, FramesPass, IsPlanOrder};
 ghost use Rattle.cop_plan.specs.Plans.{IsOutcome, IsPlan, IsChosenBy, AreAllRefused};
 ghost use Rattle.cop_plan.specs.declared.choices.Choice.{Choice};
@@ -73,4 +76,11 @@ pub fn fillings_give_the_order()
 pub fn refusals_are_writable()
     ensures plan { (rates : List Rate) (streams : List Stream) (pdos : ℕ) (plan : PlanValue) → pdos ≤ length streams → pdos ≤ 512 → IsPlan rates streams pdos plan → AreWritable plan.refusals }
     ensures none { (rates : List Rate) (streams : List Stream) (pdos : ℕ) (refusals : List Refusal) → pdos ≤ length streams → pdos ≤ 512 → AreAllRefused rates streams pdos refusals → AreWritable refusals }
+{}
+
+/// Of a network's plan by the greatest margin, some PDO or SDO frame has exactly the margin left: its greatest response is so many ticks before
+/// its deadline.
+pub fn one_keeps_no_more_than_the_margin()
+    ensures { (n : Net) (rates : List Rate) (plan : PlanValue) (margin : ℕ) → IsNetwork n → IsPlan rates n.set (length n.rows) plan → plan.margin ≡ Some margin → has_deadline n.set ≡ true
+        → (k : ℕ) × (k < length plan.streams) × Leaves (place_by_id plan.streams k plan.rate) margin }
 {}
