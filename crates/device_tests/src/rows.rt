@@ -421,12 +421,12 @@ fn copies_of_devices_are_equal(rt: HostRuntime) -> Result<(), Fail> {
 
 #[test]
 fn faults_are_printed(rt: HostRuntime) -> Result<(), Fail> {
-    match read_pdos(rt.alloc(), b"x") {
+    match pdos_of(rt.alloc(), "5,1,1000,0,1000,\n5\n") {
         Ok(_) => assert!(rt; false),
         Err(RowFault::Memory) => return Err(Fail::from(RowFault::Memory)),
         Err(fault) => {
             let text = format!(in rt.alloc(); "{fault}")?;
-            assert!(rt; text.as_str() == "refused at record 0");
+            assert!(rt; text.as_str() == "refused at record 2");
         }
     }
     let text = format!(in rt.alloc(); "{}", RowFault::Memory)?;

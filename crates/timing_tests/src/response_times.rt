@@ -323,10 +323,13 @@ fn is_printed(alloc: Global, fault: &TableFault, wanted: &str) -> Result<bool, A
 
 #[test]
 fn faults_of_tables_are_printed(rt: HostRuntime) -> Result<(), AllocError> {
-    match read_streams(rt.alloc(), b"x") {
+    match read_streams(
+        rt.alloc(),
+        b"id,bytes,period,jitter,deadline\n1,8,100,0,\n2,8,99,0,\n",
+    ) {
         Ok(_) => assert!(rt; false),
         Err(TableFault::Memory) => return Err(AllocError),
-        Err(fault) => assert!(rt; is_printed(rt.alloc(), &fault, "refused at record 0")?),
+        Err(fault) => assert!(rt; is_printed(rt.alloc(), &fault, "refused at record 2")?),
     }
     assert!(rt; is_printed(rt.alloc(), &TableFault::Memory, "out of memory")?);
     Ok(())
