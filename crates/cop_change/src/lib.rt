@@ -4,12 +4,13 @@
 mod applying;
 mod change;
 mod fault;
-pub mod laws;
+mod laws;
 mod listing;
 mod words;
 
 pub use applying::applied;
 pub use change::{Cause, Change, TextChange};
 pub use fault::{Question, Refusal, TidyFault, refused};
+pub use laws::{no_change_changes_nothing, told_changes_are_of_their_lines};
 pub use listing::are_told;
 pub use words::{Digits, Unlisted, Words, word_of};

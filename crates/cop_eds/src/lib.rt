@@ -9,7 +9,7 @@ mod fault;
 mod found;
 mod hints;
 mod index;
-pub mod laws;
+mod laws;
 mod line;
 mod lines;
 mod lists;
@@ -26,5 +26,9 @@ pub use amount::{Amount, amount_of};
 pub use description::{Access, Description, Object, ObjectType};
 pub use eds::{Eds, parse};
 pub use fault::{EdsFault, Refusal, Rule};
+pub use laws::{
+    first_broken_line, keys_are_distinct, lines_are_the_text, lines_follow_one_another,
+    objects_are_sorted, sections_are_distinct,
+};
 pub use line::{Kind, Line, Place};
 pub use number::number_of;

@@ -34,7 +34,7 @@ pub fn unpacking_restores()
 
 /// Where values fit their types, each object of a mapping has a value of its bits, and no more bits, so that unpacking
 /// restores it; and they fit still after whatever is unpacked. A built dictionary has such values, and keeps them
-/// (`cop_dict::laws::values_fit_their_types`).
+/// (`cop_dict::values_fit_their_types`).
 pub fn unpacked_values_fit()
     ensures mapped { (dict : List Entry) (layout : Layout) → HasObjects dict layout → HasFittingValues dict → HasProperValues dict layout }
     ensures unpacking { (dict : List Entry) (layout : Layout) (bits : List Bool) → HasObjects dict layout → HasFittingValues dict
