@@ -1,11 +1,12 @@
 //! What each subcommand does.
 
+use crate::answers::{booted, outcome, planned, tested};
 use crate::checking::{Wanted, check};
 use crate::earlier::{NodeFiles, remove_earlier};
 use crate::exporting::export;
 use crate::failures::{Failure, Use, file_failure};
 use crate::files::{Folder, print};
-use crate::inputs::{Inputs, read_file, read_input};
+use crate::inputs::Inputs;
 use crate::judging::judge;
 use crate::log_rules::log_rule_words;
 use crate::machines::{Form, boot_machine, machine_rule_words};
@@ -16,8 +17,7 @@ use crate::warning_rules::warning_rule_words;
 use crate::warnings::status_after;
 use crate::watching::watch_bus;
 use cop_engine::{
-    Fault, Files, RunFault, boot_bytes, deliver, none_passes, outcome_of, plan_bytes, run_plan,
-    test_bytes, test_status, text_status,
+    Fault, Files, RunFault, deliver, none_passes, run_plan, test_status, text_status,
 };
 use cop_frame::Rate;
 use cop_orders::{MOST_UNTIL, NetworkFiles, Order, PlanOrder, Request};
@@ -36,8 +36,7 @@ fn test(
     explain: bool,
     inputs: &mut Inputs,
 ) -> Result<bool, Failure> {
-    inputs.other = read_input(rt, file)?;
-    let (text, all_pass) = test_bytes(rt.alloc(), &inputs.other, rate)?;
+    let (text, all_pass) = tested(rt, rate, file, inputs)?;
     print(rt, &text)?;
     if explain {
         let _ = rt.stderr().write_all(&late_words(rt.alloc(), &text)?);
@@ -82,13 +81,7 @@ fn plan(
 ) -> Result<u8, Failure> {
     inputs.network.read(rt, order.network)?;
     let texts = &inputs.network;
-    let files = plan_bytes(
-        rt.alloc(),
-        &texts.nodes,
-        &texts.pdos,
-        &texts.eds_files,
-        &texts.asked,
-    )?;
+    let files = planned(rt.alloc(), texts)?;
     let status = status_after(rt.alloc(), texts, files.planned, order.strict)?;
     print(rt, &files.plan)?;
     write_files(rt, &files, order.out)?;
@@ -105,16 +98,7 @@ fn boot(
     network: NetworkFiles<'_>,
     inputs: &mut Inputs,
 ) -> Result<u8, Failure> {
-    inputs.network.read(rt, network)?;
-    let texts = &inputs.network;
-    let text = boot_bytes(
-        rt.alloc(),
-        seed,
-        &texts.nodes,
-        &texts.pdos,
-        &texts.eds_files,
-        &texts.asked,
-    )?;
+    let text = booted(rt, seed, network, inputs)?;
     print(rt, &text)?;
     Ok(text_status(&text))
 }
@@ -177,14 +161,7 @@ fn run(
     inputs: &mut Inputs,
 ) -> Result<u8, Failure> {
     inputs.network.read(rt, network)?;
-    let texts = &inputs.network;
-    let outcome = outcome_of(
-        rt.alloc(),
-        &texts.nodes,
-        &texts.pdos,
-        &texts.eds_files,
-        &texts.asked,
-    )?;
+    let outcome = outcome(rt.alloc(), &inputs.network)?;
     let text = run_outcome(rt, &outcome, drawn, trace)?;
     print(rt, &text)?;
     Ok(text_status(&text))

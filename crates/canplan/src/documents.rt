@@ -1,11 +1,12 @@
 //! Answers and faults as documents in JSON, on standard output.
 
+use crate::answers::{booted, judged, planned, tested};
 use crate::carrying::{carry_out, write_files};
 use crate::checking::{checked, read_for_check};
 use crate::explaining::explain;
 use crate::failures::Failure;
-use crate::files::print;
-use crate::inputs::{Inputs, Texts, read_file, read_input};
+use crate::files::{print, print_document};
+use crate::inputs::{Inputs, Texts, read_file};
 use crate::machines::{Form, answer, boot_machine};
 use crate::warnings::{all_warned, findings, status_after};
 use crate::watching::watch_bus;
@@ -13,9 +14,7 @@ use cop_documents::{
     Told, boot_document, check_document, fault_document, judge_document, plan_document,
     test_document,
 };
-use cop_engine::{
-    Fault, boot_bytes, judge_bytes, message, plan_bytes, test_bytes, test_status, text_status,
-};
+use cop_engine::{Fault, message, test_status, text_status};
 use cop_frame::Rate;
 use cop_net::{PlanFault, Table, network, read_nodes, read_pdos};
 use cop_orders::{NetworkFiles, Order, PlanOrder, Request};
@@ -23,20 +22,14 @@ use cop_plan::plan;
 use std::alloc::{AllocError, Global};
 use std::str;
 
-/// Writes a document, and the end of its line.
-fn print_document(rt: &HostRuntime, document: &str) -> Result<(), Failure> {
-    print(rt, format!(in rt.alloc(); "{document}\n")?.as_bytes())
-}
-
 fn test(rt: &HostRuntime, rate: Rate, file: &str, inputs: &mut Inputs) -> Result<bool, Failure> {
-    inputs.other = read_input(rt, file)?;
-    let (text, all_pass) = test_bytes(rt.alloc(), &inputs.other, rate)?;
+    let (text, all_pass) = tested(rt, rate, file, inputs)?;
     print_document(rt, &test_document(rt.alloc(), rate.kbits(), &text)?)?;
     Ok(all_pass)
 }
 
 /// The document of a plan.
-fn planned(alloc: Global, texts: &Texts) -> Result<String, Fault> {
+fn plan_text(alloc: Global, texts: &Texts) -> Result<String, Fault> {
     let (nodes, pdos) = texts.tables(alloc)?;
     let network = texts.network(alloc, &nodes, &pdos)?;
     let outcome = plan(alloc, &network, texts.asked.choice)?;
@@ -48,14 +41,8 @@ fn planned(alloc: Global, texts: &Texts) -> Result<String, Fault> {
 fn plan_order(rt: &HostRuntime, order: PlanOrder<'_>, inputs: &mut Inputs) -> Result<u8, Failure> {
     inputs.network.read(rt, order.network)?;
     let texts = &inputs.network;
-    let files = plan_bytes(
-        rt.alloc(),
-        &texts.nodes,
-        &texts.pdos,
-        &texts.eds_files,
-        &texts.asked,
-    )?;
-    let document = planned(rt.alloc(), texts)?;
+    let files = planned(rt.alloc(), texts)?;
+    let document = plan_text(rt.alloc(), texts)?;
     let status = status_after(rt.alloc(), texts, files.planned, order.strict)?;
     write_files(rt, &files, order.out)?;
     print_document(rt, &document)?;
@@ -81,16 +68,7 @@ fn boot(
     network: NetworkFiles<'_>,
     inputs: &mut Inputs,
 ) -> Result<u8, Failure> {
-    inputs.network.read(rt, network)?;
-    let texts = &inputs.network;
-    let text = boot_bytes(
-        rt.alloc(),
-        seed,
-        &texts.nodes,
-        &texts.pdos,
-        &texts.eds_files,
-        &texts.asked,
-    )?;
+    let text = booted(rt, seed, network, inputs)?;
     print_document(rt, &boot_document(rt.alloc(), &text)?)?;
     Ok(text_status(&text))
 }
@@ -104,15 +82,7 @@ fn judge(
     inputs.network.read_tables(rt, network)?;
     inputs.other = read_file(rt, trace)?;
     inputs.network.read_eds_files(rt, network)?;
-    let texts = &inputs.network;
-    let text = judge_bytes(
-        rt.alloc(),
-        &texts.nodes,
-        &texts.pdos,
-        &texts.eds_files,
-        &texts.asked,
-        &inputs.other,
-    )?;
+    let text = judged(rt.alloc(), inputs)?;
     print_document(rt, &judge_document(rt.alloc(), &text)?)?;
     Ok(text_status(&text))
 }

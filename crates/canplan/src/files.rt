@@ -13,6 +13,11 @@ pub fn print(rt: &HostRuntime, bytes: &[u8]) -> Result<(), Failure> {
     }
 }
 
+/// Writes a document to standard output, and the end of its line.
+pub fn print_document(rt: &HostRuntime, document: &str) -> Result<(), Failure> {
+    print(rt, format!(in rt.alloc(); "{document}\n")?.as_bytes())
+}
+
 /// Writes a file under another name, and then gives it its own.
 fn write_whole(rt: &HostRuntime, path: &str, bytes: &[u8]) -> io::Result<()> {
     let part = format!(in rt.alloc(); "{path}.part")?;

@@ -1,23 +1,16 @@
 //! The judgement of a trace.
 
+use crate::answers::{judged, outcome};
 use crate::failures::Failure;
 use crate::files::print;
 use crate::inputs::{Inputs, is_regular, open_file, read_file, read_opened};
-use cop_engine::{judge_bytes, judge_outcome, judge_pieces, outcome_of, text_status};
+use cop_engine::{judge_outcome, judge_pieces, text_status};
 use cop_orders::NetworkFiles;
 use std::fs::File;
 
 /// The judgement of the trace that was read, by the plan of the network that was read.
 pub fn judge_inputs(rt: &HostRuntime, inputs: &Inputs) -> Result<u8, Failure> {
-    let texts = &inputs.network;
-    let text = judge_bytes(
-        rt.alloc(),
-        &texts.nodes,
-        &texts.pdos,
-        &texts.eds_files,
-        &texts.asked,
-        &inputs.other,
-    )?;
+    let text = judged(rt.alloc(), inputs)?;
     print(rt, &text)?;
     Ok(text_status(&text))
 }
@@ -30,14 +23,7 @@ fn judge_file(
     file: File,
     inputs: &mut Inputs,
 ) -> Result<u8, Failure> {
-    let texts = &inputs.network;
-    let outcome = outcome_of(
-        rt.alloc(),
-        &texts.nodes,
-        &texts.pdos,
-        &texts.eds_files,
-        &texts.asked,
-    )?;
+    let outcome = outcome(rt.alloc(), &inputs.network)?;
     let text = match judge_pieces(rt.alloc(), &outcome, file) {
         Some(text) => text,
         None => {

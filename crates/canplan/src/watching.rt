@@ -1,11 +1,12 @@
 //! A log of a real bus, watched by the plan of its network.
 
+use crate::answers::outcome;
 use crate::failures::{Failure, Use, file_failure};
-use crate::files::print;
+use crate::files::{print, print_document};
 use crate::inputs::{Inputs, open_file};
 use crate::machines::Form;
 use cop_documents::watch_document;
-use cop_engine::{none_passes, outcome_of};
+use cop_engine::none_passes;
 use cop_log::Clock;
 use cop_logbook::{Logbook, WatchFault};
 use cop_orders::WatchOrder;
@@ -44,12 +45,6 @@ pub fn watched<'p>(
     }
 }
 
-/// Gives a document.
-fn print_document(rt: &HostRuntime, book: Option<&Logbook<'_>>) -> Result<(), Failure> {
-    let document = watch_document(rt.alloc(), book)?;
-    print(rt, format!(in rt.alloc(); "{document}\n")?.as_bytes())
-}
-
 /// Says what a log shows in a form, and gives the status.
 fn watch_by(
     rt: &HostRuntime,
@@ -59,7 +54,7 @@ fn watch_by(
 ) -> Result<u8, Failure> {
     let book = watched(rt, order, plan)?;
     if form == Form::Document {
-        print_document(rt, Some(&book))?;
+        print_document(rt, &watch_document(rt.alloc(), Some(&book))?)?;
     } else {
         print(rt, book.finish()?.as_bytes())?;
     }
@@ -69,7 +64,7 @@ fn watch_by(
 /// Says in a form that no rate passes, and gives the status.
 fn tell_no_plan(rt: &HostRuntime, form: Form) -> Result<u8, Failure> {
     if form == Form::Document {
-        print_document(rt, None)?;
+        print_document(rt, &watch_document(rt.alloc(), None)?)?;
     } else {
         print(rt, &none_passes(rt.alloc())?)?;
     }
@@ -84,14 +79,7 @@ pub fn watch_bus(
     inputs: &mut Inputs,
 ) -> Result<u8, Failure> {
     inputs.network.read(rt, order.network)?;
-    let texts = &inputs.network;
-    let outcome = outcome_of(
-        rt.alloc(),
-        &texts.nodes,
-        &texts.pdos,
-        &texts.eds_files,
-        &texts.asked,
-    )?;
+    let outcome = outcome(rt.alloc(), &inputs.network)?;
     match &outcome {
         Outcome::Planned(plan) => watch_by(rt, order, form, plan),
         Outcome::Refused(_) => tell_no_plan(rt, form),
