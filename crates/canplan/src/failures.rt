@@ -72,16 +72,24 @@ fn said_of(name: &str, wanted: Use) -> &'static str {
     }
 }
 
+/// What is said behind the system's word.
+fn limit_of(wanted: Use, error: &io::Error) -> &'static str {
+    match wanted {
+        Use::Read if error.kind() == io::ErrorKind::FileTooLarge => ", above 64 MiB",
+        _ => "",
+    }
+}
+
 fn named_failure(
     rt: &HostRuntime,
     name: &str,
     wanted: Use,
     error: &io::Error,
 ) -> Result<Failure, AllocError> {
-    let said = said_of(name, wanted);
+    let (said, limit) = (said_of(name, wanted), limit_of(wanted, error));
     Ok(Failure {
         fault: Fault::File(String::from_str(rt.alloc(), name)?),
-        reason: Some(format!(in rt.alloc(); "{said}: {error}\n")?),
+        reason: Some(format!(in rt.alloc(); "{said}: {error}{limit}\n")?),
     })
 }
 

@@ -9,7 +9,7 @@ use cop_orders::NetworkFiles;
 use std::fs::File;
 
 /// The judgement of the trace that was read, by the plan of the network that was read.
-pub fn judge_inputs(rt: &HostRuntime, inputs: &Inputs) -> Result<u8, Failure> {
+fn judge_inputs(rt: &HostRuntime, inputs: &Inputs) -> Result<u8, Failure> {
     let text = judged(rt.alloc(), inputs)?;
     print(rt, &text)?;
     Ok(text_status(&text))

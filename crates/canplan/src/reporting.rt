@@ -7,7 +7,6 @@ ghost use Rattle.cop_figures.specs.Figures.{AreFigures};
 use crate::failures::Failure;
 use crate::files::write_file;
 use crate::inputs::{Inputs, beside, read_file};
-use crate::judging::judge_inputs;
 use crate::warnings::finding_lines;
 use crate::watching::watched;
 use cop_engine::{Fault, plan_status};
@@ -28,12 +27,11 @@ struct Sources<'a> {
     inputs: &'a Inputs,
 }
 
-/// A page. It is not to be written where the trace has a late PDO.
+/// A page, and whether it shows a plan.
 #[derive(Drop)]
 struct Page {
     text: String,
     planned: bool,
-    is_late: bool,
 }
 
 /// The EDS files as they are shown, with the names by which they were opened.
@@ -162,7 +160,6 @@ fn outcome_page(
     Ok(Page {
         text,
         planned: matches!(outcome, Outcome::Planned(_)),
-        is_late: timeline.is_some_and(|timeline| timeline.late.is_some()),
     })
 }
 
@@ -186,12 +183,9 @@ fn sources_page(rt: &HostRuntime, sources: Sources<'_>) -> Result<Page, Failure>
     network_page(rt, sources, &nodes, &network)
 }
 
-/// Writes the page of what was read. A trace that does not keep to the plan ends as its judgement does, and nothing is written.
+/// Writes the page of what was read.
 fn write_page(rt: &HostRuntime, sources: Sources<'_>, out: &str) -> Result<u8, Failure> {
     let page = sources_page(rt, sources)?;
-    if page.is_late {
-        return judge_inputs(rt, sources.inputs);
-    }
     write_file(rt, out, page.text.as_bytes())?;
     Ok(plan_status(page.planned))
 }
