@@ -1,32 +1,38 @@
 //! What each subcommand does.
 
-use crate::answers::{booted, outcome, planned, tested};
 use crate::checking::{Wanted, check};
-use crate::earlier::{NodeFiles, remove_earlier};
 use crate::exporting::export;
-use crate::failures::{Failure, Use, file_failure};
-use crate::files::{Folder, print};
-use crate::inputs::Inputs;
 use crate::judging::judge;
-use crate::log_rules::log_rule_words;
-use crate::machines::{Form, boot_machine, machine_rule_words};
-use crate::notes::{plan_notes, tell};
+use crate::machines::{Form, boot_machine};
 use crate::reporting::write_report;
 use crate::tidying::carry_tidy;
-use crate::warning_rules::warning_rule_words;
-use crate::warnings::status_after;
 use crate::watching::watch_bus;
+use cop_answers::{Inputs, plan_notes, status_after, words_of_rule};
 use cop_engine::{
-    Fault, Files, RunFault, deliver, none_passes, run_plan, test_status, text_status,
+    Fault, Files, RunFault, deliver, none_passes, run_plan, test_bytes, test_status, text_status,
+};
+use cop_files::{
+    Failure, Folder, NodeFiles, Use, file_failure, print, read_input, read_network, remove_earlier,
+    tell,
 };
 use cop_frame::Rate;
 use cop_orders::{MOST_UNTIL, NetworkFiles, Order, PlanOrder, Request};
 use cop_plan::{Outcome, Plan};
-use cop_tidy::question_words;
-use cop_words::{late_words, rule_words};
+use cop_words::late_words;
 use std::alloc::{AllocError, Global};
 use std::fs::File;
 use std::io::{BufWriter, Write};
+
+/// The test of the streams of a table: its lines, and whether all pass.
+pub fn tested(
+    rt: &HostRuntime,
+    rate: Rate,
+    file: &str,
+    inputs: &mut Inputs,
+) -> Result<(Vec<u8>, bool), Failure> {
+    inputs.other = read_input(rt, file)?;
+    Ok(test_bytes(rt.alloc(), &inputs.other, rate)?)
+}
 
 /// The test of the streams of a table. What does not pass is told in words where that is wanted: whether all pass.
 fn test(
@@ -79,9 +85,9 @@ fn plan(
     told: bool,
     inputs: &mut Inputs,
 ) -> Result<u8, Failure> {
-    inputs.network.read(rt, order.network)?;
+    read_network(rt, &mut inputs.network, order.network)?;
     let texts = &inputs.network;
-    let files = planned(rt.alloc(), texts)?;
+    let files = texts.files(rt.alloc())?;
     let status = status_after(rt.alloc(), texts, files.planned, order.strict)?;
     print(rt, &files.plan)?;
     write_files(rt, &files, order.out)?;
@@ -91,7 +97,18 @@ fn plan(
     Ok(status)
 }
 
-/// The boot of a network by its plan, by the turns that a seed draws.
+/// The lines of a boot of a network by its plan, by the turns that a seed draws.
+pub fn booted(
+    rt: &HostRuntime,
+    seed: u64,
+    network: NetworkFiles<'_>,
+    inputs: &mut Inputs,
+) -> Result<Vec<u8>, Failure> {
+    read_network(rt, &mut inputs.network, network)?;
+    Ok(inputs.network.booted(rt.alloc(), seed)?)
+}
+
+/// The boot of a network by its plan.
 fn boot(
     rt: &HostRuntime,
     seed: u64,
@@ -160,8 +177,8 @@ fn run(
     trace: &str,
     inputs: &mut Inputs,
 ) -> Result<u8, Failure> {
-    inputs.network.read(rt, network)?;
-    let outcome = outcome(rt.alloc(), &inputs.network)?;
+    read_network(rt, &mut inputs.network, network)?;
+    let outcome = inputs.network.outcome(rt.alloc())?;
     let text = run_outcome(rt, &outcome, drawn, trace)?;
     print(rt, &text)?;
     Ok(text_status(&text))
@@ -169,31 +186,11 @@ fn run(
 
 /// What the rule of a number says.
 fn explain(rt: &HostRuntime, number: u8) -> Result<u8, Failure> {
-    let words = rule_words(rt.alloc(), number)?;
-    let words = if words.is_empty() {
-        question_words(number).as_bytes()
-    } else {
-        words.as_slice()
-    };
-    let words = if words.is_empty() {
-        log_rule_words(number).as_bytes()
-    } else {
-        words
-    };
-    let words = if words.is_empty() {
-        machine_rule_words(number).as_bytes()
-    } else {
-        words
-    };
-    let words = if words.is_empty() {
-        warning_rule_words(number).as_bytes()
-    } else {
-        words
-    };
+    let words = words_of_rule(rt.alloc(), number)?;
     if words.is_empty() {
         return Err(Failure::from(Fault::Usage));
     }
-    print(rt, words)?;
+    print(rt, &words)?;
     Ok(0)
 }
 

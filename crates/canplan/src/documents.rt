@@ -1,25 +1,18 @@
 //! Answers and faults as documents in JSON, on standard output.
 
-use crate::answers::{booted, judged, planned, tested};
-use crate::carrying::{carry_out, write_files};
-use crate::checking::{checked, read_for_check};
+use crate::carrying::{booted, carry_out, tested, write_files};
+use crate::checking::read_for_check;
 use crate::explaining::explain;
-use crate::failures::Failure;
-use crate::files::{print, print_document};
-use crate::inputs::{Inputs, Texts, read_file};
 use crate::machines::{Form, answer, boot_machine};
-use crate::warnings::{all_warned, findings, status_after};
 use crate::watching::watch_bus;
-use cop_documents::{
-    Told, boot_document, check_document, fault_document, judge_document, plan_document,
-    test_document,
+use cop_answers::{Inputs, checked, fault_text, plan_text, status_after};
+use cop_documents::{boot_document, check_document, judge_document, test_document};
+use cop_engine::{test_status, text_status};
+use cop_files::{
+    Failure, print, print_document, read_eds_files, read_file, read_network, read_tables,
 };
-use cop_engine::{Fault, message, test_status, text_status};
 use cop_frame::Rate;
-use cop_net::{PlanFault, Table, network, read_nodes, read_pdos};
 use cop_orders::{NetworkFiles, Order, PlanOrder, Request};
-use cop_plan::plan;
-use std::alloc::{AllocError, Global};
 use std::str;
 
 fn test(rt: &HostRuntime, rate: Rate, file: &str, inputs: &mut Inputs) -> Result<bool, Failure> {
@@ -28,20 +21,10 @@ fn test(rt: &HostRuntime, rate: Rate, file: &str, inputs: &mut Inputs) -> Result
     Ok(all_pass)
 }
 
-/// The document of a plan.
-fn plan_text(alloc: Global, texts: &Texts) -> Result<String, Fault> {
-    let (nodes, pdos) = texts.tables(alloc)?;
-    let network = texts.network(alloc, &nodes, &pdos)?;
-    let outcome = plan(alloc, &network, texts.asked.choice)?;
-    let found = findings(alloc, texts, &nodes, &network)?;
-    let warnings = all_warned(alloc, &found)?;
-    Ok(plan_document(alloc, &network, &outcome, &warnings)?)
-}
-
-fn plan_order(rt: &HostRuntime, order: PlanOrder<'_>, inputs: &mut Inputs) -> Result<u8, Failure> {
-    inputs.network.read(rt, order.network)?;
+fn plan(rt: &HostRuntime, order: PlanOrder<'_>, inputs: &mut Inputs) -> Result<u8, Failure> {
+    read_network(rt, &mut inputs.network, order.network)?;
     let texts = &inputs.network;
-    let files = planned(rt.alloc(), texts)?;
+    let files = texts.files(rt.alloc())?;
     let document = plan_text(rt.alloc(), texts)?;
     let status = status_after(rt.alloc(), texts, files.planned, order.strict)?;
     write_files(rt, &files, order.out)?;
@@ -79,10 +62,10 @@ fn judge(
     trace: &str,
     inputs: &mut Inputs,
 ) -> Result<u8, Failure> {
-    inputs.network.read_tables(rt, network)?;
+    read_tables(rt, &mut inputs.network, network)?;
     inputs.other = read_file(rt, trace)?;
-    inputs.network.read_eds_files(rt, network)?;
-    let text = judged(rt.alloc(), inputs)?;
+    read_eds_files(rt, &mut inputs.network, network)?;
+    let text = inputs.judged(rt.alloc())?;
     print_document(rt, &judge_document(rt.alloc(), &text)?)?;
     Ok(text_status(&text))
 }
@@ -98,7 +81,7 @@ pub fn carry_document(
             let all_pass = test(rt, rate, file, inputs)?;
             Ok(test_status(all_pass || !strict))
         }
-        Order::Plan(order) => plan_order(rt, order, inputs),
+        Order::Plan(order) => plan(rt, order, inputs),
         Order::Check {
             network,
             refusals,
@@ -112,85 +95,6 @@ pub fn carry_document(
     }
 }
 
-/// The table that a network's refusal is of.
-fn table_of(alloc: Global, texts: &Texts) -> Option<Table> {
-    let nodes = match read_nodes(alloc, &texts.nodes) {
-        Ok(nodes) => nodes,
-        Err(PlanFault::Refused(refusal)) => return Some(refusal.table),
-        Err(PlanFault::Memory) => return None,
-    };
-    let pdos = match read_pdos(alloc, &texts.pdos) {
-        Ok(pdos) => pdos,
-        Err(PlanFault::Refused(refusal)) => return Some(refusal.table),
-        Err(PlanFault::Memory) => return None,
-    };
-    match network(alloc, &texts.asked.rates, &nodes, &pdos, &texts.eds_files) {
-        Err(PlanFault::Refused(refusal)) => Some(refusal.table),
-        _ => None,
-    }
-}
-
-/// The table that a rule is of, by its number.
-fn table_name(alloc: Global, number: u8, texts: &Texts) -> Option<&'static str> {
-    match number {
-        1..=6 => Some("streams"),
-        30..=36 => Some("refusals"),
-        60..=69 => Some("trace"),
-        90..=95 => Some("log"),
-        40..=53 => match table_of(alloc, texts) {
-            Some(Table::Nodes) => Some("nodes"),
-            Some(Table::Pdos) => Some("pdos"),
-            None => None,
-        },
-        _ => None,
-    }
-}
-
-/// The column that the words on a fault name.
-fn column_of(words: &str) -> Option<&str> {
-    for line in words.lines() {
-        if let Some(rest) = line.strip_prefix("wanted in column ") {
-            return match rest.split_once(':') {
-                Some((column, _)) => Some(column),
-                None => None,
-            };
-        }
-    }
-    None
-}
-
-/// The document of a fault.
-fn fault_text(
-    rt: &HostRuntime,
-    order: Order<'_>,
-    inputs: &Inputs,
-    failure: &Failure,
-) -> Result<String, AllocError> {
-    let alloc = rt.alloc();
-    let said = explain(rt, order, inputs, failure)?;
-    let words = str::from_utf8(&said).unwrap_or("");
-    let line = message(alloc, &failure.fault)?;
-    let (number, record) = match failure.fault {
-        Fault::Refused { number, place } => (Some(number), Some(place)),
-        _ => (None, None),
-    };
-    let table = match number {
-        Some(number) => table_name(alloc, number, &inputs.network),
-        None => None,
-    };
-    fault_document(
-        alloc,
-        Told {
-            number,
-            table,
-            record,
-            column: column_of(words),
-            line: line.trim_end(),
-            words,
-        },
-    )
-}
-
 /// Writes a fault as a document: on standard error where standard output is the port of a machine.
 fn print_fault(
     rt: &HostRuntime,
@@ -198,11 +102,15 @@ fn print_fault(
     inputs: &Inputs,
     failure: &Failure,
 ) -> Result<(), Failure> {
-    let document = fault_text(rt, order, inputs, failure)?;
-    let line = format!(in rt.alloc(); "{document}\n")?;
+    let said = explain(rt, order, inputs, failure)?;
+    let words = str::from_utf8(&said).unwrap_or("");
+    let document = fault_text(rt.alloc(), &inputs.network, &failure.fault, words)?;
     match order {
-        Order::Machine(machine) => answer(rt, machine.port, line.as_bytes()),
-        _ => print(rt, line.as_bytes()),
+        Order::Machine(machine) => {
+            let line = format!(in rt.alloc(); "{document}\n")?;
+            answer(rt, machine.port, line.as_bytes())
+        }
+        _ => print_document(rt, &document),
     }
 }
 

@@ -3,19 +3,13 @@
 ghost use Rattle.std.specs.Prelude.{length};
 ghost use Rattle.cop_plan.specs.Plans.{IsPlan};
 
-use crate::earlier::{NodeFiles, remove_earlier};
-use crate::failures::Failure;
-use crate::files::{print, write_file};
-use crate::inputs::Inputs;
-use cop_cdcf::concise;
+use cop_answers::{Inputs, NamedFile, concise_files};
 use cop_dbc::dbc;
-use cop_dcf::settings;
 use cop_engine::{none_passes, text_status};
-use cop_net::{DeviceRow, Network};
+use cop_files::{Failure, NodeFiles, print, read_network, remove_earlier, write_file};
+use cop_net::Network;
 use cop_orders::{Format, NetworkFiles};
 use cop_plan::{Outcome, Plan, plan};
-use std::alloc::{AllocError, Global};
-use std::str;
 
 /// Where a plan is written, and as what.
 #[derive(Clone, Copy)]
@@ -23,13 +17,6 @@ struct Target<'a> {
     format: Format,
     out: &'a str,
 }
-
-/// The columns of what a manager is told.
-const MASTER_COLUMNS: &str = "object,sub,value,words\n";
-
-/// How long a manager waits (CiA 302-2, object 1F89h).
-const BOOT_TIME: &str =
-    "1F89h,0,0,the manager waits for slaves that have to be there as long as it takes; else so many milliseconds\n";
 
 /// Writes the CAN database of a plan.
 fn write_dbc(
@@ -43,53 +30,10 @@ fn write_dbc(
     write_file(rt, out, &text)
 }
 
-/// The name of the concise DCF of a node.
-fn cdcf_name(alloc: Global, node: u8) -> Result<String, AllocError> {
-    format!(in alloc; "node-{node:03}.cdcf")
-}
-
-/// Adds what a manager is told of a device: its concise DCF, and how it may be booted (CiA 302-2, objects 1F22h and 1F81h).
-fn push_told(
-    told: &mut String,
-    row: &DeviceRow,
-    file: &str,
-    count: usize,
-) -> Result<(), AllocError> {
-    let node = row.node;
-    let name = str::from_utf8(row.name.as_bytes()).unwrap_or("?");
-    write!(
-        told,
-        "1F22h,{node},{file},the concise DCF of {name}: {count} settings\n"
-    )?;
-    write!(
-        told,
-        "1F81h,{node},0000000Dh,{name} is a slave (bit 0) that the manager configures and boots (bit 2) and that has to be there (bit 3)\n"
-    )
-}
-
 /// Writes a file of a folder.
 fn put(rt: &HostRuntime, folder: &str, name: &str, bytes: &[u8]) -> Result<(), Failure> {
     let path = format!(in rt.alloc(); "{folder}/{name}")?;
     write_file(rt, &path, bytes)
-}
-
-/// Writes the concise DCF of a device, and adds what a manager is told of it: its name.
-fn put_device(
-    rt: &HostRuntime,
-    network: &Network<'_>,
-    plan: &Plan,
-    row: &DeviceRow,
-    folder: &str,
-    told: &mut String,
-) -> Result<String, Failure>
-    requires { IsPlan network.now.equipment.rates network.now.set (length network.now.rows) plan.now }
-{
-    let settings = settings(rt.alloc(), plan, network, row.node)?;
-    let bytes = concise(rt.alloc(), &settings)?;
-    let name = cdcf_name(rt.alloc(), row.node)?;
-    put(rt, folder, &name, &bytes)?;
-    push_told(told, row, &name, settings.len())?;
-    Ok(name)
 }
 
 /// Writes the concise DCF of each device into a folder, and what a manager is told. Once a file cannot be written, no other is. Those
@@ -102,13 +46,12 @@ fn write_cdcf(
 ) -> Result<(), Failure>
     requires { IsPlan network.now.equipment.rates network.now.set (length network.now.rows) plan.now }
 {
-    let mut told = String::from_str(rt.alloc(), MASTER_COLUMNS)?;
     let mut names = Vec::new(rt.alloc());
-    for row in network.devices() {
-        names.push(put_device(rt, network, plan, row, folder, &mut told)?)?;
+    for file in concise_files(rt.alloc(), network, plan)? {
+        let NamedFile { name, bytes } = file;
+        put(rt, folder, &name, &bytes)?;
+        names.push(name)?;
     }
-    told.push_str(BOOT_TIME)?;
-    put(rt, folder, "master.csv", told.as_bytes())?;
     let written = NodeFiles {
         ending: ".cdcf",
         names: &names,
@@ -161,7 +104,7 @@ pub fn export(
     out: &str,
     inputs: &mut Inputs,
 ) -> Result<u8, Failure> {
-    inputs.network.read(rt, files)?;
+    read_network(rt, &mut inputs.network, files)?;
     let texts = &inputs.network;
     let (nodes, pdos) = texts.tables(rt.alloc())?;
     let network = texts.network(rt.alloc(), &nodes, &pdos)?;

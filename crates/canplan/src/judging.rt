@@ -1,16 +1,16 @@
 //! The judgement of a trace.
 
-use crate::answers::{judged, outcome};
-use crate::failures::Failure;
-use crate::files::print;
-use crate::inputs::{Inputs, is_regular, open_file, read_file, read_opened};
+use cop_answers::Inputs;
 use cop_engine::{judge_outcome, judge_pieces, text_status};
+use cop_files::{
+    Failure, is_regular, open_file, print, read_eds_files, read_file, read_opened, read_tables,
+};
 use cop_orders::NetworkFiles;
 use std::fs::File;
 
 /// The judgement of the trace that was read, by the plan of the network that was read.
 fn judge_inputs(rt: &HostRuntime, inputs: &Inputs) -> Result<u8, Failure> {
-    let text = judged(rt.alloc(), inputs)?;
+    let text = inputs.judged(rt.alloc())?;
     print(rt, &text)?;
     Ok(text_status(&text))
 }
@@ -23,7 +23,7 @@ fn judge_file(
     file: File,
     inputs: &mut Inputs,
 ) -> Result<u8, Failure> {
-    let outcome = outcome(rt.alloc(), &inputs.network)?;
+    let outcome = inputs.network.outcome(rt.alloc())?;
     let text = match judge_pieces(rt.alloc(), &outcome, file) {
         Some(text) => text,
         None => {
@@ -42,13 +42,13 @@ pub fn judge(
     trace: &str,
     inputs: &mut Inputs,
 ) -> Result<u8, Failure> {
-    inputs.network.read_tables(rt, network)?;
+    read_tables(rt, &mut inputs.network, network)?;
     let file = open_file(rt, trace)?;
     if is_regular(&file) {
-        inputs.network.read_eds_files(rt, network)?;
+        read_eds_files(rt, &mut inputs.network, network)?;
         return judge_file(rt, trace, file, inputs);
     }
     inputs.other = read_opened(rt, trace, file)?;
-    inputs.network.read_eds_files(rt, network)?;
+    read_eds_files(rt, &mut inputs.network, network)?;
     judge_inputs(rt, inputs)
 }

@@ -1,24 +1,13 @@
 //! EDS files as makers ship them, made such that plan reads them.
 
-use crate::failures::Failure;
-use crate::files::{print, write_file};
-use crate::inputs::{Inputs, read_file};
 use crate::tidying_folders::tidy_folder;
+use cop_answers::{Inputs, is_same, is_taken, last_part, left_words};
 use cop_engine::Fault;
-use cop_net::{PlanFault, read_nodes};
+use cop_files::{Failure, print, read_file, write_file};
 use cop_orders::TidyOrder;
-use cop_tidy::{Question, Refusal, Tidied, TidyFault, Words, tidy, told};
-use std::alloc::{AllocError, Global};
+use cop_tidy::{Refusal, Tidied, TidyFault, Words, tidy, told};
+use std::alloc::Global;
 use std::fs;
-
-/// Of a text that is rewritten in vain: what still stands against it.
-fn left_words(alloc: Global, refusal: Refusal) -> Result<Option<String>, AllocError> {
-    match refusal.question {
-        Question::Left(0) => Ok(Some(String::from_str(alloc, "an object of it would be lost\n")?)),
-        Question::Left(number) => Ok(Some(format!(in alloc; "what is left is {number}\n")?)),
-        _ => Ok(None),
-    }
-}
 
 fn refused(alloc: Global, refusal: Refusal) -> Failure {
     match left_words(alloc, refusal) {
@@ -30,18 +19,6 @@ fn refused(alloc: Global, refusal: Refusal) -> Failure {
             reason,
         },
         Err(error) => Failure::from(error),
-    }
-}
-
-/// Of an EDS file that plan refuses: whether it can be mended, and how.
-pub fn mend_words(alloc: Global, name: &str, text: &[u8]) -> Result<String, AllocError> {
-    match tidy(alloc, text, &Words::none()) {
-        Ok(_) => format!(in alloc; "canplan tidy {name} OUT.eds makes of it one that is read\n"),
-        Err(TidyFault::Refused(refusal)) => {
-            let (number, line) = (refusal.question.number(), refusal.line);
-            format!(in alloc; "canplan tidy {name} OUT.eds is refused, too: {number} {line}\n")
-        }
-        Err(TidyFault::Memory) => Err(AllocError),
     }
 }
 
@@ -59,24 +36,6 @@ pub fn answer_for(alloc: Global, text: &[u8], words: &Words) -> Result<Answer, F
         Err(TidyFault::Refused(refusal)) => Ok(Answer::Refused(refusal)),
         Err(TidyFault::Memory) => Err(Failure::from(Fault::Memory)),
     }
-}
-
-/// Whether the table of nodes takes a name for an EDS file.
-fn is_taken(alloc: Global, name: &str) -> Result<bool, AllocError> {
-    let table = format!(in alloc; "row,node,name,eds,period,jitter\ndevice,1,Device,{name},0,0\n")?;
-    match read_nodes(alloc, table.as_bytes()) {
-        Ok(table) => Ok(match table.devices() {
-            [row] => row.eds.as_bytes() == name.as_bytes(),
-            _ => false,
-        }),
-        Err(PlanFault::Refused(_)) => Ok(false),
-        Err(PlanFault::Memory) => Err(AllocError),
-    }
-}
-
-/// The last part of a path.
-fn last_part(path: &str) -> &str {
-    path.rsplit('/').next().unwrap_or(path)
 }
 
 /// Refuses a file's name that the table of nodes does not take, as one that no plan could read.
@@ -109,11 +68,6 @@ fn tidy_file(rt: &HostRuntime, order: TidyOrder<'_>, inputs: &mut Inputs) -> Res
         return Ok(0);
     }
     Ok(if is_same(&tidied) { 0 } else { 3 })
-}
-
-/// Whether nothing was changed.
-pub fn is_same(tidied: &Tidied) -> bool {
-    tidied.changes.is_empty() && tidied.text_changes.is_empty()
 }
 
 /// Makes of an EDS file, or of all of a folder, what plan reads.

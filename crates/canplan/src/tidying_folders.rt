@@ -1,9 +1,8 @@
 //! All EDS files of a folder, made such that plan reads them.
 
-use crate::failures::{Failure, Use, file_failure};
-use crate::files::{print, write_file};
-use crate::inputs::read_file;
-use crate::tidying::{Answer, answer_for, check_name, is_same};
+use crate::tidying::{Answer, answer_for, check_name};
+use cop_answers::is_same;
+use cop_files::{Failure, Use, file_failure, print, read_file, write_file};
 use cop_orders::TidyOrder;
 use cop_tidy::{Refusal, Tidied, refusal_words, told};
 use cop_words::line_at;

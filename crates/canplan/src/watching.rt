@@ -1,12 +1,10 @@
 //! A log of a real bus, watched by the plan of its network.
 
-use crate::answers::outcome;
-use crate::failures::{Failure, Use, file_failure};
-use crate::files::{print, print_document};
-use crate::inputs::{Inputs, open_file};
 use crate::machines::Form;
+use cop_answers::Inputs;
 use cop_documents::watch_document;
 use cop_engine::none_passes;
+use cop_files::{Failure, Use, file_failure, open_file, print, print_document, read_network};
 use cop_log::Clock;
 use cop_logbook::{Logbook, WatchFault};
 use cop_orders::WatchOrder;
@@ -78,8 +76,8 @@ pub fn watch_bus(
     form: Form,
     inputs: &mut Inputs,
 ) -> Result<u8, Failure> {
-    inputs.network.read(rt, order.network)?;
-    let outcome = outcome(rt.alloc(), &inputs.network)?;
+    read_network(rt, &mut inputs.network, order.network)?;
+    let outcome = inputs.network.outcome(rt.alloc())?;
     match &outcome {
         Outcome::Planned(plan) => watch_by(rt, order, form, plan),
         Outcome::Refused(_) => tell_no_plan(rt, form),

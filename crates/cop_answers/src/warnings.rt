@@ -1,6 +1,6 @@
 //! What is worth a look before one relies on a plan, of what was read.
 
-use crate::inputs::Texts;
+use crate::texts::Texts;
 use cop_documents::Warned;
 use cop_engine::{Fault, plan_status};
 use cop_net::{Network, NodeTable};

@@ -1,7 +1,7 @@
 //! The files that the program writes.
 
 use crate::failures::{Failure, Use, file_failure};
-use cop_engine::{Files, Outlet};
+use cop_engine::{Fault, Outlet};
 use std::fs;
 use std::io::{self, ErrorKind, Write};
 
@@ -16,6 +16,13 @@ pub fn print(rt: &HostRuntime, bytes: &[u8]) -> Result<(), Failure> {
 /// Writes a document to standard output, and the end of its line.
 pub fn print_document(rt: &HostRuntime, document: &str) -> Result<(), Failure> {
     print(rt, format!(in rt.alloc(); "{document}\n")?.as_bytes())
+}
+
+/// Says what is to be said of an answer, where there was memory for it.
+pub fn tell(rt: &HostRuntime, notes: Result<Vec<u8>, Fault>) {
+    if let Ok(words) = notes {
+        let _ = rt.stderr().write_all(&words);
+    }
 }
 
 /// Writes a file under another name, and then gives it its own.

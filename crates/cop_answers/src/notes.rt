@@ -3,7 +3,7 @@
 ghost use Rattle.std.specs.Prelude.{length};
 ghost use Rattle.cop_plan.specs.Plans.{IsOutcome};
 
-use crate::inputs::{Inputs, Texts};
+use crate::texts::{Inputs, Texts};
 use crate::warnings::finding_lines;
 use cop_engine::Fault;
 use cop_figures::{Figures, figures_of};
@@ -11,7 +11,6 @@ use cop_net::{Network, NodeTable};
 use cop_plan::{Outcome, plan};
 use cop_words::{margin_words, refused_words, uncovered_words};
 use std::alloc::{AllocError, Global};
-use std::io::Write;
 
 /// What limits the margin of a plan, where its identifiers were chosen by it.
 fn limits(
@@ -52,13 +51,6 @@ pub fn plan_notes(alloc: Global, texts: &Texts) -> Result<Vec<u8>, Fault> {
     let network = texts.network(alloc, &nodes, &pdos)?;
     let outcome = plan(alloc, &network, texts.asked.choice)?;
     Ok(outcome_notes(alloc, texts, &nodes, &network, &outcome)?)
-}
-
-/// Says what is to be said of an answer, where there was memory for it.
-pub fn tell(rt: &HostRuntime, notes: Result<Vec<u8>, Fault>) {
-    if let Ok(words) = notes {
-        let _ = rt.stderr().write_all(&words);
-    }
 }
 
 /// What is said of a check: the rates that the file of this name does not refuse.

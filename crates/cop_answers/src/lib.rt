@@ -1,0 +1,31 @@
+//! What is answered on what was read for an order: plans and judgements of bytes, and what is said of them and of faults, in words, on
+//! a page and in a document. Nothing here reads or writes a file.
+#![tactic(auto)]
+
+mod booting;
+mod checking;
+mod documents;
+mod explaining;
+mod identities;
+mod log_rules;
+mod masters;
+mod notes;
+mod pages;
+mod rules;
+mod texts;
+mod tidying;
+mod warning_rules;
+mod warnings;
+
+pub use booting::{ABSENT, RUNNING, boot_notes};
+pub use checking::checked;
+pub use documents::{fault_text, plan_text};
+pub use explaining::{words_on_file, words_on_refusal};
+pub use identities::identity_notes;
+pub use masters::{NamedFile, concise_files};
+pub use notes::{check_notes, plan_notes};
+pub use pages::{Sources, page_text, timeline};
+pub use rules::words_of_rule;
+pub use texts::{Inputs, Texts, beside};
+pub use tidying::{is_same, is_taken, last_part, left_words};
+pub use warnings::status_after;

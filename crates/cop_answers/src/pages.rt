@@ -1,0 +1,124 @@
+//! The page that shows the plan of a network, and what a trace and a log tell of it.
+
+ghost use Rattle.std.specs.Prelude.{length};
+ghost use Rattle.cop_plan.specs.Plans.{IsOutcome};
+ghost use Rattle.cop_figures.specs.Figures.{AreFigures};
+
+use crate::texts::{Inputs, beside};
+use crate::warnings::finding_lines;
+use cop_engine::Fault;
+use cop_figures::{Breakdown, Figures, Timeline, breakdowns_of, figures_of, timeline_of};
+use cop_logbook::Logbook;
+use cop_net::{Network, NodeTable};
+use cop_orders::{NetworkFiles, Shown};
+use cop_plan::Outcome;
+use cop_report::{Input, Report, page_of};
+use std::alloc::{AllocError, Global};
+use std::str;
+
+/// The files that a page is made of.
+#[derive(Clone, Copy)]
+pub struct Sources<'a> {
+    pub network: NetworkFiles<'a>,
+    pub shown: Shown<'a>,
+    pub inputs: &'a Inputs,
+}
+
+/// The EDS files as they are shown, with the names by which they were opened.
+fn opened(alloc: Global, sources: Sources<'_>) -> Result<Vec<(String, usize)>, AllocError> {
+    let mut names = Vec::new(alloc);
+    for (name, text) in &sources.inputs.network.eds_files {
+        names.push((beside(alloc, sources.network.nodes, name)?, text.len()))?;
+    }
+    Ok(names)
+}
+
+/// The files that were read.
+fn inputs<'a>(
+    alloc: Global,
+    sources: Sources<'a>,
+    eds_files: &'a [(String, usize)],
+) -> Result<Vec<Input<'a>>, AllocError> {
+    let mut inputs = Vec::new(alloc);
+    inputs.push(Input {
+        name: sources.network.nodes,
+        size: sources.inputs.network.nodes.len(),
+    })?;
+    inputs.push(Input {
+        name: sources.network.pdos,
+        size: sources.inputs.network.pdos.len(),
+    })?;
+    if let Some(name) = sources.shown.trace {
+        inputs.push(Input {
+            name,
+            size: sources.inputs.other.len(),
+        })?;
+    }
+    for (name, size) in eds_files {
+        inputs.push(Input { name, size: *size })?;
+    }
+    Ok(inputs)
+}
+
+/// What the trace tells of the bus. Where no rate passes it is not looked at.
+pub fn timeline(
+    alloc: Global,
+    sources: Sources<'_>,
+    outcome: &Outcome,
+) -> Result<Option<Timeline>, Fault> {
+    let Outcome::Planned(plan) = outcome else {
+        return Ok(None);
+    };
+    if sources.shown.trace.is_none() {
+        return Ok(None);
+    }
+    let timeline = timeline_of(alloc, plan, &sources.inputs.other)?;
+    Ok(Some(timeline))
+}
+
+/// What the responses of the PDOs are made of, where a rate passes.
+fn breakdowns(
+    alloc: Global,
+    network: &Network<'_>,
+    outcome: &Outcome,
+    figures: &Figures,
+) -> Result<Vec<Breakdown>, AllocError>
+    requires { AreFigures network.now outcome.now figures.now }
+{
+    let _ = network;
+    match outcome {
+        Outcome::Planned(plan) => breakdowns_of(alloc, plan, &figures.pdos),
+        Outcome::Refused(_) => Ok(Vec::new(alloc)),
+    }
+}
+
+/// The text of a page.
+pub fn page_text(
+    alloc: Global,
+    sources: Sources<'_>,
+    nodes: &NodeTable,
+    network: &Network<'_>,
+    outcome: &Outcome,
+    timeline: Option<&Timeline>,
+    log: Option<&Logbook<'_>>,
+) -> Result<String, AllocError>
+    requires { IsOutcome network.now.equipment.rates network.now.set (length network.now.rows) outcome.now }
+{
+    let figures = figures_of(alloc, network, outcome)?;
+    let breakdowns = breakdowns(alloc, network, outcome, &figures)?;
+    let opened = opened(alloc, sources)?;
+    let inputs = inputs(alloc, sources, &opened)?;
+    let warnings = finding_lines(alloc, &sources.inputs.network, nodes, network)?;
+    let report = Report {
+        network,
+        outcome,
+        figures: &figures,
+        breakdowns: &breakdowns,
+        timeline,
+        log,
+        are_rates_listed: sources.network.rates.are_listed(),
+        inputs: &inputs,
+        warnings: str::from_utf8(&warnings).unwrap_or(""),
+    };
+    page_of(alloc, report)
+}
