@@ -4,7 +4,7 @@ use cop_eds::parse;
 use cop_frame::Rate;
 use cop_net::{Network, NodeTable, PdoTable, all_rates, network, read_nodes, read_pdos};
 use cop_plan::{Choice, Outcome, plan};
-use std::alloc::Global;
+use std::alloc::{AllocError, Global};
 use std::test::Fail;
 
 const UNIT: &[u8] =
@@ -13,10 +13,15 @@ const UNIT: &[u8] =
 const DCF: &[u8] =
     b"[FileInfo]\nFileName=unit.eds\nLastEDS=unit.eds\n[DeviceInfo]\nBaudRate_250=1\nBaudRate_500=1\nBaudRate_1000=1\n[MandatoryObjects]\nSupportedObjects=1\n1=0x1000\n[OptionalObjects]\nSupportedObjects=3\n1=0x1017\n2=0x1800\n3=0x1A00\n[ManufacturerObjects]\nSupportedObjects=1\n1=0x2000\n[1000]\nDataType=0x0007\nAccessType=ro\n[1017]\nDataType=0x0006\nAccessType=rw\nDefaultValue=0\nParameterValue=0x0064\n[1800]\nObjectType=0x9\nSubNumber=3\n[1800sub0]\nDataType=0x0005\nAccessType=ro\nDefaultValue=2\n[1800sub1]\nDataType=0x0007\nAccessType=rw\nDefaultValue=$NODEID+0x40000180\nParameterValue=0x40000181\n[1800sub2]\nDataType=0x0005\nAccessType=rw\nDefaultValue=255\n[1A00]\nObjectType=0x9\nSubNumber=3\n[1A00sub0]\nDataType=0x0005\nAccessType=ro\nDefaultValue=2\n[1A00sub1]\nDataType=0x0007\nAccessType=ro\nDefaultValue=0x20000120\n[1A00sub2]\nDataType=0x0007\nAccessType=ro\nDefaultValue=0x20000220\n[2000]\nObjectType=0x8\nSubNumber=3\n[2000sub0]\nDataType=0x0005\nAccessType=ro\nDefaultValue=2\n[2000sub1]\nDataType=0x0007\nAccessType=ro\nPDOMapping=1\n[2000sub2]\nDataType=0x0007\nAccessType=ro\nPDOMapping=1\n[DeviceComissioning]\nNodeID=5\nNodeName=Valve\nBaudrate=500\n";
 
+/// A device that has no PDO, and whose heartbeat has the time of one that is not planned.
+const PLAIN: &[u8] =
+    b"[DeviceInfo]\nBaudRate_500=1\n[OptionalObjects]\nSupportedObjects=1\n1=0x1017\n[1017]\nDataType=0x0006\nAccessType=rw\nDefaultValue=0\n";
+
+/// The valve at node 5, and the plain device at node 7.
 fn valve_tables(alloc: Global) -> Result<(NodeTable, PdoTable), Fail> {
     let nodes = read_nodes(
         alloc,
-        b"row,node,name,eds,period,jitter\ndevice,5,Valve,unit.eds,0,0\nemcy,5,,,100000,0\nheartbeat,5,,,100000,0\n",
+        b"row,node,name,eds,period,jitter\ndevice,5,Valve,unit.eds,0,0\ndevice,7,Plain,plain.eds,0,0\nemcy,5,,,100000,0\nheartbeat,5,,,100000,0\n",
     )?;
     let pdos = read_pdos(
         alloc,
@@ -25,26 +30,30 @@ fn valve_tables(alloc: Global) -> Result<(NodeTable, PdoTable), Fail> {
     Ok((nodes, pdos))
 }
 
-fn unit_file(alloc: Global) -> Result<(String, Vec<u8>), Fail> {
+fn file(alloc: Global, name: &str, text: &[u8]) -> Result<(String, Vec<u8>), Fail> {
     Ok((
-        String::from_str(alloc, "unit.eds")?,
-        Vec::from_slice(alloc, UNIT)?,
+        String::from_str(alloc, name)?,
+        Vec::from_slice(alloc, text)?,
     ))
 }
 
-// What the plan of a network sets in node 5.
-fn settings_of(alloc: Global, network: &Network<'_>) -> Result<Vec<Setting>, Fail> {
+// What the plan of a network sets in a node.
+fn settings_of(alloc: Global, network: &Network<'_>, node: u8) -> Result<Vec<Setting>, Fail> {
     match plan(alloc, network, Choice::Order)? {
-        Outcome::Planned(plan) => Ok(settings(alloc, &plan, network, 5)?),
+        Outcome::Planned(plan) => Ok(settings(alloc, &plan, network, node)?),
         Outcome::Refused(_) => Err(Fail::from("no rate passes")),
     }
 }
 
-fn valve_settings(alloc: Global) -> Result<Vec<Setting>, Fail> {
+// What the plan of the valve's network sets in a node.
+fn valve_settings(alloc: Global, node: u8) -> Result<Vec<Setting>, Fail> {
     let (nodes, pdos) = valve_tables(alloc)?;
-    let files = [unit_file(alloc)?];
+    let files = [
+        file(alloc, "unit.eds", UNIT)?,
+        file(alloc, "plain.eds", PLAIN)?,
+    ];
     let valve = network(alloc, &all_rates(), &nodes, &pdos, &files)?;
-    settings_of(alloc, &valve)
+    settings_of(alloc, &valve, node)
 }
 
 fn setting(index: u16, sub: u8, value: u32, bytes: u8) -> Setting {
@@ -63,8 +72,20 @@ fn the_valve_has_three_settings(rt: HostRuntime) -> Result<(), Fail> {
         setting(0x1800, 1, 0x40000181, 4),
         setting(0x1017, 0, 100, 2),
     ];
-    let found = valve_settings(rt.alloc())?;
+    let found = valve_settings(rt.alloc(), 5)?;
     assert!(rt; found.as_slice() == wanted.as_slice());
+    Ok(())
+}
+
+/// The plain device's node, and nodes without a device.
+const UNSET: &[u8] = &[7, 0, 4, 6, 127, 128, 255];
+
+#[test]
+fn nodes_in_which_nothing_is_set(rt: HostRuntime) -> Result<(), Fail> {
+    for node in UNSET {
+        let found = valve_settings(rt.alloc(), *node)?;
+        assert!(rt; found.is_empty(), "node {node}");
+    }
     Ok(())
 }
 
@@ -79,7 +100,7 @@ const VALVE_TEXTS: &[&[u8]] = &[UNIT, DCF];
 
 #[test]
 fn the_dcf_of_the_valve(rt: HostRuntime) -> Result<(), Fail> {
-    let found = valve_settings(rt.alloc())?;
+    let found = valve_settings(rt.alloc(), 5)?;
     for text in VALVE_TEXTS {
         let dcf = dcf_of(rt.alloc(), text, &found, b"unit.eds")?;
         assert!(rt; dcf.as_slice() == DCF);
@@ -160,5 +181,24 @@ fn texts_without_objects(rt: HostRuntime) -> Result<(), Fail> {
         let dcf = dcf_of(rt.alloc(), text, &[], b"a.eds")?;
         assert!(rt; dcf.as_slice() == wanted);
     }
+    Ok(())
+}
+
+/// A text behind twenty thousand lines of comment.
+fn behind_comments(alloc: Global, text: &[u8]) -> Result<Vec<u8>, AllocError> {
+    let mut long = Vec::new(alloc);
+    for _ in 0..20_000 {
+        long.extend_from_slice(b";\n")?;
+    }
+    long.extend_from_slice(text)?;
+    Ok(long)
+}
+
+#[test]
+fn the_dcf_of_twenty_thousand_lines(rt: HostRuntime) -> Result<(), Fail> {
+    let text = behind_comments(rt.alloc(), UNIT)?;
+    let found = valve_settings(rt.alloc(), 5)?;
+    let dcf = dcf_of(rt.alloc(), &text, &found, b"unit.eds")?;
+    assert!(rt; dcf == behind_comments(rt.alloc(), DCF)?);
     Ok(())
 }

@@ -541,11 +541,25 @@ fn long_trace(alloc: Global) -> Result<Trace, AllocError> {
     })
 }
 
-/// Whether a trace is read again as it was written.
-fn is_read_again(alloc: Global, trace: &Trace) -> Result<bool, BusFault> {
+// 250,000 instances of 181h, each queued at a moment of 19 digits.
+fn long_text(alloc: Global) -> Result<Trace, AllocError> {
+    let mut steps = Vec::new(alloc);
+    for k in 0..250_000u64 {
+        let at = 1_000_000_000_000_000_000 + k;
+        steps.push(queue(at, 0x181, at, 135, 8))?;
+    }
+    Ok(Trace {
+        until: 2_000_000_000_000_000_000,
+        steps,
+    })
+}
+
+/// Whether a trace's text has so many bytes or more, and is read again as it was written.
+fn is_read_again(alloc: Global, trace: &Trace, least: usize) -> Result<bool, BusFault> {
     let text = write_trace(alloc, trace)?;
     let read = read_trace(alloc, &text)?;
-    Ok(read.steps.as_slice() == trace.steps.as_slice())
+    let is_same = read.until == trace.until && read.steps.as_slice() == trace.steps.as_slice();
+    Ok(text.len() >= least && is_same)
 }
 
 // No trace is too long for the judge, the writer or the reader.
@@ -555,6 +569,8 @@ fn hundred_thousand_steps(rt: HostRuntime) -> Result<(), Fail> {
     assert!(rt; trace.steps.len() == 100_002);
     let set = two_streams(rt.alloc(), 984)?;
     assert!(rt; late_in(rt.alloc(), &set, Rate::Kbit1000, &trace)?.is_none());
-    assert!(rt; is_read_again(rt.alloc(), &trace)?);
+    assert!(rt; is_read_again(rt.alloc(), &trace, 3_000_000)?);
+    let trace = long_text(rt.alloc())?;
+    assert!(rt; is_read_again(rt.alloc(), &trace, 16 * 1024 * 1024)?);
     Ok(())
 }

@@ -1,4 +1,5 @@
 mod sinks;
+mod steady;
 mod synced;
 
 ghost use Rattle.std.specs.Prelude.{◌≤◌};
@@ -7,7 +8,7 @@ use cop_bus::{Content, Step, Trace};
 use cop_frame::{Rate, RateSet};
 use cop_plan::{Count, Outcome, Plan, assign, can_assign};
 use cop_rta::{Stream, StreamSet, read_streams};
-use cop_sim::{Behaviour, Offer, Scripted, Seeded, SimFault, Steps, simulate, simulate_over};
+use cop_sim::{Behaviour, Offer, Scripted, Seeded, SimFault, simulate};
 use std::alloc::{AllocError, Global};
 use std::collections::VecDeque;
 use std::test::Fail;
@@ -47,7 +48,7 @@ pub fn plan_for(
 }
 
 /// The plan of a table of streams, of which so many are PDOs.
-fn plan_of(alloc: Global, table: &[u8], pdos: usize, rates: &[Rate]) -> Result<Plan, Fail> {
+pub fn plan_of(alloc: Global, table: &[u8], pdos: usize, rates: &[Rate]) -> Result<Plan, Fail> {
     let streams = read_streams(alloc, table)?;
     match plan_for(alloc, &streams, pdos, &set_of(rates))? {
         Some(plan) => Ok(plan),
@@ -570,51 +571,6 @@ fn offers_of_a_seed(rt: HostRuntime) -> Result<(), Fail> {
         };
         assert!(rt; seeded.next() == Some(offer), "at {event}");
     }
-    Ok(())
-}
-
-/// A PDO, and a frame of lower priority that is queued every 400 ticks and takes 540.
-const HURRIED: &[u8] = b"id,bytes,period,jitter,deadline\n0x181,8,10000,0,1000\n0x705,8,100,0,\n";
-
-/// The offers of the hurried frame, with 300 instances.
-fn hurried_offers(alloc: Global) -> Result<VecDeque<Offer>, AllocError> {
-    let mut offers = VecDeque::new(alloc);
-    for number in 0..300u64 {
-        offers.push_back(Offer {
-            event: 400 * number,
-            delay: 0,
-            frame: LONG,
-        })?;
-    }
-    Ok(offers)
-}
-
-/// The behaviours of the hurried frame, beside a PDO with no instances.
-fn hurried_behaviours(alloc: Global) -> Result<Vec<Scripted>, AllocError> {
-    let mut behaviours = Vec::new(alloc);
-    behaviours.push(scripted(alloc, (&[], &[]))?)?;
-    behaviours.push(Scripted {
-        offers: hurried_offers(alloc)?,
-        yes: Vec::new(alloc),
-    })?;
-    Ok(behaviours)
-}
-
-/// How the run of the hurried frame to this moment ends.
-fn hurried_to(alloc: Global, plan: &Plan, until: u64) -> Result<(), SimFault>
-    requires { until ≤ 4000000000 }
-{
-    let behaviours = hurried_behaviours(alloc)?;
-    simulate_over(alloc, plan, behaviours, until, &mut Steps::new(alloc))
-}
-
-// When instance 247, counted from 0, is queued at 98,800 ticks, 183 have started: 65 wait.
-#[test]
-fn more_than_64_instances_wait(rt: HostRuntime) -> Result<(), Fail> {
-    let plan = plan_of(rt.alloc(), HURRIED, 1, &[Rate::Kbit1000])?;
-    let backlog = SimFault::Backlog { id: 0x705 };
-    assert!(rt; hurried_to(rt.alloc(), &plan, 98_799) == Ok(()));
-    assert!(rt; hurried_to(rt.alloc(), &plan, 98_800) == Err(backlog));
     Ok(())
 }
 

@@ -1,14 +1,18 @@
-//! The greatest tables that are taken, and a network of 512 PDOs of which one rate is refused with all.
+//! The greatest tables that are taken, a network of 512 PDOs of which one rate is refused with all, and one of 127 nodes
+//! with as many, which is booted and run.
 
-ghost use Rattle.std.specs.Prelude.{◌<◌};
+ghost use Rattle.std.specs.Prelude.{◌≤◌, ◌<◌};
 
 use crate::engine::by;
-use cop_engine::{Fault, Files, check_bytes, plan_bytes, test_bytes};
+use cop_engine::{
+    Fault, Files, boot_bytes, check_bytes, judge_bytes, plan_bytes, run_bytes, test_bytes,
+};
 use cop_frame::Rate;
 use cop_net::all_rates;
 use cop_plan::Choice;
 use std::alloc::{AllocError, Global};
 use std::fmt::Write;
+use std::str;
 use std::test::Fail;
 
 /// A number, and what stands after it.
@@ -48,10 +52,8 @@ fn eleven_hundred_streams_and_one_more(rt: HostRuntime) -> Result<(), Fail> {
     Ok(())
 }
 
-/// How many PDOs each of the nodes sends, and how many nodes there are.
-const EACH: u16 = 64;
-
-const NODES: u16 = 8;
+/// How many PDOs there are.
+const PDOS: u16 = 512;
 
 /// The communication and the mapping record of a PDO that sends the 64 bits of 2000h.
 fn push_pdo(text: &mut String, pdo: u16) -> Result<(), AllocError>
@@ -96,38 +98,48 @@ fn push_listed(text: &mut String, pdo: u16) -> Result<(), AllocError>
     push_index(text, "0x", 0x1A00 + pdo, "\n")
 }
 
-/// The description of a device with all its PDOs, at 500 and 1000 kbit/s.
-fn device(alloc: Global) -> Result<String, AllocError> {
+/// The description of a device with so many PDOs, at 500 and 1000 kbit/s.
+fn device(alloc: Global, each: u16) -> Result<String, AllocError>
+    requires { each ≤ 512 }
+{
     let mut text = String::from_str(
         alloc,
-        "[DeviceInfo]\nBaudRate_500=1\nBaudRate_1000=1\n[OptionalObjects]\nSupportedObjects=129\n1=0x2000\n",
+        "[DeviceInfo]\nBaudRate_500=1\nBaudRate_1000=1\n[OptionalObjects]\n",
     )?;
-    for pdo in 0..EACH {
+    text.push_str("SupportedObjects=")?;
+    push_number(&mut text, 2 * each + 1, "\n1=0x2000\n")?;
+    for pdo in 0..each {
         push_listed(&mut text, pdo)?;
     }
     text.push_str("[2000]\nDataType=0x1B\nAccessType=ro\nPDOMapping=1\n")?;
-    for pdo in 0..EACH {
+    for pdo in 0..each {
         push_pdo(&mut text, pdo)?;
     }
     Ok(text)
 }
 
-/// The nodes, all with that device.
-fn nodes(alloc: Global) -> Result<String, AllocError> {
+/// The nodes from 1 to some number, all with that device.
+fn nodes(alloc: Global, count: u16) -> Result<String, AllocError> {
     let mut text = String::from_str(alloc, "row,node,name,eds,period,jitter\n")?;
-    for node in 1..=NODES {
+    for node in 1..=count {
         text.push_str("device,")?;
         push_number(&mut text, node, ",Device,many.eds,0,0\n")?;
     }
     Ok(text)
 }
 
-/// Their PDOs, each with a period of a second, and a deadline that 512 of them just meet at 1000 kbit/s.
-fn pdos(alloc: Global) -> Result<String, AllocError> {
+/// Their PDOs, the first of each node and then the second, until there are 512: each has a period of a second, and a
+/// deadline that 512 of them just meet at 1000 kbit/s.
+fn pdos(alloc: Global, each: u16, count: u16) -> Result<String, AllocError> {
     let mut text = String::from_str(alloc, "node,tpdo,period,jitter,deadline,consumers\n")?;
-    for pdo in 0..EACH * NODES {
-        push_number(&mut text, pdo / EACH + 1, ",")?;
-        push_number(&mut text, pdo % EACH + 1, ",1000000,0,69120,\n")?;
+    let mut left = PDOS;
+    for tpdo in 1..=each {
+        for node in 1..=count {
+            if left > 0 {
+                left -= 1;
+                write!(text, "{node},{tpdo},1000000,0,69120,\n")?;
+            }
+        }
     }
     Ok(text)
 }
@@ -140,13 +152,16 @@ struct Sources {
     eds: Vec<(String, Vec<u8>)>,
 }
 
-fn network(alloc: Global) -> Result<Sources, AllocError> {
-    let text = Vec::from_slice(alloc, device(alloc)?.as_bytes())?;
+/// The network of so many nodes, whose devices have so many PDOs each.
+fn network(alloc: Global, each: u16, count: u16) -> Result<Sources, AllocError>
+    requires { each ≤ 512 }
+{
+    let text = Vec::from_slice(alloc, device(alloc, each)?.as_bytes())?;
     let mut eds = Vec::new(alloc);
     eds.push((String::from_str(alloc, "many.eds")?, text))?;
     Ok(Sources {
-        nodes: nodes(alloc)?,
-        pdos: pdos(alloc)?,
+        nodes: nodes(alloc, count)?,
+        pdos: pdos(alloc, each, count)?,
         eds,
     })
 }
@@ -176,7 +191,7 @@ fn checked(alloc: Global, network: &Sources, refusals: &[u8]) -> Result<(Vec<u8>
 
 #[test]
 fn a_rate_is_refused_with_512_pdos(rt: HostRuntime) -> Result<(), Fail> {
-    let network = network(rt.alloc())?;
+    let network = network(rt.alloc(), 64, 8)?;
     let files = planned(rt.alloc(), &network)?;
     let (first, last) = (
         b"rate 1000\npdo 1.1 id 181h response 1080\n",
@@ -185,5 +200,75 @@ fn a_rate_is_refused_with_512_pdos(rt: HostRuntime) -> Result<(), Fail> {
     assert!(rt; files.plan.starts_with(first) && files.plan.ends_with(last));
     let (lines, hold) = checked(rt.alloc(), &network, &files.refusals)?;
     assert!(rt; lines.as_slice() == b"500 holds\n".as_slice() && hold);
+    Ok(())
+}
+
+/// What is said of a boot of the nodes from 1 to some number that are ready.
+fn all_ready(alloc: Global, count: u16) -> Result<String, AllocError> {
+    let mut text = String::new(alloc);
+    for node in 1..=count {
+        write!(text, "node {node} ready\n")?;
+    }
+    text.push_str("started\n")?;
+    Ok(text)
+}
+
+/// What is said of the network's boot.
+fn booted(alloc: Global, network: &Sources) -> Result<Vec<u8>, Fault> {
+    boot_bytes(
+        alloc,
+        1,
+        network.nodes.as_bytes(),
+        network.pdos.as_bytes(),
+        &network.eds,
+        &by(Choice::Order),
+    )
+}
+
+/// The text and the trace of the network's run for 250 seconds.
+fn run(alloc: Global, network: &Sources) -> Result<(Vec<u8>, Vec<u8>), Fault> {
+    run_bytes(
+        alloc,
+        42,
+        250_000_000,
+        network.nodes.as_bytes(),
+        network.pdos.as_bytes(),
+        &network.eds,
+        &by(Choice::Order),
+    )
+}
+
+/// What is said of a trace of the network.
+fn judged(alloc: Global, network: &Sources, trace: &[u8]) -> Result<Vec<u8>, Fault> {
+    judge_bytes(
+        alloc,
+        network.nodes.as_bytes(),
+        network.pdos.as_bytes(),
+        &network.eds,
+        &by(Choice::Order),
+        trace,
+    )
+}
+
+/// How many transfers a run has of which it is said that all are on time.
+fn transfers_in(text: &[u8]) -> Option<u64> {
+    let text = str::from_utf8(text).ok()?;
+    let number = text
+        .strip_prefix("transfers ")?
+        .strip_suffix("\non time\n")?;
+    number.parse().ok()
+}
+
+// Each PDO has its first instance in the first second, and each other 1.125 seconds at most after the one before: 222 at
+// least.
+#[test]
+fn a_network_of_127_nodes_is_booted_and_run(rt: HostRuntime) -> Result<(), Fail> {
+    let network = network(rt.alloc(), 5, 127)?;
+    let text = booted(rt.alloc(), &network)?;
+    assert!(rt; text.as_slice() == all_ready(rt.alloc(), 127)?.as_bytes());
+    let (text, trace) = run(rt.alloc(), &network)?;
+    let transfers = transfers_in(&text).ok_or("not on time")?;
+    assert!(rt; transfers >= 512 * 222);
+    assert!(rt; judged(rt.alloc(), &network, &trace)? == text);
     Ok(())
 }

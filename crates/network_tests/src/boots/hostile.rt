@@ -287,14 +287,93 @@ fn serves(mut device: Device, state: NodeState, first: u8) -> bool {
     answer.is_some() == (hears && kind != 4) && (is_kept || hears && kind == 1)
 }
 
+/// Whether a device answers no frame to its node of fewer than 8 bytes, and none of another identifier.
+fn is_deaf(device: &mut Device, body: &[u8; 8]) -> bool {
+    for len in 0..8usize {
+        if device.on_frame(&Frame::new(0x605, &body[..len])).is_some() {
+            return false;
+        }
+    }
+    for id in 1..2048u16 {
+        if id != 0x605 && device.on_frame(&Frame::new(id, body)).is_some() {
+            return false;
+        }
+    }
+    true
+}
+
+/// The objects of the sample device as node 5, and their initial values.
+const BUILT: &[(u16, u8, &[u8])] = &[
+    (0x1017, 0, &[0, 0]),
+    (0x1800, 0, &[2]),
+    (0x1800, 1, &[0x85, 0x01, 0, 0x40]),
+    (0x1800, 2, &[255]),
+];
+
+/// Whether an object of a device has a value.
+fn has_value(device: &Device, index: u16, sub: u8, value: &[u8]) -> bool {
+    device.dictionary().read(index, sub) == Ok(value)
+}
+
+/// Whether a device has all its initial values.
+fn is_as_built(device: &Device) -> bool {
+    for object in BUILT {
+        let (index, sub, value) = *object;
+        if !has_value(device, index, sub, value) {
+            return false;
+        }
+    }
+    true
+}
+
+/// Whether a device in a state ignores such frames with a first byte, and they leave it as it was.
+fn ignores_others(device: &mut Device, state: NodeState, first: u8) -> bool {
+    let is_deaf = is_deaf(device, &[first, 0x00, 0x18, 0x02, 7, 0, 0, 0]);
+    is_deaf && device.state() == state && is_as_built(device)
+}
+
 #[test]
 fn each_first_byte_to_a_device(rt: HostRuntime) -> Result<(), EdsFault> {
     for case in DEVICE_STATES {
         let (enters, state) = *case;
         for first in 0..=u8::MAX {
-            let device = device_in(rt.alloc(), enters)?;
+            let mut device = device_in(rt.alloc(), enters)?;
+            let is_ignored = ignores_others(&mut device, state, first);
+            assert!(rt; is_ignored, "first byte {first} to others");
             assert!(rt; serves(device, state, first), "first byte {first}");
         }
+    }
+    Ok(())
+}
+
+/// A device of node 5 in a state, in the midst of a download of one byte to 1800h sub 2.
+fn downloading_in(alloc: Global, enters: u8) -> Result<Device, EdsFault> {
+    let mut device = device(alloc, 5)?;
+    let _ = device.on_frame(&Frame::new(0x605, &[0x21, 0x00, 0x18, 0x02, 1, 0, 0, 0]));
+    let _ = device.on_frame(&Frame::new(0x000, &[enters, 5]));
+    Ok(device)
+}
+
+/// The answer to a download's segment.
+const TAKEN: Sent = (0x585, &[0x20, 0, 0, 0, 0, 0, 0, 0]);
+
+/// Whether a device takes the byte, once it has SDO again.
+fn ends_download(device: &mut Device) -> bool {
+    let _ = device.on_frame(&Frame::new(0x000, &[128, 5]));
+    let answer = device.on_frame(&Frame::new(0x605, &[0x0D, 7, 0, 0, 0, 0, 0, 0]));
+    is_frame(answer, Some(TAKEN)) && has_value(device, 0x1800, 2, &[7])
+}
+
+#[test]
+fn other_frames_in_a_download(rt: HostRuntime) -> Result<(), EdsFault> {
+    for case in DEVICE_STATES {
+        let (enters, state) = *case;
+        let mut device = downloading_in(rt.alloc(), enters)?;
+        for first in 0..=u8::MAX {
+            let is_ignored = ignores_others(&mut device, state, first);
+            assert!(rt; is_ignored, "first byte {first}");
+        }
+        assert!(rt; ends_download(&mut device), "after {enters}");
     }
     Ok(())
 }
