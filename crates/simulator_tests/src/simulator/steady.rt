@@ -2,14 +2,14 @@
 
 ghost use Rattle.std.specs.Prelude.{◌≤◌};
 
-use crate::ranges::many;
-use crate::simulator::{LONG, plan_for, plan_of, set_of};
+use crate::simulator::{LONG, plan_of};
 use cop_bus::{Step, Trace};
 use cop_frame::Rate;
 use cop_plan::Plan;
 use cop_sim::{Behaviour, Offer, Scripted, SimFault, Steps, simulate, simulate_over};
 use std::alloc::{AllocError, Global};
 use std::collections::VecDeque;
+use std::fmt::Write;
 use std::test::Fail;
 
 /// How many instances of a stream are offered, one each so many ticks from 0 on.
@@ -109,11 +109,12 @@ const SECONDS: Pace = Pace {
 
 /// The plan of 99 PDOs and an SDO frame, each sent once a second.
 fn hundred(alloc: Global) -> Result<Plan, Fail> {
-    let streams = many(alloc, 99, 4_000_000)?;
-    match plan_for(alloc, &streams, 99, &set_of(&[Rate::Kbit1000]))? {
-        Some(plan) => Ok(plan),
-        None => Err(Fail::new("no plan")),
+    let mut text = String::from_str(alloc, "id,bytes,period,jitter,deadline\n")?;
+    for id in 385..484 {
+        write!(text, "{id},8,1000000,0,1000000\n")?;
     }
+    text.push_str("0x585,8,1000000,0,1000000\n")?;
+    plan_of(alloc, text.as_bytes(), 99, &[Rate::Kbit1000])
 }
 
 // All instances of a second are queued at its begin, and each takes 540 ticks: the last is the SDO frame's.
