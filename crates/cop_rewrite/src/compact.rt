@@ -1,12 +1,12 @@
 //! Compact forms of arrays and records (CiA 306, compact storage).
 
-use crate::lists::entries_in;
-use crate::outline::{Outline, Section, key_row, place_at, set_key, value_at, value_in};
-use crate::row::{Addition, Row};
-use crate::types::{Main, mains_of};
 use cop_change::{Cause, Question, TidyFault, refused};
+use cop_listing::lists::entries_in;
+use cop_outline::outline::{Outline, Section, key_row, place_at, set_key, value_at, value_in};
+use cop_outline::row::{Addition, Row};
 use cop_spelling::names::{address, code};
 use cop_spelling::text::{NOTHING, pair};
+use cop_typing::{Main, mains_of};
 use std::alloc::{AllocError, Global};
 use std::collections::{BTreeMap, BTreeSet};
 

@@ -1,18 +1,10 @@
-//! The rules by which an EDS file as makers ship it becomes one in the form of CiA 306, line by line.
+//! What is done to the bytes and the compact forms of an EDS file as makers ship it, and all rules in their order, by which
+//! it becomes one in the form of CiA 306.
 #![tactic(auto)]
 
 mod compact;
-mod lines;
-pub mod lists;
-pub mod outline;
-pub mod pdos;
-mod repeats;
-mod respelling;
-pub mod row;
+mod pdos;
 mod rules;
-mod types;
-pub mod unlisted;
-mod values;
 mod whole;
 
 pub use rules::rewritten;

@@ -1,11 +1,11 @@
 //! PDOs that a device has by CompactPDO (CiA 306).
 
 use crate::compact::{NewSection, NewSections};
-use crate::lists::Entry;
-use crate::outline::{Outline, Section, key_row, value_at};
-use crate::row::Row;
 use cop_change::{Cause, TidyFault};
 use cop_eds::number_of;
+use cop_listing::lists::Entry;
+use cop_outline::outline::{Outline, Section, key_row, value_at};
+use cop_outline::row::Row;
 use cop_spelling::names::code;
 use cop_spelling::standard::communication_type;
 use std::alloc::{AllocError, Global};

@@ -1,17 +1,14 @@
 //! The rules, one after the other.
 
 use crate::compact::{NewSections, additions_of, write_compact};
-use crate::lines::mend_lines;
-use crate::lists::{enlist, listed, lists_of, mend_lists};
-use crate::outline::{Outline, place_at};
 use crate::pdos::{Additional, add_pdos, compact_pdo};
-use crate::repeats::drop_repeats;
-use crate::respelling::{respell_lists, respell_objects};
-use crate::row::{Row, rows_of, with_additions};
-use crate::types::{mains_of, type_objects};
-use crate::unlisted::list_unlisted;
-use crate::values::mend_values;
 use cop_change::{Question, TidyFault, Words, refused};
+use cop_listing::lists::{enlist, listed, lists_of, mend_lists};
+use cop_listing::unlisted::list_unlisted;
+use cop_listing::{drop_repeats, mend_lines, respell_lists, respell_objects};
+use cop_outline::outline::{Outline, place_at};
+use cop_outline::row::{Row, rows_of, with_additions};
+use cop_typing::{mains_of, mend_values, type_objects};
 use std::alloc::{AllocError, Global};
 use std::collections::BTreeSet;
 

@@ -12,7 +12,7 @@ ghost use Rattle.cop_tidy.specs.Standing.{IsReason, standing};
 use crate::judging::{Left, judged};
 use crate::keeping::stays;
 use cop_change::{Change, Question, TextChange, TidyFault, Words, applied, are_told, refused};
-use cop_rewrite::row::{Row, rows_of};
+use cop_outline::row::{Row, rows_of};
 use cop_rewrite::{prepared, rewritten};
 use std::alloc::{AllocError, Global};
 

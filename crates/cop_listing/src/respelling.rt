@@ -1,10 +1,10 @@
 //! Numbers and words of keys in the spelling of CiA 306.
 
-use crate::outline::{Outline, Section};
 use crate::repeats::{COUNTS, RATES, is_among};
-use crate::row::Row;
 use cop_change::{Cause, Digits, Question, TidyFault, refused};
 use cop_eds::number_of;
+use cop_outline::outline::{Outline, Section};
+use cop_outline::row::Row;
 use cop_spelling::names::{Part, is_decimal, is_hexadecimal};
 use cop_spelling::spelling::{
     Spelling, access, bare, data_type, is_access, number, object_type, truth, word,

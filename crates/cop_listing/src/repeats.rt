@@ -1,8 +1,8 @@
 //! Sections and keys that stand twice.
 
-use crate::outline::{Outline, Section, place_at, value_at};
-use crate::row::Row;
 use cop_change::{Cause, Question, TidyFault, refused};
+use cop_outline::outline::{Outline, Section, place_at, value_at};
+use cop_outline::row::Row;
 use cop_spelling::names::{Part, is_decimal};
 use cop_spelling::text::{Form, key_of, lower, name_of, same_name};
 use std::alloc::{AllocError, Global};

@@ -1,9 +1,9 @@
 //! The lists of objects.
 
-use crate::outline::{Outline, Section, key_row, last_key, place_at, set_key, value_at};
-use crate::row::{Addition, Row, with_additions};
 use cop_change::{Cause, Question, TidyFault, refused};
 use cop_eds::number_of;
+use cop_outline::outline::{Outline, Section, key_row, last_key, place_at, set_key, value_at};
+use cop_outline::row::{Addition, Row, with_additions};
 use cop_spelling::names::{LISTS, is_decimal, is_hexadecimal, number_in};
 use cop_spelling::text::{Form, from, joined, key_of};
 use std::alloc::{AllocError, Global};

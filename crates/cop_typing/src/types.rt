@@ -1,10 +1,10 @@
 //! Object types, data types and accesses of listed objects.
 
-use crate::outline::{Outline, Section, key_row, place_at, set_key, value_in};
-use crate::row::{Addition, Row, with_additions};
-use crate::unlisted::is_communication;
 use cop_change::{Cause, Question, TidyFault, Words, refused, word_of};
 use cop_eds::number_of;
+use cop_listing::unlisted::is_communication;
+use cop_outline::outline::{Outline, Section, key_row, place_at, set_key, value_in};
+use cop_outline::row::{Addition, Row, with_additions};
 use cop_spelling::names::address;
 use cop_spelling::standard::{UNSIGNED8, UNSIGNED32, access, data_type, is_mapping, is_pdo};
 use std::alloc::{AllocError, Global};

@@ -1,10 +1,10 @@
 //! Values and limits of the objects that a dictionary holds.
 
-use crate::outline::{Section, value_in};
-use crate::row::Row;
 use crate::types::{Main, stated};
 use cop_change::{Cause, Question, TidyFault, Words, refused};
 use cop_eds::{Amount, Rule, amount_of};
+use cop_outline::outline::{Section, value_in};
+use cop_outline::row::Row;
 use cop_spelling::amounts::{
     Numbers, decimal_text, node_sum, numbers_of, pattern_text, plain_number,
 };

@@ -1,9 +1,9 @@
 //! PDOs that no list names.
 
 use crate::lists::{Entry, enlist, listed, lists_of};
-use crate::outline::{Outline, place_at};
-use crate::row::{Row, with_additions};
 use cop_change::{Cause, Question, TidyFault, Unlisted, refused};
+use cop_outline::outline::{Outline, place_at};
+use cop_outline::row::{Row, with_additions};
 use cop_spelling::names::address;
 use std::alloc::{AllocError, Global};
 use std::collections::BTreeSet;

@@ -1,7 +1,7 @@
 //! Lines that are no lines of CiA 306.
 
-use crate::row::Row;
 use cop_change::{Cause, Question, TidyFault, refused};
+use cop_outline::row::Row;
 use cop_spelling::blanks::{begins_loosely, loose_start};
 use cop_spelling::names::{Part, bracketed, part_of, respelled};
 use cop_spelling::text::{
