@@ -99,14 +99,6 @@ impl Outline {
         }
     }
 
-    /// Whether there is a section of this name.
-    pub fn has(&self, alloc: Global, name: &[u8]) -> Result<bool, AllocError> {
-        match code_of(name) {
-            Some(code) => Ok(self.codes.contains_key(&code)),
-            None => Ok(self.named(alloc, name)?.is_some()),
-        }
-    }
-
     /// The sub sections of an object, by rising sub.
     pub fn subs(&self, alloc: Global, index: u64) -> Result<Vec<(u64, Section)>, AllocError> {
         let mut subs = Vec::new(alloc);

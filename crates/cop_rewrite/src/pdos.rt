@@ -139,17 +139,6 @@ impl CompactPdo {
         wrong_count(listed, RECEIVED, self.received).or(wrong_count(listed, SENT, self.sent))
     }
 
-    /// Whether a PDO is there that no list names.
-    pub fn leaves_some(&self, listed: &BTreeSet<u64>) -> bool {
-        let received = (0..self.received.number.min(MOST)).any(|n| !listed.contains(
-            &RECEIVED.communication.saturating_add(n),
-        ));
-        let sent = (0..self.sent.number.min(MOST)).any(|n| !listed.contains(
-            &SENT.communication.saturating_add(n),
-        ));
-        received || sent
-    }
-
     /// Whether the records have the sub of a bit.
     fn has(&self, bit: u32) -> bool {
         bit < 64 && (self.subs >> bit) % 2 == 1

@@ -1,0 +1,11 @@
+//! Tests of the public items of EDS texts, dictionaries and PDOs' mappings, in a crate of their own so that each library is
+//! proved once.
+
+#![tactic(auto)]
+
+#[cfg(test)]
+mod dictionaries;
+#[cfg(test)]
+mod eds;
+#[cfg(test)]
+mod pdos;
