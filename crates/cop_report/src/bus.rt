@@ -1,22 +1,47 @@
 //! The section of a page on the bus over time, as inline SVG: a lane for each identifier, one unit wide for each tick.
 
+use crate::frames::frame_with;
+use crate::page::Report;
 use crate::script::LANES_SCRIPT;
 use crate::senders::{Sender, sender_of};
 use crate::units::{Count, Identifier, Micros};
 use cop_bus::Transfer;
-use cop_figures::{Lane, Timeline};
-use cop_net::Network;
+use cop_figures::{Figures, Lane, Timeline};
 use cop_plan::Plan;
 use std::alloc::AllocError;
 
-/// How many parts the axis has.
-const PARTS: u64 = 4;
+/// How many steps from mark to mark go into a window at most.
+const PARTS: u64 = 8;
 
 /// The part of a trace that is drawn: the moment at which it begins and how long it is, in ticks.
 #[derive(Clone, Copy)]
 struct Window {
     begin: u64,
     span: u64,
+}
+
+impl Window {
+    /// The step from mark to mark in ticks: 1, 2 or 5 times a power of ten microseconds.
+    fn step(self) -> u64 {
+        let mut step: u64 = 4;
+        for turn in 0..60u8 {
+            if self.span <= step.saturating_mul(PARTS) {
+                return step;
+            }
+            step = if turn % 3 == 1 {
+                step.saturating_mul(5) / 2
+            } else {
+                step.saturating_mul(2)
+            };
+        }
+        step
+    }
+
+    /// From the begin to the first mark, the first multiple of the step, in ticks.
+    fn first(self, step: u64) -> u64 {
+        let mark = self.begin.div_ceil(step.max(1)).saturating_mul(step);
+        mark.saturating_sub(self.begin)
+    }
 }
 
 /// How many transfers are drawn.
@@ -101,30 +126,73 @@ fn push_head(
     )
 }
 
+/// The longest time from the queueing of a frame to the end of its transfer, in ticks.
+fn longest(lane: &Lane) -> u64 {
+    let mut longest = 0u64;
+    for transfer in lane.transfers.as_slice() {
+        longest = longest.max(transfer.ended.saturating_sub(transfer.queued));
+    }
+    longest
+}
+
+/// The greatest response of an identifier, in ticks: of a PDO, of an SDO frame with a deadline, or of SYNC.
+fn bound_of(figures: &Figures, id: u16) -> Option<u64> {
+    if let Some(times) = figures.pdos.iter().find(|times| times.stream.id == id) {
+        return Some(times.response);
+    }
+    if let Some(frame) = frame_with(figures, id) {
+        return Some(frame.response);
+    }
+    match figures.sync {
+        Some(sync) if sync.stream.id == id => Some(sync.response),
+        _ => None,
+    }
+}
+
+/// Adds the end of a lane: the longest time in the trace, and what it is at most where that is known.
+fn push_end(page: &mut String, figures: &Figures, lane: &Lane) -> Result<(), AllocError> {
+    let longest = Micros(longest(lane));
+    write!(page, "</svg><div class=\"n\">{longest}")?;
+    if let Some(bound) = bound_of(figures, lane.id) {
+        let bound = Micros(bound);
+        write!(page, " / {bound}")?;
+    }
+    page.push_str("</div></div>\n")
+}
+
 /// Adds the lane of an identifier.
 fn push_lane(
     page: &mut String,
-    network: &Network<'_>,
+    report: Report<'_, '_>,
     plan: &Plan,
     window: Window,
     lane: &Lane,
 ) -> Result<(), AllocError> {
-    push_head(page, sender_of(network, plan, lane.id), window.span, lane)?;
+    let sender = sender_of(report.network, plan, lane.id);
+    push_head(page, sender, window.span, lane)?;
     for transfer in lane.transfers.as_slice() {
         push_transfer(page, window, transfer)?;
     }
-    page.push_str("</svg></div>\n")
+    push_end(page, report.figures, lane)
 }
 
-/// Adds the axis.
+/// Opens the lanes, and adds the axis with its marks.
 fn push_axis(page: &mut String, window: Window) -> Result<(), AllocError> {
-    page.push_str("<div class=\"lane axis\"><div>µs</div><div class=\"marks\">")?;
-    for part in 0..PARTS + 1 {
-        let offset = window.span.saturating_mul(part) / PARTS;
-        let moment = Micros(window.begin.saturating_add(offset));
-        write!(page, "<span>{moment}</span>")?;
+    let (begin, span, step) = (window.begin, window.span, window.step());
+    let first = window.first(step);
+    write!(
+        page,
+        "<div id=\"lanes\" data-begin=\"{begin}\" data-span=\"{span}\" style=\"--span:{span};--first:{first};--step:{step}\">\n\
+<div class=\"lane axis\"><div>µs</div><div class=\"marks\">"
+    )?;
+    for number in 0..PARTS + 1 {
+        let offset = first.saturating_add(step.saturating_mul(number));
+        if offset <= span {
+            let moment = Micros(begin.saturating_add(offset));
+            write!(page, "<span style=\"--at:{offset}\">{moment}</span>")?;
+        }
     }
-    page.push_str("</div></div>\n")
+    page.push_str("</div><div class=\"n\">longest / bound</div></div>\n")
 }
 
 /// Adds what is drawn, and of how many transfers.
@@ -136,12 +204,8 @@ fn push_words(page: &mut String, timeline: &Timeline) -> Result<(), AllocError> 
     };
     write!(
         page,
-        "<p>The trace goes up to {until} µs. In it {ended} came to an end. "
+        "<p>The trace goes up to {until} µs. In it {ended} came to an end. Each PDO is on time.</p>\n"
     )?;
-    match timeline.late {
-        None => page.push_str("Each PDO is on time.</p>\n")?,
-        Some(step) => write!(page, "What step {step} queues is late.</p>\n")?,
-    }
     let drawn = drawn(&timeline.lanes);
     if drawn < timeline.ended {
         write!(
@@ -155,13 +219,14 @@ fn push_words(page: &mut String, timeline: &Timeline) -> Result<(), AllocError> 
 /// Adds the lanes, with what shows another part of them.
 fn push_lanes(
     page: &mut String,
-    network: &Network<'_>,
+    report: Report<'_, '_>,
     plan: &Plan,
     timeline: &Timeline,
 ) -> Result<(), AllocError> {
     page.push_str(
         "<p>A lane for each identifier that sends. <span class=\"key fixed\"></span> The frame waits. \
-<span class=\"key pdo\"></span> The frame is on the bus.</p>\n\
+<span class=\"key pdo\"></span> The frame is on the bus. Beside a lane stand, in µs, the longest time from the queueing of a frame to the end of its \
+transfer, of those drawn, and where it is known its bound: the greatest response, which counts from the event.</p>\n\
 <p id=\"window\" hidden>\
 <label>from <input id=\"from\" type=\"number\" step=\"any\"> µs</label> <label>to <input id=\"to\" type=\"number\" step=\"any\"> µs</label> \
 <button type=\"button\" id=\"in\">Zoom in</button> <button type=\"button\" id=\"out\">Zoom out</button> \
@@ -169,14 +234,9 @@ fn push_lanes(
 <button type=\"button\" id=\"whole\">All</button></p>\n",
     )?;
     let window = window_of(timeline);
-    let (begin, span) = (window.begin, window.span);
-    write!(
-        page,
-        "<div id=\"lanes\" data-begin=\"{begin}\" data-span=\"{span}\">\n"
-    )?;
     push_axis(page, window)?;
     for lane in timeline.lanes.iter() {
-        push_lane(page, network, plan, window, lane)?;
+        push_lane(page, report, plan, window, lane)?;
     }
     page.push_str("</div>\n<script>")?;
     page.push_str(LANES_SCRIPT)?;
@@ -186,14 +246,14 @@ fn push_lanes(
 /// Adds the bus over time.
 pub(crate) fn push_bus(
     page: &mut String,
-    network: &Network<'_>,
+    report: Report<'_, '_>,
     plan: &Plan,
     timeline: &Timeline,
 ) -> Result<(), AllocError> {
     page.push_str("<section id=\"bus\">\n<h2>The bus over time</h2>\n")?;
     push_words(page, timeline)?;
     if !timeline.lanes.is_empty() {
-        push_lanes(page, network, plan, timeline)?;
+        push_lanes(page, report, plan, timeline)?;
     }
     page.push_str("</section>\n")
 }

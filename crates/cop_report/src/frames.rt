@@ -1,13 +1,14 @@
-//! What a page says of the SDO frames with deadlines, and of the PDOs that are below them.
+//! What a page says of the frames with fixed identifiers, and of the PDOs that are below the SDO frames.
 
 use crate::bars::ResponseBar;
+use crate::pdos::push_margin;
 use crate::rates::push_verdict;
 use crate::senders::fixed_sender;
 use crate::units::{Count, Identifier, Micros};
 use cop_figures::{Figures, FrameTimes, PdoTimes};
 use cop_net::Network;
-use cop_rta::{IdRange, Verdict};
-use std::alloc::AllocError;
+use cop_rta::{IdRange, Stream, Verdict};
+use std::alloc::{AllocError, Global};
 
 /// Whether a PDO is below all SDO frames.
 pub(crate) fn is_lower(times: &PdoTimes) -> bool {
@@ -57,50 +58,87 @@ pub(crate) fn push_lower(
     page.push_str("</p>\n")
 }
 
-/// Adds the line of an SDO frame.
-fn push_frame(
-    page: &mut String,
-    network: &Network<'_>,
-    frame: &FrameTimes,
-) -> Result<(), AllocError> {
-    let stream = frame.stream;
-    let id = Identifier(stream.id);
-    let sender = fixed_sender(network, stream.id);
-    let (period, jitter) = (Micros(stream.period), Micros(stream.jitter));
-    write!(
-        page,
-        "<tr><th scope=\"row\">{id}</th><td>{sender}</td><td class=\"n\">{period}</td><td class=\"n\">{jitter}</td>"
-    )?;
+/// The heads of the columns on deadlines.
+const DEADLINE_HEADS: &str =
+    "<th class=\"n\">Deadline</th><th class=\"n\">Response</th><th></th><th class=\"n\">Margin</th><th class=\"n\">of it</th>";
+
+/// Whether a network has fixed frames.
+pub(crate) fn has_fixed(network: &Network<'_>) -> bool {
+    network.pdos() < network.set().len()
+}
+
+/// The fixed frames by rising identifier: the streams of a network behind its PDOs.
+fn fixed_frames(alloc: Global, network: &Network<'_>) -> Result<Vec<Stream>, AllocError> {
+    let streams = network.set().streams();
+    let mut frames = Vec::new(alloc);
+    frames.extend_from_slice(streams.get(network.pdos()..).unwrap_or(&[]))?;
+    frames.sort_unstable_by_key(|frame| frame.id);
+    Ok(frames)
+}
+
+/// The times of the frame with an identifier, where it has a deadline.
+pub(crate) fn frame_with(figures: &Figures, id: u16) -> Option<&FrameTimes> {
+    figures.frames.iter().find(|frame| frame.stream.id == id)
+}
+
+/// Adds the deadline of a frame, and its response against it.
+fn push_times(page: &mut String, frame: &FrameTimes) -> Result<(), AllocError> {
     let bar = ResponseBar {
         response: frame.response,
-        deadline: stream.deadline.unwrap_or(0),
+        deadline: frame.stream.deadline.unwrap_or(0),
         is_tightest: false,
     };
     let (deadline, response) = (Micros(bar.deadline), Micros(bar.response));
-    let margin = Micros(frame.left());
     write!(
         page,
-        "<td class=\"n\">{deadline}</td><td class=\"n\">{response}</td><td class=\"wide\">{bar}</td><td class=\"n\">{margin}</td></tr>\n"
-    )
+        "<td class=\"n\">{deadline}</td><td class=\"n\">{response}</td>"
+    )?;
+    push_margin(page, bar)
 }
 
-/// Adds the SDO frames that have a deadline, where there are some.
-pub(crate) fn push_frames(
+/// Adds the line of a frame.
+fn push_frame(
     page: &mut String,
     network: &Network<'_>,
     figures: &Figures,
+    stream: &Stream,
 ) -> Result<(), AllocError> {
-    if figures.frames.is_empty() {
+    let (id, bytes) = (Identifier(stream.id), stream.bytes);
+    let (period, jitter) = (Micros(stream.period), Micros(stream.jitter));
+    let sender = fixed_sender(network, stream.id);
+    write!(
+        page,
+        "<tr><th scope=\"row\">{id}</th><td>{sender}</td><td class=\"n\">{bytes}</td><td class=\"n\">{period}</td><td class=\"n\">{jitter}</td>"
+    )?;
+    if let Some(frame) = frame_with(figures, stream.id) {
+        push_times(page, frame)?;
+    }
+    page.push_str("</tr>\n")
+}
+
+/// Adds the fixed frames, where there are some.
+pub(crate) fn push_frames(
+    page: &mut String,
+    alloc: Global,
+    network: &Network<'_>,
+    figures: &Figures,
+) -> Result<(), AllocError> {
+    if !has_fixed(network) {
         return Ok(());
     }
     page.push_str(
-        "<section id=\"frames\">\n<h2>SDO frames with deadlines</h2>\n\
-<p>Times are microseconds, the response as that of a PDO.</p>\n\
-<div class=\"scroll\"><table>\n<tr><th>Identifier</th><th>Frame</th><th class=\"n\">Period</th><th class=\"n\">Jitter</th>\
-<th class=\"n\">Deadline</th><th class=\"n\">Response</th><th></th><th class=\"n\">Margin</th></tr>\n",
+        "<section id=\"frames\">\n<h2>Fixed frames by identifier</h2>\n\
+<p>CANopen gives these frames their identifiers, and the table of nodes says how often they are sent. Times are microseconds. Only SDO frames may \
+have a deadline, and those that have one pass the same test as the PDOs.</p>\n\
+<div class=\"scroll\"><table>\n<tr><th>Identifier</th><th>Frame</th><th class=\"n\">Bytes</th><th class=\"n\">Period</th><th class=\"n\">Jitter</th>",
     )?;
-    for frame in figures.frames.iter() {
-        push_frame(page, network, frame)?;
+    if !figures.frames.is_empty() {
+        page.push_str(DEADLINE_HEADS)?;
+    }
+    page.push_str("</tr>\n")?;
+    let frames = fixed_frames(alloc, network)?;
+    for stream in frames.iter() {
+        push_frame(page, network, figures, stream)?;
     }
     page.push_str("</table></div>\n</section>\n")
 }

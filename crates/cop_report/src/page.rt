@@ -5,15 +5,15 @@ ghost use Rattle.cop_plan.specs.Plans.{IsOutcome};
 
 use crate::bus::push_bus;
 use crate::devices::sent_by;
-use crate::frames::push_frames;
+use crate::frames::{has_fixed, push_frames};
 use crate::log::push_log;
 use crate::nodes::push_nodes;
 use crate::pdos::{push_pdos, tightest};
 use crate::premises::{push_inputs, push_premises};
-use crate::rates::{push_loads, push_rates};
+use crate::rates::{load_at, push_loads, push_rates};
 use crate::senders::fixed_sender;
 use crate::style::STYLE;
-use crate::units::{Count, Identifier, Micros, Percent};
+use crate::units::{Count, Identifier, Micros, Percent, Share};
 use crate::warnings::push_warnings;
 use cop_figures::{Breakdown, Figures, Timeline};
 use cop_logbook::Logbook;
@@ -109,23 +109,24 @@ fn push_tightest(
     let Some(row) = network.rows().get(times.pdo) else {
         return Ok(());
     };
-    let margin = Micros(times.left());
-    let pdo = sent_by(network, row);
+    let (margin, pdo) = (Micros(times.left()), sent_by(network, row));
+    let share = Share {
+        part: times.left(),
+        whole: times.stream.deadline.unwrap_or(0),
+    };
     write!(
         page,
-        "<div><b>{margin} µs</b>left at the tightest: {pdo}</div>\n"
+        "<div><b>{margin} µs, {share}</b>of its deadline left at the tightest: {pdo}</div>\n"
     )
 }
 
 /// Adds the tile of the load at the planned rate.
 fn push_planned_load(page: &mut String, figures: &Figures) -> Result<(), AllocError> {
-    for load in figures.loads.iter() {
-        if figures.rate == Some(load.rate) {
-            let all = Percent(load.pdos.saturating_add(load.fixed));
-            write!(page, "<div><b>{all}</b>load of the bus at most</div>\n")?;
-        }
-    }
-    Ok(())
+    let Some(rate) = figures.rate else {
+        return Ok(());
+    };
+    let load = load_at(figures, rate);
+    write!(page, "<div><b>{load}</b>load of the bus at most</div>\n")
 }
 
 /// Adds what there is to know at first sight.
@@ -165,7 +166,7 @@ fn push_link(
 /// Adds the links to the sections.
 fn push_contents(page: &mut String, report: Report<'_, '_>) -> Result<(), AllocError> {
     let is_planned = matches!(report.outcome, Outcome::Planned(_));
-    let has_frames = is_planned && !report.figures.frames.is_empty();
+    let has_frames = is_planned && has_fixed(report.network);
     page.push_str("<nav>")?;
     push_link(
         page,
@@ -176,7 +177,7 @@ fn push_contents(page: &mut String, report: Report<'_, '_>) -> Result<(), AllocE
     push_link(page, true, "rates", "Why no slower rate")?;
     push_link(page, true, "load", "Load")?;
     push_link(page, is_planned, "pdos", "PDOs")?;
-    push_link(page, has_frames, "frames", "SDO frames")?;
+    push_link(page, has_frames, "frames", "Fixed frames")?;
     push_link(
         page,
         is_planned && report.timeline.is_some(),
@@ -253,9 +254,9 @@ fn push_plan(page: &mut String, alloc: Global, report: Report<'_, '_>) -> Result
             report.figures,
             report.breakdowns,
         )?;
-        push_frames(page, report.network, report.figures)?;
+        push_frames(page, alloc, report.network, report.figures)?;
         if let Some(timeline) = report.timeline {
-            push_bus(page, report.network, plan, timeline)?;
+            push_bus(page, report, plan, timeline)?;
         }
         if let Some(log) = report.log {
             push_log(page, report.network, log)?;

@@ -101,17 +101,12 @@ fn push_response(
     page.push_str("</td>")
 }
 
-/// Adds the response of a PDO against its deadline.
-fn push_margin(page: &mut String, times: &PdoTimes, is_tightest: bool) -> Result<(), AllocError> {
-    let (deadline, left) = (deadline_of(times), times.left());
-    let bar = ResponseBar {
-        response: times.response,
-        deadline,
-        is_tightest,
-    };
+/// Adds a response against its deadline.
+pub(crate) fn push_margin(page: &mut String, bar: ResponseBar) -> Result<(), AllocError> {
+    let left = bar.deadline.saturating_sub(bar.response);
     let share = Share {
         part: left,
-        whole: deadline,
+        whole: bar.deadline,
     };
     let margin = Micros(left);
     write!(
@@ -171,7 +166,12 @@ fn push_pdo(
     push_sender(page, network, row, times, shown.is_tightest)?;
     push_stream(page, times)?;
     push_response(page, alloc, times, shown.parts, shown.sync)?;
-    push_margin(page, times, shown.is_tightest)?;
+    let bar = ResponseBar {
+        response: times.response,
+        deadline: deadline_of(times),
+        is_tightest: shown.is_tightest,
+    };
+    push_margin(page, bar)?;
     page.push_str("<td class=\"taken\">")?;
     push_consumers(page, network, row.consumers.as_slice())?;
     page.push_str("</td></tr>\n")

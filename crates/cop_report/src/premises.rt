@@ -13,7 +13,8 @@ const PREMISES: &str = "<section id=\"premises\">
 COB-ID is set); heartbeats have their times. This is what the DCF files say and what the boot manager sends;</li>
 <li>all nodes run at the plan's rate, and nothing else sends on the bus;</li>
 <li>events are as far apart as the periods say and frames are queued within their jitters, the fixed frames' included, those of
-synchronous PDOs within their jitters after the transfer of their SYNC, and no frame is longer than its mapping;</li>
+synchronous PDOs within their jitters after the transfer of their SYNC, and each frame has as many bytes as its mapping, a fixed one as
+many as its kind;</li>
 <li>there are no error frames: a bound holds for runs without retransmission;</li>
 <li>controllers send their waiting frames in the order of identifiers, and a waiting frame starts as soon as the bus is
 idle.</li>

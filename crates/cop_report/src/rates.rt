@@ -13,14 +13,26 @@ use std::alloc::AllocError;
 /// The greatest load that the bars show, in billionths: past it a bar is cut.
 const GREATEST: u64 = 1500000000;
 
-/// The member that is shown of a refusal: the first that is late, or else the first.
-fn shown(members: &[Failing]) -> Option<&Failing> {
-    for member in members {
-        if matches!(member.verdict, Verdict::Late { .. }) {
-            return Some(member);
+/// The load at a rate.
+pub(crate) fn load_at(figures: &Figures, rate: Rate) -> Percent {
+    for load in figures.loads.iter() {
+        if load.rate == rate {
+            return Percent(load.pdos.saturating_add(load.fixed));
         }
     }
-    members.first()
+    Percent(0)
+}
+
+/// The first PDO that is late.
+fn first_late(members: &[Failing]) -> Option<&Failing> {
+    members
+        .iter()
+        .find(|member| matches!(member.verdict, Verdict::Late { .. }))
+}
+
+/// Whether several PDOs fail and none of them has a busy time that ends.
+fn are_endless(members: &[Failing]) -> bool {
+    members.len() > 1 && first_late(members).is_none()
 }
 
 /// Adds what is said of a frame: how long it needs, and until when it has time.
@@ -42,30 +54,43 @@ pub(crate) fn push_verdict(
     }
 }
 
-/// Adds what is said of a PDO that fails.
+/// Adds a PDO that fails, and what is said of it where that is not said of all.
 fn push_failing(
     page: &mut String,
     network: &Network<'_>,
     failing: &Failing,
+    is_said: bool,
 ) -> Result<(), AllocError> {
     if let Some(row) = network.rows().get(failing.pdo) {
         let pdo = sent_by(network, row);
         write!(page, "{pdo} ")?;
-        push_verdict(page, failing.verdict, failing.deadline)?;
+        if !is_said {
+            push_verdict(page, failing.verdict, failing.deadline)?;
+        }
     }
     Ok(())
 }
 
-/// Adds the lines of some PDOs, and closes what lists them.
+/// Adds the lines of some PDOs, each of which has some frames above it, and closes what lists them. That no busy time ends is said once.
 fn push_lines(
     page: &mut String,
     network: &Network<'_>,
+    above: &str,
     members: &[Failing],
 ) -> Result<(), AllocError> {
-    page.push_str("<ul>\n")?;
+    let is_said = are_endless(members);
+    let said = if is_said {
+        ", has no busy time that ends within 10 s"
+    } else {
+        ""
+    };
+    write!(
+        page,
+        "<p>Each of them with {above} above it, and all other PDOs below it{said}:</p>\n<ul>\n"
+    )?;
     for member in members {
         page.push_str("<li>")?;
-        push_failing(page, network, member)?;
+        push_failing(page, network, member, is_said)?;
         page.push_str("</li>\n")?;
     }
     page.push_str("</ul></details>\n")
@@ -83,10 +108,9 @@ fn push_members(
     }
     write!(
         page,
-        "<details><summary>The {count} PDOs of which none can have the lowest priority among them</summary>\n\
-<p>Each of them with the others above it, and all other PDOs below it:</p>\n"
+        "<details><summary>The {count} PDOs of which none can have the lowest priority among them</summary>\n"
     )?;
-    push_lines(page, network, members)
+    push_lines(page, network, "the others", members)
 }
 
 /// Adds that some PDOs have no places.
@@ -96,13 +120,21 @@ fn push_places(
     kbits: u32,
     members: &[Failing],
 ) -> Result<(), AllocError> {
-    if let Some(failing) = shown(members) {
-        write!(page, "<p>At {kbits} kbit/s ")?;
-        push_failing(page, network, failing)?;
-        page.push_str(".</p>\n")?;
-        push_members(page, network, members)?;
+    let Some(failing) = first_late(members).or(members.first()) else {
+        return Ok(());
+    };
+    let count = members.len();
+    write!(page, "<p>At {kbits} kbit/s ")?;
+    if are_endless(members) {
+        write!(
+            page,
+            "none of {count} PDOs, with the others above it, has a busy time that ends within 10 s, which counts as failed"
+        )?;
+    } else {
+        push_failing(page, network, failing, false)?;
     }
-    Ok(())
+    page.push_str(".</p>\n")?;
+    push_members(page, network, members)
 }
 
 /// Adds how many PDOs are above an SDO frame, and why.
@@ -125,12 +157,8 @@ fn push_above(
             "<p>All {pdos} stay above it: below the SDO frames there are too few identifiers for them.</p>\n"
         );
     }
-    write!(
-        page,
-        "<details><summary>{pdos} above it</summary>\n\
-<p>Each of them with the others and all SDO frames above it, and all other PDOs below it:</p>\n"
-    )?;
-    push_lines(page, network, up)
+    write!(page, "<details><summary>{pdos} above it</summary>\n")?;
+    push_lines(page, network, "the others and all SDO frames", up)
 }
 
 /// Adds that an SDO frame is late.
@@ -155,10 +183,14 @@ stand below it: it "
 fn push_refused(
     page: &mut String,
     network: &Network<'_>,
+    figures: &Figures,
     refused: &RefusedRate,
 ) -> Result<(), AllocError> {
-    let kbits = refused.rate.kbits();
-    write!(page, "<h3>{kbits} kbit/s fails</h3>\n")?;
+    let (kbits, load) = (refused.rate.kbits(), load_at(figures, refused.rate));
+    write!(
+        page,
+        "<h3>{kbits} kbit/s fails <small>at a load of {load}</small></h3>\n"
+    )?;
     match &refused.reason {
         Reason::Places { members } => push_places(page, network, kbits, members.as_slice()),
         Reason::Sync => write!(
@@ -189,7 +221,7 @@ pub(crate) fn push_rates(
         })?;
     }
     for refused in figures.refused.iter() {
-        push_refused(page, network, refused)?;
+        push_refused(page, network, figures, refused)?;
     }
     page.push_str("</section>\n")
 }

@@ -51,18 +51,37 @@ pub(crate) const LANES_SCRIPT: &str = "
   const byId = (id) => document.getElementById(id);
   const lanes = byId('lanes'), from = byId('from'), to = byId('to');
   const begin = Number(lanes.dataset.begin), whole = Number(lanes.dataset.span);
-  const pictures = lanes.querySelectorAll('svg'), marks = lanes.querySelectorAll('.marks span');
+  const pictures = lanes.querySelectorAll('svg'), marks = lanes.querySelector('.marks');
   const bars = Array.from(lanes.querySelectorAll('rect'), (bar) => [bar, Number(bar.getAttribute('x'))]);
   const micros = (tick) => String(Math.round((begin + tick) * 25) / 100);
   const tick = (field) => Number(field.value) * 4 - begin;
   let first = 0, span = whole;
+
+  function step() {
+    let it = 4;
+    for (let turn = 0; it * 8 < span; turn += 1) it *= turn % 3 === 1 ? 2.5 : 2;
+    return it;
+  }
+
+  function mark() {
+    const each = step(), start = begin + first, at = Math.ceil(start / each) * each - start;
+    const values = { '--span': span, '--first': at, '--step': each };
+    for (const name in values) lanes.style.setProperty(name, values[name]);
+    marks.replaceChildren();
+    for (let it = at; it <= span; it += each) {
+      const shown = document.createElement('span');
+      shown.style.setProperty('--at', it);
+      shown.textContent = micros(first + it);
+      marks.append(shown);
+    }
+  }
 
   function show(start, length) {
     span = Math.min(Math.max(length, least), whole);
     first = Math.min(Math.max(start, 0), whole - span);
     for (const [bar, at] of bars) bar.setAttribute('x', at - first);
     for (const picture of pictures) picture.setAttribute('viewBox', `0 0 ${span} 20`);
-    marks.forEach((mark, i) => { mark.textContent = micros(first + span * i / (marks.length - 1)); });
+    mark();
     from.value = micros(first);
     to.value = micros(first + span);
   }

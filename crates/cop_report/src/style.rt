@@ -25,14 +25,14 @@ section { background: var(--card); border: 1px solid var(--line); border-radius:
 @media (max-width: 79rem) { .scroll { overflow-x: auto; background: linear-gradient(to left, var(--track), transparent 1.2rem); } }
 .taken { white-space: normal; min-width: 11rem; }
 table { border-collapse: collapse; width: 100%; font-size: .92rem; }
-th, td { text-align: left; padding: .32rem .5rem; border-bottom: 1px solid var(--line); white-space: nowrap; }
+tr { border-bottom: 1px solid var(--line); } th, td { text-align: left; padding: .32rem .5rem; white-space: nowrap; }
 tr:first-child th { color: var(--soft); font-weight: 600; background: var(--card); position: sticky; top: 0; }
 a { color: inherit; text-decoration-color: var(--line); text-underline-offset: .2em; }
 nav { display: flex; flex-wrap: wrap; gap: .3rem 1.1rem; margin-top: 1rem; }
 :target { outline: 2px solid var(--pdo); outline-offset: 2px; }
 .n { text-align: right; font-variant-numeric: tabular-nums; }
 .wide { min-width: 6rem; width: 30%; } #pdos .wide { width: 8%; }
-#pdos small { display: block; } #pdos td:nth-child(2) { white-space: normal; min-width: 10rem; }
+#pdos small { display: block; } #pdos td:nth-child(2), #frames td:nth-child(2) { white-space: normal; min-width: 10rem; }
 .spread { display: block; width: 100%; min-width: 7rem; height: 1.6rem; } .loads { display: block; width: 100%; height: 6rem; }
 .parts { margin: 0; } .parts summary { color: inherit; } .parts ul { list-style: none; margin: 0; padding: 0; font-size: .85em; color: var(--soft); }
 .bar { display: block; width: 100%; height: .7rem; border-radius: 3px; }
@@ -42,20 +42,22 @@ nav { display: flex; flex-wrap: wrap; gap: .3rem 1.1rem; margin-top: 1rem; }
 .tightest td, .tightest th, .close td, .close th, .chosen td, .chosen th { background: var(--mark); }
 .tightest em { color: var(--tight); font-style: normal; font-weight: 600; }
 .key { display: inline-block; width: .8rem; height: .8rem; border-radius: 3px; margin-left: .8rem; }
-.lane { display: grid; grid-template-columns: 18rem minmax(0, 1fr); column-gap: .8rem; align-items: center; font-size: .92rem; }
-.lane svg { display: block; width: 100%; height: 20px; background: linear-gradient(to right, var(--line) 1px, transparent 1px) 0 0 / 25% 100%;
-  border-right: 1px solid var(--line); border-bottom: 1px solid var(--line); }
+.lane { display: grid; grid-template-columns: 18rem minmax(0, 1fr) 9rem; column-gap: .8rem; align-items: center; font-size: .92rem; }
+.lane svg { display: block; width: 100%; height: 20px; background: linear-gradient(to right, var(--line) 1px, transparent 1px)
+  calc(100% * var(--first) / (var(--span) - var(--step))) 0 / calc(100% * var(--step) / var(--span)) 100%;
+  border: solid var(--line); border-width: 0 1px 1px; }
 .waits, .sends { stroke-width: 1; vector-effect: non-scaling-stroke; }
 .waits { fill: var(--fixed); stroke: var(--fixed); } .sends { fill: var(--pdo); stroke: var(--pdo); }
 .axis { position: sticky; top: 0; background: var(--card); color: var(--soft); text-align: right; padding: .2rem 0; }
-.marks { display: flex; justify-content: space-between; font-variant-numeric: tabular-nums; }
+.marks { position: relative; height: 1.5em; font-variant-numeric: tabular-nums; }
+.marks span { position: absolute; left: calc(100% * var(--at) / var(--span)); transform: translateX(-50%); }
 #find:not([hidden]) { display: flex; flex-wrap: wrap; gap: .4rem .6rem; align-items: center; } #find input { font: inherit; }
 th button { font: inherit; color: inherit; background: none; border: 0; padding: 0; cursor: pointer; }
 [aria-sort=ascending] button::after { content: ' \\2191'; } [aria-sort=descending] button::after { content: ' \\2193'; }
 #window { max-width: none; flex-wrap: wrap; gap: .4rem .6rem; align-items: center; } #window:not([hidden]) { display: flex; }
 #window input { width: 8rem; font: inherit; } #window button { font: inherit; }
-@media (max-width: 45rem) { .lane { grid-template-columns: minmax(0, 1fr); margin-top: .3rem; } .axis div:first-child { display: none; }
-  .marks span:nth-child(even) { display: none; } }
+@media (max-width: 45rem) { .lane { grid-template-columns: minmax(0, 1fr) auto; margin-top: .3rem; } .axis div:first-child, .axis .n { display: none; }
+  .lane svg, .marks { grid-column: 1 / -1; order: 1; } .marks span:nth-child(even) { display: none; } }
 details { margin-bottom: .6rem; } summary { cursor: pointer; color: var(--soft); }
 footer { color: var(--soft); font-size: .88rem; margin-top: 1.2rem; }
 @page { size: A4; margin: 12mm; }
@@ -66,5 +68,5 @@ footer { color: var(--soft); font-size: .88rem; margin-top: 1.2rem; }
   h2, h3 { break-after: avoid; } table { font-size: 7.5pt; } th, td { padding: .2rem .3rem; white-space: normal; }
   tr:first-child th, .axis { position: static; } .n { white-space: nowrap; } .wide { min-width: 2.5rem; width: 10%; }
   .taken { min-width: 7rem; } .scroll { overflow: visible; background: none; }
-  .lane { grid-template-columns: 11rem minmax(0, 1fr); font-size: 7.5pt; } }
+  .lane { grid-template-columns: 11rem minmax(0, 1fr) 6rem; font-size: 7.5pt; } }
 ";

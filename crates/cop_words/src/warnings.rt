@@ -24,7 +24,7 @@ fn tpdo_of(row: &PdoRow) -> DevicePdo {
 fn deadline_words(alloc: Global, row: &PdoRow) -> Result<String, AllocError> {
     let (name, jitter, deadline) = (pdo_name(alloc, tpdo_of(row))?, row.jitter, row.deadline);
     format!(in alloc;
-        "{name}: its deadline of {deadline} us is not above its jitter of {jitter} us, so it is late at every rate\n"
+        "{name}: its deadline of {deadline} us is not above its jitter of {jitter} us, so it is late at every rate: give it a longer deadline, or a shorter jitter where the device keeps it\n"
     )
 }
 
@@ -60,7 +60,8 @@ fn row_word(kind: FrameKind) -> &'static str {
 /// What the EDS file of a device says that lacks a row of a kind.
 fn described(kind: FrameKind) -> &'static str {
     match kind {
-        FrameKind::Emcy => "it sends EMCY frames (1014h), and these are not counted",
+        FrameKind::Emcy =>
+            "it sends EMCY frames (1014h), and these are not counted: add the row, with the least time between two as its period",
         FrameKind::SdoRequest => {
             "it has an SDO server (1200h sub 1): add the row if SDO is used while the machine runs"
         }
@@ -68,7 +69,7 @@ fn described(kind: FrameKind) -> &'static str {
             "it has an SDO server (1200h sub 2): add the row if SDO is used while the machine runs"
         }
         FrameKind::Heartbeat => {
-            "it begins with a heartbeat (1017h), which the plan switches off"
+            "it begins with a heartbeat (1017h), which the plan switches off: add the row to keep it"
         }
         FrameKind::Nmt | FrameKind::Sync => "it sends them",
     }

@@ -112,10 +112,13 @@ fn the_loads_are_those_of_the_tables(rt: HostRuntime) -> Result<(), Fail> {
 /// What the page of the network says.
 const SAID: &[&str] = &[
     "500&nbsp;kbit/s",
+    "<b>0 µs, 0.0 %</b>of its deadline left at the tightest: TPDO 1 of Valve (node 5)",
+    "<h3>250 kbit/s fails <small>at a load of 6.2 %</small></h3>",
     "At 250 kbit/s TPDO 1 of Valve (node 5) needs 1340 µs, its deadline is 670 µs.",
     "<li>TPDO 1 sends <a href=\"#pdo-181h\">181h</a></li>",
     "<summary>670</summary>",
     "<li>one from below <b>130</b></li><li>085h ×1 <b>270</b></li><li>its transfer <b>270</b></li>",
+    "<th scope=\"row\">085h</th><td>EMCY of Valve (node 5)</td><td class=\"n\">8</td><td class=\"n\">100000</td><td class=\"n\">0</td></tr>",
     "<li>switched off: TPDO 2</li>",
     "<li>heartbeat every 100 ms</li>",
     "a&lt;b&gt;&amp;&quot;c&quot;.csv",

@@ -15,7 +15,7 @@ const WARNED: &[(&str, &str, &str, &str, &str)] = &[
         "BaudRate",
         "",
         "5,1,10000,670,670,",
-        "warning: TPDO 1 of node 5: its deadline of 670 us is not above its jitter of 670 us, so it is late at every rate\n",
+        "warning: TPDO 1 of node 5: its deadline of 670 us is not above its jitter of 670 us, so it is late at every rate: give it a longer deadline, or a shorter jitter where the device keeps it\n",
     ),
     (
         "BaudRate",
@@ -36,14 +36,14 @@ const WARNED: &[(&str, &str, &str, &str, &str)] = &[
         "AccessType=rw\nDefaultValue=1000\n[1400]",
         "",
         "5,1,10000,0,670,",
-        "warning: no row heartbeat of node 5: by its EDS file it begins with a heartbeat (1017h), which the plan switches off\n",
+        "warning: no row heartbeat of node 5: by its EDS file it begins with a heartbeat (1017h), which the plan switches off: add the row to keep it\n",
     ),
     (
         "SupportedObjects=5",
         "SupportedObjects=6\n6=0x1014",
         "[1014]\nDataType=7\nAccessType=rw\nDefaultValue=0x85\n",
         "5,1,10000,0,670,",
-        "warning: no row emcy of node 5: by its EDS file it sends EMCY frames (1014h), and these are not counted\n",
+        "warning: no row emcy of node 5: by its EDS file it sends EMCY frames (1014h), and these are not counted: add the row, with the least time between two as its period\n",
     ),
     (
         "SupportedObjects=5",

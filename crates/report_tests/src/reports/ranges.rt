@@ -46,6 +46,12 @@ const NEARLY_FULL: Tables<'static> = Tables {
     pdos: "node,tpdo,period,jitter,deadline,consumers\n5,1,1350,0,1350,\n6,1,1890,0,1890,\n7,1,1890,0,1890,\n",
 };
 
+/// The same three, which take more than all of the bus at 250 kbit/s.
+const OVERLOADED: Tables<'static> = Tables {
+    pdos: "node,tpdo,period,jitter,deadline,consumers\n5,1,1000,0,1000,\n6,1,1000,0,1000,\n7,1,1000,0,1000,\n",
+    ..NEARLY_FULL
+};
+
 /// What the pages say.
 const SAID: &[(Tables<'static>, &[&str])] = &[
     (
@@ -70,12 +76,22 @@ const SAID: &[(Tables<'static>, &[&str])] = &[
         ],
     ),
     (
+        OVERLOADED,
+        &[
+            "<h3>250 kbit/s fails <small>at a load of 162.0 %</small></h3>",
+            "<p>At 250 kbit/s none of 3 PDOs, with the others above it, has a busy time that ends within 10 s, which counts as failed.</p>",
+            "and all other PDOs below it, has no busy time that ends within 10 s:</p>\n<ul>\n<li>TPDO 1 of Valve (node 5) </li>",
+        ],
+    ),
+    (
         BELOW,
         &[
             "<p>2 PDOs can wait and stand below all SDO frames, from 680h on. With all PDOs above it 585h, SDO response of Valve \
 (node 5), needs 1620 µs, its deadline is 1080 µs.</p>",
             "680h <small>below SDO</small>",
-            "<th scope=\"row\">585h</th><td>SDO response of Valve (node 5)</td><td class=\"n\">100000</td><td class=\"n\">0</td>",
+            "<th scope=\"row\">585h</th><td>SDO response of Valve (node 5)</td><td class=\"n\">8</td><td class=\"n\">100000</td>\
+<td class=\"n\">0</td><td class=\"n\">1080</td><td class=\"n\">1080</td>",
+            "<td class=\"n\">0</td><td class=\"n\">0.0 %</td></tr>",
         ],
     ),
     (

@@ -90,7 +90,11 @@ const SAID: &[&str] = &[
     "aria-label=\"181h, TPDO 1 of Valve (node 5): 1 transfer\"",
     "<rect class=\"waits\" x=\"200\" y=\"8\" width=\"728\" height=\"4\"/>",
     "<rect class=\"sends\" x=\"928\" y=\"3\" width=\"1048\" height=\"14\"/>",
-    "<span>250</span><span>437.5</span><span>625</span><span>812.5</span><span>1000</span>",
+    "data-begin=\"1000\" data-span=\"3000\" style=\"--span:3000;--first:200;--step:400\">",
+    "<span style=\"--at:200\">300</span><span style=\"--at:600\">400</span>",
+    "<span style=\"--at:2600\">900</span><span style=\"--at:3000\">1000</span></div>",
+    "</svg><div class=\"n\">444</div>",
+    "</svg><div class=\"n\">232 / 670</div>",
     "<script>",
 ];
 
