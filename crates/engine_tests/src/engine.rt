@@ -34,42 +34,44 @@ pub(crate) fn refused<T: Drop>(answer: Result<T, Fault>) -> Result<Option<(u8, u
     }
 }
 
+/// Tables of streams, the rate, the report and whether all streams pass.
+const REPORTS: &[(&[u8], Rate, &[u8], bool)] = &[
+    (
+        THREE_FRAMES,
+        Rate::Kbit125,
+        b"181h pass 8000\n182h pass 12000\n183h late 1 14000\n",
+        false,
+    ),
+    (
+        b"id,bytes,period,jitter,deadline\n0x181,8,100,0,\n",
+        Rate::Kbit1000,
+        b"181h long\n",
+        false,
+    ),
+    // The lines stand by rising identifier, whatever the order of the records.
+    (
+        b"id,bytes,period,jitter,deadline\n\"386\",8,100000,0,1080\r\n385,8,100000,0,1079\r\n",
+        Rate::Kbit125,
+        b"181h late 0 8640\n182h late 0 8640\n",
+        false,
+    ),
+    (
+        b"\xEF\xBB\xBFid,bytes,period,jitter,deadline\n0x181,8,1000,2500,2635\n",
+        Rate::Kbit1000,
+        b"181h pass 10540\n",
+        true,
+    ),
+    (
+        b"id,bytes,period,jitter,deadline\n",
+        Rate::Kbit125,
+        b"",
+        true,
+    ),
+];
+
 #[test]
 fn reports(rt: HostRuntime) -> Result<(), Fail> {
-    let cases: &[(&[u8], Rate, &[u8], bool)] = &[
-        (
-            THREE_FRAMES,
-            Rate::Kbit125,
-            b"181h pass 8000\n182h pass 12000\n183h late 1 14000\n",
-            false,
-        ),
-        (
-            b"id,bytes,period,jitter,deadline\n0x181,8,100,0,\n",
-            Rate::Kbit1000,
-            b"181h long\n",
-            false,
-        ),
-        // The lines stand by rising identifier, whatever the order of the records.
-        (
-            b"id,bytes,period,jitter,deadline\n\"386\",8,100000,0,1080\r\n385,8,100000,0,1079\r\n",
-            Rate::Kbit125,
-            b"181h late 0 8640\n182h late 0 8640\n",
-            false,
-        ),
-        (
-            b"\xEF\xBB\xBFid,bytes,period,jitter,deadline\n0x181,8,1000,2500,2635\n",
-            Rate::Kbit1000,
-            b"181h pass 10540\n",
-            true,
-        ),
-        (
-            b"id,bytes,period,jitter,deadline\n",
-            Rate::Kbit125,
-            b"",
-            true,
-        ),
-    ];
-    for case in cases {
+    for case in REPORTS {
         let (text, rate, want, wanted) = *case;
         let (lines, all_pass) = test_bytes(rt.alloc(), text, rate)?;
         assert!(rt; lines.as_slice() == want);
@@ -78,22 +80,24 @@ fn reports(rt: HostRuntime) -> Result<(), Fail> {
     Ok(())
 }
 
+/// Tables of streams that are refused, the number and the record.
+const REFUSED_STREAMS: &[(&[u8], u8, u64)] = &[
+    (
+        b"id,bytes,period,jitter,deadline\n0x181,7,2500,0,2500\n385,7,3500,0,3250\n",
+        5,
+        2,
+    ),
+    (b"", 1, 0),
+    (
+        b"id,bytes,period,jitter,deadline\n0x181,9,2500,0,2500\n",
+        4,
+        1,
+    ),
+];
+
 #[test]
 fn refusals(rt: HostRuntime) -> Result<(), Fail> {
-    let cases: &[(&[u8], u8, u64)] = &[
-        (
-            b"id,bytes,period,jitter,deadline\n0x181,7,2500,0,2500\n385,7,3500,0,3250\n",
-            5,
-            2,
-        ),
-        (b"", 1, 0),
-        (
-            b"id,bytes,period,jitter,deadline\n0x181,9,2500,0,2500\n",
-            4,
-            1,
-        ),
-    ];
-    for case in cases {
+    for case in REFUSED_STREAMS {
         let (text, wanted, at) = *case;
         let report = test_bytes(rt.alloc(), text, Rate::Kbit125);
         assert!(rt; refused(report)? == Some((wanted, at)));
@@ -283,33 +287,35 @@ fn planned(alloc: Global, nodes: &[u8], pdos: &[u8], eds: &[u8]) -> Result<Files
     plan_bytes(alloc, nodes, pdos, &files, &by(Choice::Order))
 }
 
+/// Tables and an EDS file, whether some rate passes, and the plan.
+const PLANNED: &[(&[u8], &[u8], &[u8], bool, &[u8])] = &[
+    (
+        VALVE,
+        ONE_PDO,
+        UNIT,
+        true,
+        b"rate 500\npdo 5.1 id 181h response 2680\nrefused 250 members 1\n",
+    ),
+    (ALONE, NO_PDO, UNIT, true, b"rate 250\n"),
+    (
+        ALONE,
+        SLOW_PDO,
+        UNIT,
+        true,
+        b"rate 250\npdo 5.1 id 181h response 2160\n",
+    ),
+    (
+        ALONE,
+        BUSY_PDO,
+        SLOW,
+        false,
+        b"no rate passes\nrefused 125 members 1\n",
+    ),
+];
+
 #[test]
 fn networks_are_planned(rt: HostRuntime) -> Result<(), Fail> {
-    let cases: &[(&[u8], &[u8], &[u8], bool, &[u8])] = &[
-        (
-            VALVE,
-            ONE_PDO,
-            UNIT,
-            true,
-            b"rate 500\npdo 5.1 id 181h response 2680\nrefused 250 members 1\n",
-        ),
-        (ALONE, NO_PDO, UNIT, true, b"rate 250\n"),
-        (
-            ALONE,
-            SLOW_PDO,
-            UNIT,
-            true,
-            b"rate 250\npdo 5.1 id 181h response 2160\n",
-        ),
-        (
-            ALONE,
-            BUSY_PDO,
-            SLOW,
-            false,
-            b"no rate passes\nrefused 125 members 1\n",
-        ),
-    ];
-    for case in cases {
+    for case in PLANNED {
         let (nodes, pdos, eds, passes, text) = *case;
         let files = planned(rt.alloc(), nodes, pdos, eds)?;
         assert!(rt; files.planned == passes && files.plan.as_slice() == text);
@@ -317,13 +323,15 @@ fn networks_are_planned(rt: HostRuntime) -> Result<(), Fail> {
     Ok(())
 }
 
+/// Tables and the refusals of their plan.
+const PLANNED_REFUSALS: &[(&[u8], &[u8], &[u8])] = &[
+    (VALVE, ONE_PDO, VALVE_REFUSED),
+    (ALONE, NO_PDO, NOTHING_REFUSED),
+];
+
 #[test]
 fn refusals_of_plans(rt: HostRuntime) -> Result<(), Fail> {
-    let cases: &[(&[u8], &[u8], &[u8])] = &[
-        (VALVE, ONE_PDO, VALVE_REFUSED),
-        (ALONE, NO_PDO, NOTHING_REFUSED),
-    ];
-    for case in cases {
+    for case in PLANNED_REFUSALS {
         let (nodes, pdos, text) = *case;
         let files = planned(rt.alloc(), nodes, pdos, UNIT)?;
         assert!(rt; files.refusals.as_slice() == text);
@@ -331,19 +339,23 @@ fn refusals_of_plans(rt: HostRuntime) -> Result<(), Fail> {
     Ok(())
 }
 
+/// A table with a PDO twice.
+const TWICE: &[u8] =
+    b"node,tpdo,period,jitter,deadline,consumers\n5,1,10000,0,670,\n5,1,10000,0,670,\n";
+
+/// Tables and an EDS file that are refused, the number and the record.
+const REFUSED_NETWORKS: &[(&[u8], &[u8], &[u8], u8, u64)] = &[
+    (b"row,node\n", ONE_PDO, UNIT, 40, 0),
+    (VALVE, b"", UNIT, 40, 0),
+    (VALVE, TWICE, UNIT, 44, 2),
+    (VALVE, ONE_PDO, b"[1800su", 43, 1),
+    (ALONE, NO_PDO, b"", 52, 0),
+    (ALONE, ONE_PDO, b"", 45, 1),
+];
+
 #[test]
 fn networks_are_refused(rt: HostRuntime) -> Result<(), Fail> {
-    let twice: &[u8] =
-        b"node,tpdo,period,jitter,deadline,consumers\n5,1,10000,0,670,\n5,1,10000,0,670,\n";
-    let cases: &[(&[u8], &[u8], &[u8], u8, u64)] = &[
-        (b"row,node\n", ONE_PDO, UNIT, 40, 0),
-        (VALVE, b"", UNIT, 40, 0),
-        (VALVE, twice, UNIT, 44, 2),
-        (VALVE, ONE_PDO, b"[1800su", 43, 1),
-        (ALONE, NO_PDO, b"", 52, 0),
-        (ALONE, ONE_PDO, b"", 45, 1),
-    ];
-    for case in cases {
+    for case in REFUSED_NETWORKS {
         let (nodes, pdos, eds, number, place) = *case;
         let files = planned(rt.alloc(), nodes, pdos, eds);
         assert!(rt; refused(files)? == Some((number, place)));
@@ -368,14 +380,16 @@ fn the_valve_has_a_dcf(rt: HostRuntime) -> Result<(), Fail> {
     Ok(())
 }
 
+/// Tables and an EDS file, and the names of the DCF files.
+const DCF_NAMES: &[(&[u8], &[u8], &[u8], &[&str])] = &[
+    (TWO_VALVES, NO_PDO, UNIT, &["node-005.dcf", "node-007.dcf"]),
+    // No rate passes.
+    (ALONE, BUSY_PDO, SLOW, &[]),
+];
+
 #[test]
 fn dcf_files_stand_by_rising_node(rt: HostRuntime) -> Result<(), Fail> {
-    let cases: &[(&[u8], &[u8], &[u8], &[&str])] = &[
-        (TWO_VALVES, NO_PDO, UNIT, &["node-005.dcf", "node-007.dcf"]),
-        // No rate passes.
-        (ALONE, BUSY_PDO, SLOW, &[]),
-    ];
-    for case in cases {
+    for case in DCF_NAMES {
         let (nodes, pdos, eds, names) = *case;
         let files = planned(rt.alloc(), nodes, pdos, eds)?;
         let dcf = files.dcf.as_slice();
@@ -394,23 +408,25 @@ fn checked(alloc: Global, refusals: &[u8]) -> Result<(Vec<u8>, bool), Fault> {
     check_bytes(alloc, &all_rates(), VALVE, ONE_PDO, &files, refusals)
 }
 
+/// Refusal files, the lines of their check and whether all refusals hold.
+const CHECKED: &[(&[u8], &[u8], bool)] = &[
+    (VALVE_REFUSED, b"250 holds\n", true),
+    (NOTHING_REFUSED, b"", true),
+    (
+        b"rate,pdo,what,value\n0,0,version,1\n250,1,late,0\n250,1,busy,1\n250,1,busy,5360\n250,1,queue,1040\n250,1,queue,3201\n",
+        b"250 fails\n",
+        false,
+    ),
+    (
+        b"rate,pdo,what,value\n0,0,version,1\n250,1,late,0\n250,1,busy,1\n250,1,busy,5360\n250,1,queue,3",
+        b"250 fails\n",
+        false,
+    ),
+];
+
 #[test]
 fn refusals_are_checked(rt: HostRuntime) -> Result<(), Fail> {
-    let cases: &[(&[u8], &[u8], bool)] = &[
-        (VALVE_REFUSED, b"250 holds\n", true),
-        (NOTHING_REFUSED, b"", true),
-        (
-            b"rate,pdo,what,value\n0,0,version,1\n250,1,late,0\n250,1,busy,1\n250,1,busy,5360\n250,1,queue,1040\n250,1,queue,3201\n",
-            b"250 fails\n",
-            false,
-        ),
-        (
-            b"rate,pdo,what,value\n0,0,version,1\n250,1,late,0\n250,1,busy,1\n250,1,busy,5360\n250,1,queue,3",
-            b"250 fails\n",
-            false,
-        ),
-    ];
-    for case in cases {
+    for case in CHECKED {
         let (refusals, text, all) = *case;
         let (lines, hold) = checked(rt.alloc(), refusals)?;
         assert!(rt; lines.as_slice() == text && hold == all);
@@ -418,18 +434,20 @@ fn refusals_are_checked(rt: HostRuntime) -> Result<(), Fail> {
     Ok(())
 }
 
+/// Refusal files that are refused, the number and the record.
+const REFUSED_FILES: &[(&[u8], u8, u64)] = &[
+    (b"", 31, 0),
+    (b"rate,pdo,what,value\n", 31, 1),
+    (
+        b"rate,pdo,what,value\n0,0,version,1\n250,1,late,0\n250,1,busy,1\n250,1,busy,5360",
+        35,
+        4,
+    ),
+];
+
 #[test]
 fn refusal_files_are_refused(rt: HostRuntime) -> Result<(), Fail> {
-    let cases: &[(&[u8], u8, u64)] = &[
-        (b"", 31, 0),
-        (b"rate,pdo,what,value\n", 31, 1),
-        (
-            b"rate,pdo,what,value\n0,0,version,1\n250,1,late,0\n250,1,busy,1\n250,1,busy,5360",
-            35,
-            4,
-        ),
-    ];
-    for case in cases {
+    for case in REFUSED_FILES {
         let (refusals, number, place) = *case;
         let found = checked(rt.alloc(), refusals);
         assert!(rt; refused(found)? == Some((number, place)));
