@@ -183,16 +183,32 @@ const FILES: &[(&[u8], usize, &[u8])] = &[
     (ONE_TOO_MANY, 3, BELOW_FIRST_AT_250),
 ];
 
+/// The file of the refusals that are planned for streams of which the first are PDOs.
+fn file_for(alloc: Global, set: &StreamSet, pdos: usize) -> Result<Vec<u8>, Fail> {
+    let (outcome, _) = answer_for(alloc, set, pdos, RATES)?;
+    Ok(write(alloc, refusals_of(&outcome))?)
+}
+
+/// Whether a file has so many refusals, which all hold and are written as they were read.
+fn holds_all(
+    alloc: Global,
+    set: &StreamSet,
+    pdos: usize,
+    file: &[u8],
+    count: usize,
+) -> Result<bool, Fail> {
+    let refusals = read(alloc, file)?;
+    let all_hold = refusals.len() == count && all_hold(set, pdos, &refusals);
+    Ok(all_hold && are_written(alloc, &refusals, file)?)
+}
+
 #[test]
 fn refusals_by_sdo_frames_are_written_and_read(rt: HostRuntime) -> Result<(), Fail> {
     for case in FILES {
         let (table, pdos, file) = *case;
         let set = read_streams(rt.alloc(), table)?;
-        let (outcome, _) = answer_for(rt.alloc(), &set, pdos, RATES)?;
-        assert!(rt; are_written(rt.alloc(), refusals_of(&outcome), file)?);
-        let refusals = read(rt.alloc(), file)?;
-        assert!(rt; refusals.len() == 1 && all_hold(&set, pdos, &refusals));
-        assert!(rt; are_written(rt.alloc(), &refusals, file)?);
+        assert!(rt; file_for(rt.alloc(), &set, pdos)?.as_slice() == file);
+        assert!(rt; holds_all(rt.alloc(), &set, pdos, file, 1)?);
     }
     Ok(())
 }
@@ -204,12 +220,9 @@ const SYNC_AT_250: &[u8] =
 #[test]
 fn refusals_by_sync_are_written_and_read(rt: HostRuntime) -> Result<(), Fail> {
     let set = synchronous(rt.alloc(), 400, 6_480)?;
-    let (outcome, _) = answer_for(rt.alloc(), &set, 1, RATES)?;
-    let file = write(rt.alloc(), refusals_of(&outcome))?;
+    let file = file_for(rt.alloc(), &set, 1)?;
     assert!(rt; file.starts_with(SYNC_AT_250));
-    let refusals = read(rt.alloc(), &file)?;
-    assert!(rt; refusals.len() == 3 && all_hold(&set, 1, &refusals));
-    assert!(rt; are_written(rt.alloc(), &refusals, &file)?);
+    assert!(rt; holds_all(rt.alloc(), &set, 1, &file, 3)?);
     Ok(())
 }
 

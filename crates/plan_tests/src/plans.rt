@@ -35,6 +35,15 @@ fn answer(alloc: Global, table: &[u8], candidates: &[Rate]) -> Result<(Outcome, 
     answer_for(alloc, &set, pdos, candidates)
 }
 
+/// The set of these rates.
+fn rates_of(rates: &[Rate]) -> RateSet {
+    let mut set = RateSet::new();
+    for rate in rates {
+        set.insert(*rate);
+    }
+    set
+}
+
 // What is planned for streams of which the first are PDOs, and what it took.
 pub(crate) fn answer_for(
     alloc: Global,
@@ -42,10 +51,7 @@ pub(crate) fn answer_for(
     pdos: usize,
     candidates: &[Rate],
 ) -> Result<(Outcome, Count), Fail> {
-    let mut rates = RateSet::new();
-    for rate in candidates {
-        rates.insert(*rate);
-    }
+    let rates = rates_of(candidates);
     if !can_assign(set, pdos) {
         return Err(Fail::from("not to be assigned"));
     }

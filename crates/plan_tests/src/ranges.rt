@@ -33,8 +33,9 @@ fn reason_of(refusal: &Refusal) -> Why {
 fn are_refused(refusals: &[Refusal], rows: &[(Rate, Why)]) -> bool {
     let mut wanted = rows.iter();
     for refusal in refusals {
-        if wanted.next() != Some(&(refusal.rate, reason_of(refusal))) {
-            return false;
+        match wanted.next() {
+            Some((rate, why)) if *rate == refusal.rate && *why == reason_of(refusal) => {}
+            _ => return false,
         }
     }
     wanted.next().is_none()
@@ -213,12 +214,17 @@ fn is_planned(plan: &Plan, row: &Row) -> bool {
     plan.rate() == row.rate && plan.ids() == row.ids && are_refused(plan.refusals(), row.refused)
 }
 
+/// The plan of a row.
+fn plan_for(alloc: Global, row: &Row) -> Result<Plan, Fail> {
+    let set = read_streams(alloc, row.table)?;
+    let (outcome, _) = answer_for(alloc, &set, row.pdos, RATES)?;
+    plan_of(outcome)
+}
+
 #[test]
 fn sdo_frames_with_deadlines_are_planned_for(rt: HostRuntime) -> Result<(), Fail> {
     for row in ROWS {
-        let set = read_streams(rt.alloc(), row.table)?;
-        let (outcome, _) = answer_for(rt.alloc(), &set, row.pdos, RATES)?;
-        let plan = plan_of(outcome)?;
+        let plan = plan_for(rt.alloc(), row)?;
         assert!(rt; is_planned(&plan, row));
         let found = responses(rt.alloc(), &plan)?;
         assert!(rt; found.as_slice() == row.responses);
