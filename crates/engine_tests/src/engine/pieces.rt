@@ -1,8 +1,11 @@
 //! Traces that are judged while they are read in pieces.
 
+ghost use Rattle.std.specs.Prelude.{◌≤◌};
+
 use crate::engine::{ONE_PDO, UNIT, VALVE, by, eds_files};
 use cop_engine::{judge_outcome, judge_pieces, outcome_of, run_bytes};
-use cop_plan::Choice;
+use cop_plan::{Choice, Outcome};
+use std::alloc::Global;
 use std::io::{self, Read};
 use std::test::Fail;
 
@@ -35,39 +38,40 @@ fn in_pieces(text: &[u8], fails: bool) -> Pieces<'_> {
     }
 }
 
+/// What is planned for the valve.
+fn outcome(alloc: Global) -> Result<Outcome, Fail> {
+    let files = eds_files(alloc, UNIT)?;
+    Ok(outcome_of(alloc, VALVE, ONE_PDO, &files, &by(Choice::Order))?)
+}
+
+/// A run of the valve's plan up to a moment in microseconds: what is said of it, and its trace.
+fn ran(alloc: Global, until: u64) -> Result<(Vec<u8>, Vec<u8>), Fail>
+    requires { until ≤ 1000000000 }
+{
+    let files = eds_files(alloc, UNIT)?;
+    let asked = by(Choice::Order);
+    Ok(run_bytes(alloc, 42, until, VALVE, ONE_PDO, &files, &asked)?)
+}
+
+/// What is judged of a trace in pieces.
+fn judged(alloc: Global, trace: &[u8], fails: bool) -> Result<Option<Vec<u8>>, Fail> {
+    let outcome = outcome(alloc)?;
+    Ok(judge_pieces(alloc, &outcome, in_pieces(trace, fails)))
+}
+
 #[test]
 fn a_trace_in_pieces_is_judged_as_it_is_told(rt: HostRuntime) -> Result<(), Fail> {
-    let files = eds_files(rt.alloc(), UNIT)?;
-    let outcome = outcome_of(rt.alloc(), VALVE, ONE_PDO, &files, &by(Choice::Order))?;
-    let (text, trace) = run_bytes(
-        rt.alloc(),
-        42,
-        2000000,
-        VALVE,
-        ONE_PDO,
-        &files,
-        &by(Choice::Order),
-    )?;
-    let judged = judge_pieces(rt.alloc(), &outcome, in_pieces(&trace, false));
+    let (text, trace) = ran(rt.alloc(), 2_000_000)?;
+    let judged = judged(rt.alloc(), &trace, false)?;
     assert!(rt; judged.is_some_and(|judged| judged == text));
-    let whole = judge_outcome(rt.alloc(), &outcome, &trace)?;
+    let whole = judge_outcome(rt.alloc(), &outcome(rt.alloc())?, &trace)?;
     assert!(rt; whole == text);
     Ok(())
 }
 
 #[test]
 fn a_trace_that_is_not_read_to_its_end_is_not_judged(rt: HostRuntime) -> Result<(), Fail> {
-    let files = eds_files(rt.alloc(), UNIT)?;
-    let outcome = outcome_of(rt.alloc(), VALVE, ONE_PDO, &files, &by(Choice::Order))?;
-    let (_, trace) = run_bytes(
-        rt.alloc(),
-        42,
-        20000,
-        VALVE,
-        ONE_PDO,
-        &files,
-        &by(Choice::Order),
-    )?;
-    assert!(rt; judge_pieces(rt.alloc(), &outcome, in_pieces(&trace, true)).is_none());
+    let (_, trace) = ran(rt.alloc(), 20_000)?;
+    assert!(rt; judged(rt.alloc(), &trace, true)?.is_none());
     Ok(())
 }
