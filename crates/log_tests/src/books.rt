@@ -4,7 +4,7 @@ use cop_log::Clock;
 use cop_logbook::{BookFault, WatchFault, watched};
 use cop_net::{all_rates, network, read_nodes, read_pdos};
 use cop_plan::{Choice, Outcome, Plan, plan};
-use std::alloc::Global;
+use std::alloc::{AllocError, Global};
 use std::io::{self, Read};
 use std::test::Fail;
 
@@ -48,15 +48,18 @@ AccessType=rw
 PDOMapping=1
 ";
 
+fn eds_files(alloc: Global) -> Result<Vec<(String, Vec<u8>)>, AllocError> {
+    let mut files = Vec::new(alloc);
+    let name = String::from_str(alloc, "unit.eds")?;
+    files.push((name, Vec::from_slice(alloc, UNIT)?))?;
+    Ok(files)
+}
+
 /// The PDO has the identifier 181h, and an event every 10 ms.
 fn planned(alloc: Global) -> Result<Plan, Fail> {
     let nodes = read_nodes(alloc, NODES)?;
     let pdos = read_pdos(alloc, PDOS)?;
-    let mut files = Vec::new(alloc);
-    files.push((
-        String::from_str(alloc, "unit.eds")?,
-        Vec::from_slice(alloc, UNIT)?,
-    ))?;
+    let files = eds_files(alloc)?;
     let network = network(alloc, &all_rates(), &nodes, &pdos, &files)?;
     match plan(alloc, &network, Choice::Order)? {
         Outcome::Planned(plan) => Ok(plan),

@@ -6,6 +6,7 @@ use cop_net::{
     network_of_files, read_nodes, read_pdos,
 };
 use cop_pdo::{Direction, payload};
+use cop_rta::Stream;
 use std::alloc::Global;
 use std::fmt::Write;
 use std::test::Fail;
@@ -190,15 +191,30 @@ fn the_streams_of_the_valve(rt: HostRuntime) -> Result<(), Fail> {
     Ok(())
 }
 
+/// The streams of a network of the device of these parts.
+fn streams_of(
+    alloc: Global,
+    nodes: &NodeTable,
+    pdos: &str,
+    parts: Parts<'_>,
+) -> Result<Vec<Stream>, Fail> {
+    let pdos = pdos_of(alloc, pdos)?;
+    let files = [file(alloc, "unit.eds", text_of(alloc, parts)?)?];
+    let network = network(alloc, &all_rates(), nodes, &pdos, &files)?;
+    Ok(Vec::from_slice(alloc, network.set().streams())?)
+}
+
+const ANSWERED_IN_TIME: &[u8] = b"row,node,name,eds,period,jitter,deadline
+device,5,Valve,unit.eds,0,0,
+sdo_response,5,,,100000,0,1080
+emcy,5,,,100000,0,
+";
+
 #[test]
 fn an_sdo_frame_with_a_deadline(rt: HostRuntime) -> Result<(), Fail> {
-    let rows = "device,5,Valve,unit.eds,0,0,\nsdo_response,5,,,100000,0,1080\nemcy,5,,,100000,0,\n";
-    let text = format!(in rt.alloc(); "row,node,name,eds,period,jitter,deadline\n{rows}")?;
-    let nodes = read_nodes(rt.alloc(), text.as_bytes())?;
-    let pdos = pdos_of(rt.alloc(), "5,1,10000,0,670,\n")?;
-    let files = [file(rt.alloc(), "unit.eds", text_of(rt.alloc(), USUAL)?)?];
-    let valve = network(rt.alloc(), &all_rates(), &nodes, &pdos, &files)?;
-    match valve.set().streams() {
+    let nodes = read_nodes(rt.alloc(), ANSWERED_IN_TIME)?;
+    let streams = streams_of(rt.alloc(), &nodes, "5,1,10000,0,670,\n", USUAL)?;
+    match streams.as_slice() {
         [_, emergency, response] => {
             assert!(rt; emergency.id == 0x085 && emergency.deadline.is_none());
             assert!(rt; response.id == 0x585 && response.deadline == Some(4_320));
@@ -267,15 +283,21 @@ const WANTED: &[(&[Rate], Option<Rate>)] = &[
     (&[Rate::Kbit800, Rate::Kbit125], None),
 ];
 
+/// The set of these rates.
+fn set_of(rates: &[Rate]) -> RateSet {
+    let mut set = RateSet::new();
+    for rate in rates {
+        set.insert(*rate);
+    }
+    set
+}
+
 #[test]
 fn the_rates_of_the_valve(rt: HostRuntime) -> Result<(), Fail> {
     let (nodes, pdos, files) = valve(rt.alloc())?;
     for case in WANTED {
         let (rates, slowest) = *case;
-        let mut wanted = RateSet::new();
-        for rate in rates {
-            wanted.insert(*rate);
-        }
+        let wanted = set_of(rates);
         match network(rt.alloc(), &wanted, &nodes, &pdos, &files) {
             Ok(network) => assert!(rt; network.rates().slowest() == slowest),
             refused => {
@@ -576,10 +598,8 @@ fn the_stream_of_a_pdo_that_is_sent_by_sync(rt: HostRuntime) -> Result<(), Fail>
         rt.alloc(),
         "device,5,Valve,unit.eds,0,0\nsync,0,,,10000,0\n",
     )?;
-    let pdos = pdos_of(rt.alloc(), "5,1,0,100,1620,\n")?;
-    let files = [file(rt.alloc(), "unit.eds", text_of(rt.alloc(), parts)?)?];
-    let valve = network(rt.alloc(), &all_rates(), &nodes, &pdos, &files)?;
-    match valve.set().streams() {
+    let streams = streams_of(rt.alloc(), &nodes, "5,1,0,100,1620,\n", parts)?;
+    match streams.as_slice() {
         [pdo, sync] => {
             assert!(rt; pdo.every == 3 && pdo.period == 120_000 && pdo.jitter == 400);
             assert!(rt; pdo.id == 0x181 && pdo.deadline == Some(6_480));

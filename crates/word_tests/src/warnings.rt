@@ -1,7 +1,7 @@
 use crate::words::{NODES, UNIT, files};
-use cop_net::{all_rates, network, read_nodes, read_pdos};
+use cop_net::{NodeTable, PdoTable, all_rates, network, read_nodes, read_pdos};
 use cop_warn::warnings_of;
-use cop_words::{finding_words, findings_of};
+use cop_words::{Finding, finding_words, findings_of};
 use std::alloc::Global;
 use std::str;
 use std::test::Fail;
@@ -103,15 +103,50 @@ const WARNED: &[(&str, &str, &str, &str, &str)] = &[
     ),
 ];
 
-/// The words on the warnings of a network of one device.
-fn warned(alloc: Global, eds: &str, pdo: &str) -> Result<String, Fail> {
-    let pdos = format!(in alloc; "node,tpdo,period,jitter,deadline,consumers\n{pdo}\n")?;
+/// The table of PDOs that has a row.
+fn pdos_of(alloc: Global, row: &str) -> Result<PdoTable, Fail> {
+    let text = format!(in alloc; "node,tpdo,period,jitter,deadline,consumers\n{row}\n")?;
+    Ok(read_pdos(alloc, text.as_bytes())?)
+}
+
+/// The words on the warnings of tables and files.
+fn words_on(
+    alloc: Global,
+    nodes: &NodeTable,
+    pdos: &PdoTable,
+    files: &[(String, Vec<u8>)],
+) -> Result<Vec<u8>, Fail> {
+    let network = network(alloc, &all_rates(), nodes, pdos, files)?;
+    let warnings = warnings_of(alloc, nodes, &network)?;
+    Ok(finding_words(alloc, files, nodes, &network, &warnings)?)
+}
+
+/// What is found worth a look in tables and files.
+fn findings_on(
+    alloc: Global,
+    nodes: &NodeTable,
+    pdos: &PdoTable,
+    files: &[(String, Vec<u8>)],
+) -> Result<Vec<Finding>, Fail> {
+    let network = network(alloc, &all_rates(), nodes, pdos, files)?;
+    let warnings = warnings_of(alloc, nodes, &network)?;
+    Ok(findings_of(alloc, files, nodes, &network, &warnings)?)
+}
+
+/// What is found worth a look in a network of one device.
+fn found(alloc: Global, eds: &str, pdo: &str) -> Result<Vec<Finding>, Fail> {
     let files = files(alloc, &[("unit.eds", eds)])?;
     let nodes = read_nodes(alloc, NODES.as_bytes())?;
-    let pdos = read_pdos(alloc, pdos.as_bytes())?;
-    let network = network(alloc, &all_rates(), &nodes, &pdos, &files)?;
-    let warnings = warnings_of(alloc, &nodes, &network)?;
-    let said = finding_words(alloc, &files, &nodes, &network, &warnings)?;
+    let pdos = pdos_of(alloc, pdo)?;
+    findings_on(alloc, &nodes, &pdos, &files)
+}
+
+/// The words on the warnings of a network of one device.
+fn warned(alloc: Global, eds: &str, pdo: &str) -> Result<String, Fail> {
+    let files = files(alloc, &[("unit.eds", eds)])?;
+    let nodes = read_nodes(alloc, NODES.as_bytes())?;
+    let pdos = pdos_of(alloc, pdo)?;
+    let said = words_on(alloc, &nodes, &pdos, &files)?;
     match str::from_utf8(&said) {
         Ok(text) => Ok(String::from_str(alloc, text)?),
         Err(_) => Err(Fail::from("no text")),
@@ -135,15 +170,7 @@ fn what_devices_say_otherwise_is_warned_of(rt: HostRuntime) -> Result<(), Fail> 
 #[test]
 fn findings_have_numbers_and_places(rt: HostRuntime) -> Result<(), Fail> {
     let eds = format!(in rt.alloc(); "{UNIT}[1801]\nObjectType=9\n")?;
-    let files = files(rt.alloc(), &[("unit.eds", eds.as_str())])?;
-    let rows = b"node,tpdo,period,jitter,deadline,consumers\n5,1,10000,670,670,\n".as_slice();
-    let (nodes, pdos) = (
-        read_nodes(rt.alloc(), NODES.as_bytes())?,
-        read_pdos(rt.alloc(), rows)?,
-    );
-    let network = network(rt.alloc(), &all_rates(), &nodes, &pdos, &files)?;
-    let warnings = warnings_of(rt.alloc(), &nodes, &network)?;
-    let found = findings_of(rt.alloc(), &files, &nodes, &network, &warnings)?;
+    let found = found(rt.alloc(), &eds, "5,1,10000,670,670,")?;
     let [unlisted, late] = found.as_slice() else {
         return Err(Fail::from("not two"));
     };
