@@ -1,5 +1,5 @@
 -- Channels as a log of frames, and how many of them are behind.
-use Rattle.std.proofs.Common.{◌≡◌, ◌==◌, ℕ, zero, suc, ◌+◌, ◌<◌, ◌≤◌, Bool, true, false, cond, List, [], ◌∷◌, ◌++◌, map, length, drop, set, get_or, drop-cons, add-one, refl, ap, sym, subst, ◌∙◌, arith, nat_lt, Option, Some, None, ◌⊎◌, inl, inr}
+use Rattle.std.proofs.Common.{◌≡◌, ◌==◌, ℕ, zero, suc, ◌+◌, ◌<◌, ◌≤◌, Bool, true, false, cond, List, [], ◌∷◌, ◌++◌, map, length, drop, set, get_or, refl, ap, sym, subst, ◌∙◌, arith, nat_lt, Option, Some, None, ◌⊎◌, inl, inr}
 use Rattle.std.proofs.lemmas.Bool.{eqb-true}
 use Rattle.std.specs.Prelude.{filter, option_to_list}
 use Rattle.std.specs.List.{position, position_or_len}
@@ -17,19 +17,6 @@ use Rattle.cop_boot.specs.Schedule.{Line, is_for, DeliveredBy}
 use Rattle.cop_boot.specs.Bus.{to_of, from_of, line_at}
 
 module _ {X : Type 0} (p : X → Bool) where
-  -- what passes from a place on
-  pub front_at : (xs : List X) (i : ℕ) (d : X) → i < length xs → filter p (drop i xs) ≡ cond (p (get_or xs i d)) (get_or xs i d ∷ filter p (drop (i + 1) xs)) (filter p (drop (i + 1) xs))
-  front_at xs i d inside = rw (add-one i, drop-cons xs i d inside) refl
-
-  pub front_is : (xs : List X) (from i : ℕ) (x : X) → i < length xs → x ≡ get_or xs i x → p x ≡ true → filter p (drop i xs) ≡ filter p (drop from xs)
-      → (i < length xs) × ((d : X) → filter p (drop from xs) ≡ get_or xs i d ∷ filter p (drop (i + 1) xs))
-  front_is xs from i x inside is pass whole =
-      (inside, λ d. let same : get_or xs i d ≡ x = default xs i d x inside ∙ sym is in sym whole ∙ front_at xs i d inside ∙ rw (same, pass) refl)
-    where
-      default : (xs : List X) (i : ℕ) (d e : X) → i < length xs → get_or xs i d ≡ get_or xs i e
-      default [] i d e l = absurd (let g : ⊥ = omega arith in g)
-      default (x ∷ xs) zero d e l = refl
-      default (x ∷ xs) (suc i) d e l = default xs i d e (omega arith)
 
 -- the device of a node, and the same in another state
 module _ (n : ℕ) where

@@ -138,10 +138,6 @@ IsAt p Done node line = (device : Attached) × (starts : List Message) × (node 
 IsAt p Lost node line = (device : Option Attached) × (to from : List Message) × (boots : ℕ) × (node ≡ node_at p boots (Over (Silent p.number))) × (line ≡ line_at p to from device)
     × Each (ComesFrom p.number) from × IfThere (IsDeviceOf p.number) device
 
-pub record Fits (p : Plan) (node : Node) (line : Line) : Type 0 where
-  pub stage : Stage
-  pub at : IsAt p stage node line
-
 -- settings that can be planned: of two or four bytes, and accepted in turn by a dictionary that a reset leaves as it is
 abbrev pub IsSound : Plan → Type 0
 IsSound p = CanBeSet p.settings p.dict

@@ -1,6 +1,6 @@
 //! The frames of a boot, and how far they are delivered.
 
-ghost use Rattle.std.specs.Prelude.{◌≡◌, ◌==◌, ◌+◌, ◌<◌, ◌≤◌, ℕ, true, false, [], ◌∷◌, IfOk, IfSome, IsSome, List, None, Some, map, filter, length, drop, get_or, replicate, vec_len, vec_capacity};
+ghost use Rattle.std.specs.Prelude.{◌≡◌, ◌==◌, ◌+◌, ◌<◌, ◌≤◌, ℕ, false, [], ◌∷◌, IfOk, IfSome, IsSome, List, None, Some, map, filter, length, drop, get_or, replicate, vec_len, vec_capacity};
 ghost use Rattle.std.specs.List.{position};
 ghost use Rattle.cop_sdo.specs.Message.{message_of};
 ghost use Rattle.cop_boot.specs.Booted.{device_of};
@@ -14,6 +14,7 @@ ghost use Rattle.cop_boot.specs.Bus.{IsBus, to_of, from_of, line_at, world_at};
 use crate::device::Device;
 use crate::manager::Manager;
 use cop_frame::Frame;
+use cop_frame::identifiers::{NMT, SDO_REQUEST};
 use std::alloc::{AllocError, Global};
 
 /// A frame that a node's device has sent.
@@ -37,7 +38,7 @@ pub struct Bus {
 fn is_for(node: u8, frame: &Frame) -> bool
     ensures { result ≡ is_for node (message_of frame.now) }
 {
-    frame.id == 0 || frame.id == 0x600 + u16::from(node)
+    frame.id == NMT || frame.id == SDO_REQUEST + u16::from(node)
 }
 
 // The place of the first frame from a place on that goes to a node.

@@ -12,6 +12,7 @@ use crate::end::{End, Phase};
 use crate::member::Member;
 use cop_dcf::Setting;
 use cop_frame::Frame;
+use cop_frame::identifiers::{HEARTBEAT, SDO_RESPONSE};
 use cop_nmt::{Command, command};
 use std::alloc::{AllocError, Global};
 use std::collections::BTreeMap;
@@ -77,7 +78,7 @@ fn wait_first(members: &mut Vec<Member>, now: u64) -> Option<Frame>
 fn comes_from(node: u8, frame: &Frame) -> bool
     ensures { result ≡ comes_from node frame.now.id }
 {
-    frame.id == 0x700 + u16::from(node) || frame.id == 0x580 + u16::from(node)
+    frame.id == HEARTBEAT + u16::from(node) || frame.id == SDO_RESPONSE + u16::from(node)
 }
 
 // The place of the member from whose node a frame comes.

@@ -1,6 +1,6 @@
 //! One node of a manager.
 
-ghost use Rattle.std.specs.Prelude.{◌≡◌, ◌≤◌, ◌+◌, true, option_map, nat_le, All};
+ghost use Rattle.std.specs.Prelude.{◌≡◌, ◌≤◌, ◌+◌, true, nat_le, All};
 ghost use Rattle.cop_sdo.specs.Message.{message_of};
 ghost use Rattle.cop_sdo.specs.Client.{is_idle};
 ghost use Rattle.cop_boot.specs.Settings.{is_short_value};
@@ -13,6 +13,7 @@ ghost use Rattle.cop_boot.specs.Member.{seen, unheard, IsMember, Moves};
 use crate::end::{End, Phase};
 use cop_dcf::Setting;
 use cop_frame::Frame;
+use cop_frame::identifiers::{HEARTBEAT, SDO_RESPONSE};
 use cop_sdo::{Client, Progress};
 use std::alloc::Global;
 
@@ -36,7 +37,7 @@ pub struct Member {
 fn is_boot_up(node: u8, frame: &Frame) -> bool
     ensures { result ≡ is_boot_up node (message_of frame.now) }
 {
-    frame.id == 0x700 + u16::from(node) && frame.len == 1 && frame.body[0] == 0
+    frame.id == HEARTBEAT + u16::from(node) && frame.len == 1 && frame.body[0] == 0
 }
 
 // An end that stands, whatever comes.
@@ -203,7 +204,7 @@ impl Member {
     {
         if is_boot_up(self.node, frame) {
             self.boot(now)
-        } else if frame.id == 0x580 + u16::from(self.node) && frame.len == 8 {
+        } else if frame.id == SDO_RESPONSE + u16::from(self.node) && frame.len == 8 {
             self.answer(frame, now)
         } else {
             None

@@ -105,7 +105,8 @@ pub fn run_schedule(
 
     // By a plan of an accepted network: in the device of each node that is ready exactly the PDOs of the plan exist, a sender's with
     // its identifier and a receiver's with that of its sender.
-    ensures exist { OnOk result ((net : Net) (ids : List ℕ) (built : ℕ → List Entry) → CanBoot manager.old devices.old built → IsPlanOf net ids manager.old built → HavePlannedPdos net ids manager.new devices.new) }
+    ensures exist { OnOk result ((net : Net) (ids : List ℕ) (built : ℕ → List Entry) → CanBoot manager.old devices.old built
+        → IsPlanOf net ids manager.old built → HavePlannedPdos net ids manager.new devices.new) }
 
     ensures err { OnErr result ((manager.new ≡ manager.old) × (devices.new ≡ devices.old)) }
 {

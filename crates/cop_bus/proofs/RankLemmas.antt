@@ -3,7 +3,7 @@ use Rattle.std.proofs.Common.{◌≡◌, ◌≢◌, ℕ, zero, suc, ◌+◌, ◌
 use Rattle.std.specs.Prelude.{Option, None, Some, slice_index}
 use Rattle.std.specs.Option.{ForSome}
 use Rattle.std.proofs.lemmas.Bool.{cases_lt, cases_eq, lt-ltb, le-ltb}
-use Rattle.std.proofs.lemmas.List.{get_or-set_same, get_or-set_other, get_or_past, length-set, length-replicate}
+use Rattle.std.proofs.lemmas.List.{get_or-set_same, get_or-set_other, get_or_past, length-set}
 use Rattle.cop_bus.specs.declared.ranking.Rank.{Rank}
 use Rattle.cop_bus.specs.declared.ranking.Entrant.{Entrant}
 use Rattle.cop_bus.specs.Ranks.{leader, rank_at, above, AreNodes, IsApart, IsKeyOf, IsLed, Leads, AreLedBut, AreKeyed, AreSiblings, IsRanking, IsTournament, IsNotAfter, IsFirstOf}
@@ -289,34 +289,6 @@ pub none-held : (n : ℕ) (i : ℕ) → rank_at (replicate n None) i ≡ None
 none-held zero i = refl
 none-held (suc n) zero = refl
 none-held (suc n) (suc i) = none-held n i
-
-same-held : (n key i : ℕ) → i < n → slice_index (replicate n key) i ≡ key
-same-held zero key i l = absurd (omega (arith, l))
-same-held (suc n) key zero l = refl
-same-held (suc n) key (suc i) l = same-held n key i (omega (arith, l))
-
-pub none-keyed : (n key : ℕ) → IsKeyOf None key → AreKeyed (replicate n None) (replicate n key)
-none-keyed n key is = record {
-  many = length-replicate n key ∙ sym (length-replicate n None);
-  each = λ i l. subst (λ v. IsKeyOf v (slice_index (replicate n key) i)) (sym (none-held n i))
-      (subst (IsKeyOf None) (sym (same-held n key i (subst (λ v. i < v) (length-replicate n None) l))) is);
-  own = λ i r e. (let z : None ≡ Some r = sym (none-held n i) ∙ e in absurd (cc));
-}
-
--- where all keys are the same, each place leads each
-pub same-tournament : (n key : ℕ) (leaders : List ℕ) → AreNodes n 1 leaders → IsTournament leaders (replicate n key)
-same-tournament n key leaders nodes =
-    let m = length-replicate n key in
-    record {
-      nodes = subst (λ v. AreNodes v 1 leaders) (sym m) nodes;
-      led = λ k l u. (let w : k < n = omega (arith, u, m) in (leads k (k + k) w (omega (arith, w)) l (omega (arith, l)), leads k (k + k + 1) w (omega (arith, w)) l (omega (arith, l))));
-    }
-  where
-    held : (k : ℕ) → 1 ≤ k → k < n + n → slice_index (replicate n key) (slice_index leaders k) ≡ key
-    held k l u = same-held n key (slice_index leaders k) (nodes.within k l u)
-
-    leads : (j k : ℕ) → j < n → k < n + n → 1 ≤ j → 1 ≤ k → Leads (replicate n key) (slice_index leaders j) (slice_index leaders k)
-    leads j k a b c d = (let x = held j c (omega (arith, a)) in let y = held k d b in omega (arith, x, y))
 
 pub places-nodes : (places : ℕ) (nodes : List ℕ) → length nodes ≡ places + places → ((i : ℕ) → i < places → slice_index nodes (places + i) ≡ i) → AreNodes places places nodes
 places-nodes places nodes many leaves = record {

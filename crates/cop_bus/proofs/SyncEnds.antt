@@ -16,12 +16,6 @@ use Rattle.cop_bus.proofs.StepLemmas.{same_some, moment-some, count_to-suc, coun
 use Rattle.cop_bus.proofs.Balanced.{Balance, balance_all, end_shape}
 use Rattle.cop_bus.proofs.Judged as Judged
 
--- ---- instances by their numbers
-
-kept-yes : (b : Bool) (y : Instance) (ys : List Instance) (n : ℕ) (x : Instance) → b ≡ true → slice_get ys n ≡ Some x → slice_get (cond b (y ∷ ys) ys) (1 + n) ≡ Some x
-kept-yes true y ys n x t e = let m : 1 + n ≡ suc n = omega arith in rw m e
-kept-yes false y ys n x t e = absurd (cc)
-
 -- the instance of a queue step has its number
 pub number_is : (id : ℕ) (steps : List Step) (i : ℕ) (rest : List Step) → IsRest steps i rest → (b q event : ℕ) (frame : Content) → b < length rest → step_at rest b ≡ Queue id q event frame →
     slice_get (filter (λ y. y.id == id) (instances_from steps i rest)) (count_to (is_queue id) rest b) ≡ Some (instance steps (i + b) q id event frame)

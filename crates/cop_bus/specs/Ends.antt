@@ -1,5 +1,5 @@
 -- The SYNCs of a trace whose transfers have ended, and what the instances of a trace hang on.
-use Rattle.std.specs.Prelude.{◌≡◌, ℕ, zero, suc, ◌<◌, List, Option, None, Some, Bool, false, ◌==◌, nat_lt, if◌then◌else◌}
+use Rattle.std.specs.Prelude.{◌≡◌, ℕ, zero, suc, ◌<◌, List, Option, None, Some, Bool, false, ◌==◌, if◌then◌else◌}
 use Rattle.cop_rta.specs.declared.streams.Stream.{Stream}
 use Rattle.cop_rta.specs.Test.{sync_id}
 use Rattle.cop_bus.specs.declared.anchors.Anchor.{Anchor}
@@ -37,10 +37,6 @@ ended_by (Some event) (Some at) = Some (record { event = event; at = at })
 -- SYNC instance number a of a trace, from 0, if it ends there
 abbrev pub sync_number : List Step → ℕ → Option Ended
 sync_number steps a = ended_by (event_in (nth_that (is_queue sync_id) a steps)) (moment_of (nth_that (is_end sync_id) a steps))
-
--- the same, if it has ended among the first i steps
-abbrev pub ended_number : List Step → ℕ → ℕ → Option Ended
-ended_number steps i a = if nat_lt a (count_to (is_end sync_id) steps i) then sync_number steps a else None
 
 -- an ended SYNC as an anchor, by its number, if it has the event
 abbrev pub anchor_if : ℕ → ℕ → Option Ended → Option Anchor

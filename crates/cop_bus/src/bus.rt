@@ -53,18 +53,6 @@ impl Model for Bus {
     ghost invariant = { λ b. ArePlaced b.places b.queues };
 }
 
-fn has_ring(rings: &[Ring], id: u16) -> bool
-    ensures there { result ≡ true → Any (λ r. r.id ≡ id) rings.now }
-    ensures none { result ≡ false → All (λ r. r.id ≢ id) rings.now }
-{
-    for ring in rings {
-        if ring.id() == id {
-            return true;
-        }
-    }
-    false
-}
-
 // Where the stream of each identifier stands.
 fn places_of(alloc: Global, streams: &[Stream]) -> Result<BTreeMap<u16, usize>, AllocError>
     requires { AreDistinct streams.now }
@@ -115,7 +103,10 @@ impl Bus {
         ensures there { result ≡ true → Any (λ r. r.id ≡ id) self.now.rings }
         ensures none { result ≡ false → All (λ r. r.id ≢ id) self.now.rings }
     {
-        has_ring(self.queues.rings(), id)
+        match self.places.get(&id) {
+            Some(place) => self.queues.rings()[*place].id() == id,
+            None => false,
+        }
     }
 
     /// The moment at which the transfer that runs ends, and its identifier.

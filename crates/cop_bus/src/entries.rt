@@ -1,11 +1,10 @@
 //! The records of a trace file, one by one.
 
-ghost use Rattle.std.specs.Prelude.{◌≡◌, length, take};
-ghost use Rattle.cop_table.specs.Numbers.{is_hexadecimal};
+ghost use Rattle.std.specs.Prelude.{◌≡◌};
 ghost use Rattle.cop_bus.specs.Entries.{number_in, id_number, id_in, bits_in, are_empty, content_in, queued, unqueued, entry_in};
 
 use crate::steps::{Content, Step};
-use cop_table::{Record, id, number};
+use cop_table::{Record, id, is_hexadecimal, number};
 
 /// What a record says.
 #[derive(Clone, Copy)]
@@ -27,12 +26,6 @@ fn number_in(field: &[u8]) -> Result<u64, EntryFault>
     ensures { result ≡ number_in field.now }
 {
     number(20, field).ok_or(EntryFault::Malformed)
-}
-
-fn is_hexadecimal(field: &[u8]) -> bool
-    ensures { result ≡ is_hexadecimal field.now }
-{
-    matches!(field, [b'0', b'x', ..])
 }
 
 // Decimal digits, or 0x and hexadecimal digits.

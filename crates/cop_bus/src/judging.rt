@@ -19,14 +19,13 @@ use crate::rules::{
 use crate::runs::{Run, Trace};
 use crate::steps::Step;
 use cop_frame::Rate;
+use cop_frame::identifiers::SYNC;
 use cop_rta::{Stream, StreamSet};
 use std::alloc::{AllocError, Global};
 use std::collections::BTreeSet;
 
 // How many identifiers a trace can name.
 const IDS: usize = 65536;
-
-const SYNC: u16 = 0x80;
 
 /// Takes a trace that breaks none of the rules of legal runs. Its steps stand by moment; of one moment ends come
 /// first, then queues, then starts. The rules:

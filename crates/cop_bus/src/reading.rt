@@ -6,7 +6,7 @@ ghost use Rattle.cop_table.specs.Records.{are_same};
 ghost use Rattle.cop_bus.specs.Format.{header};
 ghost use Rattle.cop_bus.specs.declared.steps.Step.{Step};
 ghost use Rattle.cop_bus.specs.Format.{text_of};
-ghost use Rattle.cop_bus.specs.Reading.{Told, AreWritable, refused_at, rows_in, ended, trace_from, trace_of, told};
+ghost use Rattle.cop_bus.specs.Reading.{AreWritable, refused_at, rows_in, ended, trace_from, trace_of, told};
 
 use crate::entries::{Entry, entry_in};
 use crate::faults::BusFault;

@@ -1,8 +1,8 @@
 //! The instances that wait on a bus, in rings.
 
-ghost use Rattle.std.specs.Prelude.{◌≡◌, ◌≢◌, ℕ, ◌+◌, ◌<◌, ◌≤◌, ◌∷◌, ◌++◌, [], ◌↔◌, All, IfSome, IfNone, IfOk, OnOk, OnErr, IsOk, IsSome, Some, None, drop, length, slice_get, slice_set, map, ◌||◌};
+ghost use Rattle.std.specs.Prelude.{◌≡◌, ◌+◌, ◌<◌, ◌∷◌, ◌++◌, [], ◌↔◌, IfOk, OnOk, OnErr, IsOk, Some, None, drop, length, slice_get, ◌||◌};
 ghost use Rattle.cop_rta.specs.Ranges.{first_range, second_range};
-ghost use Rattle.cop_bus.specs.Rings.{is_within, most_of, rings_of, any_in, RingValue};
+ghost use Rattle.cop_bus.specs.Rings.{is_within, most_of, rings_of, RingValue};
 
 use crate::bus::Instance;
 use circular_buffer::HeapCircularBuffer;
@@ -65,14 +65,7 @@ impl Ring {
         }
     }
 
-    /// The instance that has waited longest.
-    pub fn first(&self) -> Option<Instance>
-        ensures { result ≡ slice_get self.now.waiting 0 }
-    {
-        self.waiting.front().copied()
-    }
-
-    /// Takes it out.
+    /// Takes out the instance that has waited longest.
     pub fn take(&mut self) -> Option<Instance>
         ensures value { result ≡ slice_get self.old.waiting 0 }
         ensures rest { self.new ≡ record self.old { waiting = drop 1 self.old.waiting } }

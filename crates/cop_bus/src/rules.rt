@@ -1,6 +1,6 @@
 //! The rules of a trace, each as a test of one step.
 
-ghost use Rattle.std.specs.Prelude.{◌≡◌, ℕ, ◌<◌, ◌≤◌, IfSome, List};
+ghost use Rattle.std.specs.Prelude.{◌≡◌, ℕ, ◌<◌, IfSome, List};
 ghost use Rattle.cop_bus.specs.declared.steps.Step.{Step};
 ghost use Rattle.cop_bus.specs.Tables.{AreAnchors};
 ghost use Rattle.cop_bus.specs.Trace.{at_of, rank_of, bits_of};

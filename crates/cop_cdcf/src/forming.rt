@@ -1,6 +1,6 @@
 //! Settings as the bytes of a concise DCF.
 
-ghost use Rattle.std.specs.Prelude.{◌≡◌, ◌++◌, length, IfOk, OnOk};
+ghost use Rattle.std.specs.Prelude.{◌≡◌, ◌++◌, IfOk, OnOk};
 ghost use Rattle.cop_cdcf.specs.Concise.{number_bytes, entry_of, concise_of};
 
 use cop_dcf::Setting;

@@ -14,7 +14,7 @@ use Rattle.cop_rta.specs.Ranges.{second_range}
 use Rattle.cop_cert.specs.declared.refusals.Evidence.{Evidence}
 use Rattle.cop_cert.specs.declared.refusals.Member.{Member}
 use Rattle.cop_cert.specs.Causes.{sync_trial, kept, IsSync, HasSynchronous, IsSyncLong, IsSyncRefusal, IsSdoRefusal}
-use Rattle.cop_cert.specs.Evidence.{IsBusyList, last_of, is_member, IsEvidence, AreFailing}
+use Rattle.cop_cert.specs.Evidence.{IsBusyList, is_member, IsEvidence, AreFailing}
 use Rattle.cop_cert.specs.Sets.{is_in_trial, trial}
 use Rattle.cop_cert.proofs.CheckLemmas.{place_is}
 
@@ -76,13 +76,6 @@ module _ (rate : Rate) (streams : List Stream) (pdos sync : ℕ) (flags : List B
     λ long.
         let place : IsLong (sync_trial rate streams pdos sync) = subst (λ (k : ℕ). IsLong (sync_trial rate streams pdos k)) (one_sync streams pdos long.sync sync long.is_sync its) long.long in
         absurd (let late = place t (subst (λ (p : StreamPlace). IsBusyTime p t) its_place found) in omega (arith, late, within)),
-  )
-
-  -- where a list ends, if it is a busy list, tells whether it is a refusal
-  pub refusal_at : (busy : List ℕ) (last : ℕ) (b : Bool) → IsBusyList (flagged_place streams flags sync rate) busy → last ≡ last_of busy → (IsTrue b ↔ horizon < last) → IsTrue b ↔ IsSyncRefusal rate streams pdos busy
-  refusal_at busy last b list is tells = (
-    λ t. record { some = some; sync = sync; is_sync = its; shown = record { list = subst (λ (p : StreamPlace). IsBusyList p busy) its_place list; high = rw (← is) (tells.0 t) } },
-    λ refusal. tells.1 (rw is refusal.shown.high),
   )
 
   pub no_refusal : (busy : List ℕ) → (IsBusyList (flagged_place streams flags sync rate) busy → ⊥) → IsSyncRefusal rate streams pdos busy → ⊥

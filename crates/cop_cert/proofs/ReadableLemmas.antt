@@ -272,10 +272,6 @@ allowed : {A : Type 0} (rule : Option Rule) (x y : A) → unless_broken rule x �
 allowed None x y h = (refl, cc)
 allowed (Some rule) x y h = cc
 
--- a part that may begin: its lists are empty, and its numbers in range
-abbrev IsFresh : Part → Type 0
-IsFresh part = IsSoundPart [] part
-
 -- what follows a member at the same rate is above it and all before
 fresh_after : (side : Side) (m : Member) (next : Part) (members : List Member) → IsSoundPart [] next → All (λ k. k.pdo < m.pdo) members → broken_after side m next ≡ None
     → (is_complete m.evidence ≡ true) × IsSoundPart (members ++ m ∷ []) next

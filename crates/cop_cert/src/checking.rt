@@ -11,8 +11,9 @@ ghost use Rattle.cop_cert.specs.Evidence.{IsClimb, first_of, last_of, IsBusyEnd,
 ghost use Rattle.cop_cert.specs.Rising.{RiseFrom};
 
 use crate::refusals::{Cause, Evidence, Member, Refusal};
-use crate::trials::{SYNC, flag_fixed, is_sync_long, sync_of, tested_frame};
+use crate::trials::{flag_fixed, is_sync_long, sync_of, tested_frame};
 use cop_frame::Rate;
+use cop_frame::identifiers::SYNC;
 use cop_rta::{AtRate, Busy, Demand, HORIZON, IdRange, Stream, StreamSet};
 
 /// The last of some numbers, if they climb by an equation.

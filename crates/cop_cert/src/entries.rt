@@ -1,7 +1,6 @@
 //! The records of a refusal file, one by one.
 
-ghost use Rattle.std.specs.Prelude.{◌≡◌, ◌==◌, ◌<◌, IfOk, IfSome};
-ghost use Rattle.cop_frame.specs.Rate.{kbits_of};
+ghost use Rattle.std.specs.Prelude.{◌≡◌, ◌==◌, ◌<◌};
 ghost use Rattle.cop_cert.specs.Entries.{rate_of, number_in, rate_in, least_number, pdo_number_in, new_word_of, word_of, is_sdo, is_value_of, is_number_of, entry_in, writes, version_in};
 
 use crate::faults::Rule;

@@ -15,8 +15,9 @@ ghost use Rattle.cop_cert.specs.Chains.{AllFail, FailTogether, IsWholeChain, IsQ
 
 use crate::items::Items;
 use crate::refusals::{Cause, Evidence, Member, Refusal};
-use crate::trials::{SYNC, flag_fixed, sync_of};
+use crate::trials::{flag_fixed, sync_of};
 use cop_frame::Rate;
+use cop_frame::identifiers::SYNC;
 use cop_rta::{AtRate, Busy, Demand, HORIZON, IdRange, Place, Stream, StreamSet, Verdict};
 use std::alloc::{AllocError, Global};
 

@@ -1,16 +1,14 @@
 //! What is above in a trial, and the fixed frames that are tried.
 
 ghost use Rattle.std.specs.Prelude.{◌≡◌, ◌↔◌, ◌<◌, ◌≤◌, ℕ, IsTrue, MatchOption, length, false};
-ghost use Rattle.cop_rta.specs.Test.{is_flagged, of_stream};
+ghost use Rattle.cop_rta.specs.Test.{is_flagged};
 ghost use Rattle.cop_cert.specs.Assignments.{id_at, IsSdo, IsTested};
 ghost use Rattle.cop_cert.specs.Causes.{IsSync, HasSynchronous, IsSyncLong};
 ghost use Rattle.cop_cert.specs.Sets.{is_in_trial};
 
 use cop_frame::Rate;
+use cop_frame::identifiers::SYNC;
 use cop_rta::{Busy, Stream, StreamSet};
-
-/// SYNC's identifier.
-pub(crate) const SYNC: u16 = 0x80;
 
 /// Flags the fixed frames with an identifier below a bound, and all PDOs or none.
 pub(crate) fn flag_fixed(streams: &[Stream], pdos: usize, bound: u16, all: bool, out: &mut [bool])
@@ -40,7 +38,8 @@ fn has_synchronous(streams: &[Stream], pdos: usize) -> bool
 /// Where SYNC stands, if it is a fixed frame and some PDO is synchronous.
 pub(crate) fn sync_of(set: &StreamSet, pdos: usize) -> Option<usize>
     requires { pdos ≤ length set.now }
-    ensures { MatchOption result (HasSynchronous set.now pdos → (sync : ℕ) → IsSync set.now pdos sync → ⊥) (λ sync. HasSynchronous set.now pdos × IsSync set.now pdos sync × (sync < length set.now)) }
+    ensures { MatchOption result (HasSynchronous set.now pdos → (sync : ℕ) → IsSync set.now pdos sync → ⊥)
+        (λ sync. HasSynchronous set.now pdos × IsSync set.now pdos sync × (sync < length set.now)) }
 {
     if !has_synchronous(set.streams(), pdos) {
         return None;
@@ -97,7 +96,8 @@ pub fn is_tested(streams: &[Stream], pdos: usize, frame: usize) -> bool
 
 /// Where the SDO frame of an identifier stands, if it has a deadline.
 pub(crate) fn tested_frame(set: &StreamSet, pdos: usize, id: u16) -> Option<usize>
-    ensures { MatchOption result ((f : ℕ) → IsTested set.now pdos f → id_at set.now f ≡ id → ⊥) (λ f. IsTested set.now pdos f × (id_at set.now f ≡ id) × ((g : ℕ) → IsTested set.now pdos g → id_at set.now g ≡ id → g ≡ f)) }
+    ensures { MatchOption result ((f : ℕ) → IsTested set.now pdos f → id_at set.now f ≡ id → ⊥)
+        (λ f. IsTested set.now pdos f × (id_at set.now f ≡ id) × ((g : ℕ) → IsTested set.now pdos g → id_at set.now g ≡ id → g ≡ f)) }
 {
     let Some(frame) = set.place_of(id) else {
         return None;

@@ -1,9 +1,9 @@
 //! Writing refusals as a table.
 
-ghost use Rattle.std.specs.Prelude.{◌≡◌, ◌∷◌, [], ◌++◌, ◌+◌, OnOk, IfOk, map, codes, get_or, List};
+ghost use Rattle.std.specs.Prelude.{◌≡◌, ◌∷◌, [], ◌+◌, OnOk, IfOk, map, get_or, List};
 ghost use Rattle.std.specs.List.{flat_map};
-ghost use Rattle.cop_cert.specs.Format.{fields_of, numbers_rows, evidence_rows, long_word, late_word, member_rows, frame_rows, is_by_places, refusal_rows, rows_of, header, version, version_of, text_of};
-ghost use Rattle.cop_cert.specs.Writer.{IsBetween, Adds, written};
+ghost use Rattle.cop_cert.specs.Format.{fields_of, evidence_rows, long_word, late_word, member_rows, frame_rows, is_by_places, refusal_rows, version, version_of, text_of};
+ghost use Rattle.cop_cert.specs.Writer.{IsBetween, Adds};
 
 use crate::entries::Side;
 use crate::refusals::{Cause, Evidence, Member, Refusal};

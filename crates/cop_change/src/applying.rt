@@ -1,9 +1,9 @@
 //! A text with changes applied to its lines.
 
-ghost use Rattle.std.specs.Prelude.{◌≡◌, ◌==◌, ◌+◌, ◌-◌, ◌<◌, ◌≤◌, ◌∷◌, ◌++◌, take, drop, length, not, position, IfOk, OnOk, Bool};
+ghost use Rattle.std.specs.Prelude.{◌≡◌, ◌==◌, ◌+◌, ◌-◌, ◌<◌, ◌≤◌, ◌∷◌, ◌++◌, take, drop, length, not, position, IfOk, OnOk};
 ghost use Rattle.std.specs.List.{flat_map, position_or_len};
 ghost use Rattle.cop_eds.specs.Text.{cut, end_len, mark_len};
-ghost use Rattle.cop_change.specs.Applied.{here, changed, additions, added, ended, body_of, ending_of, newline_of, line_with, lines_with, lines_of, applied};
+ghost use Rattle.cop_change.specs.Applied.{here, changed, additions, added, ended, body_of, ending_of, newline_of, line_with, lines_with, applied};
 
 use crate::change::Change;
 use std::alloc::{AllocError, Global};

@@ -1,57 +1,24 @@
 -- The senders of a plan's PDOs, and what the parts of a boot over a port make of it.
-use Rattle.std.proofs.Common.{◌≡◌, ℕ, zero, suc, ◌+◌, ◌<◌, ◌≤◌, List, [], ◌∷◌, ◌++◌, length, drop, get_or, Bool, true, false, Option, Some, None, refl, sym, ap, ◌∙◌, subst, arith, append_assoc, append-nil, All}
+use Rattle.std.proofs.Common.{◌≡◌, ℕ, ◌<◌, ◌≤◌, List, [], ◌∷◌, Bool, true, false, Option, Some, None, refl, ap, ◌∙◌, arith, All}
 use Rattle.std.specs.Prelude.{◌&&◌, nat_le, is_some, if◌then◌else◌}
 use Rattle.std.specs.List.{AllPairs}
 use Rattle.std.proofs.lemmas.Bool.Decides.{nat_tests}
 use Rattle.std.proofs.lemmas.List.Elements.{All-nil, All-cons}
 use Rattle.cop_frame.specs.declared.rates.Rate.{Rate}
-use Rattle.cop_rows.specs.declared.pdo_table.PdoRow.{PdoRow}
 use Rattle.cop_net.specs.Network.{Net}
 use Rattle.cop_boot.specs.Manager.{Managing}
-use Rattle.cop_live.specs.declared.listening.Sender.{Sender}
 use Rattle.cop_identity.specs.declared.questions.Question.{Question}
 use Rattle.cop_dcf.specs.Settings.{dictionary_of}
 use Rattle.cop_engine.proofs.BootLemmas.{IsUpTo, nodes_low, nodes_rise}
 use Rattle.cop_readback.specs.declared.session.ReadBack.{ReadBack}
+use Rattle.cop_live.specs.Log.{ByteStep, ClockStep}
 use Rattle.cop_live.specs.Nodes.{is_empty}
 use Rattle.cop_live.specs.Session.{Closed}
 use Rattle.cop_heartbeats.specs.declared.attending.Awaited.{Awaited}
 use Rattle.cop_readback.specs.declared.session.Reach.{Reach}
 use Rattle.cop_readback.specs.Session.{ReadsBack}
 use Rattle.cop_commission.specs.Sessions.{Way, awaited_if, IsWatched, BootsAndCloses, IsWhole}
-use Rattle.cop_commission.specs.Commissioning.{senders_of, meant_nodes, is_meant_device, ended_text, IsEnded}
-
--- the senders from a place on
-sender_step : (rows : List PdoRow) (ids : List ℕ) (k : ℕ) (row : PdoRow) → k < length rows → length ids ≡ length rows
-    → senders_of (drop k rows) (drop k ids) ≡ record { id = get_or ids k 0; node = (get_or rows k row).node } ∷ senders_of (drop (k + 1) rows) (drop (k + 1) ids)
-sender_step [] ids k row inside same = absurd (omega arith)
-sender_step (r ∷ rows) [] k row inside same = absurd (omega arith)
-sender_step (r ∷ rows) (i ∷ ids) zero row inside same = refl
-sender_step (r ∷ rows) (i ∷ ids) (suc k) row inside same = let e : suc k + 1 ≡ suc (k + 1) = omega arith in rw e (sender_step rows ids k row (omega arith) (omega arith))
-
-pub sender_more : (rows : List PdoRow) (ids : List ℕ) (k : ℕ) (row : PdoRow) (done more : List Sender) (added : Sender) → k < length rows → length ids ≡ length rows → row ≡ get_or rows k row
-    → added ≡ record { id = get_or ids k 0; node = row.node } → more ≡ done ++ added ∷ [] → done ++ senders_of (drop k rows) (drop k ids) ≡ senders_of rows ids
-    → more ++ senders_of (drop (k + 1) rows) (drop (k + 1) ids) ≡ senders_of rows ids
-sender_more rows ids k row done more added inside same here is put so_far =
-    let one : added ≡ record { id = get_or ids k 0; node = (get_or rows k row).node } = is ∙ ap (λ (r : PdoRow). let s : Sender = record { id = get_or ids k 0; node = r.node } in s) here in
-    ap (λ xs. xs ++ senders_of (drop (k + 1) rows) (drop (k + 1) ids)) put
-    ∙ append_assoc done (added ∷ []) (senders_of (drop (k + 1) rows) (drop (k + 1) ids))
-    ∙ ap (λ s. done ++ s ∷ senders_of (drop (k + 1) rows) (drop (k + 1) ids)) one
-    ∙ ap (λ xs. done ++ xs) (sym (sender_step rows ids k row inside same))
-    ∙ so_far
-
-no_ids : (rows : List PdoRow) → senders_of rows [] ≡ []
-no_ids [] = refl
-no_ids (r ∷ rows) = refl
-
--- no senders are left
-pub senders_all : (rows : List PdoRow) (ids : List ℕ) (done : List Sender) → done ++ senders_of (drop (length rows) rows) (drop (length rows) ids) ≡ senders_of rows ids → done ≡ senders_of rows ids
-senders_all rows ids done h = sym (append-nil done) ∙ ap (λ xs. done ++ xs) (sym (none rows ids)) ∙ h
-  where
-    none : (rows : List PdoRow) (ids : List ℕ) → senders_of (drop (length rows) rows) (drop (length rows) ids) ≡ []
-    none [] ids = refl
-    none (r ∷ rows) [] = no_ids (drop (length rows) rows)
-    none (r ∷ rows) (i ∷ ids) = none rows ids
+use Rattle.cop_commission.specs.Commissioning.{meant_nodes, is_meant_device, ended_text, IsEnded}
 
 -- the nodes that are meant are numbers of nodes, and rise
 pub meant_low : (net : Net) (only : Option ℕ) → All (IsUpTo 127) (meant_nodes net only)
@@ -76,7 +43,7 @@ meant_rise net (Some node) = by_test (is_meant_device net node)
     by_test false = λ i j d lt inside. absurd (omega arith)
 
 -- a boot whose nodes are watched then
-pub closed_so : {P : Type 0} (reads writes : P → List ℕ → P → Type 0) (asks : P → ℕ → P → Type 0) (way : Way) (reach : Reach) (own : List Awaited) (limit : ℕ) (m later : Managing) (nodes : List ℕ) (settings : List Question) (back : ReadBack) (late : List Bool) (p booted watched q : P)
+pub closed_so : {P : Type 0} (reads writes : ByteStep P) (asks : ClockStep P) (way : Way) (reach : Reach) (own : List Awaited) (limit : ℕ) (m later : Managing) (nodes : List ℕ) (settings : List Question) (back : ReadBack) (late : List Bool) (p booted watched q : P)
     → reach ≡ way.reach → limit ≡ way.limit → own ≡ awaited_if back.started way.awaited
     → ReadsBack reads writes asks reach m nodes settings p back.exchanges.items back.booted back.ready back.started later booted
     → IsWatched reads writes asks own limit booted late watched → Closed reads writes watched q → BootsAndCloses reads writes asks way m nodes settings p back late later q
@@ -89,7 +56,7 @@ closed_so reads writes asks way reach own limit m later nodes settings back late
 }
 
 -- a session of a plan's manager
-pub ended_so : {P : Type 0} (reads writes : P → List ℕ → P → Type 0) (asks : P → ℕ → P → Type 0) (own way : Way) (at : Rate) (nodes : List ℕ) (questions wanted settings all : List Question) (manager planned later : Managing) (back : ReadBack) (late : List Bool) (p q : P) (text : List ℕ) (ready started on_time : Bool)
+pub ended_so : {P : Type 0} (reads writes : ByteStep P) (asks : ClockStep P) (own way : Way) (at : Rate) (nodes : List ℕ) (questions wanted settings all : List Question) (manager planned later : Managing) (back : ReadBack) (late : List Bool) (p q : P) (text : List ℕ) (ready started on_time : Bool)
     → manager ≡ planned → own ≡ way → questions ≡ wanted → settings ≡ all
     → IsWhole reads writes asks own questions manager nodes settings p back late later q
     → text ≡ ended_text later nodes back own.awaited late → ready ≡ back.ready → started ≡ back.started → on_time ≡ is_empty late → at ≡ way.rate

@@ -15,12 +15,12 @@ use Rattle.cop_plan.specs.declared.choices.Choice.{Choice}
 use Rattle.cop_plan.specs.Plans.{IsOutcome, IsChosenBy}
 use Rattle.cop_dcf.specs.Settings.{dictionary_of}
 use Rattle.cop_boot.specs.Manager.{Managing}
+use Rattle.cop_live.specs.Log.{ByteStep, ClockStep}
 use Rattle.cop_live.specs.declared.listening.Sender.{Sender}
 use Rattle.cop_live.specs.Nodes.{is_empty}
 use Rattle.cop_heartbeats.specs.declared.attending.Awaited.{Awaited}
 use Rattle.cop_identity.specs.declared.questions.Question.{Question}
 use Rattle.cop_engine.specs.Boots.{device_nodes, manager_of}
-use Rattle.cop_readback.specs.declared.session.Reach.{Reach}
 use Rattle.cop_readback.specs.declared.session.ReadBack.{ReadBack}
 use Rattle.cop_commission.specs.declared.commissioning.Approach.{Approach}
 use Rattle.cop_commission.specs.declared.commissioning.Commissioned.{Commissioned}
@@ -76,7 +76,7 @@ ended_text m nodes back awaited late = standing_text m nodes back ++ attendance_
 
 -- a session made this of a manager, whose text this is; told are, too, whether all are ready, whether they were started, whether none was
 -- late, and the rate
-pub record IsEnded {P : Type 0} (reads writes : P → List ℕ → P → Type 0) (asks : P → ℕ → P → Type 0) (way : Way) (questions : List Question) (m : Managing) (nodes : List ℕ) (settings : List Question) (p q : P) (text : List ℕ) (ready started on_time : Bool) (at : Rate) : Type 0 where
+pub record IsEnded {P : Type 0} (reads writes : ByteStep P) (asks : ClockStep P) (way : Way) (questions : List Question) (m : Managing) (nodes : List ℕ) (settings : List Question) (p q : P) (text : List ℕ) (ready started on_time : Bool) (at : Rate) : Type 0 where
   pub later : Managing
   pub back : ReadBack
   pub late : List Bool
@@ -88,7 +88,7 @@ pub record IsEnded {P : Type 0} (reads writes : P → List ℕ → P → Type 0)
   pub rated : at ≡ way.rate
 
 -- what came of the boot of some nodes by a plan with a rate and these identifiers
-abbrev pub IsMet : {P : Type 0} → (P → List ℕ → P → Type 0) → (P → List ℕ → P → Type 0) → (P → ℕ → P → Type 0) → Net → Rate → List ℕ → List ℕ → Approach → P → P → Commissioned → Type 0
+abbrev pub IsMet : {P : Type 0} → ByteStep P → ByteStep P → ClockStep P → Net → Rate → List ℕ → List ℕ → Approach → P → P → Commissioned → Type 0
 IsMet reads writes asks net rate ids nodes approach p q (Ended text ready started on_time at) =
     IsEnded reads writes asks (way_of net rate ids nodes approach) (questions_for approach.identify net nodes) (manager_of net ids nodes) nodes (settings_for approach.store net ids nodes) p q text.items ready started on_time at
 IsMet reads writes asks net rate ids nodes approach p q (Running node) = (approach.take_over ≡ false) × IsRefrained reads writes asks (way_of net rate ids nodes approach) node p q
@@ -107,12 +107,12 @@ IsWithoutNode p q (Others text all) = ⊥
 IsWithoutNode p q NonePasses = ⊥
 IsWithoutNode p q Failed = ⊥
 
-abbrev pub IsMetOrAbsent : {P : Type 0} → (P → List ℕ → P → Type 0) → (P → List ℕ → P → Type 0) → (P → ℕ → P → Type 0) → Net → Rate → List ℕ → List ℕ → Approach → P → P → Commissioned → Type 0
+abbrev pub IsMetOrAbsent : {P : Type 0} → ByteStep P → ByteStep P → ClockStep P → Net → Rate → List ℕ → List ℕ → Approach → P → P → Commissioned → Type 0
 IsMetOrAbsent reads writes asks net rate ids [] approach p q ended = IsWithoutNode p q ended
 IsMetOrAbsent reads writes asks net rate ids (node ∷ nodes) approach p q ended = IsMet reads writes asks net rate ids (node ∷ nodes) approach p q ended
 
 -- what came of the boot of the nodes of a network that are meant
-abbrev pub IsCommissioned : {P : Type 0} → (P → List ℕ → P → Type 0) → (P → List ℕ → P → Type 0) → (P → ℕ → P → Type 0) → Net → Rate → List ℕ → Approach → P → P → Commissioned → Type 0
+abbrev pub IsCommissioned : {P : Type 0} → ByteStep P → ByteStep P → ClockStep P → Net → Rate → List ℕ → Approach → P → P → Commissioned → Type 0
 IsCommissioned reads writes asks net rate ids approach p q ended = IsMetOrAbsent reads writes asks net rate ids (meant_nodes net approach.reach.only) approach p q ended
 
 -- where no rate passes nothing is done at the port
@@ -124,17 +124,17 @@ IsWithoutPlan p q (Others text all) = ⊥
 IsWithoutPlan p q Absent = ⊥
 IsWithoutPlan p q Failed = ⊥
 
-abbrev pub IsCommissionedFor : {P : Type 0} → (P → List ℕ → P → Type 0) → (P → List ℕ → P → Type 0) → (P → ℕ → P → Type 0) → Net → Outcome → Approach → P → P → Commissioned → Type 0
+abbrev pub IsCommissionedFor : {P : Type 0} → ByteStep P → ByteStep P → ClockStep P → Net → Outcome → Approach → P → P → Commissioned → Type 0
 IsCommissionedFor reads writes asks net (Planned plan) approach p q ended = IsCommissioned reads writes asks net plan.rate plan.ids approach p q ended
 IsCommissionedFor reads writes asks net (Refused refusals) approach p q ended = IsWithoutPlan p q ended
 
 -- what came of the boot of a network by what the planner answers for it
-abbrev pub IsCommissionedBy : {P : Type 0} → (P → List ℕ → P → Type 0) → (P → List ℕ → P → Type 0) → (P → ℕ → P → Type 0) → Choice → Net → Approach → P → P → Commissioned → Type 0
+abbrev pub IsCommissionedBy : {P : Type 0} → ByteStep P → ByteStep P → ClockStep P → Choice → Net → Approach → P → P → Commissioned → Type 0
 IsCommissionedBy reads writes asks choice net approach p q ended =
     (outcome : Outcome) × IsOutcome net.equipment.rates net.set (length net.rows) outcome × IsChosenBy choice outcome × IsCommissionedFor reads writes asks net outcome approach p q ended
 
 -- what came of the boot of the network that the tables and the EDS files say, by what is asked of its plan
-pub record IsCommissioning {P : Type 0} (reads writes : P → List ℕ → P → Type 0) (asks : P → ℕ → P → Type 0) (asked : Asked) (nodes pdos : List ℕ) (eds : List File) (approach : Approach) (p q : P) (ended : Commissioned) : Type 0 where
+pub record IsCommissioning {P : Type 0} (reads writes : ByteStep P) (asks : ClockStep P) (asked : Asked) (nodes pdos : List ℕ) (eds : List File) (approach : Approach) (p q : P) (ended : Commissioned) : Type 0 where
   pub net : Net
   pub network : IsNetwork net
   pub node_table : in_table Nodes (nodes_of nodes) ≡ Ok net.nodes

@@ -1,7 +1,7 @@
 //! The boot of a planned network over a port.
 
-ghost use Rattle.std.specs.Prelude.{◌≡◌, ◌++◌, length, map, IfOk, MatchResult};
-ghost use Rattle.std.specs.String.{string_bytes};
+ghost use Rattle.std.specs.Prelude.{◌≡◌, length, IfOk, MatchResult};
+ghost use Rattle.cop_net.specs.Devices.{handed_in};
 ghost use Rattle.cop_net.specs.Network.{IsNetwork};
 ghost use Rattle.cop_plan.specs.Plans.{IsPlan};
 ghost use Rattle.cop_engine.specs.Networks.{ExplainsNetwork};
@@ -288,8 +288,8 @@ pub fn commission<P: Port>(
     port: &mut P,
 ) -> Result<Commissioned, Fault>
     ensures { MatchResult result
-        (λ ended. IsCommissioning P.reads P.writes P.asks asked.now nodes.now pdos.now (map (λ f. record { name = string_bytes f.0; text = f.1.items }) eds_files.now) approach port.old port.new ended)
-        (λ fault. ExplainsNetwork asked.now.rates nodes.now pdos.now (map (λ f. record { name = string_bytes f.0; text = f.1.items }) eds_files.now) fault) }
+        (λ ended. IsCommissioning P.reads P.writes P.asks asked.now nodes.now pdos.now (handed_in eds_files.now) approach port.old port.new ended)
+        (λ fault. ExplainsNetwork asked.now.rates nodes.now pdos.now (handed_in eds_files.now) fault) }
 {
     let nodes = read_nodes(alloc, nodes)?;
     let pdos = read_pdos(alloc, pdos)?;

@@ -1,6 +1,6 @@
 //! What the devices of a network are asked about themselves, and what is said of their answers.
 
-ghost use Rattle.std.specs.Prelude.{◌≡◌, ◌++◌, length, option_to_list, IfOk, OnOk};
+ghost use Rattle.std.specs.Prelude.{◌≡◌, ◌++◌, option_to_list, IfOk, OnOk};
 ghost use Rattle.std.specs.String.{string_bytes};
 ghost use Rattle.cop_commission.specs.Identities.{identity_at, question_at, questions_at, questions_to, questions_of, finding_by, weight, worse, finding_of, identity_line, identity_text};
 

@@ -80,14 +80,6 @@ find_any p (x ∷ xs) none = by_test (p x) none (find_any p xs)
     by_test true k later = cc
     by_test false k later = later k
 
-found_all : {A : Type 0} (P : A → Type 0) (p : A → Bool) (xs : List A) (x : A) → All P xs → find p xs ≡ Some x → P x
-found_all P p [] x all e = cc
-found_all P p (y ∷ ys) x all e = by_test (p y) e (found_all P p ys x (All-tail P y ys all))
-  where
-    by_test : (b : Bool) → cond b (Some y) (find p ys) ≡ Some x → (find p ys ≡ Some x → P x) → P x
-    by_test true k later = let same : y ≡ x = cc in subst P same (All-head P y ys all)
-    by_test false k later = later k
-
 -- what is found from the end is one of them
 last_all : (P : Setting → Type 0) (p : Setting → Bool) (xs : List Setting) (x : Setting) → All P xs → find p (reverse xs) ≡ Some x → P x
 last_all P p [] x all e = cc

@@ -76,13 +76,6 @@ count_last text (x ∷ y ∷ ys) line e =
     let size : length (x ∷ y ∷ ys) - 1 ≡ suc (length (y ∷ ys) - 1) = omega arith in
     count_last text (y ∷ ys) line (ap (slice_get (x ∷ y ∷ ys)) (sym size) ∙ e)
 
-pub count_none : (text : List ℕ) (lines : List Line) → slice_get lines (length lines - 1) ≡ None → section_count (map (row_of text) lines) ≡ 0
-count_none text [] e = refl
-count_none text (x ∷ []) e = cc
-count_none text (x ∷ y ∷ ys) e =
-    let size : length (x ∷ y ∷ ys) - 1 ≡ suc (length (y ∷ ys) - 1) = omega arith in
-    count_none text (y ∷ ys) (ap (slice_get (x ∷ y ∷ ys)) (sym size) ∙ e)
-
 one_header : (kind : Kind) → header_count kind ≤ 1
 one_header Header = omega arith
 one_header Pair = omega arith

@@ -1,10 +1,10 @@
 -- What is set in each section, in a table.
-use Rattle.std.proofs.Common.{◌≡◌, ◌≢◌, ◌<◌, ◌≤◌, ℕ, zero, suc, ◌+◌, true, false, ◌==◌, List, [], ◌∷◌, ◌++◌, length, get_or, filter, Option, Some, None, refl, sym, ap, ◌∙◌, arith, append_assoc, append-nil, add-one, ⊎_elim, replicate, length-append, codes, decimal}
+use Rattle.std.proofs.Common.{◌≡◌, ◌≢◌, ◌<◌, ◌≤◌, ℕ, zero, suc, ◌+◌, true, false, ◌==◌, List, [], ◌∷◌, ◌++◌, length, get_or, filter, Option, Some, None, refl, sym, ap, ◌∙◌, arith, append_assoc, append-nil, add-one, ⊎_elim, length-append, codes, decimal}
 use Rattle.std.specs.List.{cons_option}
 use Rattle.std.specs.Option.{option_map}
 use Rattle.std.proofs.lemmas.Bool.{cases_eq, cases_lt, ne_eqb}
 use Rattle.std.proofs.lemmas.Bool.Decides.{nat_tests}
-use Rattle.std.proofs.lemmas.List.{length-replicate, get_or-replicate, get_or_past, get_or_append_left, get_or_push}
+use Rattle.std.proofs.lemmas.List.{get_or_past, get_or_append_left, get_or_push}
 use Rattle.std.proofs.lemmas.List.Elements.{filter-append}
 use Rattle.cop_frame.specs.declared.rates.Rate.{Rate}
 use Rattle.cop_frame.specs.Rate.{kbits_of}
@@ -12,13 +12,6 @@ use Rattle.cop_eds.specs.Edits.{Change}
 use Rattle.cop_dcf.specs.declared.setting.Setting.{Setting}
 use Rattle.cop_dcf.specs.Dcf.{setting_in, value_set, values_from, device_set}
 use Rattle.cop_dcf.specs.Changes.{KnowsSettings, AreBySection, is_in}
-
--- no setting is known yet
-pub none_known : (text : List ℕ) (count : ℕ) (table : List (Option Setting)) → table ≡ replicate count None → KnowsSettings table text [] count
-none_known text count table all = record {
-  size = ap length all ∙ length-replicate {A = Option Setting} count None;
-  each = λ section lt. ap (λ xs. get_or xs section None) all ∙ get_or-replicate count section None None lt;
-}
 
 -- the values of one section more
 values_next : (settings : ℕ → Option Setting) (first count : ℕ)

@@ -19,7 +19,8 @@ ghost use Rattle.cop_dcf.specs.Planned.{IsNumber, IsReadAgain, SaysNode, IsNodeR
 
 /// Each setting has 2 or 4 bytes, and its value fits them.
 pub fn settings_fit()
-    ensures dictionary { (dict : List Entry) (ids : ℕ → Option ℕ) (time : ℕ) → ((index : ℕ) → IfSome (ids index) (λ id. id < 2 ^ 11)) → time < 2 ^ 16 → All IsFit (settings_of dict ids time) }
+    ensures dictionary { (dict : List Entry) (ids : ℕ → Option ℕ) (time : ℕ) → ((index : ℕ) → IfSome (ids index) (λ id. id < 2 ^ 11)) → time < 2 ^ 16
+        → All IsFit (settings_of dict ids time) }
     ensures network { (net : Net) (ids : List ℕ) (node : ℕ) → IsNetwork net → All (λ id. id < 2 ^ 11) ids → All IsFit (node_settings net ids node) }
 {}
 
@@ -33,12 +34,16 @@ pub fn settings_have_objects()
 /// that it describes for its node is the planned one: that of the EDS text with the last value of each setting. The
 /// initial values of a dictionary that a DCF describes are the planned values.
 pub fn round_trip()
-    ensures { (text : List ℕ) (settings : List Setting) (node : ℕ) (name : List ℕ) (rate : Rate) (eds_name : List ℕ) (dict : List Entry) → reading text ≡ Ok text → built text node ≡ Ok dict → All (IsNumber dict) settings → IsTrue (is_name name) → IsTrue (is_name eds_name) → node < 2 ^ 8 → length (dcf_of text settings node name rate eds_name) ≤ 4 * 1024 * 1024 → IsReadAgain (dcf_of text settings node name rate eds_name) node dict settings }
+    ensures { (text : List ℕ) (settings : List Setting) (node : ℕ) (name : List ℕ) (rate : Rate) (eds_name : List ℕ) (dict : List Entry)
+        → reading text ≡ Ok text → built text node ≡ Ok dict → All (IsNumber dict) settings → IsTrue (is_name name) → IsTrue (is_name eds_name)
+        → node < 2 ^ 8 → length (dcf_of text settings node name rate eds_name) ≤ 4 * 1024 * 1024
+        → IsReadAgain (dcf_of text settings node name rate eds_name) node dict settings }
 {}
 
 /// A DCF of an accepted text says which node it is of, at which rate, and of which file it was made, whatever the text said there.
 pub fn dcf_says_its_node()
-    ensures { (text : List ℕ) (settings : List Setting) (node : ℕ) (name : List ℕ) (rate : Rate) (eds_name : List ℕ) → reading text ≡ Ok text → IsTrue (is_name name) → IsTrue (is_name eds_name) → node < 2 ^ 8 → SaysNode (dcf_of text settings node name rate eds_name) node rate eds_name }
+    ensures { (text : List ℕ) (settings : List Setting) (node : ℕ) (name : List ℕ) (rate : Rate) (eds_name : List ℕ) → reading text ≡ Ok text
+        → IsTrue (is_name name) → IsTrue (is_name eds_name) → node < 2 ^ 8 → SaysNode (dcf_of text settings node name rate eds_name) node rate eds_name }
 {}
 
 /// Each line of an accepted text whose key a DCF does not set stands in it as it was, in its order, but for its end: the lines are those of the
@@ -51,5 +56,8 @@ pub fn dcf_keeps_other_lines()
 /// The same of a node of a network that some tables and EDS files make: its dictionary is planned where the PDOs have these
 /// identifiers.
 pub fn node_round_trip()
-    ensures { (net : Net) (wanted : List Rate) (files : List File) (ids : List ℕ) (rate : Rate) (node : ℕ) (row : DeviceRow) → network_of wanted net.nodes net.rows files ≡ Ok (accepted net) → IsNodeTable net.nodes → find (λ row. row.node == node) net.nodes.devices ≡ Some row → All (λ id. id < 2 ^ 11) ids → IsTrue (is_name row.name) → IsTrue (is_name row.eds) → IsNodeReadAgain net files ids rate node row }
+    ensures { (net : Net) (wanted : List Rate) (files : List File) (ids : List ℕ) (rate : Rate) (node : ℕ) (row : DeviceRow)
+        → network_of wanted net.nodes net.rows files ≡ Ok (accepted net) → IsNodeTable net.nodes
+        → find (λ row. row.node == node) net.nodes.devices ≡ Some row → All (λ id. id < 2 ^ 11) ids → IsTrue (is_name row.name)
+        → IsTrue (is_name row.eds) → IsNodeReadAgain net files ids rate node row }
 {}

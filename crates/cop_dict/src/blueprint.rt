@@ -1,6 +1,6 @@
 //! The dictionary of a device, as its EDS text describes it.
 
-ghost use Rattle.std.specs.Prelude.{◌≡◌, IfOk, map};
+ghost use Rattle.std.specs.Prelude.{◌≡◌, IfOk};
 ghost use Rattle.std.specs.Option.{option_map};
 ghost use Rattle.cop_eds.specs.Lines.{Gives};
 ghost use Rattle.cop_dict.specs.Build.{value_entry, built};

@@ -2,10 +2,10 @@
 
 ghost use Rattle.std.specs.Prelude.{◌≡◌, ◌≤◌, IfOk, List, ℕ, length};
 ghost use Rattle.std.specs.Option.{option_map, ForSome};
-ghost use Rattle.cop_eds.specs.Lines.{Gives, Sees};
+ghost use Rattle.cop_eds.specs.Lines.{Gives};
 ghost use Rattle.cop_dict.specs.Types.{width_of, greatest_of};
 ghost use Rattle.cop_dict.specs.Find.{IsSorted};
-ghost use Rattle.cop_dict.specs.Build.{zeros, initial_number, initial_of, limit_number, limit_of, entry_of_type, entry_built, built};
+ghost use Rattle.cop_dict.specs.Build.{zeros, initial_number, initial_of, limit_of, entry_of_type, entry_built, built};
 ghost use Rattle.cop_dict.specs.Keys.{said, keys_of, AreKeys};
 
 use crate::blueprint::Keys;

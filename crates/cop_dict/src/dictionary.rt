@@ -1,11 +1,11 @@
 //! A dictionary.
 
-ghost use Rattle.std.specs.Prelude.{◌≡◌, [], ◌∷◌, ◌++◌, true, length, All, OnOk, OnErr, IfSome, IfErr};
+ghost use Rattle.std.specs.Prelude.{◌≡◌, [], ◌∷◌, ◌++◌, true, All, OnOk, OnErr, IfErr};
 ghost use Rattle.std.specs.Option.{option_copied};
 ghost use Rattle.cop_dict.specs.declared.abort.Abort.TheVariants.{NoMemory};
 ghost use Rattle.cop_dict.specs.Find.{Entry, is_before, entry_at, IsSorted};
 ghost use Rattle.cop_dict.specs.Mapping.{mapped_at, layout_bits};
-ghost use Rattle.cop_dict.specs.Dict.{HasWidth, Grows, FitsAt, IsSized, Follows, Reads, Writes, read_of, written, admitted, with_value, initial, initial_communication};
+ghost use Rattle.cop_dict.specs.Dict.{HasWidth, Grows, FitsAt, Follows, Reads, Writes, read_of, written, admitted, with_value, initial, initial_communication};
 
 use crate::abort::Abort;
 use crate::mapping::{Mapped, MappingFault, layout_bits, mapped_at};

@@ -1,7 +1,7 @@
 //! What PDO mappings mean.
 
-ghost use Rattle.std.specs.Prelude.{◌≡◌, ◌<◌, ◌≤◌, ◌^◌};
-ghost use Rattle.cop_dict.specs.Types.{bits_of, type_numbered};
+ghost use Rattle.std.specs.Prelude.{◌≡◌, ◌<◌, ◌^◌};
+ghost use Rattle.cop_dict.specs.Types.{bits_of};
 ghost use Rattle.cop_dict.specs.Find.{IsSorted};
 ghost use Rattle.cop_dict.specs.Mapping.{direction_of, fields_of, has_bits, is_dummy, can_move, can_map, mapped_by, mapped_at, layout_bits};
 

@@ -1,7 +1,6 @@
 //! The patterns of values and limits as texts write them.
 
 ghost use Rattle.std.specs.Prelude.{◌≡◌, ◌≤◌, ◌^◌, IfSome};
-ghost use Rattle.cop_eds.specs.Number.{some_number};
 ghost use Rattle.cop_eds.specs.Amount.{amount_of};
 ghost use Rattle.cop_dict.specs.Patterns.{at_most, negative, greatest_pattern, pattern_of, pattern_by, pattern_at};
 

@@ -1,6 +1,6 @@
 -- A text that is put together of rows has these rows.
 use Rattle.std.specs.Prelude.{slice_range, slice_index}
-use Rattle.std.proofs.Common.{subst, lit≤, ◌≡◌, ◌⊎◌, inl, inr, ◌<◌, ◌≤◌, ℕ, zero, suc, ◌+◌, ◌-◌, Bool, true, false, not, cond, ◌&&◌, ◌||◌, ◌==◌, List, [], ◌∷◌, ◌++◌, map, length, take, drop, refl, sym, ap, ◌∙◌, arith, append_assoc, append-nil, length-append, length-drop}
+use Rattle.std.proofs.Common.{subst, lit≤, ◌≡◌, ◌⊎◌, inl, inr, ◌<◌, ◌≤◌, ℕ, zero, suc, ◌+◌, ◌-◌, Bool, true, false, cond, ◌||◌, ◌==◌, List, [], ◌∷◌, ◌++◌, map, length, take, drop, refl, sym, ap, ◌∙◌, arith, append_assoc, append-nil, length-append, length-drop}
 use Rattle.std.specs.List.{list_any, concat, onto_first}
 use Rattle.std.proofs.lemmas.Bool.Decides.{nat_tests}
 use Rattle.std.proofs.lemmas.List.{take-append-le, drop-append-le, drop-drop}
@@ -72,10 +72,6 @@ rows_numbered text at before (raw ∷ raws) e =
 -- a text's rows, by its bytes
 pub rows_by_bytes : (text : List ℕ) → rows_of text ≡ numbered 0 (cut (drop (mark_len text) text))
 rows_by_bytes text = rows_numbered text (mark_len text) 0 (cut (drop (mark_len text) text)) (sym (concat_cut (drop (mark_len text) text)))
-
--- a body has no LF
-abbrev pub is_flat : List ℕ → Bool
-is_flat body = not (list_any (λ b. b == 10) body)
 
 abbrev pub ends_in_return : List ℕ → Bool
 ends_in_return body = slice_index body (length body - 1) == 13

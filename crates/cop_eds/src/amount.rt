@@ -1,8 +1,8 @@
 //! Values and limits as texts write them: numbers with a sign, and sums with the node's number.
 
-ghost use Rattle.std.specs.Prelude.{◌≡◌, codes, drop};
-ghost use Rattle.cop_eds.specs.Number.{number_of, number_in, unambiguous};
-ghost use Rattle.cop_eds.specs.Amount.{signed_of, is_node, left_of, right_of, amount_of, written};
+ghost use Rattle.std.specs.Prelude.{◌≡◌};
+ghost use Rattle.cop_eds.specs.Number.{number_of};
+ghost use Rattle.cop_eds.specs.Amount.{signed_of, is_node, amount_of};
 
 use crate::fault::Rule;
 use crate::number::{decimal_of, is_hexadecimal, number_of};

@@ -1,8 +1,7 @@
 //! What the keys of an object's section say.
 
-ghost use Rattle.std.specs.Prelude.{◌≡◌, codes};
+ghost use Rattle.std.specs.Prelude.{◌≡◌};
 ghost use Rattle.std.specs.Option.{option_map};
-ghost use Rattle.cop_eds.specs.Lines.{Sees};
 ghost use Rattle.cop_eds.specs.Access.{access_of};
 ghost use Rattle.cop_eds.specs.Sections.{entry_of};
 ghost use Rattle.cop_eds.specs.Steps.{number_at, number_or};

@@ -31,4 +31,9 @@ pub use laws::{
     objects_are_sorted, sections_are_distinct,
 };
 pub use line::{Kind, Line, Place};
-pub use number::number_of;
+pub use names::code_of;
+pub use number::{is_hexadecimal, number_in, number_of};
+pub use text::{
+    after_first, before_first, is_blank, is_comment, is_header, is_pair, key_of, name_of,
+    same_name, trim, trim_start, value_of,
+};

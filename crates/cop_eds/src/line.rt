@@ -1,6 +1,6 @@
 //! The lines of a text.
 
-ghost use Rattle.std.specs.Prelude.{◌≡◌, ◌+◌, ◌^◌, ◌-◌, ◌<◌, ◌≤◌, ◌∷◌, length, take, drop};
+ghost use Rattle.std.specs.Prelude.{◌≡◌, ◌+◌, ◌^◌, ◌-◌, ◌<◌, ◌≤◌, ◌∷◌, length, drop};
 ghost use Rattle.cop_eds.specs.Text.{cut};
 ghost use Rattle.cop_eds.specs.Lines.{kind_of, header_count, line_of};
 

@@ -1,6 +1,6 @@
 //! The lists of objects, and the objects that they name.
 
-ghost use Rattle.std.specs.Prelude.{◌≡◌, ℕ, List, [], IfOk, OnOk, MatchResult, Ok, codes, decimal};
+ghost use Rattle.std.specs.Prelude.{◌≡◌, ℕ, List, [], IfOk, OnOk, MatchResult, Ok};
 ghost use Rattle.std.specs.Option.{option_map};
 ghost use Rattle.std.specs.Ordering.{nat_cmp};
 ghost use Rattle.std.specs.BTreeMap.{keys};

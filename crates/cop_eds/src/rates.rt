@@ -3,7 +3,7 @@
 ghost use Rattle.std.specs.Prelude.{◌≡◌, ◌↔◌, ◌⊎◌, true, IfOk, IfErr, Ok, Err};
 ghost use Rattle.std.specs.List.{Contains};
 ghost use Rattle.cop_frame.specs.declared.rates.Rate.{Rate};
-ghost use Rattle.cop_eds.specs.Rates.{rate_key, rate_in, support_of, checked_rates};
+ghost use Rattle.cop_eds.specs.Rates.{rate_key, rate_in, checked_rates};
 ghost use Rattle.cop_eds.specs.Eds.{AreSupported};
 
 use crate::description::number_or;

@@ -1,11 +1,11 @@
 //! A text as sections of pairs.
 
-ghost use Rattle.std.specs.Prelude.{◌≡◌, ◌^◌, ◌<◌, ◌≤◌, ◌+◌, ◌∷◌, [], length, take, IfOk, IfSome, MatchOption, ℕ, slice_get, Some, None};
+ghost use Rattle.std.specs.Prelude.{◌≡◌, ◌^◌, ◌<◌, ◌≤◌, ◌+◌, [], length, take, IfOk, IfSome, MatchOption, ℕ, slice_get, Some, None};
 ghost use Rattle.std.specs.List.{All, list_any};
 ghost use Rattle.std.specs.Option.{option_map, option_and_then};
 ghost use Rattle.cop_eds.specs.declared.line.Line.{Line};
 ghost use Rattle.cop_eds.specs.Lines.{IsWithin, lines_of, first_from, is_named, is_keyed, broken, first_refusal};
-ghost use Rattle.cop_eds.specs.Sections.{place_at, place_of, is_coded, coded_place, keyed_line, key_line, some_value, entry_of};
+ghost use Rattle.cop_eds.specs.Sections.{place_at, place_of, coded_place, keyed_line, key_line, some_value, entry_of};
 ghost use Rattle.cop_eds.specs.Index.{sort_key, is_found_by, IsNext};
 
 use crate::entry::Entry;

@@ -10,7 +10,6 @@ use Rattle.cop_rta.specs.Verdict.{IsPass}
 use Rattle.cop_rta.specs.Entries.{Entry, entry_of}
 use Rattle.cop_rta.proofs.StreamLemmas.{streams_same}
 use Rattle.cop_rta.proofs.VerdictLemmas.{judged_same}
-use Rattle.cop_engine.specs.Reports.{lines_below, line_at}
 use Rattle.cop_engine.specs.Tests.{AreVerdicts, IsReport}
 
 verdicts_same : (vs ws : List Verdict) → length vs ≡ length ws → ((k : ℕ) → k < length vs → get_or vs k Long ≡ get_or ws k Long) → vs ≡ ws

@@ -1,22 +1,16 @@
 -- The lines of a plan, one more.
-use Rattle.std.proofs.Common.{◌≡◌, ℕ, zero, suc, List, [], ◌∷◌, ◌++◌, get_or, slice_get, Some, refl, sym, ◌∙◌, ap, take, length, ◌<◌, ◌+◌, inl, inr, All, subst, arith}
+use Rattle.std.proofs.Common.{◌≡◌, ℕ, zero, suc, List, [], ◌∷◌, ◌++◌, get_or, slice_get, Some, refl, sym, ◌∙◌, ap, take, length, ◌<◌, ◌+◌, arith}
 use Rattle.std.specs.List.{flat_map}
 use Rattle.std.proofs.lemmas.List.{take_more, append-nil, append_assoc}
 use Rattle.cop_engine.specs.Reports.{lines_below}
 use Rattle.cop_engine.proofs.ReportsLemmas.{lines_more}
 use Rattle.std.proofs.lemmas.Grind.{flat_map-append}
-use Rattle.cop_frame.specs.declared.rates.Rate.{Rate}
-use Rattle.cop_rta.specs.declared.streams.Stream.{Stream}
-use Rattle.cop_cert.specs.declared.refusals.Cause.{Cause}
-use Rattle.cop_cert.specs.declared.refusals.Cause.TheVariants.{Places, Sync, Sdo}
 use Rattle.cop_cert.specs.declared.refusals.Refusal.{Refusal}
-use Rattle.cop_cert.specs.Assignments.{IsSdo}
-use Rattle.cop_cert.specs.Causes.{IsCause}
-use Rattle.cop_plan.specs.Plans.{IsGreatestRefusal}
 use Rattle.cop_rta.specs.declared.verdicts.Verdict.{Verdict}
 use Rattle.cop_rta.specs.declared.verdicts.Verdict.TheVariants.{Long}
 use Rattle.cop_rows.specs.declared.pdo_table.PdoRow.{PdoRow}
-use Rattle.cop_engine.specs.PlanTexts.{pdo_line, pdo_line_at, response_of, refused_line, HasIdentifier}
+use Rattle.cop_engine.specs.PlanTexts.{pdo_line, pdo_line_at, refused_line}
+use Rattle.cop_rta.specs.Verdict.{response_of}
 
 row_at : (rows : List PdoRow) (k : ℕ) (d : PdoRow) → k < length rows → slice_get rows k ≡ Some (get_or rows k d)
 row_at [] k d h = absurd (omega arith)
@@ -51,20 +45,3 @@ refused_more refusals k r h here =
     ∙ flat_map-append refused_line (take k refusals) (get_or refusals k r ∷ [])
     ∙ ap (λ (x : Refusal). flat_map refused_line (take k refusals) ++ flat_map refused_line (x ∷ [])) (sym here)
     ∙ ap (λ (line : List ℕ). flat_map refused_line (take k refusals) ++ line) (append-nil (refused_line r))
-
--- ---- identifiers of SDO frames
-
-sdo_small : (id : ℕ) → IsSdo id → id < 2048
-sdo_small id (inl up) = omega (arith, up.1)
-sdo_small id (inr down) = omega (arith, down.1)
-
-cause_identified : (rate : Rate) (streams : List Stream) (pdos : ℕ) (c : Cause) → IsCause rate streams pdos c → HasIdentifier c
-cause_identified rate streams pdos (Places members) h = tt
-cause_identified rate streams pdos (Sync busy) h = tt
-cause_identified rate streams pdos (Sdo up id evidence) h = sdo_small id (subst IsSdo h.its h.tested.sdo)
-
--- what a plan's refusals name are identifiers
-pub refusals_identified : (streams : List Stream) (pdos : ℕ) (refusals : List Refusal) → All (IsGreatestRefusal streams pdos) refusals → All (λ r. HasIdentifier r.cause) refusals
-refusals_identified streams pdos refusals all k d h =
-    let r : Refusal = get_or refusals k d in
-    cause_identified r.rate streams pdos r.cause (all k d h).holds

@@ -5,7 +5,8 @@ use Rattle.std.specs.Option.{option_map_or}
 use Rattle.cop_frame.specs.declared.rates.Rate.{Rate}
 use Rattle.cop_frame.specs.Rate.{kbits_of}
 use Rattle.cop_rta.specs.declared.verdicts.Verdict.{Verdict}
-use Rattle.cop_rta.specs.declared.verdicts.Verdict.TheVariants.{Pass, Late, Long}
+use Rattle.cop_rta.specs.declared.verdicts.Verdict.TheVariants.{Long}
+use Rattle.cop_rta.specs.Verdict.{response_of}
 use Rattle.cop_cert.specs.declared.refusals.Cause.{Cause}
 use Rattle.cop_cert.specs.declared.refusals.Cause.TheVariants.{Places, Sync, Sdo}
 use Rattle.cop_cert.specs.declared.refusals.Refusal.{Refusal}
@@ -13,12 +14,6 @@ use Rattle.cop_rows.specs.declared.pdo_table.PdoRow.{PdoRow}
 use Rattle.cop_plan.specs.declared.assigning.Outcome.{Outcome}
 use Rattle.cop_plan.specs.declared.assigning.Outcome.TheVariants.{Planned, Refused}
 use Rattle.cop_engine.specs.Reports.{hexadecimal, lines_below}
-
--- the greatest response of a stream that passes
-abbrev pub response_of : Verdict → ℕ
-response_of (Pass response) = response
-response_of (Late q response) = 0
-response_of Long = 0
 
 abbrev pub rate_line : Rate → List ℕ
 rate_line rate = codes "rate " ++ decimal (kbits_of rate) ++ codes "\n"

@@ -1,9 +1,10 @@
 //! The boot of a planned network by drawn turns.
 
-ghost use Rattle.std.specs.Prelude.{◌≡◌, ◌≤◌, ◌<◌, ◌++◌, length, map, is_some, All, IfOk, OnOk, MatchResult};
-ghost use Rattle.std.specs.List.{AllPairs, flat_map};
+ghost use Rattle.std.specs.Prelude.{◌≡◌, ◌≤◌, ◌<◌, length, map, is_some, All, IfOk, MatchResult};
+ghost use Rattle.std.specs.List.{AllPairs};
 ghost use Rattle.std.specs.String.{string_bytes};
 ghost use Rattle.cop_dict.specs.Dict.{initial};
+ghost use Rattle.cop_net.specs.Devices.{handed_in};
 ghost use Rattle.cop_net.specs.Network.{IsNetwork};
 ghost use Rattle.cop_plan.specs.Plans.{IsPlan};
 ghost use Rattle.cop_dcf.specs.Settings.{dictionary_of};
@@ -201,7 +202,8 @@ pub fn boot_bytes(
     eds_files: &[(String, Vec<u8>)],
     asked: &Asked,
 ) -> Result<Vec<u8>, Fault>
-    ensures { MatchResult result (λ text. IsBootOf asked.now seed nodes.now pdos.now (map (λ f. record { name = string_bytes f.0; text = f.1.items }) eds_files.now) text.items) (λ fault. ExplainsNetwork asked.now.rates nodes.now pdos.now (map (λ f. record { name = string_bytes f.0; text = f.1.items }) eds_files.now) fault) }
+    ensures { MatchResult result (λ text. IsBootOf asked.now seed nodes.now pdos.now (handed_in eds_files.now) text.items)
+        (λ fault. ExplainsNetwork asked.now.rates nodes.now pdos.now (handed_in eds_files.now) fault) }
 {
     let nodes = read_nodes(alloc, nodes)?;
     let pdos = read_pdos(alloc, pdos)?;

@@ -1,7 +1,7 @@
 //! The check of a refusal file against a network.
 
-ghost use Rattle.std.specs.Prelude.{◌≡◌, ◌≤◌, ◌↔◌, ◌++◌, true, length, map, OnOk, IfOk, IsTrue, MatchResult, All};
-ghost use Rattle.std.specs.String.{string_bytes};
+ghost use Rattle.std.specs.Prelude.{◌≡◌, ◌≤◌, ◌↔◌, ◌++◌, true, length, OnOk, IfOk, IsTrue, MatchResult, All};
+ghost use Rattle.cop_net.specs.Devices.{handed_in};
 ghost use Rattle.cop_engine.specs.Reports.{lines_below};
 ghost use Rattle.cop_engine.specs.Checks.{said, check_line, check_line_at, AreChecked, AreLinesOf, IsCheckOf, ExplainsCheck};
 
@@ -91,7 +91,8 @@ pub fn check_bytes(
     eds_files: &[(String, Vec<u8>)],
     refusals: &[u8],
 ) -> Result<(Vec<u8>, bool), Fault>
-    ensures { MatchResult result (λ found. IsCheckOf wanted.now nodes.now pdos.now (map (λ f. record { name = string_bytes f.0; text = f.1.items }) eds_files.now) refusals.now found.0.items found.1) (λ fault. ExplainsCheck wanted.now nodes.now pdos.now (map (λ f. record { name = string_bytes f.0; text = f.1.items }) eds_files.now) refusals.now fault) }
+    ensures { MatchResult result (λ found. IsCheckOf wanted.now nodes.now pdos.now (handed_in eds_files.now) refusals.now found.0.items found.1)
+        (λ fault. ExplainsCheck wanted.now nodes.now pdos.now (handed_in eds_files.now) refusals.now fault) }
 {
     let nodes = read_nodes(alloc, nodes)?;
     let pdos = read_pdos(alloc, pdos)?;

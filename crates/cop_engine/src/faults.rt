@@ -4,7 +4,6 @@ ghost use Rattle.std.specs.Prelude.{◌≡◌};
 ghost use Rattle.cop_engine.specs.Faults.{status_of, fault_of, fault_of_refusals, fault_of_trace};
 ghost use Rattle.cop_engine.specs.declared.faults.Fault.TheVariants.{Refused, Memory};
 ghost use Rattle.cop_rta.specs.declared.tables.TableFault.TheVariants as table;
-ghost use Rattle.cop_rta.specs.Tables.{number_of_rule};
 
 use cop_bus::BusFault;
 use cop_cert::CertFault;

@@ -29,5 +29,6 @@ pub fn judged_on_time()
 /// planned: it is accepted, and the dictionary that it describes for its node is that of the device with the last value of
 /// each of the node's settings.
 pub fn dcf_round_trip()
-    ensures { (asked : Asked) (nodes pdos : List ℕ) (eds : List File) (files : Files) → (f : AreFilesOf asked nodes pdos eds files) → AreReadAgain eds (net_of f.found f.streams) f.planned.outcome }
+    ensures { (asked : Asked) (nodes pdos : List ℕ) (eds : List File) (files : Files) → (f : AreFilesOf asked nodes pdos eds files)
+        → AreReadAgain eds (net_of f.found f.streams) f.planned.outcome }
 {}

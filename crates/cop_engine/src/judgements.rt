@@ -1,8 +1,7 @@
 //! The judgement of a trace by the plan of a network.
 
-ghost use Rattle.std.specs.Prelude.{◌≡◌, ℕ, List, map, None, IfOk, IfSome, MatchResult};
-ghost use Rattle.std.specs.String.{string_bytes};
-ghost use Rattle.cop_net.specs.Devices.{File};
+ghost use Rattle.std.specs.Prelude.{◌≡◌, ℕ, List, None, IfOk, IfSome, MatchResult};
+ghost use Rattle.cop_net.specs.Devices.{File, handed_in};
 ghost use Rattle.cop_plan.specs.declared.choices.Asked.{Asked};
 ghost use Rattle.cop_table.specs.Pieces.{HoldsOfAll};
 ghost use Rattle.cop_engine.specs.Judgements.{transfers_in, judged_text, none_passes, IsCleared, ExplainsTrace, IsPlannedNetwork, IsJudgement, ExplainsJudgement};
@@ -108,7 +107,8 @@ pub fn judge_bytes(
     asked: &Asked,
     trace: &[u8],
 ) -> Result<Vec<u8>, Fault>
-    ensures { MatchResult result (λ text. IsJudgement asked.now nodes.now pdos.now (map (λ f. record { name = string_bytes f.0; text = f.1.items }) eds_files.now) trace.now text.items) (λ fault. ExplainsJudgement asked.now nodes.now pdos.now (map (λ f. record { name = string_bytes f.0; text = f.1.items }) eds_files.now) trace.now fault) }
+    ensures { MatchResult result (λ text. IsJudgement asked.now nodes.now pdos.now (handed_in eds_files.now) trace.now text.items)
+        (λ fault. ExplainsJudgement asked.now nodes.now pdos.now (handed_in eds_files.now) trace.now fault) }
 {
     let outcome = outcome_of(alloc, nodes, pdos, eds_files, asked)?;
     match judge_pieces(alloc, &outcome, trace) {

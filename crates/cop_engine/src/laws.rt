@@ -25,21 +25,25 @@ pub fn one_report()
 
 /// The bytes of tables and EDS files, the rates that are wanted and the choice of identifiers have one plan: its files are a function of them.
 pub fn one_plan()
-    ensures { (asked : Asked) (nodes pdos : List ℕ) (eds : List File) (a b : Files) → AreFilesOf asked nodes pdos eds a → AreFilesOf asked nodes pdos eds b → (a.planned ≡ b.planned) × (a.plan.items ≡ b.plan.items) × (a.refusals.items ≡ b.refusals.items) × (a.dcf ≡ b.dcf) }
+    ensures { (asked : Asked) (nodes pdos : List ℕ) (eds : List File) (a b : Files) → AreFilesOf asked nodes pdos eds a
+        → AreFilesOf asked nodes pdos eds b → (a.planned ≡ b.planned) × (a.plan.items ≡ b.plan.items) × (a.refusals.items ≡ b.refusals.items) × (a.dcf ≡ b.dcf) }
 {}
 
 /// It is one plan that [`plan_bytes`](crate::plan_bytes) gives and by which [`judge_bytes`](crate::judge_bytes) judges a
 /// trace, [`run_bytes`](crate::run_bytes) runs the network, and [`boot_bytes`](crate::boot_bytes) boots it.
 pub fn plan_is_used()
-    ensures network { (asked : Asked) (nodes pdos : List ℕ) (eds : List File) (files : Files) (outcome : Outcome) → (f : AreFilesOf asked nodes pdos eds files) → IsPlannedNetwork asked nodes pdos eds outcome → outcome ≡ f.planned.outcome }
-    ensures boot { (asked : Asked) (seed : ℕ) (nodes pdos : List ℕ) (eds : List File) (files : Files) (text : List ℕ) → (f : AreFilesOf asked nodes pdos eds files) → (b : IsBootOf asked seed nodes pdos eds text) → b.outcome ≡ f.planned.outcome }
+    ensures network { (asked : Asked) (nodes pdos : List ℕ) (eds : List File) (files : Files) (outcome : Outcome)
+        → (f : AreFilesOf asked nodes pdos eds files) → IsPlannedNetwork asked nodes pdos eds outcome → outcome ≡ f.planned.outcome }
+    ensures boot { (asked : Asked) (seed : ℕ) (nodes pdos : List ℕ) (eds : List File) (files : Files) (text : List ℕ)
+        → (f : AreFilesOf asked nodes pdos eds files) → (b : IsBootOf asked seed nodes pdos eds text) → b.outcome ≡ f.planned.outcome }
 {
     one_outcome();
 }
 
 /// The bytes of tables, EDS files and a trace have one judgement.
 pub fn one_judgement()
-    ensures { (asked : Asked) (nodes pdos : List ℕ) (eds : List File) (trace text other : List ℕ) → IsJudgement asked nodes pdos eds trace text → IsJudgement asked nodes pdos eds trace other → text ≡ other }
+    ensures { (asked : Asked) (nodes pdos : List ℕ) (eds : List File) (trace text other : List ℕ) → IsJudgement asked nodes pdos eds trace text
+        → IsJudgement asked nodes pdos eds trace other → text ≡ other }
 {
     one_outcome();
 }
@@ -56,13 +60,16 @@ pub fn one_run()
 
 /// The bytes of tables, EDS files and a refusal file have one check.
 pub fn one_check()
-    ensures { (wanted : List Rate) (nodes pdos : List ℕ) (eds : List File) (text : List ℕ) (lines others : List ℕ) (all each : Bool) → IsCheckOf wanted nodes pdos eds text lines all → IsCheckOf wanted nodes pdos eds text others each → (lines ≡ others) × (all ≡ each) }
+    ensures { (wanted : List Rate) (nodes pdos : List ℕ) (eds : List File) (text : List ℕ) (lines others : List ℕ) (all each : Bool)
+        → IsCheckOf wanted nodes pdos eds text lines all → IsCheckOf wanted nodes pdos eds text others each → (lines ≡ others) × (all ≡ each) }
 {}
 
 /// Every refusal that a plan writes holds: [`check_bytes`](crate::check_bytes) of the refusal file that
 /// [`plan_bytes`](crate::plan_bytes) gives, against the same tables and EDS files, says so of each, and nothing but want
 /// of memory keeps it from that.
 pub fn planned_refusals_hold()
-    ensures holds { (asked : Asked) (nodes pdos : List ℕ) (eds : List File) (files : Files) (lines : List ℕ) (all : Bool) → AreFilesOf asked nodes pdos eds files → IsCheckOf asked.rates nodes pdos eds files.refusals.items lines all → all ≡ true }
-    ensures read { (asked : Asked) (nodes pdos : List ℕ) (eds : List File) (files : Files) (fault : Fault) → AreFilesOf asked nodes pdos eds files → ExplainsCheck asked.rates nodes pdos eds files.refusals.items fault → fault ≡ faults.Memory }
+    ensures holds { (asked : Asked) (nodes pdos : List ℕ) (eds : List File) (files : Files) (lines : List ℕ) (all : Bool)
+        → AreFilesOf asked nodes pdos eds files → IsCheckOf asked.rates nodes pdos eds files.refusals.items lines all → all ≡ true }
+    ensures read { (asked : Asked) (nodes pdos : List ℕ) (eds : List File) (files : Files) (fault : Fault) → AreFilesOf asked nodes pdos eds files
+        → ExplainsCheck asked.rates nodes pdos eds files.refusals.items fault → fault ≡ faults.Memory }
 {}

@@ -1,29 +1,17 @@
 //! The text of a plan.
 
-ghost use Rattle.std.specs.Prelude.{◌≡◌, ◌≤◌, ◌<◌, ◌++◌, length, decimal, OnOk, IfOk, codes, All};
+ghost use Rattle.std.specs.Prelude.{◌≡◌, ◌<◌, ◌++◌, length, OnOk, IfOk, codes, All};
 ghost use Rattle.std.specs.List.{flat_map};
-ghost use Rattle.cop_frame.specs.Rate.{kbits_of};
 ghost use Rattle.cop_engine.specs.Reports.{lines_below};
-ghost use Rattle.cop_engine.specs.PlanTexts.{response_of, rate_line, pdo_name, response_end, pdo_line, pdo_line_at, margin_line, cause_text, refused_line, HasIdentifier};
+ghost use Rattle.cop_engine.specs.PlanTexts.{rate_line, pdo_name, response_end, pdo_line, pdo_line_at, margin_line, cause_text, refused_line, HasIdentifier};
 
 use crate::reports::{push_id, push_number};
 use cop_cert::{Cause, Refusal};
 use cop_frame::Rate;
 use cop_net::PdoRow;
 use cop_plan::Plan;
-use cop_rta::Verdict;
+use cop_rta::{Verdict, response_of};
 use std::alloc::{AllocError, Global};
-
-/// The greatest response of a stream that passes, in ticks.
-fn response_of(verdict: Verdict) -> u64
-    ensures { result ≡ response_of verdict }
-{
-    match verdict {
-        Verdict::Pass { response } => response,
-        Verdict::Late { .. } => 0,
-        Verdict::Long => 0,
-    }
-}
 
 /// The line of the rate.
 fn push_rate(text: &mut Vec<u8>, rate: Rate) -> Result<(), AllocError>

@@ -1,8 +1,7 @@
 //! The plan of a network, from its files to the files of the plan.
 
-ghost use Rattle.std.specs.Prelude.{◌≡◌, ◌≤◌, List, length, map, IfOk, All, MatchResult};
-ghost use Rattle.std.specs.String.{string_bytes};
-ghost use Rattle.cop_net.specs.Devices.{File};
+ghost use Rattle.std.specs.Prelude.{List, length, IfOk, All, MatchResult};
+ghost use Rattle.cop_net.specs.Devices.{File, handed_in};
 ghost use Rattle.cop_net.specs.Network.{Net};
 ghost use Rattle.cop_plan.specs.Plans.{IsOutcome, IsPlan, IsChosenBy};
 ghost use Rattle.cop_plan.specs.declared.assigning.Outcome.TheVariants.{Planned, Refused};
@@ -102,7 +101,8 @@ pub fn plan_bytes(
     eds_files: &[(String, Vec<u8>)],
     asked: &Asked,
 ) -> Result<Files, Fault>
-    ensures { MatchResult result (AreGuaranteedFiles asked.now nodes.now pdos.now (map (λ f. record { name = string_bytes f.0; text = f.1.items }) eds_files.now)) (λ fault. ExplainsNetwork asked.now.rates nodes.now pdos.now (map (λ f. record { name = string_bytes f.0; text = f.1.items }) eds_files.now) fault) }
+    ensures { MatchResult result (AreGuaranteedFiles asked.now nodes.now pdos.now (handed_in eds_files.now))
+        (λ fault. ExplainsNetwork asked.now.rates nodes.now pdos.now (handed_in eds_files.now) fault) }
 {
     let nodes = read_nodes(alloc, nodes)?;
     let pdos = read_pdos(alloc, pdos)?;

@@ -1,6 +1,6 @@
 //! The lines of a test.
 
-ghost use Rattle.std.specs.Prelude.{◌≡◌, ◌<◌, ◌++◌, ℕ, length, decimal, OnOk, IfOk};
+ghost use Rattle.std.specs.Prelude.{◌≡◌, ◌<◌, ◌++◌, length, decimal, OnOk, IfOk};
 ghost use Rattle.cop_dcf.specs.Dcf.{digit};
 ghost use Rattle.cop_engine.specs.Reports.{hexadecimal, said, line, line_at, lines_below};
 

@@ -1,7 +1,7 @@
 //! The seeded run of a network, from its files.
 
-ghost use Rattle.std.specs.Prelude.{◌≡◌, ◌≤◌, map, MatchResult};
-ghost use Rattle.std.specs.String.{string_bytes};
+ghost use Rattle.std.specs.Prelude.{◌≡◌, ◌≤◌, MatchResult};
+ghost use Rattle.cop_net.specs.Devices.{handed_in};
 ghost use Rattle.cop_engine.specs.Judgements.{IsPlannedNetwork};
 ghost use Rattle.cop_engine.specs.Networks.{ExplainsNetwork};
 ghost use Rattle.cop_engine.specs.Runs.{fault_of_run, IsNetworkRun, ExplainsNetworkRun};
@@ -33,7 +33,8 @@ pub fn outcome_of(
     eds_files: &[(String, Vec<u8>)],
     asked: &Asked,
 ) -> Result<Outcome, Fault>
-    ensures { MatchResult result (λ outcome. IsPlannedNetwork asked.now nodes.now pdos.now (map (λ f. record { name = string_bytes f.0; text = f.1.items }) eds_files.now) outcome) (λ fault. ExplainsNetwork asked.now.rates nodes.now pdos.now (map (λ f. record { name = string_bytes f.0; text = f.1.items }) eds_files.now) fault) }
+    ensures { MatchResult result (λ outcome. IsPlannedNetwork asked.now nodes.now pdos.now (handed_in eds_files.now) outcome)
+        (λ fault. ExplainsNetwork asked.now.rates nodes.now pdos.now (handed_in eds_files.now) fault) }
 {
     let nodes = read_nodes(alloc, nodes)?;
     let pdos = read_pdos(alloc, pdos)?;
@@ -54,7 +55,8 @@ pub fn run_bytes(
     asked: &Asked,
 ) -> Result<(Vec<u8>, Vec<u8>), Fault>
     requires { until ≤ 1000000000 }
-    ensures { MatchResult result (λ r. IsNetworkRun asked.now nodes.now pdos.now (map (λ f. record { name = string_bytes f.0; text = f.1.items }) eds_files.now) seed until r.0.items r.1.items) (λ fault. ExplainsNetworkRun asked.now nodes.now pdos.now (map (λ f. record { name = string_bytes f.0; text = f.1.items }) eds_files.now) seed until fault) }
+    ensures { MatchResult result (λ r. IsNetworkRun asked.now nodes.now pdos.now (handed_in eds_files.now) seed until r.0.items r.1.items)
+        (λ fault. ExplainsNetworkRun asked.now nodes.now pdos.now (handed_in eds_files.now) seed until fault) }
 {
     match outcome_of(alloc, nodes, pdos, eds_files, asked)? {
         Outcome::Planned(plan) => Ok(run_plan(alloc, &plan, seed, until, Vec::new(alloc))?),

@@ -1,6 +1,6 @@
 //! The seeded run of a plan.
 
-ghost use Rattle.std.specs.Prelude.{◌≡◌, ◌*◌, ◌≤◌, map, IfOk, IfErr, MatchResult};
+ghost use Rattle.std.specs.Prelude.{◌≡◌, ◌*◌, ◌≤◌, map, IfOk, MatchResult};
 ghost use Rattle.cop_sim.specs.Drawing.{fresh};
 ghost use Rattle.cop_engine.specs.Recorders.{counted, Records, IsFinished};
 ghost use Rattle.cop_engine.specs.Runs.{IsRun, ExplainsRun, run_fault, IsOfWriting};

@@ -1,6 +1,6 @@
 //! The test of the streams of a table.
 
-ghost use Rattle.std.specs.Prelude.{◌≡◌, ◌↔◌, ◌<◌, ◌≤◌, ℕ, All, IsTrue, length, IfOk, MatchResult, get_or};
+ghost use Rattle.std.specs.Prelude.{◌↔◌, ◌<◌, ◌≤◌, All, IsTrue, length, IfOk, MatchResult};
 ghost use Rattle.cop_rta.specs.Verdict.{IsPass};
 ghost use Rattle.cop_engine.specs.Tests.{AreVerdicts, IsReport, Explains};
 

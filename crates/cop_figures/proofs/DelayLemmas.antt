@@ -1,5 +1,5 @@
 -- What a response is made of.
-use Rattle.std.proofs.Common.{◌≡◌, ◌∙◌, ℕ, zero, suc, ◌+◌, ◌-◌, ◌*◌, ◌^◌, ◌<◌, ◌≤◌, ◌≢◌, min, ◌⊎◌, inl, inr, Bool, true, false, not, ◌&&◌, ◌==◌, nat_lt, if◌then◌else◌, List, [], ◌∷◌, ◌++◌, map, filter, take, length, get_or, slice_get, sum_by, Some, None, refl, sym, ap, subst, arith, add-one, le_antisymm}
+use Rattle.std.proofs.Common.{◌≡◌, ◌∙◌, ℕ, zero, suc, ◌+◌, ◌-◌, ◌*◌, ◌^◌, ◌<◌, ◌≤◌, ◌≢◌, min, ◌⊎◌, inl, inr, Bool, true, false, nat_lt, if◌then◌else◌, List, [], ◌∷◌, ◌++◌, map, filter, take, length, get_or, slice_get, sum_by, Some, None, refl, sym, ap, subst, arith, add-one, le_antisymm}
 use Rattle.std.proofs.Math.Nat.{zero-add}
 use Rattle.std.proofs.lemmas.Bool.{cases_eq, cases_lt, eq-eqb, ne_eqb}
 use Rattle.std.proofs.lemmas.List.{map-append}
@@ -57,9 +57,6 @@ other_response p q w r waits apart is = apart (ap (λ (x : ℕ). jitter_at p + x
 -- none of the first instances has a response
 abbrev pub NoneBelow : StreamPlace → ℕ → ℕ → Type 0
 NoneBelow p response n = (k : ℕ) → k < n → IsResponse p k response → ⊥
-
-pub none_first : (p : StreamPlace) (response : ℕ) → NoneBelow p response 0
-none_first p response k low is = omega (arith, low)
 
 pub none_next : (p : StreamPlace) (response n : ℕ) → NoneBelow p response n → (IsResponse p n response → ⊥) → NoneBelow p response (n + 1)
 none_next p response n before here k low is = go (cases_eq k n)

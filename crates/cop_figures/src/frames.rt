@@ -1,6 +1,6 @@
 //! The times of SYNC and of the SDO frames with deadlines under a plan.
 
-ghost use Rattle.std.specs.Prelude.{◌≡◌, ◌<◌, ◌≤◌, ℕ, IfOk, Some, length, get_or, slice_get};
+ghost use Rattle.std.specs.Prelude.{◌≡◌, ◌<◌, ℕ, IfOk, Some, length, get_or, slice_get};
 ghost use Rattle.cop_rta.specs.declared.verdicts.Verdict.TheVariants.{Long};
 ghost use Rattle.cop_rta.specs.Test.{place_by_id};
 ghost use Rattle.cop_rta.specs.Verdict.{IsJudged, PassesBy};
@@ -10,14 +10,11 @@ ghost use Rattle.cop_figures.specs.Figures.{left_of};
 ghost use Rattle.cop_figures.specs.Frames.{sync_times, AreFrames};
 
 use crate::refused::frame_of;
-use crate::times::response_of;
 use cop_cert::is_tested;
+use cop_frame::identifiers::SYNC;
 use cop_plan::Plan;
-use cop_rta::{Stream, StreamSet, Verdict, sync_response, verdicts_by_id};
+use cop_rta::{Stream, StreamSet, Verdict, response_of, sync_response, verdicts_by_id};
 use std::alloc::{AllocError, Global};
-
-/// SYNC's identifier.
-const SYNC: u16 = 0x80;
 
 /// SYNC under a plan. Times are in ticks of 250 ns.
 #[derive(Clone, Copy, PartialEq, Eq, Debug)]

@@ -1,6 +1,6 @@
 //! Why no choice of identifiers passes at a rate.
 
-ghost use Rattle.std.specs.Prelude.{◌≡◌, ◌<◌, ◌≤◌, ◌*◌, ◌^◌, All, IfOk, length, map};
+ghost use Rattle.std.specs.Prelude.{◌≡◌, ◌<◌, ◌≤◌, ◌*◌, All, IfOk, length, map};
 ghost use Rattle.cop_rta.specs.Test.{cost_of, ahead_of};
 ghost use Rattle.cop_cert.specs.Evidence.{last_of};
 ghost use Rattle.cop_figures.specs.Reasons.{said_of, failing_of, frame_of, failing_frame, count_above, reason_of, refused_of};

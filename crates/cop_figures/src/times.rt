@@ -1,14 +1,13 @@
 //! The times of the PDOs under a plan.
 
-ghost use Rattle.std.specs.Prelude.{◌≡◌, ◌<◌, ◌≤◌, ℕ, IfOk, Some, length, get_or, slice_get};
+ghost use Rattle.std.specs.Prelude.{◌≡◌, ◌<◌, ℕ, IfOk, length, get_or};
 ghost use Rattle.cop_rta.specs.declared.verdicts.Verdict.TheVariants.{Long};
 ghost use Rattle.cop_rta.specs.Test.{place_by_id};
-ghost use Rattle.cop_rta.specs.Verdict.{IsJudged, IsPass, PassesBy};
-ghost use Rattle.cop_plan.specs.Planned.{IsPlanned};
+ghost use Rattle.cop_rta.specs.Verdict.{IsJudged};
 ghost use Rattle.cop_figures.specs.Figures.{left_of, IsTimed, AreTimes};
 
 use cop_plan::Plan;
-use cop_rta::{Stream, Verdict};
+use cop_rta::{Stream, Verdict, response_of};
 use std::alloc::{AllocError, Global};
 
 /// A PDO under a plan. Times are in ticks of 250 ns.
@@ -31,17 +30,6 @@ impl PdoTimes {
             .deadline
             .unwrap_or(0)
             .saturating_sub(self.response)
-    }
-}
-
-/// The greatest response of a stream that passes.
-pub(crate) fn response_of(verdict: Verdict) -> u64
-    ensures { IsPass verdict → verdict ≡ Verdict.Pass result }
-{
-    match verdict {
-        Verdict::Pass { response } => response,
-        Verdict::Late { .. } => 0,
-        Verdict::Long => 0,
     }
 }
 

@@ -1,5 +1,5 @@
 -- PDOs that a device has by CompactPDO (CiA 306): those up to NrOfRXPDO and NrOfTXPDO.
-use Rattle.std.specs.Prelude.{ℕ, zero, suc, ◌+◌, ◌%◌, ◌==◌, Bool, true, false, not, ◌&&◌, ◌||◌, nat_lt, nat_le, List, codes, if◌then◌else◌, Option, Some, None}
+use Rattle.std.specs.Prelude.{ℕ, zero, suc, ◌+◌, ◌%◌, ◌==◌, Bool, true, false, not, ◌&&◌, nat_lt, nat_le, List, codes, if◌then◌else◌, Option, Some, None}
 use Rattle.cop_eds.specs.declared.line.Place.{Place}
 use Rattle.cop_eds.specs.Sections.{place_of, key_line}
 use Rattle.cop_hazard.specs.Stated.{stated_or_0}

@@ -1,7 +1,7 @@
 -- What an accepted text leaves implicit, so that a device does more than its dictionary says.
-use Rattle.std.specs.Prelude.{ℕ, ◌+◌, ◌/◌, ◌%◌, ◌==◌, Bool, true, false, not, ◌&&◌, nat_lt, nat_le, List, [], ◌∷◌, length, drop, slice_index, codes, if◌then◌else◌, Option, Some, None, is_some}
+use Rattle.std.specs.Prelude.{ℕ, ◌+◌, ◌/◌, ◌%◌, ◌==◌, Bool, false, not, ◌&&◌, nat_lt, nat_le, List, [], ◌∷◌, length, drop, slice_index, codes, if◌then◌else◌, Option, Some, None, is_some}
 use Rattle.std.specs.List.{before_first, after_first}
-use Rattle.std.specs.Option.{option_map, option_map_or, option_or}
+use Rattle.std.specs.Option.{option_map, option_or}
 use Rattle.cop_eds.specs.declared.line.Kind.{Kind}
 use Rattle.cop_eds.specs.declared.line.Kind.TheVariants.{Other, Header, Pair}
 use Rattle.cop_eds.specs.declared.line.Line.{Line}

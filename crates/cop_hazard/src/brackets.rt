@@ -8,8 +8,8 @@ ghost use Rattle.cop_hazard.specs.Spelled.{spelled};
 ghost use Rattle.cop_hazard.specs.Hazards.{is_missing, inside, is_bracketed, is_hidden, is_unseen};
 
 use crate::spelled::{read_spelled, spelled};
-use crate::text::{after_first, before_first, name_of, text_of, trim_start, without_first};
-use cop_eds::{Eds, Kind, Line};
+use crate::text::{text_of, without_first};
+use cop_eds::{Eds, Kind, Line, after_first, before_first, name_of, trim_start};
 use std::alloc::{AllocError, Global};
 
 /// Whether a name is of no section.

@@ -1,6 +1,6 @@
 //! Numbers of PDOs that are above what the lists name.
 
-ghost use Rattle.std.specs.Prelude.{◌≡◌, ◌≤◌, ◌+◌, ◌++◌, if◌then◌else◌, IfOk, OnOk};
+ghost use Rattle.std.specs.Prelude.{◌≡◌, ◌≤◌, ◌+◌, if◌then◌else◌, IfOk};
 ghost use Rattle.cop_hazard.specs.Listed.{is_listed, AreListed};
 ghost use Rattle.cop_hazard.specs.Counted.{listed_among, miscount_at, is_plain, miscounts_in, miscounts_of};
 

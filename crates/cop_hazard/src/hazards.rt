@@ -2,7 +2,7 @@
 
 ghost use Rattle.std.specs.Prelude.{◌≡◌, IfOk};
 ghost use Rattle.cop_hazard.specs.Listed.{AreListed};
-ghost use Rattle.cop_hazard.specs.Hazards.{first_line, beyond_in, beyond_of, beyond_line, unlisted_line, hazard_at, hazard_of};
+ghost use Rattle.cop_hazard.specs.Hazards.{first_line, beyond_of, beyond_line, unlisted_line, hazard_at, hazard_of};
 ghost use Rattle.cop_hazard.specs.Compact.{implicit_line};
 ghost use Rattle.cop_hazard.specs.declared.tests.Test.TheVariants as tests;
 

@@ -8,8 +8,6 @@ mod every;
 mod hazards;
 mod laws;
 mod listed;
-mod names;
-mod number;
 mod records;
 mod spelled;
 mod stated;

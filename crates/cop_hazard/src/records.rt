@@ -1,15 +1,14 @@
 //! The records of PDOs.
 
-ghost use Rattle.std.specs.Prelude.{◌≡◌, ◌≤◌, length};
+ghost use Rattle.std.specs.Prelude.{◌≡◌, length};
 ghost use Rattle.cop_eds.specs.Lines.{IsInside};
-ghost use Rattle.cop_hazard.specs.Listed.{names, AreListed};
+ghost use Rattle.cop_hazard.specs.Listed.{AreListed};
 ghost use Rattle.cop_hazard.specs.Records.{is_record, begun, is_unlisted_code, is_unlisted, is_unsigned, has_identifier, is_unidentified_code, is_unidentified, index_at};
 
 use crate::listed::is_listed;
-use crate::names::code_of;
 use crate::stated::stated;
-use crate::text::{name_of, text_of};
-use cop_eds::{Eds, Kind, Line};
+use crate::text::text_of;
+use cop_eds::{Eds, Kind, Line, code_of, name_of};
 use std::collections::BTreeSet;
 
 /// Whether an index is of the communication record of a PDO.

@@ -1,12 +1,12 @@
 //! Names of sections in other spellings than that of CiA 306.
 
-ghost use Rattle.std.specs.Prelude.{◌≡◌, ◌≤◌, ◌+◌, length, IfOk, option_copied};
+ghost use Rattle.std.specs.Prelude.{◌≡◌, IfOk, option_copied};
 ghost use Rattle.std.specs.Option.{option_map, option_and_then};
 ghost use Rattle.cop_hazard.specs.Spelled.{is_sign, without_signs, without_prefix, without_mark, is_letter, without_letter, without_end, is_byte, short, sub_digits, after_sub, with_sub, with_rest, is_index, object_spelled, dense, read_name, other_name, read_spelled, spelled};
 ghost use Rattle.cop_eds.specs.Number.{number_in};
 
-use crate::number::{is_hexadecimal, number_in};
-use crate::text::{from, is_blank, same_name, trim, upto, without_first};
+use crate::text::{from, upto, without_first};
+use cop_eds::{is_blank, is_hexadecimal, number_in, same_name, trim};
 use std::alloc::{AllocError, Global};
 
 fn is_sign(dots: bool, byte: u8) -> bool

@@ -1,16 +1,15 @@
 //! The first line that passes a test.
 
-ghost use Rattle.std.specs.Prelude.{◌≡◌, ◌==◌, ◌+◌, ◌<◌, ◌≤◌, ◌/◌, ◌%◌, IfOk, length};
+ghost use Rattle.std.specs.Prelude.{◌≡◌, ◌+◌, ◌<◌, ◌≤◌, ◌/◌, ◌%◌, IfOk, length};
 ghost use Rattle.cop_eds.specs.Lines.{IsInside};
 ghost use Rattle.cop_hazard.specs.Listed.{AreListed};
 ghost use Rattle.cop_hazard.specs.Hazards.{hex_digit, section_name, is_there, is_above, is_beyond, passes, first_line};
 
 use crate::brackets::is_unseen;
-use crate::number::number_in;
 use crate::records::{is_unidentified, is_unlisted};
 use crate::stated::ok_number;
-use crate::text::{key_of, text_of, value_of};
-use cop_eds::{Eds, Kind, Line};
+use crate::text::text_of;
+use cop_eds::{Eds, Kind, Line, key_of, number_in, value_of};
 use std::alloc::{AllocError, Global};
 use std::collections::BTreeSet;
 

@@ -5,7 +5,7 @@ use Rattle.std.specs.List.{AllByRecursion}
 use Rattle.std.proofs.lemmas.List.{take_all}
 use Rattle.cop_slcan.specs.Meaning.{Told}
 use Rattle.cop_slcan.specs.Reading.{taken, said_from, left_from}
-use Rattle.cop_live.specs.Log.{Asked, Read, DidAll}
+use Rattle.cop_live.specs.Log.{ByteStep, ClockStep, Asked, Read, DidAll}
 use Rattle.cop_live.proofs.Sessions.{did_both}
 use Rattle.cop_heartbeats.specs.declared.attending.Awaited.{Awaited}
 use Rattle.cop_heartbeats.specs.Attending.{beat_at, beats_in, Hearing, beginning, turned, attended, attending_log, Attended}
@@ -44,13 +44,13 @@ all_more Q [] x h q = (q, tt)
 all_more Q (y ∷ xs) x h q = (h.0, all_more Q xs x h.1 q)
 
 -- nodes are attended to so far
-pub record Attends {P : Type 0} (reads writes : P → List ℕ → P → Type 0) (asks : P → ℕ → P → Type 0) (awaited : List Awaited) (limit began : ℕ) (p : P) (h : Hearing) (q : P) : Type 0 where
+pub record Attends {P : Type 0} (reads writes : ByteStep P) (asks : ClockStep P) (awaited : List Awaited) (limit began : ℕ) (p : P) (h : Hearing) (q : P) : Type 0 where
   pub turns : List (ℕ × List ℕ)
   pub did : DidAll reads writes asks p (Asked began ∷ attending_log turns) q
   pub soon : AllByRecursion (λ turn. turn.0 - began < limit) turns
   pub is : h ≡ attended awaited (beginning began) turns
 
-module _ {P : Type 0} (reads writes : P → List ℕ → P → Type 0) (asks : P → ℕ → P → Type 0) (awaited : List Awaited) (limit began : ℕ) (p : P) where
+module _ {P : Type 0} (reads writes : ByteStep P) (asks : ClockStep P) (awaited : List Awaited) (limit began : ℕ) (p : P) where
   pub attends_first : (h : Hearing) (q : P) → asks p began q → h ≡ beginning began → Attends reads writes asks awaited limit began p h q
   attends_first h q asked e = record { turns = []; did = (q, asked, refl); soon = tt; is = e }
 

@@ -3,7 +3,7 @@ use Rattle.std.specs.Prelude.{◌≡◌, ◌≤◌, ◌<◌, ℕ, ◌-◌, Bool,
 use Rattle.std.specs.List.{AllByRecursion}
 use Rattle.cop_slcan.specs.Meaning.{Told, Heard, Done, Refused, Other}
 use Rattle.cop_slcan.specs.Reading.{said_from, left_from}
-use Rattle.cop_live.specs.Log.{Doing, Asked, Read, DidAll}
+use Rattle.cop_live.specs.Log.{ByteStep, ClockStep, Doing, Asked, Read, DidAll}
 use Rattle.cop_live.specs.Nodes.{nobody, with_node}
 use Rattle.cop_live.specs.Listening.{beat_of}
 use Rattle.cop_heartbeats.specs.declared.attending.Awaited.{Awaited}
@@ -60,7 +60,7 @@ attending_log [] = []
 attending_log ((now, bytes) ∷ turns) = Read bytes ∷ Asked now ∷ attending_log turns
 
 -- nodes are attended to: turns are taken, of which the last alone reaches the limit, and these nodes were late in them
-pub record Attended {P : Type 0} (reads writes : P → List ℕ → P → Type 0) (asks : P → ℕ → P → Type 0) (awaited : List Awaited) (limit : ℕ) (p : P) (late : List Bool) (q : P) : Type 0 where
+pub record Attended {P : Type 0} (reads writes : ByteStep P) (asks : ClockStep P) (awaited : List Awaited) (limit : ℕ) (p : P) (late : List Bool) (q : P) : Type 0 where
   pub began : ℕ
   pub early : List (ℕ × List ℕ)
   pub last : ℕ × List ℕ

@@ -1,9 +1,8 @@
 //! The heartbeats of nodes are awaited.
 
-ghost use Rattle.std.specs.Prelude.{◌≡◌, replicate, option_to_list, IfSome};
+ghost use Rattle.std.specs.Prelude.{◌≡◌, option_to_list, IfSome};
 ghost use Rattle.cop_slcan.specs.Meaning.{told_of};
 ghost use Rattle.cop_slcan.specs.Reading.{said_from, left_from, taken};
-ghost use Rattle.cop_live.specs.Nodes.{nobody};
 ghost use Rattle.cop_heartbeats.specs.Attending.{beat_at, beats_in, late_if, late_at, turned, Attended};
 
 use cop_live::{NodeSet, Port, beat_of};

@@ -6,7 +6,7 @@ use Rattle.std.proofs.lemmas.List.{map-append}
 use Rattle.cop_sdo.specs.Message.{Message}
 use Rattle.cop_slcan.specs.Reading.{said_from, left_from}
 use Rattle.cop_live.specs.Log as log
-use Rattle.cop_live.specs.Log.{DidAll}
+use Rattle.cop_live.specs.Log.{ByteStep, ClockStep, DidAll}
 use Rattle.cop_live.specs.Listening.{listening_log}
 use Rattle.cop_live.proofs.Sessions.{did_both}
 use Rattle.cop_identity.specs.declared.questions.Question.{Question}
@@ -48,12 +48,12 @@ all_more Q [] x h q = (q, tt)
 all_more Q (y ∷ xs) x h q = (h.0, all_more Q xs x h.1 q)
 
 -- a question that is not answered so far
-pub record Waits {P : Type 0} (reads writes : P → List ℕ → P → Type 0) (asks : P → ℕ → P → Type 0) (question : Question) (began : ℕ) (p : P) (pending : List ℕ) (q : P) : Type 0 where
+pub record Waits {P : Type 0} (reads writes : ByteStep P) (asks : ClockStep P) (question : Question) (began : ℕ) (p : P) (pending : List ℕ) (q : P) : Type 0 where
   pub turns : List (ℕ × List ℕ)
   pub waits : Asks reads writes asks question began p turns None q
   pub left : pending ≡ left_turns [] turns
 
-module _ {P : Type 0} (reads writes : P → List ℕ → P → Type 0) (asks : P → ℕ → P → Type 0) (question : Question) (began : ℕ) (p : P) where
+module _ {P : Type 0} (reads writes : ByteStep P) (asks : ClockStep P) (question : Question) (began : ℕ) (p : P) where
   pub waits_first : (pending : List ℕ) (m q : P) (frame : Message) → asks p began m → frame ≡ request_of question → DidAll reads writes asks m (log.Sent frame ∷ []) q → pending ≡ [] → Waits reads writes asks question began p pending q
   waits_first pending m q frame asked is sent e =
       record { turns = []; waits = record { did = (m, asked, subst (λ f. DidAll reads writes asks m (log.Sent f ∷ []) q) is sent); heard = refl; soon = tt }; left = e }
@@ -101,9 +101,6 @@ drop_none [] (suc k) h = refl
 drop_none (q ∷ qs) zero h = absurd (omega arith)
 drop_none (q ∷ qs) (suc k) h = drop_none qs k (omega arith)
 
-pub none_added : (questions : List Question) (all : List Exchange) → all ≡ [] → questions_in all ++ drop 0 questions ≡ questions
-none_added questions all e = ap (λ xs. questions_in xs ++ questions) e
-
 pub one_added : (questions : List Question) (all more : List Exchange) (k : ℕ) (question : Question) (added : Exchange) → k < length questions → question ≡ get_or questions k question
     → added.question ≡ question → more ≡ all ++ added ∷ [] → questions_in all ++ drop k questions ≡ questions → questions_in more ++ drop (k + 1) questions ≡ questions
 one_added questions all more k question added inside here is put so_far =
@@ -118,10 +115,10 @@ pub all_added : (questions : List Question) (all : List Exchange) (k : ℕ) → 
 all_added questions all k over so_far = sym (append-nil (questions_in all)) ∙ ap (λ xs. questions_in all ++ xs) (sym (drop_none questions k over)) ∙ so_far
 
 -- questions so far: whatever comes of the others stands behind
-pub record Goes {P : Type 0} (reads writes : P → List ℕ → P → Type 0) (asks : P → ℕ → P → Type 0) (p : P) (all : List Exchange) (silent : Option ℕ) (q : P) : Type 0 where
+pub record Goes {P : Type 0} (reads writes : ByteStep P) (asks : ClockStep P) (p : P) (all : List Exchange) (silent : Option ℕ) (q : P) : Type 0 where
   pub goes : (rest : List Exchange) (r : P) → WereAsked reads writes asks silent q rest r → WereAsked reads writes asks None p (all ++ rest) r
 
-module _ {P : Type 0} (reads writes : P → List ℕ → P → Type 0) (asks : P → ℕ → P → Type 0) (p : P) where
+module _ {P : Type 0} (reads writes : ByteStep P) (asks : ClockStep P) (p : P) where
   pub none_yet : (all : List Exchange) → all ≡ [] → Goes reads writes asks p all None p
   none_yet all e = record { goes = λ rest r h. subst (λ (xs : List Exchange). WereAsked reads writes asks None p (xs ++ rest) r) (sym e) h }
 

@@ -5,7 +5,7 @@ use Rattle.std.specs.List.{AllByRecursion, list_any}
 use Rattle.cop_slcan.specs.Meaning.{Told, Heard, Done, Refused, Other}
 use Rattle.cop_slcan.specs.Reading.{said_from, left_from}
 use Rattle.cop_live.specs.Log as log
-use Rattle.cop_live.specs.Log.{DidAll}
+use Rattle.cop_live.specs.Log.{ByteStep, ClockStep, DidAll}
 use Rattle.cop_live.specs.Listening.{listening_log}
 use Rattle.cop_identity.specs.declared.questions.Question.{Question}
 use Rattle.cop_identity.specs.declared.questions.Answer.{Answer}
@@ -34,13 +34,13 @@ answer_heard question pending ((now, bytes) ∷ turns) = option_or (first_answer
 
 -- a question leads a port from one state to another: the clock is asked, the request is sent, and turns are taken, each sooner after
 -- that than the limit; this is the first answer in what is read then, or there is none
-pub record Asks {P : Type 0} (reads writes : P → List ℕ → P → Type 0) (asks : P → ℕ → P → Type 0) (question : Question) (began : ℕ) (p : P) (turns : List (ℕ × List ℕ)) (answer : Option Answer) (q : P) : Type 0 where
+pub record Asks {P : Type 0} (reads writes : ByteStep P) (asks : ClockStep P) (question : Question) (began : ℕ) (p : P) (turns : List (ℕ × List ℕ)) (answer : Option Answer) (q : P) : Type 0 where
   pub did : DidAll reads writes asks p (log.Asked began ∷ log.Sent (request_of question) ∷ listening_log turns) q
   pub heard : answer ≡ answer_heard question [] turns
   pub soon : AllByRecursion (λ turn. turn.0 - began < limit_of question.demand) turns
 
 -- what came of a question: an answer, or none within the limit
-abbrev pub WasAsked : {P : Type 0} → (P → List ℕ → P → Type 0) → (P → List ℕ → P → Type 0) → (P → ℕ → P → Type 0) → Question → P → Outcome → P → Type 0
+abbrev pub WasAsked : {P : Type 0} → ByteStep P → ByteStep P → ClockStep P → Question → P → Outcome → P → Type 0
 WasAsked reads writes asks question p (Answered answer) q = (began : ℕ) × (turns : List (ℕ × List ℕ)) × Asks reads writes asks question began p turns (Some answer) q
 WasAsked {P} reads writes asks question p Silent q =
     (began : ℕ) × (turns : List (ℕ × List ℕ)) × (m : P) × (until : ℕ) × Asks reads writes asks question began p turns None m × asks m until q × (limit_of question.demand ≤ until - began)
@@ -57,19 +57,19 @@ silent_after silent node (Answered answer) = silent
 silent_after silent node Unasked = silent
 
 -- a question to the node that was silent is left out, and any other one is asked
-abbrev pub WasNext : {P : Type 0} → (P → List ℕ → P → Type 0) → (P → List ℕ → P → Type 0) → (P → ℕ → P → Type 0) → Bool → Question → P → Outcome → P → Type 0
+abbrev pub WasNext : {P : Type 0} → ByteStep P → ByteStep P → ClockStep P → Bool → Question → P → Outcome → P → Type 0
 WasNext reads writes asks true question p outcome q = (outcome ≡ Unasked) × (p ≡ q)
 WasNext reads writes asks false question p outcome q = WasAsked reads writes asks question p outcome q
 
 -- questions in their order, and what came of each: nothing else is done at the port
-abbrev pub WereAsked : {P : Type 0} → (P → List ℕ → P → Type 0) → (P → List ℕ → P → Type 0) → (P → ℕ → P → Type 0) → Option ℕ → P → List Exchange → P → Type 0
+abbrev pub WereAsked : {P : Type 0} → ByteStep P → ByteStep P → ClockStep P → Option ℕ → P → List Exchange → P → Type 0
 WereAsked reads writes asks silent p [] q = p ≡ q
 WereAsked {P} reads writes asks silent p (asked ∷ rest) q =
     (m : P) × WasNext reads writes asks (is_silent silent asked.question.node) asked.question p asked.outcome m
     × WereAsked reads writes asks (silent_after silent asked.question.node asked.outcome) m rest q
 
 -- these questions were asked, each once
-pub record AskedAll {P : Type 0} (reads writes : P → List ℕ → P → Type 0) (asks : P → ℕ → P → Type 0) (questions : List Question) (p : P) (all : List Exchange) (q : P) : Type 0 where
+pub record AskedAll {P : Type 0} (reads writes : ByteStep P) (asks : ClockStep P) (questions : List Question) (p : P) (all : List Exchange) (q : P) : Type 0 where
   pub each : map (λ asked. asked.question) all ≡ questions
   pub were : WereAsked reads writes asks None p all q
 

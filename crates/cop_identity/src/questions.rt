@@ -9,6 +9,7 @@ ghost use Rattle.cop_identity.specs.Questions.{body_by, request_of, limit_of, nu
 
 use byteorder::{ByteOrder, LittleEndian};
 use cop_frame::Frame;
+use cop_frame::identifiers::{SDO_REQUEST, SDO_RESPONSE};
 use cop_sdo::Address;
 
 /// What a device is asked to do with a value.
@@ -71,7 +72,7 @@ pub fn request_of(question: &Question) -> Frame
         wanted,
     } = *question;
     Frame {
-        id: 0x600 + u16::from(node),
+        id: SDO_REQUEST + u16::from(node),
         body: body_by(demand, at, wanted),
         len: 8,
     }
@@ -161,7 +162,7 @@ impl Question {
     pub(crate) fn answer_in(&self, frame: &Frame) -> Option<Answer>
         ensures { result ≡ answer_in self.now (message_of frame.now) }
     {
-        if frame.id == 0x580 + u16::from(self.node)
+        if frame.id == SDO_RESPONSE + u16::from(self.node)
             && frame.len == 8
             && is_about(self.at, &frame.body)
         {

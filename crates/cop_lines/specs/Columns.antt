@@ -6,7 +6,7 @@ use Rattle.std.specs.Str.{bytes_eq}
 use Rattle.cop_table.specs.Reading.{◌>>=◌, unless}
 use Rattle.cop_lines.specs.Words.{word, after, field, begins}
 use Rattle.cop_lines.specs.Numbers.{len_of, content_in, message_of}
-use Rattle.cop_lines.specs.Lines.{stamp_in, id_in}
+use Rattle.cop_lines.specs.Lines.{id_in}
 use Rattle.cop_lines.specs.declared.entries.Content.{Content}
 use Rattle.cop_lines.specs.declared.entries.Message.{Message}
 use Rattle.cop_lines.specs.declared.numbers.Base.TheVariants.{Hexadecimal}

@@ -1,5 +1,5 @@
 -- Numbers in a line: stamps, identifiers, lengths and bytes.
-use Rattle.std.specs.Prelude.{ℕ, ◌+◌, ◌-◌, ◌*◌, ◌/◌, ◌^◌, bit_or, Bool, ◌&&◌, List, [], ◌∷◌, ◌++◌, suc, zero, length, take, slice_index, replicate, nat_lt, nat_le, ◌==◌, if◌then◌else◌, Option, Some, None, Result, Ok, Err}
+use Rattle.std.specs.Prelude.{ℕ, ◌+◌, ◌-◌, ◌*◌, ◌/◌, ◌^◌, bit_or, ◌&&◌, List, [], ◌∷◌, ◌++◌, suc, zero, length, slice_index, replicate, nat_lt, nat_le, ◌==◌, if◌then◌else◌, Option, Some, None, Result, Ok, Err}
 use Rattle.std.specs.Char.{is_digit, digit_value}
 use Rattle.cop_table.specs.Numbers.{number_of}
 use Rattle.cop_table.specs.Reading.{◌>>=◌}

@@ -1,6 +1,6 @@
 -- The lines of a log in PEAK's form .trc: "  1)  1059.9  Rx  0300  7  00 00 00 00 04 00 00" and its kin. Lines that begin with ";" are
 -- comments, two of which say how the columns stand.
-use Rattle.std.specs.Prelude.{ℕ, ◌/◌, Bool, ◌||◌, List, length, drop, codes, nat_lt, nat_le, ◌==◌, if◌then◌else◌, Option, Some, None, Result, Ok, Err}
+use Rattle.std.specs.Prelude.{ℕ, ◌/◌, Bool, ◌||◌, List, length, drop, codes, nat_lt, nat_le, if◌then◌else◌, Option, Some, None, Result, Ok, Err}
 use Rattle.std.specs.Str.{bytes_eq}
 use Rattle.cop_table.specs.Reading.{◌>>=◌}
 use Rattle.cop_lines.specs.Words.{place_in, word, after_word, after, field, begins}

@@ -1,6 +1,6 @@
 //! Lines as candump writes them in columns.
 
-ghost use Rattle.std.specs.Prelude.{◌≡◌, ◌≤◌, IfOk, length};
+ghost use Rattle.std.specs.Prelude.{◌≡◌, ◌≤◌, IfOk};
 ghost use Rattle.cop_lines.specs.Columns.{is_direction, from_id, bracketed, is_tail, bytes_with_tail, data_in, frame_in};
 
 use crate::entries::{Content, Message};

@@ -1,6 +1,6 @@
 //! Lines of logs in PEAK's form .trc.
 
-ghost use Rattle.std.specs.Prelude.{◌≡◌, ◌≤◌, length};
+ghost use Rattle.std.specs.Prelude.{◌≡◌, ◌≤◌};
 ghost use Rattle.cop_lines.specs.Peak.{column_of, or_column, layout_in, first_layout, layout_of_version, header_in, is_data, is_error, is_status, kind_of, kind_by, kind_in, id_in, data_in, data_frame, remote_frame, frame_in, line_in};
 
 use crate::entries::{Content, Message};

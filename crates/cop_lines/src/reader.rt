@@ -1,6 +1,6 @@
 //! A log that is read line by line.
 
-ghost use Rattle.std.specs.Prelude.{◌≡◌, ◌+◌, length};
+ghost use Rattle.std.specs.Prelude.{◌≡◌, ◌+◌};
 ghost use Rattle.cop_lines.specs.Reader.{begun, knowing, with_moment, nothing, is_of_vector, is_in_columns, form_of_candump, form_of, with_form, moment_of, without_cr, log_step, column_step, event_step, vector_step, peak_step, step_by, step, message_in, reader_behind, bus_in, channel_by};
 
 use crate::entries::Message;

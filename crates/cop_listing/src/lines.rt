@@ -5,7 +5,8 @@ use cop_outline::row::Row;
 use cop_spelling::blanks::{begins_loosely, loose_start};
 use cop_spelling::names::{Part, bracketed, part_of, respelled};
 use cop_spelling::text::{
-    Form, after, before, is_blank, is_pair, joined, name_of, same_name, trim, trim_start,
+    Form, after_first, before_first, is_blank, is_pair, joined, name_of, same_name, trim,
+    trim_start,
 };
 use std::alloc::{AllocError, Global};
 
@@ -98,12 +99,12 @@ fn bare_key(alloc: Global, line: &[u8]) -> Result<Option<Vec<u8>>, AllocError> {
     if is_object_key(trim(line)) {
         return Ok(Some(joined(alloc, line, b"=")?));
     }
-    let key = before(line, b':');
+    let key = before_first(line, b':');
     if key.len() == line.len() || !is_object_key(trim(key)) {
         return Ok(None);
     }
     let mut pair = joined(alloc, key, b"=")?;
-    pair.extend_from_slice(after(line, b':'))?;
+    pair.extend_from_slice(after_first(line, b':'))?;
     Ok(Some(pair))
 }
 

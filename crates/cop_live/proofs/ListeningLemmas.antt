@@ -6,7 +6,7 @@ use Rattle.std.proofs.lemmas.List.{take_all}
 use Rattle.cop_slcan.specs.Meaning.{Told}
 use Rattle.cop_slcan.specs.Reading.{taken, said_from, left_from}
 use Rattle.cop_live.specs.declared.listening.Sender.{Sender}
-use Rattle.cop_live.specs.Log.{Asked, Read, DidAll}
+use Rattle.cop_live.specs.Log.{ByteStep, ClockStep, Asked, Read, DidAll}
 use Rattle.cop_live.specs.Listening.{runner_told, first_runner, listening_log, runner_heard, Listens}
 use Rattle.cop_live.proofs.Sessions.{did_both}
 
@@ -30,12 +30,6 @@ said_step pending (b ∷ bytes) h =
     let all : take (length (b ∷ bytes) - 1) bytes ≡ bytes = take_all (length (b ∷ bytes) - 1) bytes (omega arith) in
     ap (λ l. option_to_list (taken pending b).1 ++ said_from (taken pending b).0 l) (sym all)
 
-left_step : (pending bytes : List ℕ) → 1 ≤ length bytes → left_from pending bytes ≡ left_from (taken pending (get_or bytes 0 0)).0 (take (length bytes - 1) (drop 1 bytes))
-left_step pending [] h = absurd (omega arith)
-left_step pending (b ∷ bytes) h =
-    let all : take (length (b ∷ bytes) - 1) bytes ≡ bytes = take_all (length (b ∷ bytes) - 1) bytes (omega arith) in
-    ap (λ l. left_from (taken pending b).0 l) (sym all)
-
 -- the first byte shows a node, or the others may
 pub by_first : (senders : List Sender) (only : Option ℕ) (pending bytes left : List ℕ) (first : Option ℕ) → 1 ≤ length bytes → left ≡ (taken pending (get_or bytes 0 0)).0
     → first ≡ first_runner senders only (option_to_list (taken pending (get_or bytes 0 0)).1)
@@ -43,10 +37,6 @@ pub by_first : (senders : List Sender) (only : Option ℕ) (pending bytes left :
 by_first senders only pending bytes left first some el ef =
     let rest = said_from (taken pending (get_or bytes 0 0)).0 (take (length bytes - 1) (drop 1 bytes)) in
     rw (el, ef) (sym (ap (first_runner senders only) (said_step pending bytes some) ∙ runner_append senders only (option_to_list (taken pending (get_or bytes 0 0)).1) rest))
-
-pub left_by_first : (pending bytes left later : List ℕ) → 1 ≤ length bytes → left ≡ (taken pending (get_or bytes 0 0)).0 → later ≡ left_from left (take (length bytes - 1) (drop 1 bytes))
-    → later ≡ left_from pending bytes
-left_by_first pending bytes left later some el e = e ∙ ap (λ l. left_from l (take (length bytes - 1) (drop 1 bytes))) el ∙ sym (left_step pending bytes some)
 
 -- turns and one more
 abbrev pub left_turns : List ℕ → List (ℕ × List ℕ) → List ℕ
@@ -69,15 +59,12 @@ log_more [] now bytes = refl
 log_more ((at, got) ∷ turns) now bytes = ap (λ log. Asked at ∷ Read got ∷ log) (log_more turns now bytes)
 
 -- listening by which nobody was found so far
-pub record Hears {P : Type 0} (reads writes : P → List ℕ → P → Type 0) (asks : P → ℕ → P → Type 0) (senders : List Sender) (only : Option ℕ) (began : ℕ) (p : P) (pending : List ℕ) (q : P) : Type 0 where
+pub record Hears {P : Type 0} (reads writes : ByteStep P) (asks : ClockStep P) (senders : List Sender) (only : Option ℕ) (began : ℕ) (p : P) (pending : List ℕ) (q : P) : Type 0 where
   pub turns : List (ℕ × List ℕ)
   pub listens : Listens reads writes asks senders only began p turns None q
   pub left : pending ≡ left_turns [] turns
 
-module _ {P : Type 0} (reads writes : P → List ℕ → P → Type 0) (asks : P → ℕ → P → Type 0) (senders : List Sender) (only : Option ℕ) (began : ℕ) (p : P) where
-  pub hears_first : (pending : List ℕ) (q : P) → asks p began q → pending ≡ [] → Hears reads writes asks senders only began p pending q
-  hears_first pending q asked e = record { turns = []; listens = record { did = (q, asked, refl); heard = refl }; left = e }
-
+module _ {P : Type 0} (reads writes : ByteStep P) (asks : ClockStep P) (senders : List Sender) (only : Option ℕ) (began : ℕ) (p : P) where
   -- a turn more
   listens_on : (pending : List ℕ) (q a r : P) (now : ℕ) (bytes : List ℕ) (runner : Option ℕ) (h : Hears reads writes asks senders only began p pending q) → asks q now a → reads a bytes r
       → runner ≡ first_runner senders only (said_from pending bytes) → Listens reads writes asks senders only began p (h.turns ++ (now, bytes) ∷ []) runner r

@@ -11,7 +11,7 @@ use Rattle.cop_boot.specs.Manager.{Managing, Managed, Meeting, Moment, heard, pa
 use Rattle.cop_boot.proofs.SentLemmas.{reached_some, reached_none}
 use Rattle.cop_boot.proofs.DriveLemmas.{drives}
 use Rattle.cop_boot.proofs.StartLemmas.{ready_was_configured}
-use Rattle.cop_live.specs.Log.{Doing, Asked, Sent, Read, DidAll, heard_in, came_after, came}
+use Rattle.cop_live.specs.Log.{ByteStep, ClockStep, Doing, Asked, Sent, Read, DidAll, heard_in, came_after, came}
 use Rattle.cop_live.specs.Session.{State, told, told_all, is_start, held, boot_up_told, noting, noted, reset_of, turn_log, turn_state, Step, Turn, Request, steps_log, steps_state, turns, first_state, boot_log, IsDriven, Booted}
 
 -- ---- logs at a port
@@ -40,7 +40,7 @@ bytes_booted old first new pending left bytes some el ef en =
     let later : new ≡ noted (noted old said) rest = rw (el, ef) at en in
     later ∙ sym (noted_append old said rest) ∙ ap (noted old) (sym (said_step pending bytes some))
 
-module _ {P : Type 0} (reads writes : P → List ℕ → P → Type 0) (asks : P → ℕ → P → Type 0) where
+module _ {P : Type 0} (reads writes : ByteStep P) (asks : ClockStep P) where
   abbrev All : P → List Doing → P → Type 0
   All p log q = DidAll reads writes asks p log q
 
@@ -123,7 +123,7 @@ turns_more [] now bytes = refl
 turns_more ((at, got) ∷ taken) now bytes = ap (λ l. Turn at got ∷ l) (turns_more taken now bytes)
 
 -- a log of steps, and a turn more
-pub turn_more : {P : Type 0} (reads writes : P → List ℕ → P → Type 0) (asks : P → ℕ → P → Type 0) (p q r : P) (began : ℕ) (s t u : State) (taken : List (ℕ × List ℕ)) (now : ℕ) (bytes : List ℕ)
+pub turn_more : {P : Type 0} (reads writes : ByteStep P) (asks : ClockStep P) (p q r : P) (began : ℕ) (s t u : State) (taken : List (ℕ × List ℕ)) (now : ℕ) (bytes : List ℕ)
     → DidAll reads writes asks p (steps_log began s (turns taken)) q → t ≡ steps_state began s (turns taken) → DidAll reads writes asks q (turn_log began t now bytes) r → u ≡ turn_state began t now bytes
     → DidAll reads writes asks p (steps_log began s (turns (taken ++ (now, bytes) ∷ []))) r × (u ≡ steps_state began s (turns (taken ++ (now, bytes) ∷ [])))
 turn_more reads writes asks p q r began s t u taken now bytes did et turn eu =
@@ -229,7 +229,7 @@ steps_drive only m began steps s e = is_driven m began (boot_log only m began st
 
 -- ---- a boot
 
-pub boot_begins : {P : Type 0} (reads writes : P → List ℕ → P → Type 0) (asks : P → ℕ → P → Type 0) (only : Option ℕ) (m : Managing) (p a q : P) (began : ℕ) (later : Managing) (left : List ℕ) (frame to_all : Message)
+pub boot_begins : {P : Type 0} (reads writes : ByteStep P) (asks : ClockStep P) (only : Option ℕ) (m : Managing) (p a q : P) (began : ℕ) (later : Managing) (left : List ℕ) (frame to_all : Message)
     → asks p began a → (let out : Managed = record { manager = later; frames = to_all ∷ [] } in out) ≡ begun_at m 0 → left ≡ [] → frame ≡ reset_of only → DidAll reads writes asks a (Sent frame ∷ []) q
     → Booted reads writes asks only m p began (record { manager = later; pending = left }) q
 boot_begins reads writes asks only m p a q began later left frame to_all asked e el ef sent =
@@ -244,7 +244,7 @@ boot_begins reads writes asks only m p a q began later left frame to_all asked e
       is = steps_drive only m began [] (record { manager = later; pending = left }) state;
     }
 
-pub boot_goes_on : {P : Type 0} (reads writes : P → List ℕ → P → Type 0) (asks : P → ℕ → P → Type 0) (only : Option ℕ) (m : Managing) (p q r : P) (began : ℕ) (s t : State) → Booted reads writes asks only m p began s q
+pub boot_goes_on : {P : Type 0} (reads writes : ByteStep P) (asks : ClockStep P) (only : Option ℕ) (m : Managing) (p q r : P) (began : ℕ) (s t : State) → Booted reads writes asks only m p began s q
     → (now : ℕ) (bytes : List ℕ) → DidAll reads writes asks q (turn_log began s now bytes) r → t ≡ turn_state began s now bytes → Booted reads writes asks only m p began t r
 boot_goes_on reads writes asks only m p q r began s t b now bytes turn e =
     let more = turn_more reads writes asks b.did.0 q r began (first_state m) s t b.taken now bytes b.did.2 b.state turn e in

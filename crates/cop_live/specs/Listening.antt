@@ -7,7 +7,7 @@ use Rattle.cop_slcan.specs.Reading.{said_from, left_from}
 use Rattle.cop_live.specs.declared.listening.Sender.{Sender}
 use Rattle.cop_live.specs.declared.listening.Found.{Found}
 use Rattle.cop_live.specs.declared.listening.Found.TheVariants.{Nobody, Running, Failed}
-use Rattle.cop_live.specs.Log.{Doing, Asked, Read, DidAll}
+use Rattle.cop_live.specs.Log.{ByteStep, ClockStep, Doing, Asked, Read, DidAll}
 
 -- the node whose heartbeat (701h to 77Fh, one byte) says operational (05h)
 abbrev pub beat_of : Message → Option ℕ
@@ -56,12 +56,12 @@ runner_heard senders only pending [] = None
 runner_heard senders only pending ((now, bytes) ∷ turns) = option_or (first_runner senders only (said_from pending bytes)) (runner_heard senders only (left_from pending bytes) turns)
 
 -- a look at the clock and then such turns lead a port from one state to another, and this node is the first to be heard to run, or none is
-pub record Listens {P : Type 0} (reads writes : P → List ℕ → P → Type 0) (asks : P → ℕ → P → Type 0) (senders : List Sender) (only : Option ℕ) (began : ℕ) (p : P) (turns : List (ℕ × List ℕ)) (runner : Option ℕ) (q : P) : Type 0 where
+pub record Listens {P : Type 0} (reads writes : ByteStep P) (asks : ClockStep P) (senders : List Sender) (only : Option ℕ) (began : ℕ) (p : P) (turns : List (ℕ × List ℕ)) (runner : Option ℕ) (q : P) : Type 0 where
   pub did : DidAll reads writes asks p (Asked began ∷ listening_log turns) q
   pub heard : runner ≡ runner_heard senders only [] turns
 
 -- what was found by listening: nobody in 8,000,000 ticks (2 s), or a node
-abbrev pub Listened : {P : Type 0} → (P → List ℕ → P → Type 0) → (P → List ℕ → P → Type 0) → (P → ℕ → P → Type 0) → List Sender → Option ℕ → P → Found → P → Type 0
+abbrev pub Listened : {P : Type 0} → ByteStep P → ByteStep P → ClockStep P → List Sender → Option ℕ → P → Found → P → Type 0
 Listened {P} reads writes asks senders only p Nobody q =
     (began : ℕ) × (turns : List (ℕ × List ℕ)) × (m : P) × (until : ℕ) × Listens reads writes asks senders only began p turns None m × asks m until q × (8000000 ≤ until - began)
 Listened {P} reads writes asks senders only p (Running node) q = (began : ℕ) × (turns : List (ℕ × List ℕ)) × Listens reads writes asks senders only began p turns (Some node) q

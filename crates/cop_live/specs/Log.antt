@@ -13,14 +13,22 @@ pub data Doing : Type 0 where
   Sent : (frame : Message) → Doing
   Read : (bytes : List ℕ) → Doing
 
+-- how a read or a write of bytes leads a port from one state to another
+abbrev pub ByteStep : Type 0 → Type 1
+ByteStep P = P → List ℕ → P → Type 0
+
+-- how a look at the clock leads it from one state to another
+abbrev pub ClockStep : Type 0 → Type 1
+ClockStep P = P → ℕ → P → Type 0
+
 -- one of these leads a port from one state to another
-abbrev pub Did : {P : Type 0} → (P → List ℕ → P → Type 0) → (P → List ℕ → P → Type 0) → (P → ℕ → P → Type 0) → P → Doing → P → Type 0
+abbrev pub Did : {P : Type 0} → ByteStep P → ByteStep P → ClockStep P → P → Doing → P → Type 0
 Did reads writes asks p (Asked now) q = asks p now q
 Did reads writes asks p (Sent frame) q = writes p (line_of frame) q
 Did reads writes asks p (Read bytes) q = reads p bytes q
 
 -- a log leads a port from one state to another: this was done there in this order, and nothing else
-abbrev pub DidAll : {P : Type 0} → (P → List ℕ → P → Type 0) → (P → List ℕ → P → Type 0) → (P → ℕ → P → Type 0) → P → List Doing → P → Type 0
+abbrev pub DidAll : {P : Type 0} → ByteStep P → ByteStep P → ClockStep P → P → List Doing → P → Type 0
 DidAll reads writes asks p [] q = p ≡ q
 DidAll {P} reads writes asks p (doing ∷ log) q = (m : P) × Did reads writes asks p doing m × DidAll reads writes asks m log q
 

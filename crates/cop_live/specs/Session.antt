@@ -9,7 +9,7 @@ use Rattle.cop_boot.specs.Ends.{events, end_of, IsConfigured}
 use Rattle.cop_slcan.specs.Lines.{rate_digit}
 use Rattle.cop_slcan.specs.Meaning.{Told, Heard, Done, Refused, Other}
 use Rattle.cop_slcan.specs.Reading.{said_from, left_from}
-use Rattle.cop_live.specs.Log.{Doing, Asked, Sent, Read, DidAll, came}
+use Rattle.cop_live.specs.Log.{ByteStep, ClockStep, Doing, Asked, Sent, Read, DidAll, came}
 use Rattle.cop_live.specs.Nodes.{with_node}
 
 -- CR ends a line that is begun, twice; `C` closes the adapter, `S` and a digit set the rate, `O` opens it
@@ -21,14 +21,14 @@ abbrev pub closing : List ℕ
 closing = 67 ∷ 13 ∷ []
 
 -- the commands are written, and what is said to them is read
-pub record Opened {P : Type 0} (reads writes : P → List ℕ → P → Type 0) (rate : Rate) (p q : P) : Type 0 where
+pub record Opened {P : Type 0} (reads writes : ByteStep P) (rate : Rate) (p q : P) : Type 0 where
   pub written : P
   pub said : List ℕ
   pub writes_commands : writes p (opening rate) written
   pub reads_answers : reads written said q
 
 -- two reads give the adapter time to send what it took, and the command is written
-pub record Closed {P : Type 0} (reads writes : P → List ℕ → P → Type 0) (p q : P) : Type 0 where
+pub record Closed {P : Type 0} (reads writes : ByteStep P) (p q : P) : Type 0 where
   pub once : P
   pub twice : P
   pub first : List ℕ
@@ -143,7 +143,7 @@ pub record IsDriven (m : Managing) (began : ℕ) (log : List Doing) (later : Man
   pub ready : (number : ℕ) (node : Node) → node_of m.nodes number ≡ Some node → end_at later.nodes number ≡ Some Ready → IsConfigured node.settings (events node.number 0 (came began log))
 
 -- a boot over a port so far: the clock was asked at which moment it begins, one node alone or all were reset, and turns were taken
-pub record Booted {P : Type 0} (reads writes : P → List ℕ → P → Type 0) (asks : P → ℕ → P → Type 0) (only : Option ℕ) (m : Managing) (p : P) (began : ℕ) (s : State) (q : P) : Type 0 where
+pub record Booted {P : Type 0} (reads writes : ByteStep P) (asks : ClockStep P) (only : Option ℕ) (m : Managing) (p : P) (began : ℕ) (s : State) (q : P) : Type 0 where
   pub asked : P
   pub taken : List (ℕ × List ℕ)
   pub asks_first : asks p began asked

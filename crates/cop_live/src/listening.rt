@@ -8,6 +8,7 @@ ghost use Rattle.cop_live.specs.Listening.{beat_of, sender_of, is_meant, runner_
 
 use crate::port::Port;
 use cop_frame::Frame;
+use cop_frame::identifiers::HEARTBEAT;
 use cop_slcan::{Reader, Said};
 
 /// So many ticks are listened for, 2 s.
@@ -24,8 +25,8 @@ pub struct Sender {
 pub fn beat_of(frame: &Frame) -> Option<u8>
     ensures { result ≡ beat_of (message_of frame.now) }
 {
-    if frame.id > 0x700 && frame.id < 0x780 && frame.len == 1 && frame.body[0] == 5 {
-        Some((frame.id - 0x700) as u8)
+    if frame.id > HEARTBEAT && frame.id < HEARTBEAT + 128 && frame.len == 1 && frame.body[0] == 5 {
+        Some((frame.id - HEARTBEAT) as u8)
     } else {
         None
     }

@@ -7,11 +7,12 @@ ghost use Rattle.cop_boot.specs.Manager.{passed, heard, end_at};
 ghost use Rattle.cop_slcan.specs.Meaning.{told_of};
 ghost use Rattle.cop_slcan.specs.Reading.{taken, said_from, left_from};
 ghost use Rattle.cop_live.specs.Log.{Sent, DidAll};
-ghost use Rattle.cop_live.specs.Session.{State, told, told_all, is_start, held, boot_up_of, boot_up_told, noting, noted, turn_log, turn_state, command_to, reset_of, start_of, Opened, Closed, Booted};
+ghost use Rattle.cop_live.specs.Session.{State, told, told_all, is_start, held, boot_up_of, boot_up_told, noting, noted, turn_log, turn_state, command_to, start_of, Opened, Closed, Booted};
 
 use crate::nodes::NodeSet;
 use crate::port::Port;
 use cop_boot::Manager;
+use cop_frame::identifiers::HEARTBEAT;
 use cop_frame::{Frame, Rate};
 use cop_slcan::{Reader, Said, line_of, rate_digit};
 
@@ -80,8 +81,8 @@ fn tell<P: Port>(manager: &mut Manager, port: &mut P, said: &Said) -> bool
 fn boot_up_of(frame: &Frame) -> Option<u8>
     ensures { result ≡ boot_up_of (message_of frame.now) }
 {
-    if frame.id > 0x700 && frame.id < 0x780 && frame.len == 1 && frame.body[0] == 0 {
-        Some((frame.id - 0x700) as u8)
+    if frame.id > HEARTBEAT && frame.id < HEARTBEAT + 128 && frame.len == 1 && frame.body[0] == 0 {
+        Some((frame.id - HEARTBEAT) as u8)
     } else {
         None
     }

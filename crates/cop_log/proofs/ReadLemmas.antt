@@ -1,5 +1,5 @@
 -- A reader of a log in pieces.
-use Rattle.std.proofs.Common.{◌≡◌, ◌∙◌, ℕ, ◌+◌, ◌^◌, ◌<◌, ◌≤◌, List, [], ◌∷◌, ◌++◌, suc, length, refl, sym, ap, subst, arith, append_assoc, append-nil, length-append, Bool, true, false, cond}
+use Rattle.std.proofs.Common.{◌≡◌, ◌∙◌, ℕ, ◌+◌, ◌^◌, ◌<◌, ◌≤◌, List, [], ◌∷◌, ◌++◌, suc, length, refl, sym, ap, subst, arith, append_assoc, append-nil, length-append, true, false, cond}
 use Rattle.std.proofs.lemmas.Bool.Decides.{nat_tests}
 use Rattle.std.specs.Prelude.{nat_lt, ◌==◌, MatchResult, Option, None, Some, Result, Ok, Err, IfSome, IsErrAnd}
 use Rattle.cop_table.specs.Reading.{◌>>=◌, Gives}
@@ -11,7 +11,7 @@ use Rattle.cop_lines.specs.Words.{front}
 use Rattle.cop_lines.specs.Texts.{lines_of, lines_behind, last_line, most_line, GoesOn, Ends}
 use Rattle.cop_lines.proofs.TextLemmas.{behind_nothing, line_ends, line_goes_on, left_shorter, piece_long, front_short, last_is}
 use Rattle.cop_log.specs.declared.faults.LogFault.{LogFault}
-use Rattle.cop_log.specs.declared.faults.LogFault.TheVariants.{Line, Memory}
+use Rattle.cop_log.specs.declared.faults.LogFault.TheVariants.{Line}
 use Rattle.cop_log.specs.declared.reader.LogReader.{LogReader}
 use Rattle.cop_log.specs.Reading.{Wanted, Taken, line_taken, numbered, line_at, entries_with, log_from, log_in, fault_of_text, name_of, HasRead, Reads, Refuses, EndsWith, EndsWrong, TakesLine, IsWrong}
 
@@ -128,10 +128,6 @@ refused_on a b piece rest fault first = for_fault (fault_of_text fault) _ _ (λ 
 -- what is left is shorter than the piece
 pub ends_shorter : (r m : LogReader) (rest left : List ℕ) (n : ℕ) → Ends r.cutter rest m.cutter left → length rest ≤ n → length left < n
 ends_shorter r m rest left n e l = let shorter = left_shorter r.cutter rest m.cutter left e in omega (arith, shorter)
-
--- nothing is read of a piece
-pub reads_nothing : (r : LogReader) (piece : List ℕ) → Reads r piece r piece None
-reads_nothing r piece = λ w text log small h. h
 
 -- the end of the text
 whole : (r : LogReader) (w : Wanted) (text : List ℕ) (log : List Entry) → HasRead w text [] r log → log_in w text ≡ log_from (suc r.line) r.reader (name_of r.channel) log (last_line r.cutter)

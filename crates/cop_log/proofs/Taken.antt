@@ -1,5 +1,5 @@
 -- What a watcher knows once it has taken the next entry.
-use Rattle.std.proofs.Common.{◌≡◌, ◌∙◌, ℕ, ◌^◌, ◌<◌, List, zero, suc, length, replicate, refl, sym, subst, Bool, true, false, Option, Some, None}
+use Rattle.std.proofs.Common.{◌≡◌, ◌∙◌, ℕ, ◌^◌, ◌<◌, List, suc, length, refl, sym, subst, Bool, true, false, Option, Some, None}
 use Rattle.std.specs.Prelude.{◌&&◌, is_none, IfNone, IfSome, slice_index_or}
 use Rattle.std.specs.Option.{ForSome}
 use Rattle.cop_frame.specs.Rate.{ticks_of}
@@ -94,13 +94,3 @@ begins t log anchors clean count none = record {
   held = Piled.begins (ticks_of t.rate) t.clock log clean;
   named = Named.begins t.streams log clean;
 }
-
--- no stream has an anchor before the first entry
-abbrev pub no_anchor : Option Anchor
-no_anchor = None
-
-pub none_in : (n p : ℕ) → slice_index_or (replicate n no_anchor) p None ≡ None
-none_in zero zero = refl
-none_in zero (suc p) = refl
-none_in (suc n) zero = refl
-none_in (suc n) (suc p) = none_in n p

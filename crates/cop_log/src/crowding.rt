@@ -1,6 +1,6 @@
 //! Watching whether transfers fit between their ends.
 
-ghost use Rattle.std.specs.Prelude.{◌≡◌, ℕ, ◌+◌, ◌*◌, ◌^◌, ◌≤◌, ◌<◌, ◌↔◌, IsTrue, Bool, length, List};
+ghost use Rattle.std.specs.Prelude.{◌≡◌, ◌+◌, ◌*◌, ◌^◌, ◌≤◌, ◌<◌, ◌↔◌, IsTrue, Bool, length, List};
 ghost use Rattle.cop_frame.specs.Rate.{ticks_of};
 ghost use Rattle.cop_bus.specs.Run.{least_bits};
 ghost use Rattle.cop_lines.specs.declared.entries.Entry.{Entry as Seen};

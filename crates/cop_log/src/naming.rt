@@ -1,6 +1,5 @@
 //! Watching the identifiers and lengths of entries.
 
-ghost use Rattle.std.specs.Prelude.{◌≡◌, ◌≢◌, ℕ, ◌+◌, ◌≤◌, ◌<◌, All, Any, length, List};
 ghost use Rattle.cop_log.specs.Watching.{IsNamed};
 
 use cop_lines::Entry;

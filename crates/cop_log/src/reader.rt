@@ -1,9 +1,9 @@
 //! A log that comes in pieces.
 
-ghost use Rattle.std.specs.Prelude.{◌≡◌, ◌<◌, ℕ, ◌^◌, ◌+◌, [], length, Option, IfOk, MatchOption, MatchResult};
+ghost use Rattle.std.specs.Prelude.{◌≡◌, ◌<◌, [], length, Option, IfOk, MatchOption, MatchResult};
 ghost use Rattle.cop_table.specs.Reading.{Gives};
-ghost use Rattle.cop_lines.specs.Texts.{GoesOn, Ends, most_line};
-ghost use Rattle.cop_log.specs.Reading.{Taken, channel_with, counts, fault_of_text, line_taken, name_of, numbered, HasRead, Reads, Refuses, EndsWith, EndsWrong, TakesLine, IsWrong};
+ghost use Rattle.cop_lines.specs.Texts.{GoesOn, Ends};
+ghost use Rattle.cop_log.specs.Reading.{channel_with, counts, fault_of_text, line_taken, name_of, numbered, HasRead, Reads, Refuses, EndsWith, EndsWrong, TakesLine, IsWrong};
 
 use crate::faults::LogFault;
 use cop_lines::{CutFault, LineCutter, LineFault, LineReader, Message};

@@ -1,6 +1,6 @@
 //! A log that is watched, entry by entry.
 
-ghost use Rattle.std.specs.Prelude.{◌≡◌, ◌≢◌, ℕ, ◌+◌, ◌^◌, ◌<◌, ◌&&◌, Bool, true, Option, IfOk, IfSome, IfNone, length, List, slice_index_or};
+ghost use Rattle.std.specs.Prelude.{◌≡◌, ◌+◌, ◌^◌, ◌<◌, ◌&&◌, true, Option, IfOk, IfSome, IfNone, length, List, slice_index_or};
 ghost use Rattle.cop_rta.specs.Streams.{place_of_id};
 ghost use Rattle.cop_lines.specs.declared.entries.Entry.{Entry as Seen};
 ghost use Rattle.cop_log.specs.Log.{entry_at};

@@ -1,7 +1,6 @@
 //! Watching the entries of a stream.
 
-ghost use Rattle.std.specs.Prelude.{◌≡◌, ℕ, ◌+◌, ◌*◌, ◌^◌, ◌≤◌, ◌<◌, ◌↔◌, IsTrue, Bool, length, List};
-ghost use Rattle.cop_frame.specs.Rate.{ticks_of};
+ghost use Rattle.std.specs.Prelude.{◌≡◌, ◌+◌, ◌*◌, ◌^◌, ◌≤◌, ◌<◌, ◌↔◌, IsTrue, Bool, length, List};
 ghost use Rattle.cop_lines.specs.declared.entries.Entry.{Entry};
 ghost use Rattle.cop_log.specs.Log.{most, IsNear, entry_at};
 ghost use Rattle.cop_log.specs.Watching.{lane_of, IsWatched, IsStep};

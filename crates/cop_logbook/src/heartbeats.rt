@@ -1,8 +1,9 @@
 //! Heartbeats that stayed away.
 
-ghost use Rattle.std.specs.Prelude.{◌≡◌, ◌*◌, ◌/◌, ◌<◌, ◌↔◌, IsSome};
+ghost use Rattle.std.specs.Prelude.{◌*◌, ◌/◌, ◌<◌, ◌↔◌, IsSome};
 
 use crate::seen::Seen;
+use cop_frame::identifiers::HEARTBEAT;
 use cop_rta::Stream;
 use std::alloc::AllocError;
 
@@ -21,7 +22,7 @@ pub(crate) fn late_heartbeat(stream: &Stream, seen: &Seen) -> Option<LateHeartbe
     ensures { IsSome result ↔ ((1792 < stream.now.id) × ((stream.now.id < 1920) × (2 * (stream.now.period / 4) < seen.now.greatest))) }
 {
     let time = stream.period / 4;
-    let is_heartbeat = stream.id > 0x700 && stream.id < 0x780;
+    let is_heartbeat = stream.id > HEARTBEAT && stream.id < HEARTBEAT + 128;
     if !is_heartbeat || seen.greatest <= 2 * time {
         return None;
     }

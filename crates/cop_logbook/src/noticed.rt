@@ -1,6 +1,7 @@
 //! What is worth a word in a log, and breaks nothing: commands, boot-ups, emergencies and SDO aborts.
 
 use crate::abort_codes::abort_words;
+use cop_frame::identifiers::{EMCY, HEARTBEAT, NMT, SDO_REQUEST, SDO_RESPONSE};
 use std::alloc::{AllocError, Global};
 
 /// How many words of a kind are kept.
@@ -73,22 +74,24 @@ pub fn command_words(command: u8) -> &'static str {
 /// What a frame of a node is, by its function code and its data.
 fn notice_of(function: u16, node: u8, data: &[u8]) -> Option<Notice> {
     match (function, data) {
-        (0x000, [command, named, ..]) if node == 0 => Some(Notice::Command {
+        (NMT, [command, named, ..]) if node == 0 => Some(Notice::Command {
             command: *command,
             node: *named,
         }),
-        (0x700, [0]) if node != 0 => Some(Notice::BootUp { node }),
-        (0x080, [low, high, ..]) if node != 0 => Some(Notice::Emergency {
+        (HEARTBEAT, [0]) if node != 0 => Some(Notice::BootUp { node }),
+        (EMCY, [low, high, ..]) if node != 0 => Some(Notice::Emergency {
             node,
             code: u16::from_le_bytes([*low, *high]),
         }),
-        (0x580 | 0x600, [0x80, low, high, sub, a, b, c, d]) if node != 0 => Some(Notice::Abort {
-            node,
-            is_client: function == 0x600,
-            index: u16::from_le_bytes([*low, *high]),
-            sub: *sub,
-            code: u32::from_le_bytes([*a, *b, *c, *d]),
-        }),
+        (SDO_RESPONSE | SDO_REQUEST, [0x80, low, high, sub, a, b, c, d]) if node != 0 => Some(
+            Notice::Abort {
+                node,
+                is_client: function == SDO_REQUEST,
+                index: u16::from_le_bytes([*low, *high]),
+                sub: *sub,
+                code: u32::from_le_bytes([*a, *b, *c, *d]),
+            },
+        ),
         _ => None,
     }
 }

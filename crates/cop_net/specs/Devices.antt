@@ -1,7 +1,8 @@
 -- The devices of a network, as their EDS files describe them.
-use Rattle.std.specs.Prelude.{ℕ, Bool, false, List, replicate, slice_set, find, option_map, Option, Some, None, Result, Ok, Err}
+use Rattle.std.specs.Prelude.{ℕ, Bool, false, List, replicate, slice_set, find, map, option_map, Option, Some, None, Result, Ok, Err, String, string_bytes}
 use Rattle.std.specs.List.{filter}
 use Rattle.std.specs.Str.{bytes_eq}
+use Rattle.std.specs.declared.vec.Vec.{Vec}
 use Rattle.cop_frame.specs.declared.rates.Rate.{Rate}
 use Rattle.cop_eds.specs.declared.fault.Refusal as eds
 use Rattle.cop_eds.specs.Reading.{reading}
@@ -21,6 +22,10 @@ use Rattle.cop_net.specs.Steps.{folded}
 pub record File : Type 0 where
   pub name : List ℕ
   pub text : List ℕ
+
+-- files as they are handed in: of each its name and its bytes
+abbrev pub handed_in : {Z : Type 0} → List (String Z × Vec ℕ Z) → List File
+handed_in files = map (λ f. record { name = string_bytes f.0; text = f.1.items }) files
 
 -- the text of a name: of two files with one name the first counts
 abbrev pub text_of : List File → List ℕ → Option (List ℕ)

@@ -1,10 +1,9 @@
 //! The EDS files of a network, by their names.
 
-ghost use Rattle.std.specs.Prelude.{◌≡◌, ◌++◌, ◌∷◌, [], List, IfOk, OnOk, map};
+ghost use Rattle.std.specs.Prelude.{◌≡◌, ◌++◌, ◌∷◌, [], List, IfOk, OnOk};
 ghost use Rattle.std.specs.Option.{option_copied, option_map};
-ghost use Rattle.std.specs.String.{string_bytes};
 ghost use Rattle.cop_eds.specs.Reading.{reading};
-ghost use Rattle.cop_net.specs.Devices.{File, text_of};
+ghost use Rattle.cop_net.specs.Devices.{File, handed_in, text_of};
 ghost use Rattle.cop_net.specs.Texts.{KnowsReadings};
 
 use cop_dict::Blueprint;
@@ -24,16 +23,15 @@ pub struct EdsFiles<'a> {
 }
 
 impl<'a> Model for EdsFiles<'a> {
-    ghost use Rattle.std.specs.Prelude.{List, map};
-    ghost use Rattle.std.specs.String.{string_bytes};
-    ghost use Rattle.cop_net.specs.Devices.{File};
+    ghost use Rattle.std.specs.Prelude.{List};
+    ghost use Rattle.cop_net.specs.Devices.{File, handed_in};
     ghost use Rattle.cop_net.specs.Texts.{KnowsReadings};
 
     ghost Value = { List File };
 
-    ghost view = { λ e. map (λ f. record { name = string_bytes f.0; text = f.1.items }) e.files.now };
+    ghost view = { λ e. handed_in e.files.now };
 
-    ghost invariant = { λ e. KnowsReadings (map (λ f. record { name = string_bytes f.0; text = f.1.items }) e.files.now) e.readings };
+    ghost invariant = { λ e. KnowsReadings (handed_in e.files.now) e.readings };
 }
 
 /// Reads a text: what it says, or why it is refused.
@@ -70,7 +68,7 @@ fn readings_of<'a>(
     alloc: Global,
     files: &'a [(String, Vec<u8>)],
 ) -> Result<Readings<'a>, AllocError>
-    ensures { IfOk result (λ m. KnowsReadings (map (λ f. record { name = string_bytes f.0; text = f.1.items }) files.now) m) }
+    ensures { IfOk result (λ m. KnowsReadings (handed_in files.now) m) }
 {
     let mut readings = BTreeMap::new(alloc);
     for file in files {
@@ -82,7 +80,7 @@ fn readings_of<'a>(
 impl<'a> EdsFiles<'a> {
     /// Reads files: those that are refused too, which is told where a device has such a file.
     pub fn new(alloc: Global, files: &'a [(String, Vec<u8>)]) -> Result<EdsFiles<'a>, AllocError>
-        ensures { IfOk result (λ e. e ≡ map (λ f. record { name = string_bytes f.0; text = f.1.items }) files.now) }
+        ensures { IfOk result (λ e. e ≡ handed_in files.now) }
     {
         let readings = readings_of(alloc, files)?;
         Ok(EdsFiles { files, readings })

@@ -10,6 +10,7 @@ ghost use Rattle.cop_net.specs.Fixed.{base_of, size_of, frame_stream, sent, fixe
 
 use crate::faults::PlanFault;
 use crate::frames::{Frames, PLACES};
+use cop_frame::identifiers::{EMCY, HEARTBEAT, NMT, SDO_REQUEST, SDO_RESPONSE, SYNC};
 use cop_rows::{FrameKind, FrameRow};
 use cop_rta::{SetFault, Stream, StreamSet};
 
@@ -19,11 +20,12 @@ fn base(kind: FrameKind) -> u16
     ensures most { result ≤ 0x700 }
 {
     match kind {
-        FrameKind::Nmt => 0x000,
-        FrameKind::Sync | FrameKind::Emcy => 0x080,
-        FrameKind::SdoResponse => 0x580,
-        FrameKind::SdoRequest => 0x600,
-        FrameKind::Heartbeat => 0x700,
+        FrameKind::Nmt => NMT,
+        FrameKind::Sync => SYNC,
+        FrameKind::Emcy => EMCY,
+        FrameKind::SdoResponse => SDO_RESPONSE,
+        FrameKind::SdoRequest => SDO_REQUEST,
+        FrameKind::Heartbeat => HEARTBEAT,
     }
 }
 

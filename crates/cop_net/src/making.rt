@@ -1,11 +1,11 @@
 //! How a network is made of its tables and files.
 
 ghost use Rattle.std.specs.Prelude.{◌≡◌, ◌≤◌, All, IfOk, length, map};
-ghost use Rattle.std.specs.String.{string_bytes};
 ghost use Rattle.cop_table.specs.Reading.{Gives};
 ghost use Rattle.cop_rta.specs.Entries.{entry_of};
 ghost use Rattle.cop_rows.specs.Nodes.{IsNodeTable};
 ghost use Rattle.cop_rows.specs.Pdos.{IsPdoRow, IsPdoTable};
+ghost use Rattle.cop_net.specs.Devices.{handed_in};
 ghost use Rattle.cop_net.specs.Faults.{refusal};
 ghost use Rattle.cop_net.specs.Sets.{AreOneSet};
 ghost use Rattle.cop_net.specs.Fixed.{IsTimed};
@@ -132,8 +132,8 @@ pub fn network<'a>(
     pdos: &'a PdoTable,
     files: &[(String, Vec<u8>)],
 ) -> Result<Network<'a>, PlanFault>
-    ensures exact { Gives accepted refusal result (network_of wanted.now nodes.now pdos.now (map (λ f. record { name = string_bytes f.0; text = f.1.items }) files.now)) }
-    ensures one_set { IfOk (network_of wanted.now nodes.now pdos.now (map (λ f. record { name = string_bytes f.0; text = f.1.items }) files.now)) (λ made. AreOneSet made.streams) }
+    ensures exact { Gives accepted refusal result (network_of wanted.now nodes.now pdos.now (handed_in files.now)) }
+    ensures one_set { IfOk (network_of wanted.now nodes.now pdos.now (handed_in files.now)) (λ made. AreOneSet made.streams) }
     ensures tables { IfOk result (λ n. (n.nodes ≡ nodes.now) × (n.rows ≡ pdos.now)) }
 {
     let (frames, rows) = (frame_rows(nodes), pdos.rows());

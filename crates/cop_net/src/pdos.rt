@@ -1,9 +1,9 @@
 //! The PDOs of a network: what each of them sends, and who takes it.
 
-ghost use Rattle.std.specs.Prelude.{◌≡◌, ◌<◌, ◌≤◌, ◌+◌, ◌++◌, ◌∷◌, [], None, All, IfOk, IfSome, Ok, length};
+ghost use Rattle.std.specs.Prelude.{◌≡◌, ◌<◌, ◌≤◌, ◌+◌, None, All, IfOk, IfSome, Ok, length};
 ghost use Rattle.cop_table.specs.Reading.{Gives};
 ghost use Rattle.cop_dict.specs.declared.mapping.Direction.TheVariants as directions;
-ghost use Rattle.cop_pdo.specs.Payload.{payload_of, communication_of};
+ghost use Rattle.cop_pdo.specs.Payload.{payload_of};
 ghost use Rattle.cop_rta.specs.Entries.{entry_of};
 ghost use Rattle.cop_rows.specs.Pdos.{IsConsumer, IsPdoRow};
 ghost use Rattle.std.specs.Option.{option_copied};
@@ -13,7 +13,6 @@ ghost use Rattle.cop_net.specs.declared.faults.PlanFault.TheVariants.{Refused};
 ghost use Rattle.cop_net.specs.Faults.{refusal};
 ghost use Rattle.cop_net.specs.Pdos.{unsent, unread, laid_out, transmitted, transmitted_by, received, received_by, consumer_added, sync_fault, pace_fault, period_of, tpdo_of, rpdo_of, pdo_stream, ArePdos, IsSync, pdo_added, pdos_of};
 ghost use Rattle.cop_net.specs.Steps.{folded};
-ghost use Rattle.cop_net.specs.Uses.{is_used};
 
 use crate::devices::{Device, Devices};
 use crate::faults::{DevicePdo, PlanFault, ReceiveFault, Refusal, Rule, SyncFault, Table};

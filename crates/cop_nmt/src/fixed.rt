@@ -1,11 +1,11 @@
 //! The frames of fixed identifiers that a node or the manager sends.
 
-ghost use Rattle.std.specs.Prelude.{◌≡◌, ℕ, ◌+◌, ◌<◌, ◌≤◌, ◌++◌, ◌∷◌, [], ◌%◌, ◌/◌, Some};
+ghost use Rattle.std.specs.Prelude.{◌≡◌, ℕ, ◌+◌, ◌<◌, ◌∷◌, [], ◌%◌, ◌/◌, Some};
 ghost use Rattle.cop_frame.specs.Frame.{data_of};
 ghost use Rattle.cop_nmt.specs.States.{state_byte, number_of, command_numbered, command_of};
 
 use crate::states::{Command, NodeState};
-use cop_frame::Frame;
+use cop_frame::{Frame, identifiers};
 
 /// The heartbeat of a node in a state.
 pub fn heartbeat(node: u8, state: NodeState) -> Frame
@@ -18,7 +18,7 @@ pub fn heartbeat(node: u8, state: NodeState) -> Frame
         NodeState::Operational => 5,
         NodeState::PreOperational => 127,
     };
-    Frame::new(0x700 + u16::from(node), &[byte])
+    Frame::new(identifiers::HEARTBEAT + u16::from(node), &[byte])
 }
 
 /// What a node sends when it has booted.
@@ -29,7 +29,7 @@ pub fn boot_up(node: u8) -> Frame
     ensures whole { (result.len ≡ 1) × (result.body ≡ 0 ∷ 0 ∷ 0 ∷ 0 ∷ 0 ∷ 0 ∷ 0 ∷ 0 ∷ []) }
 {
     Frame {
-        id: 0x700 + u16::from(node),
+        id: identifiers::HEARTBEAT + u16::from(node),
         body: [0; 8],
         len: 1,
     }
@@ -43,7 +43,7 @@ pub fn command(node: u8, command: Command) -> Frame
     ensures all { node ≡ 0 → (other : ℕ) → command_of other result ≡ Some command }
 {
     Frame {
-        id: 0,
+        id: identifiers::NMT,
         body: [number_of(command), node, 0, 0, 0, 0, 0, 0],
         len: 2,
     }
@@ -68,7 +68,7 @@ pub fn sync() -> Frame
     ensures id { result.id ≡ 0x80 }
     ensures body { data_of result ≡ [] }
 {
-    Frame::new(0x80, &[])
+    Frame::new(identifiers::SYNC, &[])
 }
 
 /// The emergency of a node: its error code, the least significant byte first, its error register, and five bytes of
@@ -81,7 +81,7 @@ pub fn emcy(node: u8, code: u16, register: u8, details: [u8; 5]) -> Frame
     let [low, high] = code.to_le_bytes();
     let [a, b, c, d, e] = details;
     Frame::new(
-        0x80 + u16::from(node),
+        identifiers::EMCY + u16::from(node),
         &[low, high, register, a, b, c, d, e],
     )
 }

@@ -1,6 +1,6 @@
 //! The states of a node.
 
-ghost use Rattle.std.specs.Prelude.{◌≡◌, List};
+ghost use Rattle.std.specs.Prelude.{◌≡◌};
 ghost use Rattle.cop_nmt.specs.States.{command_of, commanded, effect_of, stepped, state_over, last_command, is_allowed};
 ghost use Rattle.std.specs.Option.{option_map_or};
 

@@ -1,6 +1,6 @@
 -- The entries of a mapping record, one after the other.
-use Rattle.std.proofs.Common.{◌≡◌, ◌<◌, ◌≤◌, ◌+◌, ◌-◌, ℕ, suc, List, [], ◌∷◌, ◌++◌, Result, Ok, Err, refl, ap, sym, arith, ◌∙◌}
-use Rattle.std.proofs.lemmas.List.{append_assoc, append-nil}
+use Rattle.std.proofs.Common.{◌≡◌, ◌<◌, ◌+◌, ◌-◌, ℕ, suc, List, [], ◌∷◌, ◌++◌, Result, Ok, Err, refl, ap, sym, arith, ◌∙◌}
+use Rattle.std.proofs.lemmas.List.{append_assoc}
 use Rattle.cop_dict.specs.declared.mapping.Mapped.{Mapped}
 use Rattle.cop_dict.specs.declared.mapping.MappingFault.{MappingFault}
 use Rattle.cop_dict.specs.Find.{Entry}
@@ -32,13 +32,6 @@ stops dict at done count front fault lt h =
 whole : (r : Result (List Mapped) MappingFault) → with_rest [] r ≡ r
 whole (Ok rest) = refl
 whole (Err e) = refl
-
--- no entry is left
-pub finishes : (dict : List Entry) (at done count : ℕ) (front : List Mapped) → count ≤ done → with_rest front (mapped_from dict at (done + 1) (count - done)) ≡ with_rest [] (mapped_from dict at 1 count)
-    → mapped_from dict at 1 count ≡ Ok front
-finishes dict at done count front all same =
-    let none : count - done ≡ 0 = omega arith in
-    sym (sym (ap Ok (append-nil front)) ∙ rw none at same ∙ whole (mapped_from dict at 1 count))
 
 pub fails : (dict : List Entry) (at done count : ℕ) (front : List Mapped) (fault : MappingFault) → done < count → mapped_at dict at (done + 1) ≡ Err fault
     → with_rest front (mapped_from dict at (done + 1) (count - done)) ≡ with_rest [] (mapped_from dict at 1 count)

@@ -19,7 +19,8 @@ pub fn objects_stay()
     ensures writes { (dict new : List Entry) (index sub : ℕ) (bytes : List ℕ) (layout : Layout) → written dict index sub bytes ≡ Ok new → HasObjects dict layout → HasObjects new layout }
     ensures stores { (dict : List Entry) (index sub : ℕ) (bytes : List ℕ) (layout : Layout) → HasObjects dict layout → HasObjects (with_value index sub bytes dict) layout }
     ensures resets { (dict : List Entry) (layout : Layout) → HasObjects dict layout → HasObjects (initial dict) layout × HasObjects (initial_communication dict) layout }
-    ensures unpacking { (dict : List Entry) (direction : Direction) (entries : List Mapped) (bits : List Bool) (layout : Layout) → HasObjects dict layout → HasObjects (unpacked dict direction entries bits) layout }
+    ensures unpacking { (dict : List Entry) (direction : Direction) (entries : List Mapped) (bits : List Bool) (layout : Layout)
+        → HasObjects dict layout → HasObjects (unpacked dict direction entries bits) layout }
 {}
 
 /// To unpack what was packed gives each mapped object the value that it had then. Whatever is unpacked leaves each entry that is not

@@ -1,9 +1,9 @@
 //! The payload of a PDO, read from its records.
 
-ghost use Rattle.std.specs.Prelude.{◌≡◌, ◌≤◌, ◌+◌, [], length, Ok, Err, IfOk, IfErr, MatchResult};
+ghost use Rattle.std.specs.Prelude.{◌≡◌, ◌≤◌, ◌+◌, Ok, Err, IfOk, MatchResult};
 ghost use Rattle.cop_dict.specs.Find.{entry_at};
 ghost use Rattle.cop_dict.specs.Mapping.{mapped_from, layout};
-ghost use Rattle.cop_pdo.specs.Payload.{communication_of, mapping_of, count_by, unsigned8_of, payload_of, seen, HasObjects};
+ghost use Rattle.cop_pdo.specs.Payload.{communication_of, count_by, unsigned8_of, payload_of, seen, HasObjects};
 
 use crate::mapping::{Mapping, total};
 use arrayvec::ArrayVec;

@@ -1,5 +1,5 @@
 -- What is found at one rate, by the fillings and by the SDO frames with deadlines.
-use Rattle.std.proofs.Common.{◌≡◌, ◌↔◌, ℕ, zero, suc, ◌+◌, ◌<◌, ◌≤◌, ◌⊎◌, inl, inr, Bool, true, false, ◌||◌, ◌==◌, nat_lt, nat_le, if◌then◌else◌, List, [], ◌∷◌, length, get_or, map, All, AllPairs, Result, Ok, Err, IfOk, drop, refl, sym, ap, ◌∙◌, subst, arith}
+use Rattle.std.proofs.Common.{◌≡◌, ℕ, zero, suc, ◌+◌, ◌<◌, ◌≤◌, ◌⊎◌, inl, inr, Bool, true, false, ◌||◌, ◌==◌, nat_lt, nat_le, if◌then◌else◌, List, [], ◌∷◌, length, get_or, All, AllPairs, Result, Ok, Err, IfOk, drop, refl, sym, ap, ◌∙◌, subst, arith}
 use Rattle.std.proofs.lemmas.Result.{IfOk-weaker}
 use Rattle.std.proofs.lemmas.List.{drop_all}
 use Rattle.std.proofs.lemmas.Bool.{cases_lt, eq-eqb, eqb-true, lt-ltb, le-leb, lt-leb, le-ltb, cond-true, cond-false, or_cases, or_left, or_right}
@@ -7,27 +7,26 @@ use Rattle.cop_frame.specs.declared.rates.Rate.{Rate}
 use Rattle.cop_rta.specs.declared.streams.Stream.{Stream}
 use Rattle.cop_rta.specs.Sums.{sum_where}
 use Rattle.cop_rta.specs.Ranges.{first_range, second_range}
-use Rattle.cop_rta.specs.Test.{StreamPlace, Passes, place_among, is_flagged}
+use Rattle.cop_rta.specs.Test.{Passes, place_among, is_flagged}
 use Rattle.cop_cert.specs.declared.refusals.Cause.{Cause}
 use Rattle.cop_cert.specs.declared.refusals.Cause.TheVariants.{Places, Sync, Sdo}
 use Rattle.cop_cert.specs.declared.refusals.Evidence.{Evidence}
 use Rattle.cop_cert.specs.declared.refusals.Member.{Member}
 use Rattle.cop_cert.specs.declared.refusals.Refusal.{Refusal}
-use Rattle.cop_cert.specs.Assignments.{id_at, AreOutside, IsTested}
+use Rattle.cop_cert.specs.Assignments.{id_at, AreOutside}
 use Rattle.cop_cert.specs.Causes.{kept, PassesBelow, IsRefusal}
 use Rattle.cop_cert.specs.Chains.{FailTogether, IsMade}
-use Rattle.cop_cert.specs.Evidence.{is_listed, is_member, pdos_of}
-use Rattle.cop_cert.specs.Sets.{is_in_trial, trial, IsRefusalSet, IsGreatestRefusalSet, IsGreatestStuckSet}
+use Rattle.cop_cert.specs.Evidence.{is_listed, pdos_of}
+use Rattle.cop_cert.specs.Sets.{is_in_trial, IsRefusalSet, IsGreatestRefusalSet, IsGreatestStuckSet}
 use Rattle.cop_cert.proofs.AboveLemmas.{trial_of_pdo, trial_of_fixed}
 use Rattle.std.specs.declared.alloc.AllocError.{AllocError}
 use Rattle.cop_plan.specs.declared.filling.Filled.{Filled}
-use Rattle.cop_plan.specs.Fillings.{with_left, number, AreSplit, IsFilled, ArePlaced, ids_in_ranges}
+use Rattle.cop_plan.specs.Fillings.{number, AreSplit, IsFilled, ArePlaced, ids_in_ranges}
 use Rattle.cop_plan.specs.declared.assigning.Found.{Found}
 use Rattle.cop_plan.specs.declared.assigning.Found.TheVariants.{Placed, Refused}
 use Rattle.cop_plan.specs.Found.{FailsBelow, IsLowestFailing, ArePlanned, members_found, least_found, filled_found}
 use Rattle.cop_plan.specs.Orders.{FramesPass, IsPlanOrder}
-use Rattle.cop_plan.specs.Plans.{IsGreatestCause, IsGreatestRefusal, members_of, is_filled}
-use Rattle.cop_plan.specs.Values.{HasTested}
+use Rattle.cop_plan.specs.Plans.{IsGreatestCause, IsGreatestRefusal, is_filled}
 use Rattle.cop_plan.proofs.FillingLemmas.{no_bit, listed_at}
 use Rattle.cop_plan.proofs.GreedyLemmas.{count_alike}
 use Rattle.cop_plan.proofs.RangeFlagLemmas.{number_all}
@@ -141,9 +140,6 @@ module _ (rate : Rate) (streams : List Stream) (pdos : ℕ) (few : pdos ≤ leng
             (left_is_greatest first_range.least rate streams pdos few (λ k. nat_lt k pdos) (is_listed left) placed filled.split filled.passes filled.stuck).greatest others set.each
             (λ k h _. lt-ltb k pdos h) p below m;
       }
-
-  pub sync_found : (busy : List ℕ) → r.cause ≡ Sync busy → IsMade streams pdos r → IsRefusal streams pdos r → IsGreatestRefusal streams pdos r
-  sync_found busy is whole holds = record { greatest = greatest_of (Sync busy) is tt; made = whole; holds = holds }
 
   -- where the first range holds all PDOs, none are a refusal set of it
   none_stuck_at_first : IsFilled first_range.least rate streams pdos (λ k. nat_lt k pdos) placed (λ _. false) → (members : ℕ → Bool) → IsRefusalSet first_range.least rate streams pdos members → ⊥

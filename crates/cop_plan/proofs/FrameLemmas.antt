@@ -8,7 +8,6 @@ use Rattle.cop_cert.specs.Assignments.{id_at, IsTested}
 use Rattle.cop_cert.specs.Causes.{PassesBelow}
 use Rattle.cop_cert.specs.Sets.{is_in_trial}
 use Rattle.cop_cert.proofs.CheckLemmas.{place_is, frame_flags}
-use Rattle.cop_plan.specs.Found.{IsLowestFailing}
 use Rattle.cop_plan.specs.Orders.{FramesPass}
 use Rattle.cop_plan.proofs.FillingLemmas.{no_bit}
 use Rattle.cop_plan.proofs.RangeFlagLemmas.{trial_flags}
@@ -57,13 +56,6 @@ module _ (rate : Rate) (streams : List Stream) (pdos : ℕ) (above : ℕ → Boo
   -- all are gone through
   pub all_pass : (n : ℕ) → length streams ≤ n → PassSoFar rate streams pdos above n → FramesPass rate streams pdos above
   all_pass n past so_far f tested = so_far.each f (let i = tested.inside in omega (arith, past, i)) tested
-
-  pub lowest_of_all : (n frame : ℕ) → length streams ≤ n → IsLowestSoFar rate streams pdos above n frame → IsLowestFailing rate streams pdos above frame
-  lowest_of_all n frame past so_far = record {
-    tested = so_far.tested;
-    fails = so_far.fails;
-    lowest = λ f tested fails. so_far.lowest f (let i = tested.inside in omega (arith, past, i)) tested fails;
-  }
 
   -- the next frame is no such frame or passes; or it fails, and is not lower; or it fails and is lower than all before
   pub next_passes : (n : ℕ) (lowest : Option ℕ) → (IsTested streams pdos n → PassesBelow rate streams pdos above n)

@@ -1,5 +1,5 @@
 -- What passes with deadlines lowered passes with them as they are.
-use Rattle.std.proofs.Common.{◌≡◌, ℕ, ◌+◌, ◌-◌, ◌*◌, ◌<◌, ◌≤◌, ◌⊎◌, inl, inr, true, Bool, nat_lt, List, [], ◌∷◌, length, map, get_or, slice_get, Option, Some, None, option_map, refl, sym, ap, ◌∙◌, subst, arith}
+use Rattle.std.proofs.Common.{◌≡◌, ℕ, ◌-◌, ◌*◌, ◌<◌, ◌≤◌, ◌⊎◌, inl, inr, Bool, nat_lt, List, [], ◌∷◌, length, map, get_or, slice_get, Option, Some, None, option_map, refl, sym, ap, ◌∙◌, subst, arith}
 use Rattle.std.specs.Option.{option_map_or, option_and_then, ForSome}
 use Rattle.std.proofs.lemmas.Bool.{cases_lt}
 use Rattle.std.proofs.lemmas.List.{get_or-map}
@@ -11,9 +11,9 @@ use Rattle.cop_rta.specs.Entries.{Entry, entry_of}
 use Rattle.cop_rta.specs.Greatest.{AreSynced}
 use Rattle.cop_rta.specs.Ranges.{first_range, second_range, IsOutside}
 use Rattle.cop_rta.specs.Streams.{place_of_id}
-use Rattle.cop_rta.specs.Test.{Passes, IsOnTime, of_stream, place_among, ahead_of, sync_id}
+use Rattle.cop_rta.specs.Test.{Passes, of_stream, place_among, ahead_of, sync_id}
 use Rattle.cop_rta.proofs.StreamLemmas.{streams_same}
-use Rattle.cop_cert.specs.Assignments.{IsSdo, IsTested, AllTestedPass, IsPassing, NoAssignmentPasses, AreOutside, id_under, place_under}
+use Rattle.cop_cert.specs.Assignments.{IsSdo, IsTested, IsPassing, NoAssignmentPasses, AreOutside, id_under, place_under}
 use Rattle.cop_plan.specs.Margins.{lower, AreLowered}
 use Rattle.cop_plan.specs.Plans.{CanAssign}
 use Rattle.cop_plan.specs.Values.{HaveDeadlines, ArePdosHigh}

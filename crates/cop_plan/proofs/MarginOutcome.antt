@@ -1,19 +1,16 @@
 -- The greatest margin: there is one, and what it takes to show it.
-use Rattle.std.proofs.Common.{◌≡◌, ℕ, ◌-◌, ◌<◌, ◌≤◌, ◌⊎◌, inl, inr, true, false, Bool, List, length, get_or, Option, Some, None, is_some, Result, Ok, Err, IfOk, Contains, refl, sym, ap, ◌∙◌, subst, arith}
-use Rattle.std.specs.Option.{option_and_then, option_map, ForSome}
-use Rattle.std.specs.List.{list_any}
+use Rattle.std.proofs.Common.{◌≡◌, ℕ, ◌-◌, ◌<◌, ◌⊎◌, inl, inr, true, false, List, length, Option, Some, None, is_some, Result, Ok, Err, IfOk, Contains, sym, ap, ◌∙◌, subst, arith}
 use Rattle.std.proofs.lemmas.Bool.{cases_Bool, cases_order}
 use Rattle.cop_frame.specs.declared.rates.Rate.{Rate}
 use Rattle.cop_rta.specs.declared.streams.Stream.{Stream}
-use Rattle.cop_rta.proofs.StreamLemmas.{streams_same}
 use Rattle.cop_cert.specs.declared.refusals.Refusal.{Refusal}
 use Rattle.cop_cert.specs.Assignments.{IsAssignment, IsPassing, NoAssignmentPasses}
 use Rattle.cop_plan.specs.Found.{NoneFrom}
-use Rattle.cop_plan.specs.Margins.{AreLowered, NoneKeeps, has_deadline, IsGreatestMargin, IsOrderWith, IsChosenOrder}
+use Rattle.cop_plan.specs.Margins.{AreLowered, has_deadline, IsGreatestMargin, IsOrderWith, IsChosenOrder}
 use Rattle.cop_plan.specs.Orders.{IsPlanOrder, IsByPriority}
 use Rattle.cop_plan.specs.Plans.{IsPlan, IsSlower, AreRefusals}
 use Rattle.cop_plan.specs.Values.{PlanValue, id_of, HaveIds}
-use Rattle.cop_plan.proofs.MarginLemmas.{lowered_once, lowered_further, lowered_by_none, lowered_deadline, lowered_length, none_after}
+use Rattle.cop_plan.proofs.MarginLemmas.{lowered_once, lowered_further, lowered_by_none, none_after}
 
 -- an order for deadlines as they are
 pub plain_order : (rate : Rate) (streams : List Stream) (pdos : ℕ) (ids : ℕ → ℕ) → IsOrderWith 0 rate streams pdos ids → IsPlanOrder rate streams pdos ids

@@ -1,8 +1,8 @@
 -- Streams lowered one after the other, and the halving that finds the greatest margin.
-use Rattle.std.proofs.Common.{◌≡◌, ◌==◌, ℕ, ◌+◌, ◌-◌, ◌<◌, ◌≤◌, ◌⊎◌, inl, inr, true, false, Bool, List, [], ◌∷◌, ◌++◌, length, map, take, get_or, Option, Some, None, is_some, option_map, MatchOption, All, refl, sym, ap, ◌∙◌, subst, arith}
+use Rattle.std.proofs.Common.{◌≡◌, ◌==◌, ℕ, ◌-◌, ◌<◌, ◌≤◌, true, false, List, length, take, get_or, Option, Some, None, is_some, option_map, MatchOption, All, refl, sym, ap, ◌∙◌, subst, arith}
 use Rattle.std.specs.Option.{ForSome}
 use Rattle.std.proofs.lemmas.Bool.{ne_eqb}
-use Rattle.std.proofs.lemmas.List.{get_or-map, get_or-take, length-take-le, map_push, map_more, take_all}
+use Rattle.std.proofs.lemmas.List.{get_or-map, get_or-take, length-take-le}
 use Rattle.std.proofs.lemmas.List.Folds.{list_any_none, Any-from_list_any}
 use Rattle.cop_frame.specs.declared.rates.Rate.{Rate}
 use Rattle.cop_rta.specs.declared.streams.Stream.{Stream}
@@ -15,7 +15,7 @@ use Rattle.cop_cert.proofs.CauseLemmas.{refusal_rules_out}
 use Rattle.cop_rta.proofs.IdentifierLemmas.{of_stream_at, two_apart}
 use Rattle.cop_plan.specs.declared.assigning.Found.TheVariants.{Refused}
 use Rattle.cop_plan.specs.Found.{IsFound, NoneFrom}
-use Rattle.cop_plan.specs.Margins.{lower, AreLowered, NoneKeeps, has_deadline, IsGreatestMargin}
+use Rattle.cop_plan.specs.Margins.{lower, AreLowered, has_deadline}
 use Rattle.cop_plan.proofs.FillingLemmas.{no_bit}
 use Rattle.cop_plan.proofs.MarginLemmas.{lowered_length, same_id}
 
@@ -36,17 +36,6 @@ lowered_is_new margin streams lowered i d next distinct low is its =
         ∙ sym (of_stream_at (take i streams) j e (omega (arith, before, low, length-take-le i streams (omega (arith, low)))))
         ∙ sym (same_id margin (take i streams) lowered is j) ∙ of_stream_at lowered j e inside in
         two_apart streams distinct j i before low (mine ∙ same ∙ its ∙ sym (of_stream_at streams i d low))
-
-pub lowered_more : (margin : ℕ) (streams lowered : List Stream) (i : ℕ) (d next : Stream) → i < length streams → AreLowered margin (take i streams) lowered
-    → entry_of next ≡ lower margin (entry_of (get_or streams i d)) → AreLowered margin (take (i + 1) streams) (lowered ++ next ∷ [])
-lowered_more margin streams lowered i d next low is its =
-    map_push entry_of lowered next
-    ∙ ap (λ (es : List Entry). es ++ entry_of next ∷ []) is
-    ∙ ap (λ (e : Entry). map (λ s. lower margin (entry_of s)) (take i streams) ++ e ∷ []) its
-    ∙ sym (map_more (λ s. lower margin (entry_of s)) streams i d low)
-
-pub all_lowered : (margin : ℕ) (streams lowered : List Stream) (i : ℕ) → length streams ≤ i → AreLowered margin (take i streams) lowered → AreLowered margin streams lowered
-all_lowered margin streams lowered i past is = subst (λ (ss : List Stream). AreLowered margin ss lowered) (take_all i streams past) is
 
 -- ---- what no margin is
 
@@ -82,14 +71,6 @@ module _ (rate : Rate) (streams : List Stream) (pdos : ℕ) where
 
       is_there : (found : (k : ℕ) × (x : Stream) × (k < length streams) × (get_or streams k x ≡ x) × (is_some x.deadline ≡ true)) → is_some (get_or streams found.0 found.1).deadline ≡ true
       is_there found = subst (λ (s : Stream). is_some s.deadline ≡ true) (sym found.3) found.4
-
-  -- the halving has come to an end
-  pub greatest_found : (margin above : ℕ) → above - margin ≤ 1 → margin < above → (has_deadline streams ≡ true → NoneFrom rate streams pdos above) → (has_deadline streams ≡ false → above ≡ 1)
-      → IsGreatestMargin rate streams pdos margin
-  greatest_found margin above near lt fails none = record {
-    greatest = λ some more gt. fails some more (omega (arith, near, lt, gt));
-    none = λ absent. omega (arith, lt, none absent);
-  }
 
 -- where a rate is refused no assignment passes
 pub refused_none : (rate : Rate) (streams : List Stream) (pdos : ℕ) (r : Refusal) → pdos ≤ length streams → IsFound rate streams pdos (Refused r) → NoAssignmentPasses rate streams pdos

@@ -1,19 +1,19 @@
 -- The flags that places are filled by, and what the filling of all PDOs says.
-use Rattle.std.proofs.Common.{◌≡◌, ℕ, zero, suc, ◌+◌, ◌*◌, ◌<◌, ◌≤◌, ◌⊎◌, inl, inr, Bool, true, false, not, map, ◌&&◌, ◌||◌, nat_lt, List, [], ◌∷◌, length, get_or, slice_get, Some, None, All, AllPairs, refl, sym, ap, ◌∙◌, subst, arith}
+use Rattle.std.proofs.Common.{◌≡◌, ℕ, zero, suc, ◌+◌, ◌*◌, ◌<◌, ◌≤◌, ◌⊎◌, inl, inr, Bool, true, false, not, map, ◌&&◌, nat_lt, List, [], ◌∷◌, length, get_or, slice_get, Some, None, refl, sym, ap, ◌∙◌, subst, arith}
 use Rattle.std.specs.Option.{option_map_or}
 use Rattle.std.proofs.lemmas.Bool.{cases_lt, lt-ltb, le-ltb}
 use Rattle.std.proofs.lemmas.List.{get_or-map, length-map}
 use Rattle.std.proofs.lemmas.Option.{slice_get_cases, unwrap_or-slice_get}
 use Rattle.cop_frame.specs.declared.rates.Rate.{Rate}
 use Rattle.cop_rta.specs.declared.streams.Stream.{Stream}
-use Rattle.cop_rta.specs.Test.{Passes, is_flagged}
+use Rattle.cop_rta.specs.Test.{is_flagged}
 use Rattle.cop_rta.specs.Sums.{sum_where}
 use Rattle.cop_rta.specs.Placing.{Flags, HasOneAbove}
 use Rattle.cop_cert.specs.Evidence.{is_listed}
-use Rattle.cop_cert.specs.Sets.{is_in_trial, trial}
+use Rattle.cop_cert.specs.Sets.{is_in_trial}
 use Rattle.cop_cert.proofs.AboveLemmas.{trial_of_pdo, trial_of_fixed}
-use Rattle.cop_plan.specs.Fillings.{with_left, number, IsFilled, is_flagged_pdo, AreTrialOf, looked_at}
-use Rattle.cop_plan.proofs.FillingLemmas.{no_bit, listed_at}
+use Rattle.cop_plan.specs.Fillings.{number, IsFilled, is_flagged_pdo, AreTrialOf, looked_at}
+use Rattle.cop_plan.proofs.FillingLemmas.{no_bit}
 use Rattle.cop_plan.proofs.GreedyLemmas.{count_some, count_none, count_alike}
 
 -- past its end a list has no flag that is set
@@ -108,17 +108,9 @@ filled_by_none bound rate streams pdos start none = record {
   stuck = λ p below m good. no_bit false m refl;
 }
 
-pub looked_at_all : (placed left : List ℕ) → length left ≡ 0 → looked_at placed left ≡ length placed
-looked_at_all placed [] h = refl
-looked_at_all placed (p ∷ rest) h = absurd (omega (arith, h))
-
 pub looked_at_more : (placed left : List ℕ) → 1 ≤ length left → looked_at placed left ≡ length placed + 1
 looked_at_more placed [] h = absurd (omega (arith, h))
 looked_at_more placed (p ∷ rest) h = refl
-
-pub empty_of : (xs : List ℕ) → length xs ≡ 0 → xs ≡ []
-empty_of [] h = refl
-empty_of (x ∷ xs) h = absurd (omega (arith, h))
 
 -- ---- the first range, by all PDOs
 

@@ -188,12 +188,6 @@ module _ (rate : Rate) (streams : List Stream) (pdos : ℕ) (count : pdos ≤ le
         upper_later = subst (λ (left : ℕ → Bool). LaterFail first_range.least rate streams pdos left first) nothing filled.later;
       }
 
-  -- the places of the first range alone, where each SDO frame with a deadline passes below all PDOs
-  pub first_alone_passes : ((k : ℕ) → k < pdos → stuck k ≡ false) → ((f : ℕ) → IsTested streams pdos f → PassesBelow rate streams pdos (λ k. nat_lt k pdos) f)
-      → IsPassing rate streams pdos (ids_in_ranges [] first)
-  first_alone_passes none frames =
-      placed_pass rate streams pdos (λ k. nat_lt k pdos) [] first count few (first_alone_placed none) outside_first outside_second frames
-
   module _ (second third : List ℕ) (top left : ℕ → Bool)
       (lower : pdos ≤ second_range.count → IsFilled second_range.least rate streams pdos (λ k. nat_lt k pdos) second top)
       (upper : IsFilled first_range.least rate streams pdos (kept pdos top) third left) where

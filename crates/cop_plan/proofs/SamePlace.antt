@@ -4,7 +4,7 @@ use Rattle.std.specs.Option.{option_and_then, ForSome}
 use Rattle.std.proofs.lemmas.Option.{slice_get-map}
 use Rattle.cop_frame.specs.declared.rates.Rate.{Rate}
 use Rattle.cop_rta.specs.declared.streams.Stream.{Stream}
-use Rattle.cop_rta.specs.Test.{Passes, of_stream}
+use Rattle.cop_rta.specs.Test.{Passes}
 use Rattle.cop_plan.specs.Values.{Timing, timing_of}
 use Rattle.cop_plan.proofs.SameAsking as asking
 use Rattle.cop_plan.proofs.SameAsking.{Asking, asking_of, place_at}

@@ -18,6 +18,7 @@ ghost use Rattle.cop_plan.specs.Values.{HaveDeadlines, ArePdosHigh};
 use crate::filling::{Count, Filled, fill_range, flag_all};
 use crate::plans::{Plan, planned};
 use cop_cert::{Items, Refusal, is_sync_long, is_tested, make, make_for_sdo, make_for_sync};
+use cop_frame::identifiers::SYNC;
 use cop_frame::{Rate, RateSet};
 use cop_rta::{IdRange, Stream, StreamSet, Verdict, verdict};
 use std::alloc::{AllocError, Global};
@@ -83,7 +84,7 @@ fn is_synced(set: &StreamSet, stream: &Stream) -> bool
     if every == 0 {
         return true;
     }
-    match set.place_of(0x80) {
+    match set.place_of(SYNC) {
         Some(sync) => period == u64::from(every) * set.streams()[sync].period,
         None => false,
     }

@@ -1,7 +1,7 @@
 //! Places filled from the lowest on.
 
 ghost use Rattle.std.specs.Prelude.{◌≡◌, ◌<◌, ◌≤◌, ◌+◌, ◌*◌, ◌^◌, ℕ, true, not, length, IfSome, IfNone, IfOk, nat_lt, ◌&&◌, All, AllPairs};
-ghost use Rattle.cop_rta.specs.Test.{Passes, flagged_place, is_flagged};
+ghost use Rattle.cop_rta.specs.Test.{Passes, is_flagged};
 ghost use Rattle.cop_rta.specs.Sums.{sum_where};
 ghost use Rattle.cop_cert.specs.Evidence.{is_listed};
 ghost use Rattle.cop_cert.specs.Sets.{is_in_trial};

@@ -22,7 +22,8 @@ ghost use Rattle.cop_plan.specs.declared.assigning.Outcome.{Outcome};
 
 /// No set of streams has two orders.
 pub fn order_is_unique()
-    ensures { (rate : Rate) (streams : List Stream) (pdos : ℕ) (ids others : ℕ → ℕ) → HasPdos streams pdos → IsPlanOrder rate streams pdos ids → IsPlanOrder rate streams pdos others → (p : ℕ) → p < pdos → ids p ≡ others p }
+    ensures { (rate : Rate) (streams : List Stream) (pdos : ℕ) (ids others : ℕ → ℕ) → HasPdos streams pdos → IsPlanOrder rate streams pdos ids
+        → IsPlanOrder rate streams pdos others → (p : ℕ) → p < pdos → ids p ≡ others p }
 {}
 
 /// Some streams and candidate rates have one outcome of each kind: by the order of plans, and by the greatest margin.
@@ -74,8 +75,10 @@ pub fn fillings_give_the_order()
 
 /// The refusals of at most 512 PDOs that an outcome carries are refusals that a file holds.
 pub fn refusals_are_writable()
-    ensures plan { (rates : List Rate) (streams : List Stream) (pdos : ℕ) (plan : PlanValue) → pdos ≤ length streams → pdos ≤ 512 → IsPlan rates streams pdos plan → AreWritable plan.refusals }
-    ensures none { (rates : List Rate) (streams : List Stream) (pdos : ℕ) (refusals : List Refusal) → pdos ≤ length streams → pdos ≤ 512 → AreAllRefused rates streams pdos refusals → AreWritable refusals }
+    ensures plan { (rates : List Rate) (streams : List Stream) (pdos : ℕ) (plan : PlanValue) → pdos ≤ length streams → pdos ≤ 512
+        → IsPlan rates streams pdos plan → AreWritable plan.refusals }
+    ensures none { (rates : List Rate) (streams : List Stream) (pdos : ℕ) (refusals : List Refusal) → pdos ≤ length streams → pdos ≤ 512
+        → AreAllRefused rates streams pdos refusals → AreWritable refusals }
 {}
 
 /// Of a network's plan by the greatest margin, some PDO or SDO frame has exactly the margin left: its greatest response is so many ticks before

@@ -1,23 +1,22 @@
 -- Steps that go on, and questions that are being asked.
-use Rattle.std.proofs.Common.{◌≡◌, ℕ, ◌-◌, ◌≤◌, ◌<◌, List, [], ◌∷◌, ◌++◌, Bool, true, false, refl, sym, ◌∙◌, ap, subst, Option, Some, None, append_assoc, append-nil}
+use Rattle.std.proofs.Common.{◌≡◌, ℕ, ◌-◌, ◌≤◌, ◌<◌, List, [], ◌∷◌, ◌++◌, Bool, refl, sym, ◌∙◌, ap, subst, Option, Some, None, append_assoc, append-nil}
 use Rattle.std.specs.Prelude.{unwrap_or}
 use Rattle.std.specs.Option.{option_or}
 use Rattle.std.specs.List.{AllByRecursion}
 use Rattle.std.proofs.lemmas.List.{map-append}
-use Rattle.cop_sdo.specs.Message.{Message}
 use Rattle.cop_slcan.specs.Reading.{said_from, left_from}
-use Rattle.cop_live.specs.Log.{Sent, DidAll}
+use Rattle.cop_live.specs.Log.{ByteStep, ClockStep, DidAll}
 use Rattle.cop_live.specs.Session.{State, Step, Turn, Request, turns, turn_log, turn_state, steps_log, steps_state, noted}
 use Rattle.cop_live.proofs.Sessions.{did_both, state_more, log_more, turns_more}
 use Rattle.cop_identity.specs.declared.questions.Question.{Question}
 use Rattle.cop_identity.specs.declared.questions.Answer.{Answer}
 use Rattle.cop_identity.specs.declared.asking.Outcome.{Outcome}
-use Rattle.cop_identity.specs.declared.asking.Outcome.TheVariants.{Answered, Silent, Unasked}
+use Rattle.cop_identity.specs.declared.asking.Outcome.TheVariants.{Answered, Silent}
 use Rattle.cop_identity.specs.declared.asking.Exchange.{Exchange}
-use Rattle.cop_identity.specs.Questions.{request_of, limit_of}
+use Rattle.cop_identity.specs.Questions.{limit_of}
 use Rattle.cop_identity.specs.Asking.{first_answer, answer_heard}
 use Rattle.cop_identity.proofs.AskingLemmas.{left_turns, left_more, heard_more, all_more}
-use Rattle.cop_readback.specs.Reading.{Round, steps_for, round_steps, rounds_steps, exchanges_of, since, Awaits, IsOutcome, IsRoundBy, IsRound, is_asked, AreRounds, booted_in, Steps}
+use Rattle.cop_readback.specs.Reading.{Round, round_steps, rounds_steps, exchanges_of, since, Awaits, IsOutcome, IsRound, AreRounds, booted_in, Steps}
 
 booted_more : (began : ℕ) (booted : List Bool) (xs ys : List Step) (s : State)
     → booted_in booted s.pending (xs ++ ys) ≡ booted_in (booted_in booted s.pending xs) (steps_state began s xs).pending ys
@@ -25,10 +24,7 @@ booted_more began booted [] ys s = refl
 booted_more began booted (Turn now bytes ∷ xs) ys s = booted_more began (noted booted (said_from s.pending bytes)) xs ys (turn_state began s now bytes)
 booted_more began booted (Request frame ∷ xs) ys s = booted_more began booted xs ys s
 
-module _ {P : Type 0} (reads writes : P → List ℕ → P → Type 0) (asks : P → ℕ → P → Type 0) (began : ℕ) (s : State) (booted : List Bool) (p : P) where
-  pub no_steps : Steps reads writes asks began s booted p [] s booted p
-  no_steps = record { did = refl; state = refl; booted_up = refl }
-
+module _ {P : Type 0} (reads writes : ByteStep P) (asks : ClockStep P) (began : ℕ) (s : State) (booted : List Bool) (p : P) where
   pub steps_on : (xs ys : List Step) (t u : State) (after later : List Bool) (q r : P) → Steps reads writes asks began s booted p xs t after q → Steps reads writes asks began t after q ys u later r
       → Steps reads writes asks began s booted p (xs ++ ys) u later r
   steps_on xs ys t u after later q r a b =
@@ -53,10 +49,6 @@ module _ {P : Type 0} (reads writes : P → List ℕ → P → Type 0) (asks : P
   one_turn_since own now bytes t after q same did state is =
       one_turn now bytes t after q (subst (λ b. DidAll reads writes asks p (turn_log b s now bytes) q) same did) (subst (λ b. t ≡ turn_state b s now bytes) same state) is
 
-  pub one_request : (frame : Message) (question : Question) (q : P) → frame ≡ request_of question → DidAll reads writes asks p (Sent frame ∷ []) q
-      → Steps reads writes asks began s booted p (Request (request_of question) ∷ []) s booted q
-  one_request frame question q is did = record { did = subst (λ f. DidAll reads writes asks p (Sent f ∷ []) q) is did; state = refl; booted_up = refl }
-
 -- ---- one question
 
 abbrev pub first_of : List (ℕ × List ℕ) → Option ℕ
@@ -79,7 +71,7 @@ soon_more limit [] now bytes h = tt
 soon_more limit ((at, got) ∷ early) now bytes h = h
 
 -- a question that is not answered so far
-pub record Waits {P : Type 0} (reads writes : P → List ℕ → P → Type 0) (asks : P → ℕ → P → Type 0) (question : Question) (began : ℕ) (s : State) (booted : List Bool) (p : P) (left : List ℕ) (first : Option ℕ) (t : State) (after : List Bool) (q : P) : Type 0 where
+pub record Waits {P : Type 0} (reads writes : ByteStep P) (asks : ClockStep P) (question : Question) (began : ℕ) (s : State) (booted : List Bool) (p : P) (left : List ℕ) (first : Option ℕ) (t : State) (after : List Bool) (q : P) : Type 0 where
   pub early : List (ℕ × List ℕ)
   pub steps : Steps reads writes asks began s booted p (turns early) t after q
   pub none_early : answer_heard question [] early ≡ None
@@ -87,10 +79,7 @@ pub record Waits {P : Type 0} (reads writes : P → List ℕ → P → Type 0) (
   pub is_left : left ≡ left_turns [] early
   pub is_first : first ≡ first_of early
 
-module _ {P : Type 0} (reads writes : P → List ℕ → P → Type 0) (asks : P → ℕ → P → Type 0) (question : Question) (began : ℕ) (s : State) (booted : List Bool) (p : P) where
-  pub waits_first : (left : List ℕ) → left ≡ [] → Waits reads writes asks question began s booted p left None s booted p
-  waits_first left e = record { early = []; steps = no_steps reads writes asks began s booted p; none_early = refl; soon = tt; is_left = e; is_first = refl }
-
+module _ {P : Type 0} (reads writes : ByteStep P) (asks : ClockStep P) (question : Question) (began : ℕ) (s : State) (booted : List Bool) (p : P) where
   -- a turn more, and what is read in it
   turn_taken : (left : List ℕ) (first : Option ℕ) (t u : State) (after later : List Bool) (q r : P) (now : ℕ) (bytes : List ℕ) (w : Waits reads writes asks question began s booted p left first t after q)
       → Steps reads writes asks began t after q (Turn now bytes ∷ []) u later r → Steps reads writes asks began s booted p (turns (w.early ++ (now, bytes) ∷ [])) u later r
@@ -144,27 +133,6 @@ module _ {P : Type 0} (reads writes : P → List ℕ → P → Type 0) (asks : P
     turn_taken left first t u after later q r now bytes w turn,
   )
 
--- what is done for a question that was asked
-steps_of : (question : Question) (taken : List (ℕ × List ℕ)) (outcome : Outcome) → IsOutcome question taken outcome → Request (request_of question) ∷ turns taken ≡ steps_for question taken outcome
-steps_of question taken (Answered answer) h = refl
-steps_of question taken Silent h = refl
-steps_of question taken Unasked h = absurd h
-
-pub was_asked : {P : Type 0} (reads writes : P → List ℕ → P → Type 0) (asks : P → ℕ → P → Type 0) (began : ℕ) (s t : State) (booted after : List Bool) (p q : P) (before : List Exchange) (question : Question) (outcome : Outcome) (is : Bool)
-    → is ≡ is_asked s.manager before question → is ≡ true
-    → (taken : List (ℕ × List ℕ)) × IsOutcome question taken outcome × Steps reads writes asks began s booted p (Request (request_of question) ∷ turns taken) t after q
-    → (taken : List (ℕ × List ℕ)) × IsRound s.manager before (record { exchange = record { question = question; outcome = outcome }; taken = taken })
-    × Steps reads writes asks began s booted p (round_steps (record { exchange = record { question = question; outcome = outcome }; taken = taken })) t after q
-was_asked reads writes asks began s t booted after p q before question outcome is e holds (taken, came, steps) =
-    (taken, subst (λ b. IsRoundBy b question taken outcome) (sym holds ∙ e) came, subst (λ xs. Steps reads writes asks began s booted p xs t after q) (steps_of question taken outcome came) steps)
-
-pub was_left_out : {P : Type 0} (reads writes : P → List ℕ → P → Type 0) (asks : P → ℕ → P → Type 0) (began : ℕ) (s : State) (booted : List Bool) (p : P) (before : List Exchange) (question : Question) (is : Bool)
-    → is ≡ is_asked s.manager before question → is ≡ false
-    → (taken : List (ℕ × List ℕ)) × IsRound s.manager before (record { exchange = record { question = question; outcome = Unasked }; taken = taken })
-    × Steps reads writes asks began s booted p (round_steps (record { exchange = record { question = question; outcome = Unasked }; taken = taken })) s booted p
-was_left_out reads writes asks began s booted p before question is e fails =
-    ([], subst (λ b. IsRoundBy b question [] Unasked) (sym fails ∙ e) refl, no_steps reads writes asks began s booted p)
-
 -- ---- all questions
 
 rounds_more : (xs : List Round) (round : Round) → rounds_steps (xs ++ round ∷ []) ≡ rounds_steps xs ++ round_steps round
@@ -184,16 +152,13 @@ are_rounds_more began (x ∷ xs) round s before h is =
     )
 
 -- rounds so far
-pub record Asks {P : Type 0} (reads writes : P → List ℕ → P → Type 0) (asks : P → ℕ → P → Type 0) (began : ℕ) (s : State) (booted : List Bool) (p : P) (all : List Exchange) (t : State) (after : List Bool) (q : P) : Type 0 where
+pub record Asks {P : Type 0} (reads writes : ByteStep P) (asks : ClockStep P) (began : ℕ) (s : State) (booted : List Bool) (p : P) (all : List Exchange) (t : State) (after : List Bool) (q : P) : Type 0 where
   pub rounds : List Round
   pub are : all ≡ exchanges_of rounds
   pub right : AreRounds began s [] rounds
   pub steps : Steps reads writes asks began s booted p (rounds_steps rounds) t after q
 
-module _ {P : Type 0} (reads writes : P → List ℕ → P → Type 0) (asks : P → ℕ → P → Type 0) (began : ℕ) (s : State) (booted : List Bool) (p : P) where
-  pub asks_none : (all : List Exchange) → all ≡ [] → Asks reads writes asks began s booted p all s booted p
-  asks_none all e = record { rounds = []; are = e; right = tt; steps = no_steps reads writes asks began s booted p }
-
+module _ {P : Type 0} (reads writes : ByteStep P) (asks : ClockStep P) (began : ℕ) (s : State) (booted : List Bool) (p : P) where
   pub asks_on : (all more : List Exchange) (t u : State) (after later : List Bool) (q r : P) (exchange : Exchange) → Asks reads writes asks began s booted p all t after q → more ≡ all ++ exchange ∷ []
       → (taken : List (ℕ × List ℕ)) × IsRound t.manager all (record { exchange = exchange; taken = taken }) × Steps reads writes asks began t after q (round_steps (record { exchange = exchange; taken = taken })) u later r
       → Asks reads writes asks began s booted p more u later r
@@ -209,7 +174,7 @@ module _ {P : Type 0} (reads writes : P → List ℕ → P → Type 0) (asks : P
       }
 
 -- a round counts from the moment at which the boot began, behind the exchanges that stand in a list
-pub asked_since : {P : Type 0} (reads writes : P → List ℕ → P → Type 0) (asks : P → ℕ → P → Type 0) (own began : ℕ) (s t : State) (booted after : List Bool) (p q : P) (seen all : List Exchange) (question : Question) (outcome : Outcome)
+pub asked_since : {P : Type 0} (reads writes : ByteStep P) (asks : ClockStep P) (own began : ℕ) (s t : State) (booted after : List Bool) (p q : P) (seen all : List Exchange) (question : Question) (outcome : Outcome)
     → own ≡ began → seen ≡ all
     → (taken : List (ℕ × List ℕ)) × IsRound s.manager seen (record { exchange = record { question = question; outcome = outcome }; taken = taken })
     × Steps reads writes asks own s booted p (round_steps (record { exchange = record { question = question; outcome = outcome }; taken = taken })) t after q

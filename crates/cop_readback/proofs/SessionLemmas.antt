@@ -11,7 +11,7 @@ use Rattle.cop_boot.specs.Sent.{MaySend, WereConfigured}
 use Rattle.cop_boot.proofs.CommandLemmas.{driven_commands}
 use Rattle.cop_boot.proofs.StartLemmas.{start_was_late, all_sent_may}
 use Rattle.cop_slcan.specs.Reading.{left_from}
-use Rattle.cop_live.specs.Log.{Doing, Asked, Sent, Read, DidAll, sent_in, came_after, came}
+use Rattle.cop_live.specs.Log.{ByteStep, ClockStep, Doing, Asked, Sent, Read, DidAll, sent_in, came_after, came}
 use Rattle.cop_live.specs.Nodes.{nobody, is_empty}
 use Rattle.cop_live.specs.Session.{State, is_start, held, reset_of, turn_log, turn_state, Step, Turn, Request, steps_log, steps_state, turns, first_state, boot_log, Booted}
 use Rattle.cop_live.proofs.Sessions.{did_both, state_more, log_more, turn_then, given_up, answered, given, boot_driven, is_driven}
@@ -272,7 +272,7 @@ may_only true true b c d ready started er es h = refl
 may_only true false b c d ready started er es h = sym er ∙ sym es ∙ h
 may_only false a b c d ready started er es h = absurd (cc)
 
-pub reads_back : {P : Type 0} (reads writes : P → List ℕ → P → Type 0) (asks : P → ℕ → P → Type 0) (reach : Reach) (m : Managing) (nodes : List ℕ) (questions : List Question) (p x y q : P) (began : ℕ) (s t : State) (exchanges : List Exchange) (booted before : List Bool) (ready started : Bool)
+pub reads_back : {P : Type 0} (reads writes : ByteStep P) (asks : ClockStep P) (reach : Reach) (m : Managing) (nodes : List ℕ) (questions : List Question) (p x y q : P) (began : ℕ) (s t : State) (exchanges : List Exchange) (booted before : List Bool) (ready started : Bool)
     → Booted reads writes asks reach.only m p began s x → list_all (λ node. is_some (end_at s.manager.nodes node)) nodes ≡ true → before ≡ nobody
     → (rounds : List Round) × (exchanges ≡ exchanges_of rounds) × (map (λ one. one.question) (exchanges_of rounds) ≡ questions) × AreRounds began s [] rounds × Steps reads writes asks began s before x (rounds_steps rounds) t booted y
     → ready ≡ may_start t.manager nodes exchanges booted → started ≡ reach.start && ready → DidAll reads writes asks y (map Sent (starts_of reach.only started)) q

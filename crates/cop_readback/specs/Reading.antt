@@ -6,7 +6,7 @@ use Rattle.cop_boot.specs.declared.«end».End.TheVariants as ends
 use Rattle.cop_boot.specs.Node.{Node}
 use Rattle.cop_boot.specs.Manager.{Managing, end_at}
 use Rattle.cop_slcan.specs.Reading.{said_from, left_from}
-use Rattle.cop_live.specs.Log.{DidAll}
+use Rattle.cop_live.specs.Log.{ByteStep, ClockStep, DidAll}
 use Rattle.cop_live.specs.Session.{State, Step, Turn, Request, turns, steps_log, steps_state, noted}
 use Rattle.cop_identity.specs.declared.questions.Question.{Question}
 use Rattle.cop_identity.specs.declared.questions.Answer.{Answer}
@@ -117,7 +117,7 @@ booted_in booted pending (Turn now bytes ∷ steps) = booted_in (noted booted (s
 booted_in booted pending (Request frame ∷ steps) = booted_in booted pending steps
 
 -- steps lead a manager's state, the nodes that booted up, and a port to others
-pub record Steps {P : Type 0} (reads writes : P → List ℕ → P → Type 0) (asks : P → ℕ → P → Type 0) (began : ℕ) (s : State) (booted : List Bool) (p : P) (steps : List Step) (t : State) (after : List Bool) (q : P) : Type 0 where
+pub record Steps {P : Type 0} (reads writes : ByteStep P) (asks : ClockStep P) (began : ℕ) (s : State) (booted : List Bool) (p : P) (steps : List Step) (t : State) (after : List Bool) (q : P) : Type 0 where
   pub did : DidAll reads writes asks p (steps_log began s steps) q
   pub state : t ≡ steps_state began s steps
   pub booted_up : after ≡ booted_in booted s.pending steps

@@ -4,7 +4,7 @@ use Rattle.std.specs.List.{AllByRecursion, list_all}
 use Rattle.cop_sdo.specs.Message.{Message}
 use Rattle.cop_boot.specs.Manager.{Managing, is_command, end_at}
 use Rattle.cop_boot.specs.Sent.{MaySend, WereConfigured}
-use Rattle.cop_live.specs.Log.{Doing, Sent, DidAll, sent_in, came}
+use Rattle.cop_live.specs.Log.{ByteStep, ClockStep, Doing, Sent, DidAll, sent_in, came}
 use Rattle.cop_live.specs.Nodes.{nobody, is_empty}
 use Rattle.cop_live.specs.Session.{State, turns, steps_state, reset_of, start_of, first_state, boot_log, IsDriven}
 use Rattle.cop_identity.specs.declared.questions.Question.{Question}
@@ -54,7 +54,7 @@ pub record IsSession (only : Option ℕ) (m : Managing) (questions : List Questi
   pub configured : started ≡ true → WereConfigured m.nodes (came began log)
 
 -- A boot whose settings were read back.
-pub record ReadsBack {P : Type 0} (reads writes : P → List ℕ → P → Type 0) (asks : P → ℕ → P → Type 0) (reach : Reach) (m : Managing) (nodes : List ℕ) (questions : List Question) (p : P) (exchanges : List Exchange) (booted : List Bool) (ready started : Bool) (later : Managing) (q : P) : Type 0 where
+pub record ReadsBack {P : Type 0} (reads writes : ByteStep P) (asks : ClockStep P) (reach : Reach) (m : Managing) (nodes : List ℕ) (questions : List Question) (p : P) (exchanges : List Exchange) (booted : List Bool) (ready started : Bool) (later : Managing) (q : P) : Type 0 where
   pub began : ℕ
   pub asked : P
   pub booting : List (ℕ × List ℕ)

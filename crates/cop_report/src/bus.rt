@@ -195,6 +195,17 @@ fn push_axis(page: &mut String, window: Window) -> Result<(), AllocError> {
     page.push_str("</div><div class=\"n\">longest / bound</div></div>\n")
 }
 
+/// Adds whether some frame of the trace is late.
+fn push_lateness(page: &mut String, late: Option<usize>) -> Result<(), AllocError> {
+    match late {
+        Some(step) => write!(
+            page,
+            " The frame that step {step} of the trace queues is late.</p>\n"
+        ),
+        None => page.push_str(" Each PDO is on time.</p>\n"),
+    }
+}
+
 /// Adds what is drawn, and of how many transfers.
 fn push_words(page: &mut String, timeline: &Timeline) -> Result<(), AllocError> {
     let until = Micros(timeline.until);
@@ -204,8 +215,9 @@ fn push_words(page: &mut String, timeline: &Timeline) -> Result<(), AllocError> 
     };
     write!(
         page,
-        "<p>The trace goes up to {until} µs. In it {ended} came to an end. Each PDO is on time.</p>\n"
+        "<p>The trace goes up to {until} µs. In it {ended} came to an end."
     )?;
+    push_lateness(page, timeline.late)?;
     let drawn = drawn(&timeline.lanes);
     if drawn < timeline.ended {
         write!(

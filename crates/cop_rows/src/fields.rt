@@ -2,9 +2,7 @@
 
 ghost use Rattle.std.specs.Prelude.{◌≡◌, ◌≤◌, ◌<◌, [], ◌∷◌, ◌==◌, IfOk, IfSome, MatchOption, length};
 ghost use Rattle.std.specs.List.{position};
-ghost use Rattle.cop_table.specs.Reading.{Gives};
-ghost use Rattle.cop_rows.specs.Fields.{number_within, name_of, parts};
-ghost use Rattle.cop_rows.specs.Refusals.{broken};
+ghost use Rattle.cop_rows.specs.Fields.{number_within, parts};
 
 use crate::names::Name;
 use crate::refusals::{Column, Rule};

@@ -1,6 +1,6 @@
 //! The rows of nodes while their table is read.
 
-ghost use Rattle.std.specs.Prelude.{◌≡◌, ◌≤◌, ◌<◌, [], IfOk};
+ghost use Rattle.std.specs.Prelude.{◌≡◌, ◌≤◌, ◌<◌};
 ghost use Rattle.cop_table.specs.Reading.{Gives};
 ghost use Rattle.cop_rows.specs.NodeReading.{pushed, with_devices, no_rows, first_lacking, lacks_device, has_node, number_of_kind};
 ghost use Rattle.cop_rows.specs.NodeRows.{IsRow, IsDeviceRow, IsFrameRow, flag_of};

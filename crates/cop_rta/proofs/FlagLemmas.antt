@@ -35,17 +35,6 @@ longest_but_one p q f own (suc n) alike = go (cases_eq n own) (longest_but_one p
         let same : (if p n then f n else 0) ≡ (if q n then f n else 0) = ap (λ (b : Bool). if b then f n else 0) (alike n apart) in
         omega (arith, before, same)
 
--- the greatest of fewer is no greater
-pub longest_of_fewer : (p q : ℕ → Bool) (f : ℕ → ℕ) (n : ℕ) → ((k : ℕ) → p k ≡ true → q k ≡ true) → max_where p f n ≤ max_where q f n
-unfolding max_where
-longest_of_fewer p q f zero fewer = zero-le
-longest_of_fewer p q f (suc n) fewer =
-    omega (arith, longest_of_fewer p q f n fewer, choice (p n) (q n) (f n) (fewer n))
-  where
-    choice : (a b : Bool) (c : ℕ) → (a ≡ true → b ≡ true) → (if a then c else 0) ≤ (if b then c else 0)
-    choice false b c h = zero-le
-    choice true b c h = rw (h refl) (omega arith)
-
 module _ (flags : List Bool) (own : ℕ) (inside : own < length flags) where
   pub set_here : is_flagged (set flags own true) own ≡ true
   set_here = flag_set flags own own inside ∙ ap (λ b. b || is_flagged flags own) (eq-eqb own own refl)

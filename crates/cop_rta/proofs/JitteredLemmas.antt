@@ -1,6 +1,5 @@
 -- The test with the jitters of the streams at a place is the test of the place.
 use Rattle.std.proofs.Common.{ℕ, ◌≡◌, ◌↔◌, refl}
-use Rattle.cop_rta.specs.declared.streams.Stream.{Stream}
 use Rattle.cop_rta.specs.Test.{StreamPlace, Passes, IsResponse, jitter_of, busy_at, queueing_at}
 use Rattle.cop_rta.specs.Jittered.{busy_by, queueing_by, IsResponseBy, PassesWith}
 
@@ -11,11 +10,6 @@ busy_by-its p t = refl
 pub queueing_by-its : (p : StreamPlace) (q w : ℕ) → queueing_by (jitter_of p.ahead) p q w ≡ queueing_at p q w
 unfolding queueing_by queueing_at
 queueing_by-its p q w = refl
-
--- what is ahead at the place itself is not asked
-pub busy_by-beside : (J : Stream → ℕ) (p : StreamPlace) (ahead t : ℕ) → busy_by J (record p { ahead = ahead }) t ≡ busy_by J p t
-unfolding busy_by
-busy_by-beside J p ahead t = refl
 
 pub response_with : (p : StreamPlace) (q r : ℕ) → IsResponse p q r ↔ IsResponseBy (jitter_of p.ahead) p q r
 unfolding queueing_by queueing_at

@@ -1,5 +1,5 @@
 -- A trial: the instances of a busy time one after the other, until one is late.
-use Rattle.std.proofs.Common.{◌≡◌, ℕ, ◌+◌, ◌-◌, ◌*◌, ◌^◌, ◌<◌, ◌≤◌, min, Option, Some, None, slice_get, refl, ◌∙◌, subst, arith, ⊎_elim}
+use Rattle.std.proofs.Common.{◌≡◌, ℕ, ◌+◌, ◌-◌, ◌*◌, ◌^◌, ◌<◌, ◌≤◌, min, Option, Some, slice_get, refl, ◌∙◌, subst, arith, ⊎_elim}
 use Rattle.std.proofs.lemmas.Bool.{cases_lt}
 use Rattle.std.specs.Int.{div_ceil}
 use Rattle.std.specs.Option.{ForSome}
@@ -88,9 +88,6 @@ module _ (p : StreamPlace) (s : Stream) (here : slice_get p.streams p.index ≡ 
     where
       short : (d : ℕ) → jitter_of p.ahead s + t ≤ d → (w : ℕ) → w + cost_of p.rate s ≤ t → (x : ℕ) → jitter_of p.ahead s + w + cost_of p.rate s - x ≤ d
       short d le w room x = omega (arith, le, room)
-
-  pub no_deadline : (t : ℕ) → s.deadline ≡ None → IsBusyTime p t → t ≤ horizon → Passes p
-  no_deadline t never busy within = slack t (λ d due. absurd (cc)) busy within
 
 -- one deadline
 pub enough_for : (o : Option ℕ) (found d n : ℕ) → o ≡ Some found → o ≡ Some d → n ≤ found → n ≤ d

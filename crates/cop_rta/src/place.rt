@@ -1,6 +1,6 @@
 //! A place of an order: some streams are below it, and each of the others may get it.
 
-ghost use Rattle.std.specs.Prelude.{◌≡◌, ◌↔◌, ◌+◌, ◌<◌, ◌≤◌, ℕ, length, set, not, true, false, IsTrue};
+ghost use Rattle.std.specs.Prelude.{◌≡◌, ◌↔◌, ◌+◌, ◌<◌, ◌≤◌, length, set, not, true, false, IsTrue};
 ghost use Rattle.cop_rta.specs.Test.{Passes, is_flagged, of_stream, cost_of, ahead_of};
 ghost use Rattle.cop_rta.specs.Sums.{sum_where};
 ghost use Rattle.cop_rta.specs.Verdict.{IsJudged, IsPass};

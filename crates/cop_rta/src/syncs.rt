@@ -16,9 +16,7 @@ use crate::judging::{above_by_id, greatest_response};
 use crate::rates::Clock;
 use crate::sets::StreamSet;
 use cop_frame::Rate;
-
-// SYNC's identifier.
-const SYNC: u16 = 0x80;
+use cop_frame::identifiers::SYNC;
 
 /// SYNC's greatest response at a rate, whatever its deadline: none where the set has no SYNC, or its busy time is past the
 /// horizon.

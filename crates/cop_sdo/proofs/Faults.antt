@@ -1,5 +1,5 @@
 -- When a client's own abort is due.
-use Rattle.std.proofs.Common.{◌≡◌, true, false, ◌||◌, Result, Ok, Err, IsOk, IsErr, ◌⊎◌, inl, inr, refl}
+use Rattle.std.proofs.Common.{◌≡◌, true, false, Result, Ok, Err, IsOk, IsErr, ◌⊎◌, inl, inr, refl}
 use Rattle.cop_dict.specs.declared.abort.Abort.{Abort}
 use Rattle.cop_sdo.specs.Message.{Message}
 use Rattle.cop_sdo.specs.Client.{Calling, called, concluded, reacted, is_idle, task_at}

@@ -13,6 +13,7 @@ use crate::reply::reply_of;
 use crate::task::{Progress, Reaction, Task};
 use cop_dict::Abort;
 use cop_frame::Frame;
+use cop_frame::identifiers::{SDO_REQUEST, SDO_RESPONSE};
 use std::alloc::Global;
 use std::marker::Model;
 
@@ -44,7 +45,7 @@ fn frame_of(node: u8, body: [u8; 8]) -> Frame
     ensures { message_of result ≡ request node body }
 {
     Frame {
-        id: 0x600 + u16::from(node),
+        id: SDO_REQUEST + u16::from(node),
         body,
         len: 8,
     }
@@ -116,7 +117,7 @@ impl Client {
         ensures { MayCall self.old (message_of frame.now) (record { client = self.new; progress = outcome_of result }) }
     {
         if is_idle(self.exchange.task)
-            || frame.id != 0x580 + u16::from(self.node)
+            || frame.id != SDO_RESPONSE + u16::from(self.node)
             || frame.len != 8
         {
             return Progress::Ignored;

@@ -10,6 +10,7 @@ ghost use Rattle.cop_sdo.specs.Serve.{MayServe, Serves, granted, ran_out};
 use crate::session::Session;
 use cop_dict::Dictionary;
 use cop_frame::Frame;
+use cop_frame::identifiers::{SDO_REQUEST, SDO_RESPONSE};
 use std::alloc::{AllocError, Global};
 use std::marker::Model;
 
@@ -56,12 +57,12 @@ impl Server {
     pub fn step(&mut self, dict: &mut Dictionary, frame: &Frame) -> Option<Frame>
         ensures { MayServe self.old dict.old (message_of frame.now) (record { server = self.new; dict = dict.new; answer = option_map message_of result }) }
     {
-        if frame.id != 0x600 + u16::from(self.node) || frame.len != 8 {
+        if frame.id != SDO_REQUEST + u16::from(self.node) || frame.len != 8 {
             return None;
         }
         let body = self.session.answer(dict, &frame.body)?;
         Some(Frame {
-            id: 0x580 + u16::from(self.node),
+            id: SDO_RESPONSE + u16::from(self.node),
             body,
             len: 8,
         })

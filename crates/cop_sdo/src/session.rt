@@ -32,7 +32,7 @@ impl Session {
     ghost use Rattle.cop_sdo.specs.Request.{GiveUnsized, Ask, request_of};
     ghost use Rattle.cop_sdo.specs.Answers.{download_answer, segment_answer};
     ghost use Rattle.cop_sdo.specs.Seen.{IsShort};
-    ghost use Rattle.cop_sdo.specs.Server.{State, idle, moved, stored, begun, segment_came, asked, sent_on, segment_asked, refuses, TakesNoMemory, MayMove};
+    ghost use Rattle.cop_sdo.specs.Server.{idle, moved, stored, begun, segment_came, segment_asked, refuses, TakesNoMemory, MayMove};
     ghost use Rattle.cop_sdo.specs.Session.{state_of, Does, DoesExactly};
 
     pub fn new(alloc: Global) -> Session
@@ -117,7 +117,8 @@ impl Session {
     ) -> Result<Option<[u8; 8]>, Abort>
         requires { length bytes.now ≤ 7 }
         ensures exact { Does result self.new dict.old dict.new (segment_came (state_of self.old) dict.old self.old.transfer toggle bytes.now is_last) }
-        ensures in_place { refuses self.old.transfer (vec_len self.old.bytes) toggle (length bytes.now) is_last ≡ true → DoesExactly result self.new dict.old dict.new (segment_came (state_of self.old) dict.old self.old.transfer toggle bytes.now is_last) }
+        ensures in_place { refuses self.old.transfer (vec_len self.old.bytes) toggle (length bytes.now) is_last ≡ true
+            → DoesExactly result self.new dict.old dict.new (segment_came (state_of self.old) dict.old self.old.transfer toggle bytes.now is_last) }
     {
         let Transfer::Download {
             at,

@@ -1,11 +1,11 @@
 //! The messages of a plan's bus: who sends each, what is in it, and who takes that.
 
-ghost use Rattle.std.specs.Prelude.{◌≡◌, ◌≤◌, ◌++◌, ◌∷◌, [], IfOk, OnOk, length};
+ghost use Rattle.std.specs.Prelude.{◌≡◌, ◌≤◌, ◌++◌, [], IfOk, OnOk};
 ghost use Rattle.std.specs.Option.{option_copied};
 ghost use Rattle.cop_rows.specs.Pdos.{IsConsumer, IsPdoRow};
 ghost use Rattle.std.specs.Prelude.{All};
 ghost use Rattle.cop_dict.specs.declared.mapping.Direction.TheVariants as directions;
-ghost use Rattle.cop_signals.specs.Bus.{signals_in, sent_signals, takes_in, takes, taker, receivers_of, fixed_sender, message_of, messages_of};
+ghost use Rattle.cop_signals.specs.Bus.{signals_in, sent_signals, takes_in, taker, receivers_of, fixed_sender, message_of, messages_of};
 
 use crate::places::{Signal, signals};
 use crate::takers::takes_from;

@@ -1,7 +1,6 @@
 -- Before the first step: each behaviour was asked once.
 use Rattle.std.proofs.Common.{◌≡◌, ℕ, zero, ◌+◌, ◌<◌, inl, inr, List, [], ◌∷◌, ◌++◌, length, get_or, slice_get, slice_set, replicate, Option, Some, None, Result, Ok, Err, IsErrAnd, IfErr, Bool, true, false, refl, sym, ap, ◌∙◌, subst, arith, suc, length-append, map}
-use Rattle.std.specs.Prelude.{◌==◌, if◌then◌else◌}
-use Rattle.std.specs.Option.{ForSome, option_and_then}
+use Rattle.std.specs.Option.{ForSome}
 use Rattle.std.proofs.lemmas.Bool.{cases_lt}
 use Rattle.std.proofs.lemmas.Option.{slice_get_within, get_or_from_slice_get}
 use Rattle.std.proofs.lemmas.List.{length-map, length-set}
@@ -18,7 +17,7 @@ use Rattle.cop_sim.specs.declared.behaviours.Offer.{Offer}
 use Rattle.cop_bus.specs.declared.steps.Step.{Step}
 use Rattle.cop_sim.specs.declared.faults.SimFault.{SimFault}
 use Rattle.cop_sim.specs.declared.faults.SimFault.TheVariants.{Count, Disobeys as DisobeysAt, Backlog, Sink, Memory}
-use Rattle.cop_sim.specs.Play.{Actor, actors_of, by_end, next_offer, obeys, IsPartialPlay}
+use Rattle.cop_sim.specs.Play.{Actor, actors_of, obeys, IsPartialPlay}
 use Rattle.cop_sim.specs.Cues.{from_of}
 use Rattle.cop_sim.specs.Seats.{next_at, answer_of, asks, IsCued}
 use Rattle.cop_sim.specs.declared.cues.Cue.{Cue}

@@ -1,5 +1,5 @@
 -- A transfer ends, and what is at hand after it: of the streams that waited for the SYNC that it may be the next offers, too.
-use Rattle.std.proofs.Common.{◌≡◌, ℕ, ◌+◌, ◌-◌, ◌*◌, ◌≤◌, ◌<◌, inl, inr, List, [], ◌∷◌, ◌++◌, length, get_or, slice_get, Option, Some, None, Contains, Bool, true, false, cond, refl, sym, ap, ◌∙◌, subst, arith, suc, nat_lt}
+use Rattle.std.proofs.Common.{◌≡◌, ℕ, ◌+◌, ◌-◌, ◌*◌, ◌≤◌, inl, inr, List, [], ◌∷◌, ◌++◌, length, get_or, slice_get, Option, Some, None, Contains, Bool, true, false, cond, refl, sym, ap, ◌∙◌, subst, arith, suc, nat_lt}
 use Rattle.std.specs.Prelude.{◌==◌, ◌&&◌}
 use Rattle.std.specs.Option.{option_and_then}
 use Rattle.std.proofs.lemmas.Bool.{cases_lt, ne_eqb}
@@ -20,7 +20,6 @@ use Rattle.cop_bus.proofs.Work.{eq-true, true-eq, lt-true, true-lt}
 use Rattle.cop_bus.proofs.StepLemmas.{bool_cases}
 use Rattle.cop_plan.specs.Values.{PlanValue}
 use Rattle.cop_sim.specs.declared.behaviours.Offer.{Offer}
-use Rattle.cop_sim.specs.declared.cues.Cue.{Cue}
 use Rattle.cop_sim.specs.declared.cues.Cue.TheVariants.{Own, Sync}
 use Rattle.cop_sim.specs.declared.faults.SimFault.TheVariants.{Disobeys as DisobeysAt}
 use Rattle.cop_sim.specs.Cues.{cue_after, awaited_sync, cue_by, cue_of, answer_in, from_of}

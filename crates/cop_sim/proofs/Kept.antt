@@ -1,6 +1,6 @@
 -- What a partial play keeps when it has one step more.
 use Rattle.std.proofs.Common.{◌≡◌, ℕ, ◌≤◌, ◌<◌, ◌⊎◌, inl, inr, List, [], ◌∷◌, ◌++◌, length, take, refl, sym, ◌∙◌, ap, subst, arith, suc, zero, Bool, true, false, cond, nat_le, ◌+◌, ◌-◌, max}
-use Rattle.std.specs.Prelude.{Option, None, Some, All, Any, ◌==◌}
+use Rattle.std.specs.Prelude.{Option, None, Some, All, Any}
 use Rattle.std.specs.Option.{option_and_then}
 use Rattle.std.proofs.lemmas.Bool.{cases_lt, ne_eqb}
 use Rattle.std.proofs.lemmas.List.Elements.{All-weaker}
@@ -9,7 +9,7 @@ use Rattle.cop_bus.specs.declared.steps.Content.{Content}
 use Rattle.cop_bus.specs.declared.steps.Step.TheVariants.{Queue, Start, End}
 use Rattle.cop_bus.specs.Trace.{is_queue, count_to, nth_that, step_at}
 use Rattle.cop_bus.specs.Judge.{waits_after}
-use Rattle.cop_bus.proofs.Work.{true-le, true-eq, eq-true}
+use Rattle.cop_bus.proofs.Work.{true-le}
 use Rattle.cop_bus.proofs.StepLemmas.{bool_cases, one-true, one-false, count_to-le, count_to-suc, nth_that-some, queue_shape, is_queue-of}
 use Rattle.cop_sim.specs.declared.behaviours.Offer.{Offer}
 use Rattle.cop_sim.specs.Play.{Actor, queued_at, queue_step, by_end, queued_before, next_answer, next_offer, QueuesItsOffers, Competes, SendsTheLowest, QueuesRise, StartsBefore, obeys, obeys_after}

@@ -1,10 +1,9 @@
 -- What an offer hangs on keeps the rules on its event and its queue moment: of a synchronous stream its SYNCs are as many numbers apart as it takes.
-use Rattle.std.proofs.Common.{◌≡◌, ℕ, ◌+◌, ◌-◌, ◌*◌, ◌≤◌, ◌<◌, ◌⊎◌, inl, inr, List, [], ◌∷◌, ◌++◌, length, refl, sym, ◌∙◌, ap, subst, arith, suc, zero, Bool, true, false, cond, ◌&&◌, ◌||◌, nat_le, nat_lt}
+use Rattle.std.proofs.Common.{◌≡◌, ℕ, ◌+◌, ◌-◌, ◌*◌, ◌≤◌, ◌<◌, inl, inr, List, [], ◌∷◌, ◌++◌, length, refl, sym, ◌∙◌, ap, subst, arith, suc, zero, true, false, cond, ◌&&◌, ◌||◌, nat_le, nat_lt}
 use Rattle.std.specs.Prelude.{Option, None, Some, is_some, ◌==◌}
-use Rattle.std.proofs.lemmas.Bool.{cases_lt, ne_eqb}
+use Rattle.std.proofs.lemmas.Bool.{cases_lt}
 use Rattle.cop_rta.specs.declared.streams.Stream.{Stream}
 use Rattle.cop_rta.specs.Test.{sync_id}
-use Rattle.cop_bus.specs.declared.anchors.Anchor.{Anchor}
 use Rattle.cop_bus.specs.declared.steps.Step.{Step}
 use Rattle.cop_bus.specs.declared.steps.Content.{Content}
 use Rattle.cop_bus.specs.declared.steps.Step.TheVariants.{Queue, Start, End}
@@ -17,17 +16,15 @@ use Rattle.cop_bus.specs.Ends.{Ended, is_end, event_in, sync_number, anchor_if, 
 use Rattle.cop_bus.proofs.Demand.{and-left, and-right}
 use Rattle.cop_bus.proofs.Work.{true-le, le-true, eq-true, true-eq}
 use Rattle.cop_bus.proofs.Accepts.{some_stream, stream-found}
-use Rattle.cop_bus.proofs.AnchorLemmas.{ended, own_anchor, ended_parts, below_is, below_finds, anchor_async, anchor_synced, gap-async, gap-synced, apart-true}
+use Rattle.cop_bus.proofs.AnchorLemmas.{ended, own_anchor, ended_parts, below_is, below_finds, anchor_async, anchor_synced, gap-async, gap-synced}
 use Rattle.cop_bus.proofs.Hanging.{low_is_async}
 use Rattle.cop_bus.proofs.StepLemmas.{bool_cases, count_to-le, nth_that-some, queue_shape, one-false}
 use Rattle.cop_bus.proofs.Verdict.{keeps}
-use Rattle.cop_bus.proofs.Grows.{step_at-more, count_to-more, last_event-more}
-use Rattle.cop_bus.proofs.Appended.{length-one, count_to-one}
+use Rattle.cop_bus.proofs.Grows.{count_to-more, last_event-more}
+use Rattle.cop_bus.proofs.Appended.{count_to-one}
 use Rattle.cop_sim.specs.declared.behaviours.Offer.{Offer}
-use Rattle.cop_sim.specs.declared.cues.Cue.{Cue}
-use Rattle.cop_sim.specs.declared.cues.Cue.TheVariants.{Own, Sync, Awaited}
-use Rattle.cop_sim.specs.Cues.{cue_after, awaited_sync, cue_by, cue_of, answer_in, filled, from_of}
-use Rattle.cop_sim.specs.Play.{Actor, queued_at, queue_step, queued_before, next_answer, next_offer, QueuesItsOffers, is_later, is_in_time, is_not_before, obeys, obeys_after, event_of}
+use Rattle.cop_sim.specs.Cues.{awaited_sync, cue_of, answer_in, from_of}
+use Rattle.cop_sim.specs.Play.{Actor, queued_at, queue_step, queued_before, next_answer, QueuesItsOffers, is_later, is_in_time, is_not_before, obeys, obeys_after, event_of}
 use Rattle.cop_sim.proofs.Cued.{EndQueued, nth-count, sync-stays, sync-there, sync-kept, last_event-is, before-step, cue-sync, cue-async, filled-event, answered-given}
 
 -- the four tests of an offer that obeys

@@ -1,6 +1,6 @@
 -- The SYNCs that are noted are those of the steps.
-use Rattle.std.proofs.Common.{◌≡◌, ℕ, ◌+◌, ◌-◌, ◌≤◌, ◌<◌, inl, inr, List, [], ◌∷◌, ◌++◌, length, slice_get, refl, sym, ◌∙◌, ap, subst, arith, suc, zero, Bool, true, false, cond}
-use Rattle.std.specs.Prelude.{Option, None, Some, ◌==◌, ◌&&◌, ◌||◌, nat_lt}
+use Rattle.std.proofs.Common.{◌≡◌, ℕ, ◌+◌, ◌-◌, ◌≤◌, inl, inr, List, [], ◌∷◌, ◌++◌, length, slice_get, refl, sym, ◌∙◌, ap, subst, arith, suc, zero, Bool, true, false, cond}
+use Rattle.std.specs.Prelude.{Some, ◌==◌, ◌&&◌, ◌||◌, nat_lt}
 use Rattle.std.proofs.lemmas.Bool.{cases_lt}
 use Rattle.cop_rta.specs.declared.streams.Stream.{Stream}
 use Rattle.cop_rta.specs.Test.{sync_id}
@@ -8,12 +8,12 @@ use Rattle.cop_bus.specs.declared.steps.Step.{Step}
 use Rattle.cop_bus.specs.declared.steps.Step.TheVariants.{Queue, Start, End}
 use Rattle.cop_bus.specs.declared.steps.Content.{Content}
 use Rattle.cop_bus.specs.Trace.{is_queue, count_to, nth_that, moment_of}
-use Rattle.cop_bus.specs.Ends.{Ended, is_end, event_in, ended_by, sync_number}
+use Rattle.cop_bus.specs.Ends.{is_end, event_in, ended_by, sync_number}
 use Rattle.cop_bus.proofs.Work.{lt-true, eq-true}
 use Rattle.cop_bus.proofs.StepLemmas.{bool_cases, nth_that-skip, nth_that-take}
 use Rattle.cop_sim.specs.declared.cues.Cue.TheVariants.{Own}
 use Rattle.cop_sim.specs.Cues.{cue_after, awaited_sync, cue_by}
-use Rattle.cop_sim.specs.Syncs.{SyncsValue, some_synchronous, sync_events, sync_ends, AreNoted, is_noted, with_event, with_end, noted, noted_cue}
+use Rattle.cop_sim.specs.Syncs.{SyncsValue, some_synchronous, sync_events, sync_ends, AreNoted, with_event, with_end, noted, noted_cue}
 
 -- ---- by number
 

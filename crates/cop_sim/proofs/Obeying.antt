@@ -12,8 +12,8 @@ use Rattle.cop_rta.specs.Streams.{AreDistinct}
 use Rattle.cop_rta.specs.Test.{sync_id}
 use Rattle.cop_rta.proofs.QueueLemmas.{ticks_pos}
 use Rattle.cop_bus.specs.declared.steps.Step.{Step}
-use Rattle.cop_bus.specs.Run.{Instance, least_bits, worst_bits, IsKnown, HasLengthOf, IsObeying, IsQueuedInTime, IsSync}
-use Rattle.cop_bus.specs.Trace.{is_queue, count_to, nth_that, step_at, at_of, moment_of, instances, now_of, IsLegalTrace}
+use Rattle.cop_bus.specs.Run.{least_bits, worst_bits, IsKnown, HasLengthOf, IsObeying, IsQueuedInTime, IsSync}
+use Rattle.cop_bus.specs.Trace.{is_queue, count_to, nth_that, at_of, moment_of, instances, now_of}
 use Rattle.cop_bus.specs.Ends.{Ended, is_end, event_in, sync_number, HasEnded}
 use Rattle.cop_bus.specs.Judge.{is_of_length}
 use Rattle.cop_bus.proofs.Accepts as Accepts

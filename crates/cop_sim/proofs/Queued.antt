@@ -1,23 +1,22 @@
 -- A queue step of a play leaves a partial play that goes on.
-use Rattle.std.proofs.Common.{◌≡◌, ℕ, ◌+◌, ◌-◌, ◌≤◌, ◌<◌, ◌⊎◌, inl, inr, List, [], ◌∷◌, ◌++◌, length, refl, sym, ◌∙◌, ap, subst, arith, suc, zero, true, false, cond, ◌&&◌, nat_lt, nat_le}
+use Rattle.std.proofs.Common.{◌≡◌, ℕ, ◌+◌, ◌-◌, ◌≤◌, ◌<◌, ◌⊎◌, inl, inr, List, [], ◌∷◌, ◌++◌, length, refl, sym, ◌∙◌, ap, subst, arith, suc, true, false, cond, ◌&&◌, nat_lt, nat_le}
 use Rattle.std.specs.Prelude.{Option, None, Some, is_some, Contains, ◌==◌}
 use Rattle.std.proofs.lemmas.Bool.{cases_lt}
-use Rattle.cop_rta.specs.declared.streams.Stream.{Stream}
 use Rattle.cop_bus.specs.declared.steps.Step.{Step}
 use Rattle.cop_bus.specs.declared.steps.Step.TheVariants.{Queue}
-use Rattle.cop_bus.specs.Trace.{is_queue, is_start, count_to, step_at, running, at_of, now_of}
+use Rattle.cop_bus.specs.Trace.{is_queue, is_start, count_to, running, at_of}
 use Rattle.cop_bus.specs.Ends.{is_end}
 use Rattle.cop_rta.specs.Test.{sync_id}
 use Rattle.cop_bus.specs.Judge.{stream_of, last_event, is_in_order, not_before, is_period_later, is_queued_in_time, is_of_length, fits_transfer, is_not_idle, broken_by}
-use Rattle.cop_bus.proofs.Demand.{and-left, and-right, and-true}
+use Rattle.cop_bus.proofs.Demand.{and-true}
 use Rattle.cop_bus.proofs.Work.{true-le, le-true, lt-true, true-eq, eq-true}
 use Rattle.cop_bus.proofs.StepLemmas.{bool_cases}
 use Rattle.cop_bus.proofs.Verdict.{Keeps, keeps}
 use Rattle.cop_bus.proofs.Found.{or-left, or-right}
 use Rattle.cop_sim.specs.declared.behaviours.Offer.{Offer}
-use Rattle.cop_sim.specs.Play.{Actor, streams_of, queued_at, queue_step, next_offer, next_answer, IsSentAhead, obeys, obeys_after, queued_before}
+use Rattle.cop_sim.specs.Play.{Actor, streams_of, queued_at, queue_step, next_offer, IsSentAhead, obeys, obeys_after, queued_before}
 use Rattle.cop_sim.specs.Cues.{cue_of, from_of}
-use Rattle.cop_bus.proofs.Grows.{step_at-more, last_event-more}
+use Rattle.cop_bus.proofs.Grows.{last_event-more}
 use Rattle.cop_bus.proofs.Appended.{step_at-here, length-one, one-more, now-one, last-one, count_to-one, last_event-here}
 use Rattle.cop_sim.proofs.Going.{FindsTheSame, finds-more, finds-between, fine-one, running-kept, running-one, keeps-none, order-more, idle-more, runs-idle}
 use Rattle.cop_sim.proofs.Cued.{EndQueued, before-own}

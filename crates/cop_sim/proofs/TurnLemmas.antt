@@ -1,18 +1,12 @@
 -- What the parts of a turn change.
-use Rattle.std.proofs.Common.{◌≡◌, ◌≢◌, ℕ, ◌<◌, zero, suc, List, [], ◌∷◌, ap, length, get_or, slice_get, slice_set, Option, Some, None, Result, Ok, Err, OnOk, IsOk, ◌↔◌, true, false, refl, sym, ◌∙◌, subst, eq-eqb, inr}
-use Rattle.std.specs.Option.{ForSome, option_eq}
-use Rattle.std.proofs.lemmas.List.{get_or-set_same}
+use Rattle.std.proofs.Common.{◌≡◌, ◌≢◌, ℕ, ◌<◌, zero, suc, List, [], ◌∷◌, ap, length, get_or, slice_get, slice_set, Option, Some, Result, Ok, Err, OnOk, IsOk, ◌↔◌, true, false, refl, ◌∙◌, subst, eq-eqb, inr}
+use Rattle.std.specs.Option.{option_eq}
 use Rattle.std.proofs.lemmas.Option.{get_or_from_slice_get}
 use lib.Dec.{eqb}
 use Rattle.cop_rta.specs.declared.streams.Stream.{Stream}
 use Rattle.cop_bus.specs.declared.bus.Instance.{Instance}
 use Rattle.cop_bus.specs.declared.rings.Full.{Full}
 use Rattle.cop_bus.specs.Rings.{RingValue}
-use Rattle.cop_sim.specs.declared.behaviours.Offer.{Offer}
-use Rattle.cop_sim.specs.declared.cues.Cue.{Cue}
-use Rattle.cop_sim.specs.Cues.{from_of}
-use Rattle.cop_sim.specs.Play.{obeys}
-use Rattle.cop_sim.specs.Seats.{next_at}
 use Rattle.cop_sim.specs.Stages.{with_last, IsPut}
 
 pub put_ok : (rings after : List RingValue) (joined : Option ℕ) (place : ℕ) (y : Instance) (r : Result (Unit {0}) Full) → joined ≢ Some place
@@ -24,12 +18,6 @@ put_ok rings after joined place y (Err e) other room ok = tt
 
 pub same_stream : (streams : List Stream) (place : ℕ) (s k : Stream) → s ≡ get_or streams place s → slice_get streams place ≡ Some k → s ≡ k
 same_stream streams place s k is there = is ∙ get_or_from_slice_get streams place k s there
-
-pub next_obeys : (streams : List Stream) (next : List (Option Offer)) (place : ℕ) (s k : Stream) (before : Option Offer) (cue : Stream → Cue) (answer : Option Offer) (o : Offer) → place < length next → s ≡ get_or streams place s → slice_get streams place ≡ Some k
-    → next_at (slice_set next place answer) place ≡ Some o → ForSome answer (λ o. obeys s before (from_of (cue s) o) o ≡ true) → obeys k before (from_of (cue k) o) o ≡ true
-next_obeys streams next place s k before cue answer o low is there e all =
-    let here : answer ≡ Some o = sym (get_or-set_same next place answer None low) ∙ e in
-    subst (λ (v : Stream). obeys v before (from_of (cue v) o) o ≡ true) (same_stream streams place s k is there) (all o here)
 
 pub not_some : (joined : Option ℕ) (place : ℕ) → option_eq eqb joined (Some place) ≡ false → joined ≢ Some place
 not_some joined place f e =

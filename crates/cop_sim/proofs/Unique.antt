@@ -13,8 +13,8 @@ use Rattle.cop_bus.specs.declared.steps.Step.TheVariants.{Queue, Start, End}
 use Rattle.cop_bus.specs.Trace.{is_queue, is_start, count_to, nth_that, step_at, running, after, at_of, rank_of, bits_of}
 use Rattle.cop_bus.specs.Judge.{id_of, stream_of, fits_transfer, is_not_idle, has_one_to_send, any_waits, first_broken, is_unfinished}
 use Rattle.cop_bus.proofs.Demand.{and-left, and-right}
-use Rattle.cop_bus.proofs.Work.{le-true, lt-false, true-le, true-lt, true-eq, eq-true}
-use Rattle.cop_bus.proofs.StepLemmas.{bool_cases, same_some, queue_shape, nth_before, nth_that-at, count_to-le, count_to-past, count_to-zero}
+use Rattle.cop_bus.proofs.Work.{le-true, lt-false, true-le, true-lt, true-eq}
+use Rattle.cop_bus.proofs.StepLemmas.{bool_cases, same_some, queue_shape, nth_before, count_to-le, count_to-past, count_to-zero}
 use Rattle.cop_bus.proofs.Verdict.{Keeps, soon-some}
 use Rattle.cop_bus.proofs.Accepts
 use Rattle.cop_bus.proofs.Accepts.{stream-rest}
@@ -23,7 +23,7 @@ use Rattle.cop_bus.proofs.WholeTrace.{clean-legal}
 use Rattle.cop_bus.proofs.Grows.{step_at-more, count_to-more, any_waits-more, no-more}
 use Rattle.cop_bus.proofs.Appended.{step_at-here, length-one, one-more}
 use Rattle.cop_sim.specs.declared.behaviours.Offer.{Offer}
-use Rattle.cop_sim.specs.Play.{Actor, streams_of, queued_at, queue_step, by_end, next_answer, next_offer, IsPlay, QueuesItsOffers, Competes}
+use Rattle.cop_sim.specs.Play.{Actor, streams_of, queued_at, queue_step, by_end, next_offer, IsPlay, QueuesItsOffers, Competes}
 use Rattle.cop_sim.proofs.Actors.{same-all}
 use Rattle.cop_sim.proofs.Kept.{next-is, answer-more, answer-stays, frame-by_number, competes-more, competes-less}
 

@@ -5,7 +5,7 @@ use Rattle.cop_rta.specs.declared.streams.Stream.{Stream}
 use Rattle.cop_bus.specs.declared.steps.Step.{Step}
 use Rattle.cop_bus.specs.declared.steps.Step.TheVariants.{Queue, Start, End}
 use Rattle.cop_bus.specs.declared.steps.Content.{Content}
-use Rattle.cop_bus.specs.Trace.{is_queue, is_start, count_to, nth_that, step_at, last_of, now_of, IsLegalTrace}
+use Rattle.cop_bus.specs.Trace.{is_queue, is_start, count_to, step_at, last_of, now_of, IsLegalTrace}
 use Rattle.cop_bus.specs.Judge.{waits_after, is_of_length}
 use Rattle.cop_sim.specs.declared.behaviours.Offer.{Offer}
 pub use Rattle.cop_sim.specs.Cues.{queued_at}

@@ -1,6 +1,6 @@
 //! Behaviours that draw their instances from a seed.
 
-ghost use Rattle.std.specs.Prelude.{◌≡◌, ℕ, List, ◌+◌, ◌*◌, ◌<◌, ◌≤◌, ◌^◌};
+ghost use Rattle.std.specs.Prelude.{◌≡◌, ℕ, List, ◌+◌, ◌*◌, ◌<◌, ◌^◌};
 ghost use Rattle.cop_rta.specs.declared.streams.Stream.{Stream};
 ghost use Rattle.cop_frame.specs.declared.rates.Rate.{Rate};
 ghost use Rattle.cop_frame.specs.Rate.{ticks_of};
@@ -173,5 +173,6 @@ impl Behaviour for Seeded {
 
 /// A seeded behaviour obeys: a simulation of such ones is never given up for an answer of theirs.
 pub fn seeded_obeys()
-    ensures { (rate : Rate) (actors : List Actor) (seed : ℕ) (k : Stream) (until n : ℕ) → AreDistinct (streams_of actors) → Disobeys (ticks_of rate) actors until (seeded_actor seed k) n → ⊥ }
+    ensures { (rate : Rate) (actors : List Actor) (seed : ℕ) (k : Stream) (until n : ℕ) → AreDistinct (streams_of actors)
+        → Disobeys (ticks_of rate) actors until (seeded_actor seed k) n → ⊥ }
 {}

@@ -1,6 +1,6 @@
 //! The simulator: the play of the behaviours that it is handed.
 
-ghost use Rattle.std.specs.Prelude.{◌≡◌, ℕ, ◌≤◌, ◌<◌, ◌^◌, List, Bool, false, length, OnOk, IfOk, IfErr};
+ghost use Rattle.std.specs.Prelude.{◌≡◌, ◌≤◌, ◌<◌, ◌^◌, List, false, length, OnOk, IfOk, IfErr};
 ghost use Rattle.cop_frame.specs.Rate.{ticks_of};
 ghost use Rattle.cop_bus.specs.declared.steps.Step.{Step};
 ghost use Rattle.cop_sim.specs.Play.{actors_of, IsPlay, IsPartialPlay};
@@ -28,10 +28,14 @@ pub fn simulate_into<S: Sink>(
     requires until { until ≤ 4000000000 }
     requires works { S.has_failed sink.old ≡ false }
     ensures count { OnOk result (length behaviours.items ≡ length plan.now.streams) }
-    ensures play { OnOk result ((steps : List Step) × IsPlay (ticks_of plan.now.rate) (actors_of (λ b. offer b) (λ b. agrees b) plan.now.streams behaviours.items) until steps × Took S.takes sink.old steps sink.new × (length steps < 2 ^ 64)) }
+    ensures play { OnOk result ((steps : List Step)
+        × IsPlay (ticks_of plan.now.rate) (actors_of (λ b. offer b) (λ b. agrees b) plan.now.streams behaviours.items) until steps
+        × Took S.takes sink.old steps sink.new × (length steps < 2 ^ 64)) }
     ensures works { OnOk result (S.has_failed sink.new ≡ false) }
     ensures cause { IfErr result (λ fault. IsCause plan.now (actors_of (λ b. offer b) (λ b. agrees b) plan.now.streams behaviours.items) (length behaviours.items) until (S.has_failed sink.new) fault) }
-    ensures left { IfErr result (λ fault. (steps : List Step) × IsPartialPlay (ticks_of plan.now.rate) (actors_of (λ b. offer b) (λ b. agrees b) plan.now.streams behaviours.items) until steps × LeftOff S.takes sink.old steps sink.new fault) }
+    ensures left { IfErr result (λ fault. (steps : List Step)
+        × IsPartialPlay (ticks_of plan.now.rate) (actors_of (λ b. offer b) (λ b. agrees b) plan.now.streams behaviours.items) until steps
+        × LeftOff S.takes sink.old steps sink.new fault) }
 {
     simulate_over(alloc, plan, behaviours, until, sink)
 }
@@ -47,10 +51,14 @@ pub fn simulate_over<B: Behaviour, S: Sink>(
     requires until { until ≤ 4000000000 }
     requires works { S.has_failed sink.old ≡ false }
     ensures count { OnOk result (length behaviours.items ≡ length plan.now.streams) }
-    ensures play { OnOk result ((steps : List Step) × IsPlay (ticks_of plan.now.rate) (actors_of B.offer B.agrees plan.now.streams behaviours.items) until steps × Took S.takes sink.old steps sink.new × (length steps < 2 ^ 64)) }
+    ensures play { OnOk result ((steps : List Step)
+        × IsPlay (ticks_of plan.now.rate) (actors_of B.offer B.agrees plan.now.streams behaviours.items) until steps
+        × Took S.takes sink.old steps sink.new × (length steps < 2 ^ 64)) }
     ensures works { OnOk result (S.has_failed sink.new ≡ false) }
     ensures cause { IfErr result (λ fault. IsCause plan.now (actors_of B.offer B.agrees plan.now.streams behaviours.items) (length behaviours.items) until (S.has_failed sink.new) fault) }
-    ensures left { IfErr result (λ fault. (steps : List Step) × IsPartialPlay (ticks_of plan.now.rate) (actors_of B.offer B.agrees plan.now.streams behaviours.items) until steps × LeftOff S.takes sink.old steps sink.new fault) }
+    ensures left { IfErr result (λ fault. (steps : List Step)
+        × IsPartialPlay (ticks_of plan.now.rate) (actors_of B.offer B.agrees plan.now.streams behaviours.items) until steps
+        × LeftOff S.takes sink.old steps sink.new fault) }
 {
     let streams = plan.streams().streams();
     if behaviours.len() != streams.len() {

@@ -6,12 +6,10 @@ ghost use Rattle.cop_sim.specs.Syncs.{some_synchronous, is_noted, with_event, wi
 ghost use Rattle.cop_sim.specs.Stages.{no_syncs};
 
 use crate::cues::Cue;
+use cop_frame::identifiers::SYNC;
 use cop_rta::Stream;
 use std::alloc::{AllocError, Global};
 use std::marker::Model;
-
-/// The identifier of SYNC.
-const SYNC: u16 = 0x080;
 
 /// The SYNCs by their numbers, if some stream is synchronous: the events of those that are queued and the ends of their transfers.
 #[derive(Drop)]

@@ -42,7 +42,8 @@ fn ask_at<B: Behaviour>(
     ensures asked { OnOk result ((b : _) → slice_get behaviours.old.items place ≡ Some b → (c : _) × (behaviours.new.items ≡ slice_set behaviours.old.items place c)
         × IsCued B.offer B.agrees (noted_cue stage.old.syncs stream.now (get_or stage.old.queued.items place 0)) b c
         × (next_at stage.new.offers.next place ≡ answer_of B.offer until (noted_cue stage.old.syncs stream.now (get_or stage.old.queued.items place 0)) before b)) }
-    ensures obeys { OnOk result ((o : Offer) → next_at stage.new.offers.next place ≡ Some o → obeys stream.now before (from_of (noted_cue stage.old.syncs stream.now (get_or stage.old.queued.items place 0)) o) o ≡ true) }
+    ensures obeys { OnOk result ((o : Offer) → next_at stage.new.offers.next place ≡ Some o
+        → obeys stream.now before (from_of (noted_cue stage.old.syncs stream.now (get_or stage.old.queued.items place 0)) o) o ≡ true) }
     ensures fault { IfErr result (λ fault. (n : ℕ) × (fault ≡ faults.Disobeys place n) × (n ≡ get_or stage.old.queued.items place 0) × ((b : _) → slice_get behaviours.old.items place ≡ Some b →
         (o : Offer) × (answer_of B.offer until (noted_cue stage.old.syncs stream.now n) before b ≡ Some o) × (obeys stream.now before (from_of (noted_cue stage.old.syncs stream.now n) o) o ≡ false))) }
 {
@@ -191,7 +192,8 @@ fn queue_instance<S: Sink>(stage: &mut Stage, due: Due, sink: &mut S) -> Result<
     ensures offers { OnOk result (stage.new.offers ≡ stage.old.offers) }
     ensures running { OnOk result (stage.new.running ≡ stage.old.running) }
     ensures now { OnOk result (queued_at due.offer < 2 ^ 64 → stage.new.now ≡ queued_at due.offer) }
-    ensures queued { OnOk result ((n : ℕ) × (stage.new.queued.items ≡ slice_set stage.old.queued.items due.place n) × (get_or stage.old.queued.items due.place 0 < 2 ^ 64 - 1 → n ≡ suc (get_or stage.old.queued.items due.place 0))) }
+    ensures queued { OnOk result ((n : ℕ) × (stage.new.queued.items ≡ slice_set stage.old.queued.items due.place n)
+        × (get_or stage.old.queued.items due.place 0 < 2 ^ 64 - 1 → n ≡ suc (get_or stage.old.queued.items due.place 0))) }
     ensures syncs { OnOk result (stage.new.syncs ≡ with_event stage.old.syncs due.id due.offer.event) }
     ensures taken { OnOk result (queued_at due.offer < 2 ^ 64 → S.takes sink.old (queue_step due.id due.offer) sink.new) }
     ensures works { OnOk result (S.has_failed sink.new ≡ false) }
@@ -225,7 +227,9 @@ pub(crate) fn queue_offer<B: Behaviour, S: Sink>(
     requires until { until ≤ 4000000000 }
     requires works { S.has_failed sink.old ≡ false }
     ensures queued { OnOk result (IsQueued B.offer B.agrees until streams.now due (at_hand stage.old) (at_hand stage.new) behaviours.old.items behaviours.new.items) }
-    ensures obeys { OnOk result ((o : Offer) (k : Stream) → next_at stage.new.offers.next due.place ≡ Some o → slice_get streams.now due.place ≡ Some k → obeys k (Some due.offer) (from_of (noted_cue stage.new.syncs k (get_or stage.new.queued.items due.place 0)) o) o ≡ true) }
+    ensures obeys { OnOk result ((o : Offer) (k : Stream) → next_at stage.new.offers.next due.place ≡ Some o
+        → slice_get streams.now due.place ≡ Some k
+        → obeys k (Some due.offer) (from_of (noted_cue stage.new.syncs k (get_or stage.new.queued.items due.place 0)) o) o ≡ true) }
     ensures taken { OnOk result (queued_at due.offer ≤ until → S.takes sink.old (queue_step due.id due.offer) sink.new) }
     ensures works { OnOk result (S.has_failed sink.new ≡ false) }
     ensures fault { IfErr result (λ fault. QueueFault B.offer S.takes until streams.now due (at_hand stage.old) behaviours.old.items sink.old sink.new fault) }

@@ -1,6 +1,6 @@
 //! What is written to an adapter.
 
-ghost use Rattle.std.specs.Prelude.{◌≡◌, ◌≤◌, ◌<◌, slice_index, length, map, option_map};
+ghost use Rattle.std.specs.Prelude.{◌≡◌, ◌<◌, slice_index};
 ghost use Rattle.hex.specs.Hex.{upper_digits};
 ghost use Rattle.cop_sdo.specs.Message.{message_of};
 ghost use Rattle.cop_slcan.specs.Lines.{head_of, line_of, rate_digit};

@@ -1,6 +1,7 @@
 //! Names of sections, and their other spellings.
 
 use crate::text::{dense, from, is_blank, same_name, trim, trim_start, upto};
+pub use cop_eds::{code_of, number_in};
 use std::alloc::{AllocError, Global};
 
 /// The names of the lists, in the order in which they are read.
@@ -37,29 +38,6 @@ pub fn is_decimal(bytes: &[u8]) -> bool {
     !bytes.is_empty() && bytes.iter().all(|b| b.is_ascii_digit())
 }
 
-/// The number that digits of a radix write, where it fits 64 bits.
-pub fn number_in(radix: u32, digits: &[u8]) -> Option<u64> {
-    if digits.is_empty() {
-        return None;
-    }
-    let mut value = 0u64;
-    for byte in digits {
-        let digit = digit_in(radix, *byte)?;
-        value = value.checked_mul(u64::from(radix))?.checked_add(digit)?;
-    }
-    Some(value)
-}
-
-fn digit_in(radix: u32, byte: u8) -> Option<u64> {
-    let digit = match byte {
-        b'0'..=b'9' => byte - b'0',
-        b'a'..=b'f' => byte - b'a' + 10,
-        b'A'..=b'F' => byte - b'A' + 10,
-        _ => return None,
-    };
-    (u32::from(digit) < radix).then_some(u64::from(digit))
-}
-
 /// The number of an object's section: by rising index, and of one index its own section first, then by rising sub.
 pub fn code(index: u64, sub: Option<u64>) -> u64 {
     let own = index.saturating_mul(257);
@@ -73,28 +51,6 @@ pub fn code(index: u64, sub: Option<u64>) -> u64 {
 pub fn address(code: u64) -> (u64, Option<u64>) {
     let part = code % 257;
     (code / 257, part.checked_sub(1))
-}
-
-/// The sub that a name has behind its index.
-fn sub_of(rest: &[u8]) -> Option<u64> {
-    match rest {
-        [s, u, b, digits @ ..] if digits.len() <= 2 && same_name(&[*s, *u, *b], b"sub") => {
-            number_in(16, digits)
-        }
-        _ => None,
-    }
-}
-
-/// The number of an object's section with this name.
-pub fn code_of(name: &[u8]) -> Option<u64> {
-    if name.len() < 4 {
-        return None;
-    }
-    let index = number_in(16, upto(name, 4))?;
-    if name.len() == 4 {
-        return Some(code(index, None));
-    }
-    Some(code(index, Some(sub_of(from(name, 4))?)))
 }
 
 pub fn is_list(name: &[u8]) -> bool {

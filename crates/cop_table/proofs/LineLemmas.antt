@@ -1,5 +1,5 @@
 -- The lines of a text without a quote, and the fields of a line by the places where they end.
-use Rattle.std.proofs.Common.{◌≡◌, ℕ, zero, suc, ◌+◌, ◌-◌, ◌<◌, ◌≤◌, Bool, true, false, cond, List, [], ◌∷◌, ◌++◌, length, take, drop, get_or, refl, sym, ap, ◌∙◌, arith, append_assoc, length-drop, true≢false, ◌==◌, ◌&&◌}
+use Rattle.std.proofs.Common.{◌≡◌, ℕ, zero, suc, ◌+◌, ◌-◌, ◌<◌, ◌≤◌, Bool, true, false, cond, List, [], ◌∷◌, length, take, drop, get_or, refl, sym, ap, ◌∙◌, arith, length-drop, true≢false, ◌==◌, ◌&&◌}
 use Rattle.std.proofs.lemmas.List.{take_all}
 use Rattle.csv.specs.Reading.{strip_bom}
 use Rattle.cop_table.specs.Plain.{is_comma, is_line_end, with_first, pieces, cut_lines}
@@ -87,10 +87,6 @@ pub found : (line ends : List ℕ) (place start : ℕ) → ends ≡ ends_of is_c
     → IsCut line 0 start (get_or ends place 0) (get_or (pieces is_comma line) place [])
 found line ends place start e short is = rw (is, e) (cut_at is_comma 0 line place (rw e at short))
 
-pub start_before : (ends : List ℕ) (place : ℕ) → (place ≡ 0 → ⊥) → get_or ends (place - 1) 0 + 1 ≡ start_at 0 ends place
-start_before ends zero h = absurd (h refl)
-start_before ends (suc place) h = let before : suc place - 1 ≡ place = omega arith in rw before refl
-
 past_all : (fields : List (List ℕ)) (place : ℕ) → length fields ≤ place → [] ≡ get_or fields place []
 past_all [] place h = refl
 past_all (field ∷ fields) zero h = absurd (omega (arith, h))
@@ -171,16 +167,3 @@ unmarked [] h = refl
 unmarked (a ∷ []) h = refl
 unmarked (a ∷ b ∷ []) h = refl
 unmarked (a ∷ b ∷ c ∷ text) h = rw h refl
-
--- a byte more of the line that is cut
-pub at_comma : (ends whole : List ℕ) (i c : ℕ) (text : List ℕ) → c ≡ 44 → ends ++ ends_of is_comma i (first_line (c ∷ text)) ≡ whole
-    → (ends ++ i ∷ []) ++ ends_of is_comma (i + 1) (first_line text) ≡ whole
-at_comma ends whole i c text is h = append_assoc ends (i ∷ []) _ ∙ rw is at h
-
-pub at_end : (ends whole : List ℕ) (i c : ℕ) (text : List ℕ) → is_line_end c ≡ true → ends ++ ends_of is_comma i (first_line (c ∷ text)) ≡ whole
-    → ends ++ i ∷ [] ≡ whole
-at_end ends whole i c text is h = rw is at h
-
-pub at_byte : (ends whole : List ℕ) (i c : ℕ) (text : List ℕ) → is_comma c ≡ false → is_line_end c ≡ false → ends ++ ends_of is_comma i (first_line (c ∷ text)) ≡ whole
-    → ends ++ ends_of is_comma (i + 1) (first_line text) ≡ whole
-at_byte ends whole i c text comma end h = rw (end, comma) at h

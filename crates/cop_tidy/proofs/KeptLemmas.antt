@@ -1,7 +1,7 @@
 -- A text keeps its own objects.
-use Rattle.std.proofs.Common.{◌≡◌, ℕ, List, Ok, refl, sym, ◌∙◌, subst, inr, Contains, All}
+use Rattle.std.proofs.Common.{◌≡◌, ℕ, List, Ok, refl, subst, inr, Contains, All}
 use Rattle.std.proofs.lemmas.List.Elements.{All-contains_itself}
-use Rattle.cop_dict.specs.Find.{Entry, IsSorted, entry_at}
+use Rattle.cop_dict.specs.Find.{Entry, IsSorted}
 use Rattle.cop_dict.specs.Build.{built}
 use Rattle.cop_dict.proofs.DictLemmas.{own_place}
 use Rattle.cop_dict.proofs.BuildLemmas.{built_sorted}

@@ -1,5 +1,5 @@
 -- What follows where nothing stands against a text.
-use Rattle.std.proofs.Common.{◌≡◌, ℕ, ◌≤◌, Bool, true, false, cond, List, Option, Some, None, Result, Ok, Err, IsOk, IfSome, refl, sym, ◌∙◌, subst, arith, All}
+use Rattle.std.proofs.Common.{◌≡◌, ℕ, ◌≤◌, Bool, true, false, cond, List, Option, Some, None, Result, Ok, Err, IsOk, IfSome, refl, sym, subst, arith, All}
 use Rattle.std.specs.List.{list_all}
 use Rattle.std.specs.Option.{option_map, option_or}
 use Rattle.std.proofs.lemmas.List.Sums.{AllPass-from_list_all, list_all-from_AllPass}
@@ -68,10 +68,6 @@ unfolding standing
 accepted_of words text h =
     let a = accepted_by (is_leaving words) text (reading text) refl h in
     record { read = a.0; first = a.1.first; last = a.1.last }
-
-pub first_identified_of : (words : Words) (text : List ℕ) → standing words text ≡ None → AreIdentified 1 text
-unfolding standing
-first_identified_of words text h = let a = accepted_by (is_leaving words) text (reading text) refl h in a.1.first_identified
 
 pub last_identified_of : (words : Words) (text : List ℕ) → standing words text ≡ None → AreIdentified 127 text
 unfolding standing

@@ -1,6 +1,6 @@
 //! That the objects of an accepted text stay.
 
-ghost use Rattle.std.specs.Prelude.{◌≡◌, true, All, IfOk, IfSome, IfNone, Ok, List, MatchOption};
+ghost use Rattle.std.specs.Prelude.{◌≡◌, true, All, IfOk, IfSome, IfNone, Ok, List};
 ghost use Rattle.std.specs.List.{list_all};
 ghost use Rattle.cop_eds.specs.Reading.{reading};
 ghost use Rattle.cop_dict.specs.Find.{Entry, entry_at};

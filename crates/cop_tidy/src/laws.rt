@@ -18,5 +18,6 @@ pub fn nothing_stands_against_a_safe_text()
 /// Where the first change is of another line than this one, this line stands as it was, and then the others come.
 #[tactic(auto, using(crate::proofs::LineLemmas::untold_stands))]
 pub fn a_line_in_no_change_stands()
-    ensures { (newline : List ℕ) (place : ℕ) (raw : List ℕ) (raws : List (List ℕ)) (changes : List Change) → here place changes ≡ 0 → lines_with newline place (raw ∷ raws) changes ≡ raw ++ lines_with newline (place + 1) raws changes }
+    ensures { (newline : List ℕ) (place : ℕ) (raw : List ℕ) (raws : List (List ℕ)) (changes : List Change) → here place changes ≡ 0
+        → lines_with newline place (raw ∷ raws) changes ≡ raw ++ lines_with newline (place + 1) raws changes }
 {}

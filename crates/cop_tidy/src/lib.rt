@@ -3,7 +3,7 @@
 
 mod judging;
 mod keeping;
-pub mod laws;
+mod laws;
 mod meanings;
 mod telling;
 mod tidying;
@@ -14,6 +14,7 @@ pub use cop_change::{
 };
 pub use cop_eds::Access;
 pub use judging::Left;
+pub use laws::{a_line_in_no_change_stands, nothing_stands_against_a_safe_text};
 pub use telling::told;
 pub use tidying::{Tidied, tidy};
 pub use wording::{question_words, refusal_words};

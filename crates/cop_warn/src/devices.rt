@@ -1,6 +1,6 @@
 //! Warnings on devices.
 
-ghost use Rattle.std.specs.Prelude.{◌≡◌, ◌≤◌, ◌+◌, ◌++◌, OnOk};
+ghost use Rattle.std.specs.Prelude.{◌≡◌, ◌+◌, ◌++◌, OnOk};
 ghost use Rattle.cop_net.specs.Fixed.{rank_of};
 ghost use Rattle.cop_warn.specs.Warnings.{is_row, has_row, no_row, emcy_warning, request_warning, response_warning, heartbeat_warning, other_identifier, sync_warning, of_frames, of_identifiers, of_device};
 

@@ -1,9 +1,7 @@
 //! The warnings of a network.
 
 ghost use Rattle.std.specs.Prelude.{◌≡◌, ◌≤◌, ◌+◌, ◌++◌, [], All, OnOk, IfOk, length};
-ghost use Rattle.std.specs.Option.{option_copied};
-ghost use Rattle.cop_rows.specs.Pdos.{IsPdoRow};
-ghost use Rattle.cop_warn.specs.Warnings.{dictionary_in, of_rows, of_devices, warnings_of};
+ghost use Rattle.cop_warn.specs.Warnings.{of_rows, of_devices, warnings_of};
 
 use crate::devices::push_device;
 use crate::rows::push_row;

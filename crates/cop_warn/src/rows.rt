@@ -1,8 +1,7 @@
 //! Warnings on the rows of PDOs.
 
-ghost use Rattle.std.specs.Prelude.{◌≡◌, ◌≤◌, ◌+◌, ◌++◌, ◌^◌, length, OnOk};
+ghost use Rattle.std.specs.Prelude.{◌≡◌, ◌≤◌, ◌+◌, ◌++◌, OnOk};
 ghost use Rattle.std.specs.Option.{option_copied, option_to_list};
-ghost use Rattle.cop_rows.specs.Pdos.{IsPdoRow};
 ghost use Rattle.cop_warn.specs.Warnings.{deadline_warning, timer_warning, inhibit_warning, of_row, of_sender};
 
 use crate::numbers::natural_at;

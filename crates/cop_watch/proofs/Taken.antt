@@ -12,7 +12,7 @@ use Rattle.cop_bus.specs.Trace.{is_queue, is_start, count_to, nth_that, running,
 use Rattle.cop_bus.specs.Ends.{anchor_of, event_in, sync_anchor}
 use Rattle.cop_rta.specs.Test.{sync_id}
 use Rattle.cop_bus.specs.Judge as Judge
-use Rattle.cop_bus.specs.Judge.{stream_of, last_event, event_or, is_in_order, is_period_later, is_queued_in_time, is_of_length, fits_transfer, has_one_to_send, is_lowest, is_not_idle, broken_by, any_waits, lower_waits, waits_after, are_apart, is_soon_queued}
+use Rattle.cop_bus.specs.Judge.{stream_of, last_event, event_or, is_in_order, is_period_later, is_queued_in_time, is_of_length, fits_transfer, is_not_idle, broken_by, any_waits, lower_waits, waits_after, are_apart, is_soon_queued}
 use Rattle.cop_bus.specs.Growing.{KeepTheRules}
 use Rattle.cop_bus.proofs.AnchorLemmas.{own_anchor, anchor_async, gap-async}
 use Rattle.cop_bus.proofs.Work.{le-true, lt-true, true-lt, true-eq, eq-true}

@@ -58,10 +58,6 @@ line-then : (line : List ℕ) (c : ℕ) (more : List ℕ) → first_line line �
 line-then [] c more h e = rw e refl
 line-then (b ∷ line) c more h e = let w = whole-head b line h in rw (w.0, line-then line c more w.1 e) refl
 
--- so is a record, if it is not blank
-pub blank-then : (c : ℕ) (more : List ℕ) → is_line_end c ≡ true → cut_lines (pieces is_line_end (c ∷ more)) ≡ cut_lines (pieces is_line_end more)
-blank-then c more e = rw (line-then [] c more refl e) refl
-
 pub record-then : (line : List ℕ) (c : ℕ) (more : List ℕ) → first_line line ≡ line → is_line_end c ≡ true → (length line ≡ 0 → ⊥) →
     cut_lines (pieces is_line_end (line ++ c ∷ more)) ≡ pieces is_comma line ∷ cut_lines (pieces is_line_end more)
 record-then [] c more h e some = absurd (some refl)
@@ -138,14 +134,6 @@ part-read tau streams text part line w stage whole r = record {
   all = λ more. ap (λ (xs : List ℕ). cut_lines (pieces is_line_end xs)) (append_assoc text part more) ∙ r.all (part ++ more)
       ∙ ap (λ (xs : List ℕ). r.rows ++ cut_lines (pieces is_line_end xs)) (sym (append_assoc line part more));
   whole = whole-append line part r.whole whole;
-}
-
-pub blank-read : (tau : ℕ) (streams : List Stream) (text : List ℕ) (c : ℕ) (w : Watch) (stage : Stage) → is_line_end c ≡ true → IsRead tau streams text w [] stage → IsRead tau streams (text ++ c ∷ []) w [] stage
-blank-read tau streams text c w stage e r = record {
-  rows = r.rows;
-  at = r.at;
-  all = λ more. ap (λ (xs : List ℕ). cut_lines (pieces is_line_end xs)) (append_assoc text (c ∷ []) more) ∙ r.all (c ∷ more) ∙ ap (λ rs. r.rows ++ rs) (blank-then c more e);
-  whole = refl;
 }
 
 pub line-read : (tau : ℕ) (streams : List Stream) (text line : List ℕ) (c : ℕ) (row : Fields) (w w' : Watch) (stage stage' : Stage) → is_line_end c ≡ true → (length line ≡ 0 → ⊥) → row ≡ pieces is_comma line →

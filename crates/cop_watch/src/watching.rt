@@ -1,6 +1,6 @@
 //! A trace that is watched, step by step.
 
-ghost use Rattle.std.specs.Prelude.{◌≡◌, ◌<◌, ◌≤◌, ◌++◌, ◌∷◌, [], ℕ, List, IfOk, None, true, length, slice_index, slice_index_or};
+ghost use Rattle.std.specs.Prelude.{◌≡◌, ◌<◌, ◌++◌, ◌∷◌, [], ℕ, List, IfOk, None, true, length, slice_index, slice_index_or};
 ghost use Rattle.cop_frame.specs.Rate.{ticks_of};
 ghost use Rattle.cop_rta.specs.declared.streams.Stream.{Stream as Seen};
 ghost use Rattle.cop_bus.specs.declared.steps.Step.{Step};
@@ -17,14 +17,13 @@ use crate::rules::{is_after, obeys, obeys_sync, stream_of};
 use crate::syncs::{Newest, ended};
 use cop_bus::{Content, Step};
 use cop_frame::Rate;
+use cop_frame::identifiers::SYNC;
 use cop_rta::{Stream, StreamSet};
 use std::alloc::{AllocError, Global};
 use std::collections::BTreeSet;
 
 /// How many identifiers streams can have.
 const IDS: usize = 2048;
-
-const SYNC: u16 = 0x80;
 
 /// What is known of the steps of a trace that were taken so far. It keeps none of them: its memory grows with what waits alone, of which
 /// it has at most 64 instances of each stream.

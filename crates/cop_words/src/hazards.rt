@@ -1,7 +1,5 @@
 //! What is said of what EDS texts leave implicit.
 
-ghost use Rattle.std.specs.Prelude.{◌≤◌};
-
 use crate::devices::{accepted, text_named};
 use crate::findings::{EdsLine, Finding};
 use crate::words::push_shown;

@@ -1,8 +1,8 @@
-use Rattle.std.proofs.Common.{◌≡◌, ◌∙◌, sym}
+use Rattle.std.proofs.Common.{◌∙◌, sym}
 use Rattle.std.proofs.lemmas.Result.{err_from_is_err_and}
 use Rattle.cop_dict.specs.Build.{entry_built}
 use Rattle.cop_dict.proofs.OrderLemmas.{Rises, place_of_object, rises_at, objects_rise}
-use Rattle.cop_dict.proofs.BuildLemmas.{goes_on, fails, ends, begins, built_sorted}
+use Rattle.cop_dict.proofs.BuildLemmas.{goes_on, fails, ends, built_sorted}
 use Rattle.cop_dict.proofs.KeyLemmas.{keys_at}
 use Rattle.cop_dict.proofs.building.entries.Goals as goal
 

@@ -1,4 +1,4 @@
-use Rattle.std.proofs.Common.{◌<◌, ◌^◌, arith}
+use Rattle.std.proofs.Common.{arith}
 use Rattle.cop_rta.specs.Test.{place_of}
 use Rattle.cop_figures.proofs.DelayLemmas.{within_wait}
 use Rattle.cop_figures.proofs.delays.blocking_of.Goals as goal

@@ -1,4 +1,4 @@
-use Rattle.std.proofs.Common.{◌≡◌, ◌∙◌, ◌<◌, sym, arith}
+use Rattle.std.proofs.Common.{◌∙◌, sym, arith}
 use Rattle.cop_rta.specs.Solutions.{IsLeastSolution}
 use Rattle.cop_rta.specs.Test.{StreamPlace, place_of, queueing_at, IsQueuedWithin}
 use Rattle.cop_figures.proofs.DelayLemmas.{uncut, not_none, other_response, none_next, some_has}

@@ -16,7 +16,7 @@ returns-clause-timed c =
     (pass_iff place (get_or c.args.verdicts.now c.args.pdo Long) c.requires.judged).1 (c.streams.ensures.on_time.pass c.args.pdo c.requires.pdo) in
     let same : get_or c.args.verdicts.now c.args.pdo Long ≡ get_or c.args.verdicts.now c.args.pdo (Pass 0) =
     get_or_default c.args.verdicts.now c.args.pdo Long (Pass 0) (omega (arith, inside, c.requires.verdicts)) in
-    let is : get_or c.args.verdicts.now c.args.pdo Long ≡ Pass c.response_of.result = same ∙ c.response_of.ensures (subst IsPass same passes) in
+    let is : get_or c.args.verdicts.now c.args.pdo Long ≡ Pass c.response_of.result = same ∙ c.response_of.ensures.pass (subst IsPass same passes) in
     record {
       stream = here;
       id = rw here at (c.streams.ensures.planned.its c.args.pdo c.requires.pdo);

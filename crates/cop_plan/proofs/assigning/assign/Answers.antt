@@ -1,10 +1,8 @@
-use Rattle.std.proofs.Common.{◌≡◌, ◌+◌, ◌*◌, arith, length}
+use Rattle.std.proofs.Common.{◌+◌, ◌*◌, arith, length}
 use Rattle.std.proofs.lemmas.List.{length-append}
-use Rattle.cop_plan.specs.Fillings.{ids_in_ranges}
 use Rattle.cop_plan.proofs.FillingLemmas.{no_bit}
 use Rattle.cop_plan.proofs.AssignLemmas.{passed_over, one_more, all_refused, refused_is_ruled_out, trials_more, busy_more, plan_is, members_push, filled_push}
 use Rattle.cop_plan.proofs.MarginOutcome.{plain_order}
-use Rattle.cop_plan.proofs.RateLemmas.{rate_at}
 use Rattle.cop_plan.proofs.assigning.assign.Goals as goal
 use Rattle.cop_plan.proofs.assigning.assign.Goals.{then-contains+in_ok-lower+in-Refused+in_ok-push-in-Refused, else-contains}
 

@@ -1,12 +1,10 @@
 use Rattle.std.proofs.Common.{◌≡◌, ◌∙◌, ◌*◌, ◌+◌, ◌≤◌, ◌<◌, ℕ, length, true, nat_lt, sym, arith}
 use Rattle.std.proofs.lemmas.Bool.{lt-ltb}
-use Rattle.cop_rta.specs.Ranges.{first_range, second_range}
+use Rattle.cop_rta.specs.Ranges.{first_range}
 use Rattle.cop_rta.specs.Test.{is_flagged}
 use Rattle.cop_cert.specs.Evidence.{is_listed}
-use Rattle.cop_plan.specs.Fillings.{number, IsFilled}
-use Rattle.cop_plan.specs.Orders.{FramesPass}
-use Rattle.cop_plan.proofs.FillingLemmas.{no_bit}
-use Rattle.cop_plan.proofs.FoundLemmas.{filled_by_test, some_left, none_left_of, none_are_left, left_fail, lowest_by_flags, frames_by_flags, places_found, alone_planned, least_over_both, filled_over_both, sync_found}
+use Rattle.cop_plan.specs.Fillings.{number}
+use Rattle.cop_plan.proofs.FoundLemmas.{filled_by_test, some_left, none_left_of, none_are_left, left_fail, lowest_by_flags, frames_by_flags, places_found, alone_planned, least_over_both, filled_over_both}
 use Rattle.cop_plan.proofs.RangeFlagLemmas.{number_of_all, trials_of_all, trials_before}
 use Rattle.cop_plan.proofs.assigning.at_rate.Goals as goal
 use Rattle.cop_plan.proofs.assigning.at_rate.Goals.{After-fill_range}

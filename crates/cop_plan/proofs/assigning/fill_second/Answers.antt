@@ -1,7 +1,4 @@
-use Rattle.std.proofs.Common.{◌≡◌, sym, List, ℕ}
-use Rattle.std.proofs.lemmas.Result.{IfOk-weaker}
 use Rattle.cop_rta.specs.Ranges.{second_range}
-use Rattle.cop_rta.specs.Test.{is_flagged}
 use Rattle.cop_plan.proofs.FoundLemmas.{filled_of_all}
 use Rattle.cop_plan.proofs.RangeFlagLemmas.{number_of_all, trials_of_all}
 use Rattle.cop_plan.proofs.assigning.fill_second.Goals as goal

@@ -1,4 +1,4 @@
-use Rattle.std.proofs.Common.{◌≡◌, ◌<◌, length, arith, ◌∙◌, refl}
+use Rattle.std.proofs.Common.{◌<◌, length, arith, ◌∙◌, refl}
 use Rattle.std.proofs.lemmas.List.{length-set}
 use Rattle.cop_cert.proofs.MemberLemmas.{flag_number}
 use Rattle.cop_plan.proofs.FoundLemmas.{kept_flags}

@@ -1,4 +1,4 @@
-use Rattle.std.proofs.Common.{ℕ, ◌<◌, length, MatchOption}
+use Rattle.std.proofs.Common.{length, MatchOption}
 use Rattle.cop_rta.specs.Test.{is_flagged}
 use Rattle.cop_plan.proofs.FrameLemmas.{PassSoFar, IsLowestSoFar}
 use Rattle.cop_plan.proofs.assigning.lowest_failing.Given as goal

@@ -1,5 +1,5 @@
-use Rattle.std.proofs.Common.{◌≡◌, ◌∙◌, ◌*◌, ◌+◌, arith}
-use Rattle.cop_rta.specs.Ranges.{first_range, second_range}
+use Rattle.std.proofs.Common.{◌∙◌, arith}
+use Rattle.cop_rta.specs.Ranges.{first_range}
 use Rattle.cop_rta.specs.Test.{is_flagged}
 use Rattle.cop_cert.specs.Causes.{kept}
 use Rattle.cop_cert.specs.Evidence.{is_listed}

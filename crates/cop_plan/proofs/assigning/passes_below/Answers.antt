@@ -1,4 +1,3 @@
-use Rattle.std.proofs.Common.{◌≡◌}
 use Rattle.cop_plan.proofs.FrameLemmas.{passes_iff}
 use Rattle.cop_plan.proofs.assigning.passes_below.Goals as goal
 

@@ -1,4 +1,4 @@
-use Rattle.std.proofs.Common.{◌<◌, List, All, length, arith, refl, subst}
+use Rattle.std.proofs.Common.{◌<◌, List, All, arith, refl, subst}
 use Rattle.std.specs.Option.{ForSome}
 use Rattle.std.proofs.lemmas.List.{take_all}
 use Rattle.std.proofs.lemmas.List.Elements.{All-more}

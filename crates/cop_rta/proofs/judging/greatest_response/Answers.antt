@@ -4,7 +4,7 @@ use Rattle.cop_rta.specs.Test.{place_of, IsResponse}
 use Rattle.cop_rta.proofs.WaitLemmas.{next_from, none_below}
 use Rattle.cop_rta.proofs.GreatestLemmas.{greatest_of, none_greatest, next_greatest, greatest_found, none_is_long}
 use Rattle.cop_rta.proofs.judging.greatest_response.Goals as goal
-use Rattle.cop_rta.proofs.judging.greatest_response.Goals.{After-stream-stream, After-max-greatest}
+use Rattle.cop_rta.proofs.judging.greatest_response.Goals.{After-stream-stream}
 
 inside : (c : After-stream-stream) → c.args.busy.now.index < length c.args.busy.now.streams
 inside c = slice_get_within c.args.busy.now.streams c.args.busy.now.index c.stream-stream.result.now c.stream-stream.ensures

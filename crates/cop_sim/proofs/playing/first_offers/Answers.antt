@@ -1,12 +1,10 @@
 use Rattle.std.proofs.Common.{◌≡◌, ◌+◌, ◌∙◌, List, Option, None, false, refl, sym, ap, subst, arith}
-use Rattle.std.specs.Option.{ForSome}
 use Rattle.cop_sim.specs.declared.behaviours.Offer.{Offer}
-use Rattle.cop_sim.specs.declared.cues.Cue.{Cue}
 use Rattle.cop_rta.specs.declared.streams.Stream.{Stream}
 use Rattle.cop_sim.specs.declared.faults.SimFault.TheVariants.{Memory}
 use Rattle.cop_sim.specs.Cues.{from_of}
 use Rattle.cop_sim.specs.Play.{obeys}
-use Rattle.cop_sim.specs.Seats.{answer_of, IsCued}
+use Rattle.cop_sim.specs.Seats.{answer_of}
 use Rattle.cop_sim.specs.Stages.{first_cue, AreFirst}
 use Rattle.cop_sim.proofs.Beginning.{first-more, err-if, first-asked}
 use Rattle.cop_sim.proofs.TurnLemmas.{same_stream}

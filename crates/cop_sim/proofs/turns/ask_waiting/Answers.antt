@@ -1,6 +1,4 @@
-use Rattle.std.proofs.Common.{◌≡◌, ◌+◌, ◌∙◌, ap, sym, refl, arith, length}
-use Rattle.std.specs.Prelude.{List, Option}
-use Rattle.cop_sim.specs.declared.behaviours.Offer.{Offer}
+use Rattle.std.proofs.Common.{arith}
 use Rattle.cop_sim.specs.Stages.{at_hand}
 use Rattle.cop_sim.proofs.Asking.{cued-more, cue-fault}
 use Rattle.cop_sim.proofs.Beginning.{err-if}

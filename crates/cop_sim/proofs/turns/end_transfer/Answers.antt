@@ -1,4 +1,4 @@
-use Rattle.std.proofs.Common.{◌≡◌, ◌∙◌, ap, sym, refl, subst, None}
+use Rattle.std.proofs.Common.{◌∙◌, ap, sym, subst, None}
 use Rattle.cop_sim.specs.Syncs.{SyncsValue, is_noted}
 use Rattle.cop_sim.specs.Stages.{at_hand, CueFault}
 use Rattle.cop_sim.proofs.Asking.{asked-fault}

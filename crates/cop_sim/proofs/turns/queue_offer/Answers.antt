@@ -1,4 +1,4 @@
-use Rattle.std.proofs.Common.{◌≤◌, arith}
+use Rattle.std.proofs.Common.{arith}
 use Rattle.cop_sim.specs.Stages.{at_hand}
 use Rattle.cop_sim.proofs.Asking.{unobeyed}
 use Rattle.cop_sim.proofs.turns.queue_offer.Goals as goal

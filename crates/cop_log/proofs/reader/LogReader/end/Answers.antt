@@ -1,4 +1,4 @@
-use Rattle.std.proofs.Common.{◌≡◌, ◌∙◌, ◌<◌, length, sym, ap, arith}
+use Rattle.std.proofs.Common.{◌∙◌, length, sym, ap, arith}
 use Rattle.cop_log.proofs.ReadLemmas.{is_zero, not_zero, end_with_none, end_of_text}
 use Rattle.cop_log.proofs.reader.LogReader.end.Goals as goal
 

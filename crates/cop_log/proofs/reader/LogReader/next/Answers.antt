@@ -1,4 +1,4 @@
-use Rattle.std.proofs.Common.{◌<◌, length, [], arith}
+use Rattle.std.proofs.Common.{length, [], arith}
 use Rattle.std.specs.Prelude.{None, Some}
 use Rattle.cop_lines.specs.Texts.{GoesOn, Ends}
 use Rattle.cop_log.specs.Reading.{TakesLine}
