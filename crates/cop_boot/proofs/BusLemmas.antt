@@ -16,8 +16,6 @@ use Rattle.cop_boot.specs.Booted.{device_of}
 use Rattle.cop_boot.specs.Schedule.{Line, is_for, DeliveredBy}
 use Rattle.cop_boot.specs.Bus.{to_of, from_of, line_at}
 
-module _ {X : Type 0} (p : X → Bool) where
-
 -- the device of a node, and the same in another state
 module _ (n : ℕ) where
   abbrev here : Attached → Bool
