@@ -1,13 +1,9 @@
 -- The boot of the devices of a planned network over a port, and what is said of it.
-use Rattle.std.specs.Prelude.{◌≡◌, ℕ, List, [], ◌∷◌, ◌++◌, length, Bool, true, false, ◌&&◌, ◌==◌, nat_le, is_some, if◌then◌else◌, Option, Some, None, Ok}
+use Rattle.std.specs.Prelude.{◌≡◌, ℕ, List, [], ◌∷◌, ◌++◌, length, Bool, true, false, ◌&&◌, ◌==◌, nat_le, is_some, if◌then◌else◌, Option, Some, None}
 use Rattle.cop_frame.specs.declared.rates.Rate.{Rate}
 use Rattle.cop_rows.specs.declared.pdo_table.PdoRow.{PdoRow}
-use Rattle.cop_rows.specs.NodeReading.{nodes_of}
-use Rattle.cop_rows.specs.PdoReading.{pdos_of}
-use Rattle.cop_net.specs.declared.faults.Table.TheVariants.{Nodes, Pdos}
 use Rattle.cop_net.specs.Devices.{File}
-use Rattle.cop_net.specs.Tables.{in_table}
-use Rattle.cop_net.specs.Network.{Net, IsNetwork, accepted, network_of}
+use Rattle.cop_net.specs.Network.{Net}
 use Rattle.cop_plan.specs.declared.assigning.Outcome.{Outcome}
 use Rattle.cop_plan.specs.declared.assigning.Outcome.TheVariants.{Planned, Refused}
 use Rattle.cop_plan.specs.declared.choices.Asked.{Asked}
@@ -20,6 +16,7 @@ use Rattle.cop_live.specs.declared.listening.Sender.{Sender}
 use Rattle.cop_live.specs.Nodes.{is_empty}
 use Rattle.cop_heartbeats.specs.declared.attending.Awaited.{Awaited}
 use Rattle.cop_identity.specs.declared.questions.Question.{Question}
+use Rattle.cop_engine.specs.Networks.{IsPlannedNetwork}
 use Rattle.cop_engine.specs.Boots.{device_nodes, manager_of}
 use Rattle.cop_readback.specs.declared.session.ReadBack.{ReadBack}
 use Rattle.cop_commission.specs.declared.commissioning.Approach.{Approach}
@@ -135,9 +132,6 @@ IsCommissionedBy reads writes asks choice net approach p q ended =
 
 -- what came of the boot of the network that the tables and the EDS files say, by what is asked of its plan
 pub record IsCommissioning {P : Type 0} (reads writes : ByteStep P) (asks : ClockStep P) (asked : Asked) (nodes pdos : List ℕ) (eds : List File) (approach : Approach) (p q : P) (ended : Commissioned) : Type 0 where
-  pub net : Net
-  pub network : IsNetwork net
-  pub node_table : in_table Nodes (nodes_of nodes) ≡ Ok net.nodes
-  pub pdo_table : in_table Pdos (pdos_of pdos) ≡ Ok net.rows
-  pub read : network_of asked.rates net.nodes net.rows eds ≡ Ok (accepted net)
-  pub by_plan : IsCommissionedBy reads writes asks asked.choice net approach p q ended
+  pub outcome : Outcome
+  pub network : IsPlannedNetwork asked nodes pdos eds outcome
+  pub met : IsCommissionedFor reads writes asks network.net outcome approach p q ended

@@ -1,5 +1,7 @@
 //! What is in the frames of fixed identifiers (CiA 301, "Pre-defined connection set").
 
+use cop_frame::identifiers;
+
 /// A part of a frame.
 #[derive(Clone, Copy)]
 pub(crate) struct Part {
@@ -81,18 +83,19 @@ static NONE: [Part; 0] = [];
 
 /// What the frame of a fixed identifier is.
 pub(crate) fn fixed_of(id: u16) -> Fixed {
-    let (name, parts) = match id / 128 {
-        0 => ("NMT", NMT.as_slice()),
-        1 if id == 0x80 => ("SYNC", NONE.as_slice()),
-        1 => ("EMCY", EMCY.as_slice()),
-        11 => ("SDO_response", SDO.as_slice()),
-        12 => ("SDO_request", SDO.as_slice()),
-        14 => ("Heartbeat", HEARTBEAT.as_slice()),
+    let node = id % 128;
+    let (name, parts) = match id - node {
+        identifiers::NMT => ("NMT", NMT.as_slice()),
+        identifiers::SYNC if node == 0 => ("SYNC", NONE.as_slice()),
+        identifiers::EMCY => ("EMCY", EMCY.as_slice()),
+        identifiers::SDO_RESPONSE => ("SDO_response", SDO.as_slice()),
+        identifiers::SDO_REQUEST => ("SDO_request", SDO.as_slice()),
+        identifiers::HEARTBEAT => ("Heartbeat", HEARTBEAT.as_slice()),
         _ => ("Frame", NONE.as_slice()),
     };
     Fixed {
         name,
         parts,
-        is_shared: id % 128 == 0,
+        is_shared: node == 0,
     }
 }

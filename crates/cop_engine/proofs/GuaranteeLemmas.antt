@@ -9,7 +9,7 @@ use Rattle.cop_rows.specs.declared.pdo_table.PdoRow.{PdoRow}
 use Rattle.cop_rows.specs.declared.node_table.FrameRow.{FrameRow}
 use Rattle.cop_rows.specs.Nodes.{IsFrame, IsFrameDeadline}
 use Rattle.cop_net.specs.Fixed.{base_of, ticks}
-use Rattle.cop_net.specs.Network.{IsNetwork}
+use Rattle.cop_net.specs.Network.{Net, IsNetwork}
 use Rattle.cop_cert.specs.Assignments.{IsTested}
 use Rattle.cop_plan.specs.Margins.{AreLowered}
 use Rattle.cop_plan.specs.Values.{PlanValue, id_of, margin_of, AreOnTime}
@@ -20,7 +20,6 @@ use Rattle.cop_plan.proofs.MarginLemmas.{tested_after}
 use Rattle.cop_plan.proofs.MarginKept.{lowered_plan, kept_with_margin}
 use Rattle.cop_sim.specs.Guarantee.{IsRunOf, IsKept}
 use Rattle.cop_sim.proofs.GuaranteeLemmas.{kept}
-use Rattle.cop_engine.specs.Networks.{Found, net_of}
 use Rattle.cop_engine.specs.Guarantee.{IsFrameOf, AreOnTimeIn, IsGuaranteed}
 use Rattle.cop_engine.proofs.MarginRuns.{legal_lowered, obeying_lowered, lowered_here}
 use Rattle.cop_engine.proofs.PlanStreams.{fine, synced, have_deadlines, provisional, pdo_of, frame_at, tested_at, no_other}
@@ -29,8 +28,8 @@ sent_row : (row : FrameRow) (d : ℕ) → row.deadline ≡ Some d → IfSome row
 sent_row row d dated h =
     let its : IfSome (Some d) (IsFrameDeadline row.kind row.period) = subst (λ (o : Option ℕ). IfSome o (IsFrameDeadline row.kind row.period)) dated h in its.sent
 
-module _ (found : Found) (streams : List Stream) (is : IsNetwork (net_of found streams)) where
-  module _ (plan : PlanValue) (planned : IsPlan found.network.equipment.rates streams (length found.rows) plan) where
+module _ (net : Net) (is : IsNetwork net) where
+  module _ (plan : PlanValue) (planned : IsPlan net.equipment.rates net.set (length net.rows) plan) where
     -- the instances of a stream in each run of the plan
     abbrev AreKept : Stream → Type 0
     AreKept k = (until : ℕ) (run : List Instance) → IsRunOf plan until run → All (λ y. y.id ≡ k.id → IsOnTime (ticks_of plan.rate) until k.deadline y) run
@@ -40,15 +39,15 @@ module _ (found : Found) (streams : List Stream) (is : IsNetwork (net_of found s
     all_kept p k here until run legal = elim (cases_lt p (length plan.ids)) [ inl low ↦ is_kept.on_time k (p, low, here) | inr past ↦ by_deadline k.deadline refl past ]
       where
         is_kept : IsKept plan until run
-        is_kept = kept plan (fine found streams is plan planned) (synced found streams is plan planned) until run legal
+        is_kept = kept plan (fine net is plan planned) (synced net is plan planned) until run legal
 
         by_deadline : (o : Option ℕ) → k.deadline ≡ o → length plan.ids ≤ p → All (λ y. y.id ≡ k.id → IsOnTime (ticks_of plan.rate) until k.deadline y) run
         by_deadline None none past = λ j e low its. subst (λ (o : Option ℕ). IsOnTime (ticks_of plan.rate) until o (get_or run j e)) (sym none) (λ v q. absurd (cc))
-        by_deadline (Some d) dated past = is_kept.frames k (p, tested_at found streams is plan planned p k d past here dated, here)
+        by_deadline (Some d) dated past = is_kept.frames k (p, tested_at net is plan planned p k d past here dated, here)
 
     -- the same plan with deadlines lowered by its margin
     lowered : (renamed : List Stream) × AreLowered (margin_of plan) plan.streams renamed
-    lowered = lowered_plan found.network.equipment.rates streams (length found.rows) plan planned
+    lowered = lowered_plan net.equipment.rates net.set (length net.rows) plan planned
 
     tight : PlanValue
     tight = record { rate = plan.rate; order = plan.order; ids = plan.ids; margin = plan.margin; refusals = plan.refusals; streams = lowered.0 }
@@ -63,8 +62,8 @@ module _ (found : Found) (streams : List Stream) (is : IsNetwork (net_of found s
     tight_kept : (until : ℕ) (run : List Instance) → IsRunOf plan until run → IsKept tight until run
     unfolding tight
     tight_kept until run legal =
-        let passes = kept_with_margin found.network.equipment.rates streams (length found.rows) plan planned lowered.0 lowered.1
-        is.streams.count (have_deadlines found streams is plan planned) (provisional found streams is plan planned) is.synced in
+        let passes = kept_with_margin net.equipment.rates net.set (length net.rows) plan planned lowered.0 lowered.1
+        is.streams.count (have_deadlines net is plan planned) (provisional net is plan planned) is.synced in
         let fine : AreOnTime plan.rate lowered.0 (length plan.ids) = subst (λ (n : ℕ). AreOnTime plan.rate lowered.0 n) (sym planned.count) passes.0 in
         kept tight fine passes.1 until run (run_of_tight until run legal)
 
@@ -87,7 +86,7 @@ module _ (found : Found) (streams : List Stream) (is : IsNetwork (net_of found s
         is_kept = tight_kept until run legal
 
         tested : length plan.ids ≤ p → IsTested lowered.0 (length plan.ids) p
-        tested past = tested_after (margin_of plan) plan.streams lowered.0 lowered.1 plan.rate (length plan.ids) p (tested_at found streams is plan planned p k d past here dated)
+        tested past = tested_after (margin_of plan) plan.streams lowered.0 lowered.1 plan.rate (length plan.ids) p (tested_at net is plan planned p k d past here dated)
 
     -- the same by what is known of the stream
     on_time : (p : ℕ) (k : Stream) (id d : ℕ) → slice_get plan.streams p ≡ Some k → k.id ≡ id → k.deadline ≡ Some d → AreOnTimeIn plan id (d - margin_of plan)
@@ -95,27 +94,27 @@ module _ (found : Found) (streams : List Stream) (is : IsNetwork (net_of found s
         All-weaker (λ y. y.id ≡ k.id → IsOnTime (ticks_of plan.rate) until (Some (d - margin_of plan)) y) (λ y. y.id ≡ id → IsOnTime (ticks_of plan.rate) until (Some (d - margin_of plan)) y)
         (λ y h same. h (same ∙ sym its)) run (all_kept_before p k d here dated until run legal)
 
-    pdos_on_time : (p : ℕ) (row : PdoRow) → slice_get found.rows p ≡ Some row → AreOnTimeIn plan (id_of plan.ids p) (ticks row.deadline - margin_of plan)
+    pdos_on_time : (p : ℕ) (row : PdoRow) → slice_get net.rows p ≡ Some row → AreOnTimeIn plan (id_of plan.ids p) (ticks row.deadline - margin_of plan)
     pdos_on_time p row there =
-        let k = pdo_of found streams is plan planned p row there in on_time p k.0 (id_of plan.ids p) (ticks row.deadline) k.1.here k.1.id k.1.deadline
+        let k = pdo_of net is plan planned p row there in on_time p k.0 (id_of plan.ids p) (ticks row.deadline) k.1.here k.1.id k.1.deadline
 
-    frame_of : (row : FrameRow) → Contains found.nodes.frames row → row.period ≢ 0 → (k : Stream) × IsFrameOf plan row k
-    frame_of row at some = let k = frame_at found streams is plan planned row at some in (k.2, k.4)
+    frame_of : (row : FrameRow) → Contains net.nodes.frames row → row.period ≢ 0 → (k : Stream) × IsFrameOf plan row k
+    frame_of row at some = let k = frame_at net is plan planned row at some in (k.2, k.4)
 
-    frames_on_time : (row : FrameRow) (d : ℕ) → Contains found.nodes.frames row → row.deadline ≡ Some d → AreOnTimeIn plan (base_of row.kind + row.node) (ticks d - margin_of plan)
+    frames_on_time : (row : FrameRow) (d : ℕ) → Contains net.nodes.frames row → row.deadline ≡ Some d → AreOnTimeIn plan (base_of row.kind + row.node) (ticks d - margin_of plan)
     frames_on_time row d at dated =
-        let its = All-contains (IsFrame found.nodes.devices) found.nodes.frames row is.nodes.frames at in
-        let k = frame_at found streams is plan planned row at (sent_row row d dated its.deadline) in
+        let its = All-contains (IsFrame net.nodes.devices) net.nodes.frames row is.nodes.frames at in
+        let k = frame_at net is plan planned row at (sent_row row d dated its.deadline) in
         on_time k.0 k.2 (base_of row.kind + row.node) (ticks d) k.3 k.4.id (k.4.deadline ∙ ap (option_map ticks) dated)
 
-  pub guaranteed : (outcome : Outcome) → IsOutcome found.network.equipment.rates streams (length found.rows) outcome → IsGuaranteed found streams outcome
+  pub guaranteed : (outcome : Outcome) → IsOutcome net.equipment.rates net.set (length net.rows) outcome → IsGuaranteed net outcome
   guaranteed (Planned plan) h = (
     h,
     record {
-      pdos = pdo_of found streams is plan h;
+      pdos = pdo_of net is plan h;
       on_time = pdos_on_time plan h;
       frames = frame_of plan h;
-      no_other = no_other found streams is plan h;
+      no_other = no_other net is plan h;
       frames_on_time = frames_on_time plan h;
     },
   )

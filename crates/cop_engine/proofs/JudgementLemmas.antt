@@ -14,28 +14,19 @@ use Rattle.cop_bus.specs.Trace.{instances, IsLegalTrace}
 use Rattle.cop_bus.specs.Judge.{first_broken}
 use Rattle.cop_bus.specs.Late.{first_late}
 use Rattle.cop_bus.proofs.LateLemmas.{none-found}
-use Rattle.cop_rows.specs.declared.pdo_table.PdoRow.{PdoRow}
-use Rattle.cop_rows.specs.Nodes.{NodeLists}
-use Rattle.cop_rows.specs.NodeReading.{nodes_of}
-use Rattle.cop_rows.specs.PdoReading.{pdos_of}
-use Rattle.cop_net.specs.declared.faults.Table.TheVariants.{Nodes, Pdos}
 use Rattle.cop_net.specs.Devices.{File}
-use Rattle.cop_net.specs.Network.{Net, IsNetwork, accepted, network_of}
-use Rattle.cop_net.specs.Tables.{in_table}
 use Rattle.cop_plan.specs.Values.{PlanValue}
-use Rattle.cop_plan.specs.Plans.{IsOutcome, IsChosenBy}
 use Rattle.cop_plan.specs.declared.assigning.Outcome.{Outcome}
 use Rattle.cop_plan.specs.declared.choices.Asked.{Asked}
 use Rattle.cop_plan.specs.declared.assigning.Outcome.TheVariants.{Planned, Refused}
 use Rattle.cop_engine.specs.declared.faults.Fault.{Fault}
 use Rattle.cop_engine.specs.declared.faults.Fault.TheVariants as faults
-use Rattle.cop_engine.specs.Networks.{ExplainsNetwork}
+use Rattle.cop_engine.specs.Networks.{ExplainsNetwork, IsPlannedNetwork}
 use Rattle.cop_watch.specs.Knowing.{is_a_start, sent}
 use Rattle.cop_watch.specs.Reading.{IsLawful}
 use Rattle.cop_table.specs.Pieces.{HoldsOfAll}
-use Rattle.cop_engine.specs.Judgements.{IsJudged, IsCleared, IsJudgedBy, ExplainsTrace, IsPlannedNetwork, IsJudgement, ExplainsJudgement, SaysOnTime, is_start, judged_text, transfers_in}
+use Rattle.cop_engine.specs.Judgements.{IsJudged, IsCleared, IsJudgedBy, ExplainsTrace, IsJudgement, ExplainsJudgement, SaysOnTime, is_start, judged_text, transfers_in}
 use Rattle.cop_engine.proofs.GuaranteeLemmas.{all_kept}
-use Rattle.cop_engine.proofs.NetworkLemmas.{network_found}
 
 module _ (asked : Asked) (nodes pdos : List ℕ) (eds : List File) (plan : PlanValue) (n : IsPlannedNetwork asked nodes pdos eds (Planned plan)) where
   pub none_late : (until : ℕ) (steps : List Step) → IsLegalTrace (ticks_of plan.rate) plan.streams until steps → first_late (ticks_of plan.rate) plan.streams until steps ≡ None
@@ -43,7 +34,7 @@ module _ (asked : Asked) (nodes pdos : List ℕ) (eds : List File) (plan : PlanV
     where
       all : All (λ k. All (λ y. y.id ≡ k.id → IsOnTime (ticks_of plan.rate) until k.deadline y) (instances steps)) plan.streams
       all p d h =
-          all_kept n.found n.streams n.network plan n.planned p (get_or plan.streams p d) (slice_get-get_or plan.streams p d h) until (instances steps)
+          all_kept n.net n.said.network plan n.planned p (get_or plan.streams p d) (slice_get-get_or plan.streams p d h) until (instances steps)
           (record { legal = legal.legal; obeying = legal.obeying })
 
   -- so a text that says so is the judgement
@@ -137,19 +128,6 @@ of_network asked nodes pdos files trace faults.Usage e = e
 of_network asked nodes pdos files trace faults.Memory e = tt
 
 module _ (asked : Asked) (nodes pdos : List ℕ) (files : List File) (trace : List ℕ) where
-  -- the plan of the network that was read
-  pub planned_network : (n : NodeLists) (rows : List PdoRow) (network : Net) (outcome : Outcome) → in_table Nodes (nodes_of nodes) ≡ Ok n → in_table Pdos (pdos_of pdos) ≡ Ok rows
-      → network_of asked.rates n rows files ≡ Ok (accepted network) → network.nodes ≡ n → network.rows ≡ rows → IsNetwork network → IsOutcome network.equipment.rates network.set (length network.rows) outcome → IsChosenBy asked.choice outcome → IsPlannedNetwork asked nodes pdos files outcome
-  planned_network n rows network outcome read also e of same is planned chosen = record {
-    found = record { nodes = n; rows = rows; network = accepted network };
-    read = network_found asked.rates nodes pdos files n rows network read also e;
-    streams = network.set;
-    streams_are = refl;
-    network = rw (of, same) at is;
-    planned = rw same at planned;
-    chosen = chosen;
-  }
-
   pub judged_gives : (plan : PlanValue) (r : Result (Vec ℕ) Fault) → IsPlannedNetwork asked nodes pdos files (Planned plan)
       → MatchResult r (λ text. IsCleared plan.rate plan.streams trace text.items) (λ fault. ExplainsTrace plan.rate plan.streams trace fault)
       → MatchResult r (λ text. IsJudgement asked nodes pdos files trace text.items) (λ fault. ExplainsJudgement asked nodes pdos files trace fault)

@@ -16,7 +16,9 @@ use Rattle.cop_net.specs.Faults.{refusal}
 use Rattle.cop_net.specs.Tables.{in_table}
 use Rattle.cop_net.specs.Network.{Net, Accepted, IsNetwork, accepted, network_of}
 use Rattle.cop_engine.specs.declared.faults.Fault.{Fault}
+use Rattle.cop_plan.specs.declared.assigning.Outcome.{Outcome}
 use Rattle.cop_plan.specs.declared.choices.Asked.{Asked}
+use Rattle.cop_plan.specs.Plans.{IsOutcome, IsChosenBy}
 use Rattle.cop_engine.specs.declared.plans.Files.{Files}
 use Rattle.cop_cert.specs.declared.faults.CertFault.{CertFault}
 use Rattle.cop_cert.specs.declared.faults.CertFault.TheVariants as cert
@@ -25,8 +27,8 @@ use Rattle.cop_cert.specs.Faults.{breach_of}
 use Rattle.cop_cert.specs.Reading.{refusals_of}
 use Rattle.cop_engine.specs.Checks.{AreChecked, AreLinesOf, RuleOut, IsCheckOf, ExplainsCheck}
 use Rattle.cop_engine.specs.Faults.{fault_of, fault_of_refusals}
-use Rattle.cop_engine.specs.Networks.{Found, network_in, ExplainsNetwork}
-use Rattle.cop_engine.specs.Plans.{AreFilesFor, AreFilesOf}
+use Rattle.cop_engine.specs.Networks.{network_in, ExplainsNetwork, IsNetworkIn, IsPlannedNetwork}
+use Rattle.cop_engine.specs.Plans.{AreFilesOfNetwork, AreFilesOf}
 
 -- what holds of the fault that is answered
 pub err_is : {X : Type 0} (r : Result X Fault) (A : X → Type 0) (B : Fault → Type 0) (fault : Fault) → IsErrAnd r (λ f. f ≡ fault) → B fault → MatchResult r A B
@@ -60,14 +62,15 @@ module _ (wanted : List Rate) (nodes pdos : List ℕ) (files : List File) where
   network_explains n rows (Refused r) read also e = (r, rw (read, also, e) refl, refl, refl)
   network_explains n rows Memory read also e = tt
 
-  network_read : (n : NodeLists) (rows : List PdoRow) (a : Accepted) → in_table Nodes (nodes_of nodes) ≡ Ok n → in_table Pdos (pdos_of pdos) ≡ Ok rows
-      → network_of wanted n rows files ≡ Ok a → network_in wanted nodes pdos files ≡ Ok (record { nodes = n; rows = rows; network = a })
-  unfolding network_in
-  network_read n rows a read also e = rw (read, also, e) refl
+  -- the network that is made of the tables is the one that they and the files say
+  pub network_is : (n : NodeLists) (rows : List PdoRow) (network : Net) → in_table Nodes (nodes_of nodes) ≡ Ok n → in_table Pdos (pdos_of pdos) ≡ Ok rows
+      → network_of wanted n rows files ≡ Ok (accepted network) → network.nodes ≡ n → network.rows ≡ rows → IsNetwork network → IsNetworkIn wanted nodes pdos files network
+  network_is n rows network read also e of same is = record { network = is; node_table = rw of read; pdo_table = rw same also; made = rw (of, same) e }
 
-  pub network_found : (n : NodeLists) (rows : List PdoRow) (network : Net) → in_table Nodes (nodes_of nodes) ≡ Ok n → in_table Pdos (pdos_of pdos) ≡ Ok rows
-      → network_of wanted n rows files ≡ Ok (accepted network) → network_in wanted nodes pdos files ≡ Ok (record { nodes = n; rows = rows; network = accepted network })
-  network_found n rows network read also e = network_read n rows (accepted network) read also e
+  pub network_read : (n : NodeLists) (rows : List PdoRow) (made : Accepted) → in_table Nodes (nodes_of nodes) ≡ Ok n → in_table Pdos (pdos_of pdos) ≡ Ok rows
+      → network_of wanted n rows files ≡ Ok made → network_in wanted nodes pdos files ≡ Ok made
+  unfolding network_in
+  network_read n rows made read also e = rw (read, also, e) refl
 
   -- a fault of the network explains why there is no check
   pub of_network : (text : List ℕ) (fault : PlanFault) → ExplainsNetwork wanted nodes pdos files (fault_of fault) → ExplainsCheck wanted nodes pdos files text (fault_of fault)
@@ -75,10 +78,10 @@ module _ (wanted : List Rate) (nodes pdos : List ℕ) (files : List File) where
   of_network text Memory e = tt
 
   -- one of the refusal file does
-  pub refusals_explain : (text : List ℕ) (found : Found) (fault : CertFault) → network_in wanted nodes pdos files ≡ Ok found → IfSome (breach_of fault) (λ b. refusals_of text ≡ Err b)
+  pub refusals_explain : (text : List ℕ) (made : Accepted) (fault : CertFault) → network_in wanted nodes pdos files ≡ Ok made → IfSome (breach_of fault) (λ b. refusals_of text ≡ Err b)
       → ExplainsCheck wanted nodes pdos files text (fault_of_refusals fault)
-  refusals_explain text found (cert.Refused b) read e = inr (found, read, b, e, refl, refl)
-  refusals_explain text found cert.Memory read e = tt
+  refusals_explain text made (cert.Refused b) read e = inr (made, read, b, e, refl, refl)
+  refusals_explain text made cert.Memory read e = tt
 
   -- what holds rules out
   rule_out : (streams : List Stream) (pdos : ℕ) (refusals : List refused.Refusal) (answers : List Bool) → pdos ≤ length streams
@@ -87,30 +90,27 @@ module _ (wanted : List Rate) (nodes pdos : List ℕ) (files : List File) where
       refusal_rules_out streams pdos r count ((checked.each k (at_inside refusals k r here) r here).0 holds)
 
   -- the check of the network's refusals is that of the files
-  pub check_is : (n : NodeLists) (rows : List PdoRow) (network : Net) (text lines : List ℕ) (refusals : List refused.Refusal) (all : Bool)
-      → in_table Nodes (nodes_of nodes) ≡ Ok n → in_table Pdos (pdos_of pdos) ≡ Ok rows → network_of wanted n rows files ≡ Ok (accepted network) → network.rows ≡ rows → refusals_of text ≡ Ok refusals
-      → AreLinesOf network.set (length network.rows) refusals lines all → IsNetwork network → IsCheckOf wanted nodes pdos files text lines all
-  check_is n rows network text lines refusals all read also e same told answered is = record {
-    found = record { nodes = n; rows = rows; network = accepted network };
-    read = network_read n rows (accepted network) read also e;
-    streams = network.set;
-    streams_are = refl;
+  pub check_is : (network : Net) (text lines : List ℕ) (refusals : List refused.Refusal) (all : Bool) → IsNetworkIn wanted nodes pdos files network → refusals_of text ≡ Ok refusals
+      → AreLinesOf network.set (length network.rows) refusals lines all → IsCheckOf wanted nodes pdos files text lines all
+  check_is network text lines refusals all is told answered = record {
+    net = network;
+    said = is;
     refusals = refusals;
     refusals_are = told;
-    answered = rw same at answered;
-    rules_out = rule_out network.set (length rows) refusals (rw same at answered).answers (rw same at is.streams.count) (rw same at answered).checked;
+    answered = answered;
+    rules_out = rule_out network.set (length network.rows) refusals answered.answers is.network.streams.count answered.checked;
   }
 
--- the files of the network's plan are those of the files
-pub files_are : (asked : Asked) (nodes pdos : List ℕ) (files : List File) (n : NodeLists) (rows : List PdoRow) (network : Net) (made : Files) → in_table Nodes (nodes_of nodes) ≡ Ok n
-    → in_table Pdos (pdos_of pdos) ≡ Ok rows → network_of asked.rates n rows files ≡ Ok (accepted network) → network.nodes ≡ n → network.rows ≡ rows → IsNetwork network
-    → AreFilesFor asked.choice files network made → AreFilesOf asked nodes pdos files made
-files_are asked nodes pdos files n rows network made read also e of same is planned = record {
-  found = record { nodes = n; rows = rows; network = accepted network };
-  read = network_found asked.rates nodes pdos files n rows network read also e;
-  streams = network.set;
-  streams_are = refl;
-  begins = rw same at is.streams;
-  network = rw (of, same) at is;
-  planned = rw (of, same) at planned;
-}
+module _ (asked : Asked) (nodes pdos : List ℕ) (files : List File) (n : NodeLists) (rows : List PdoRow) (network : Net) where
+  -- the plan of the network that was read
+  unfoldable pub planned_network : (outcome : Outcome) → in_table Nodes (nodes_of nodes) ≡ Ok n → in_table Pdos (pdos_of pdos) ≡ Ok rows → network_of asked.rates n rows files ≡ Ok (accepted network)
+      → network.nodes ≡ n → network.rows ≡ rows → IsNetwork network → IsOutcome network.equipment.rates network.set (length network.rows) outcome → IsChosenBy asked.choice outcome
+      → IsPlannedNetwork asked nodes pdos files outcome
+  planned_network outcome read also e of same is planned chosen =
+      record { net = network; said = network_is asked.rates nodes pdos files n rows network read also e of same is; planned = planned; chosen = chosen }
+
+  -- its files are those of the files
+  pub files_are : (made : Files) → in_table Nodes (nodes_of nodes) ≡ Ok n → in_table Pdos (pdos_of pdos) ≡ Ok rows → network_of asked.rates n rows files ≡ Ok (accepted network)
+      → network.nodes ≡ n → network.rows ≡ rows → IsNetwork network → AreFilesOfNetwork asked.choice files network made → AreFilesOf asked nodes pdos files made
+  unfolding planned_network
+  files_are made read also e of same is f = record { outcome = f.0; network = planned_network f.0 read also e of same is f.1 f.2; written = f.3 }

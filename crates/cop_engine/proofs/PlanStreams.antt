@@ -14,12 +14,11 @@ use Rattle.cop_rows.specs.declared.node_table.FrameRow.{FrameRow}
 use Rattle.cop_net.specs.Fixed.{ticks, frame_stream}
 use Rattle.cop_net.specs.Pdos.{period_of, pdo_stream}
 use Rattle.cop_net.specs.Signals.{signals_of}
-use Rattle.cop_net.specs.Network.{IsNetwork, deadline_at}
+use Rattle.cop_net.specs.Network.{Net, IsNetwork, deadline_at}
 use Rattle.cop_plan.specs.Values.{PlanValue, Timing, timing_of, id_of, HaveDeadlines, ArePdosHigh, AreOnTime}
 use Rattle.cop_plan.specs.Plans.{IsPlan}
 use Rattle.cop_plan.proofs.RenameLemmas.{id_of_pdo, id_of_fixed, none_lower, still_tested, on_time_renamed, synced_renamed}
 use Rattle.cop_engine.specs.Guarantee.{IsFrameOf, IsPdoOf}
-use Rattle.cop_engine.specs.Networks.{Found, net_of}
 use Rattle.cop_engine.proofs.RowStreams.{row_stream, by_events, by_sync}
 use Rattle.cop_engine.proofs.FrameStreams.{frame_there, frame_past, sync_row}
 
@@ -39,14 +38,14 @@ some_is (Some d) h = (d, refl)
 abbrev timing_in : Entry → Timing
 timing_in e = record { bytes = e.bytes; period = e.period; jitter = e.jitter; deadline = e.deadline; every = e.every }
 
-module _ (found : Found) (streams : List Stream) (is : IsNetwork (net_of found streams)) (plan : PlanValue) (planned : IsPlan found.network.equipment.rates streams (length found.rows) plan) where
+module _ (net : Net) (is : IsNetwork net) (plan : PlanValue) (planned : IsPlan net.equipment.rates net.set (length net.rows) plan) where
   abbrev pdos : ℕ
-  pdos = length found.rows
+  pdos = length net.rows
 
-  pub have_deadlines : HaveDeadlines streams pdos
-  have_deadlines p h = some_is (deadline_at streams p) (is.streams.deadlines p h)
+  pub have_deadlines : HaveDeadlines net.set pdos
+  have_deadlines p h = some_is (deadline_at net.set p) (is.streams.deadlines p h)
 
-  pub provisional : ArePdosHigh streams pdos
+  pub provisional : ArePdosHigh net.set pdos
   provisional p h = omega (arith, is.streams.provisional p h)
 
   chosen : (p : ℕ) → p < pdos → least_id ≤ id_of plan.ids p
@@ -55,36 +54,36 @@ module _ (found : Found) (streams : List Stream) (is : IsNetwork (net_of found s
   -- each PDO and each tested frame passes under the plan's identifiers
   pub fine : AreOnTime plan.rate plan.streams (length plan.ids)
   fine = subst (λ (n : ℕ). AreOnTime plan.rate plan.streams n) (sym planned.count)
-      (on_time_renamed plan.rate streams plan.streams pdos (id_of plan.ids) planned.renamed is.streams.count have_deadlines provisional chosen planned.passing.1)
+      (on_time_renamed plan.rate net.set plan.streams pdos (id_of plan.ids) planned.renamed is.streams.count have_deadlines provisional chosen planned.passing.1)
 
   pub synced : AreSynced plan.streams
-  synced = synced_renamed plan.rate streams plan.streams pdos (id_of plan.ids) planned.renamed provisional chosen is.synced
+  synced = synced_renamed plan.rate net.set plan.streams pdos (id_of plan.ids) planned.renamed provisional chosen is.synced
 
   -- each stream of the network stands in the plan, with its times
-  renamed_at : (f : ℕ) (e : Entry) → slice_get (map entry_of streams) f ≡ Some e → (k : Stream) × (slice_get plan.streams f ≡ Some k) × (timing_of k ≡ timing_in e)
+  renamed_at : (f : ℕ) (e : Entry) → slice_get (map entry_of net.set) f ≡ Some e → (k : Stream) × (slice_get plan.streams f ≡ Some k) × (timing_of k ≡ timing_in e)
   renamed_at f e there =
-      let s = was_there entry_of (slice_get streams f) e (sym (slice_get-map entry_of streams f) ∙ there) in
+      let s = was_there entry_of (slice_get net.set f) e (sym (slice_get-map entry_of net.set f) ∙ there) in
       let t : option_map timing_of (slice_get plan.streams f) ≡ Some (timing_of s.0) =
-      sym (slice_get-map timing_of plan.streams f) ∙ ap (λ (ts : List Timing). slice_get ts f) planned.renamed.timings ∙ slice_get-map timing_of streams f ∙ ap (λ (o : Option Stream). option_map timing_of o) s.1 in
+      sym (slice_get-map timing_of plan.streams f) ∙ ap (λ (ts : List Timing). slice_get ts f) planned.renamed.timings ∙ slice_get-map timing_of net.set f ∙ ap (λ (o : Option Stream). option_map timing_of o) s.1 in
       let k = was_there timing_of (slice_get plan.streams f) (timing_of s.0) t in
       (k.0, k.1, k.2 ∙ ap timing_in s.2)
 
-  inside : (f : ℕ) (e : Entry) → slice_get (map entry_of streams) f ≡ Some e → f < length streams
-  inside f e there = let s = was_there entry_of (slice_get streams f) e (sym (slice_get-map entry_of streams f) ∙ there) in slice_get_within streams f s.0 s.1
+  inside : (f : ℕ) (e : Entry) → slice_get (map entry_of net.set) f ≡ Some e → f < length net.set
+  inside f e there = let s = was_there entry_of (slice_get net.set f) e (sym (slice_get-map entry_of net.set f) ∙ there) in slice_get_within net.set f s.0 s.1
 
-  id_renamed : (f : ℕ) (k : Stream) → slice_get plan.streams f ≡ Some k → f < length streams → k.id ≡ id_under streams pdos (id_of plan.ids) f
+  id_renamed : (f : ℕ) (k : Stream) → slice_get plan.streams f ≡ Some k → f < length net.set → k.id ≡ id_under net.set pdos (id_of plan.ids) f
   id_renamed f k here low =
-      let id : of_stream (λ s. s.id) plan.streams f ≡ id_under streams pdos (id_of plan.ids) f = planned.renamed.each f low in
+      let id : of_stream (λ s. s.id) plan.streams f ≡ id_under net.set pdos (id_of plan.ids) f = planned.renamed.each f low in
       rw here at id
 
   -- and past the PDOs with its identifier
-  id_kept : (f : ℕ) (e : Entry) (k : Stream) → pdos ≤ f → slice_get (map entry_of streams) f ≡ Some e → slice_get plan.streams f ≡ Some k → k.id ≡ e.id
+  id_kept : (f : ℕ) (e : Entry) (k : Stream) → pdos ≤ f → slice_get (map entry_of net.set) f ≡ Some e → slice_get plan.streams f ≡ Some k → k.id ≡ e.id
   id_kept f e k past there here =
-      let s = was_there entry_of (slice_get streams f) e (sym (slice_get-map entry_of streams f) ∙ there) in
-      let id : of_stream (λ s. s.id) streams f ≡ s.0.id = ap (λ (o : Option Stream). option_map_or (λ (s : Stream). s.id) o 0) s.1 in
-      id_renamed f k here (inside f e there) ∙ id_of_fixed streams pdos (id_of plan.ids) f past ∙ id ∙ ap (λ (e : Entry). e.id) s.2
+      let s = was_there entry_of (slice_get net.set f) e (sym (slice_get-map entry_of net.set f) ∙ there) in
+      let id : of_stream (λ s. s.id) net.set f ≡ s.0.id = ap (λ (o : Option Stream). option_map_or (λ (s : Stream). s.id) o 0) s.1 in
+      id_renamed f k here (inside f e there) ∙ id_of_fixed net.set pdos (id_of plan.ids) f past ∙ id ∙ ap (λ (e : Entry). e.id) s.2
 
-  frame_with : (row : FrameRow) (f : ℕ) (k : Stream) → pdos ≤ f → slice_get (map entry_of streams) f ≡ Some (frame_stream row) → slice_get plan.streams f ≡ Some k → timing_of k ≡ timing_in (frame_stream row)
+  frame_with : (row : FrameRow) (f : ℕ) (k : Stream) → pdos ≤ f → slice_get (map entry_of net.set) f ≡ Some (frame_stream row) → slice_get plan.streams f ≡ Some k → timing_of k ≡ timing_in (frame_stream row)
       → IsFrameOf plan row k
   frame_with row f k past there here timing = record {
     here = (f, slice_get_within plan.streams f k here, get_or_from_slice_get plan.streams f k k here);
@@ -97,32 +96,32 @@ module _ (found : Found) (streams : List Stream) (is : IsNetwork (net_of found s
   }
 
   -- the stream of a row of the table of nodes, past the PDOs
-  pub frame_at : (row : FrameRow) → Contains found.nodes.frames row → row.period ≢ 0 → (f : ℕ) × (pdos ≤ f) × (k : Stream) × (slice_get plan.streams f ≡ Some k) × IsFrameOf plan row k
+  pub frame_at : (row : FrameRow) → Contains net.nodes.frames row → row.period ≢ 0 → (f : ℕ) × (pdos ≤ f) × (k : Stream) × (slice_get plan.streams f ≡ Some k) × IsFrameOf plan row k
   frame_at row at some =
-      let t = frame_there (net_of found streams) is row at some in
+      let t = frame_there net is row at some in
       let k = renamed_at t.0 (frame_stream row) t.2 in
       (t.0, t.1, k.0, k.1, frame_with row t.0 k.0 t.1 t.2 k.1 k.2)
 
   -- a stream of the plan was one of the network
-  was_before : (f : ℕ) (k : Stream) → slice_get plan.streams f ≡ Some k → (s : Stream) × (slice_get streams f ≡ Some s) × (timing_of s ≡ timing_of k)
-  was_before f k here = was_there timing_of (slice_get streams f) (timing_of k)
-      (sym (slice_get-map timing_of streams f) ∙ ap (λ (ts : List Timing). slice_get ts f) (sym planned.renamed.timings) ∙ slice_get-map timing_of plan.streams f ∙ ap (λ (o : Option Stream). option_map timing_of o) here)
+  was_before : (f : ℕ) (k : Stream) → slice_get plan.streams f ≡ Some k → (s : Stream) × (slice_get net.set f ≡ Some s) × (timing_of s ≡ timing_of k)
+  was_before f k here = was_there timing_of (slice_get net.set f) (timing_of k)
+      (sym (slice_get-map timing_of net.set f) ∙ ap (λ (ts : List Timing). slice_get ts f) (sym planned.renamed.timings) ∙ slice_get-map timing_of plan.streams f ∙ ap (λ (o : Option Stream). option_map timing_of o) here)
 
   -- and past the PDOs there is no other
-  pub no_other : (f : ℕ) (k : Stream) → pdos ≤ f → slice_get plan.streams f ≡ Some k → (row : FrameRow) × Contains found.nodes.frames row × (row.period ≢ 0) × IsFrameOf plan row k
+  pub no_other : (f : ℕ) (k : Stream) → pdos ≤ f → slice_get plan.streams f ≡ Some k → (row : FrameRow) × Contains net.nodes.frames row × (row.period ≢ 0) × IsFrameOf plan row k
   no_other f k past here =
       let s = was_before f k here in
-      let there : slice_get (map entry_of streams) f ≡ Some (entry_of s.0) = slice_get-map entry_of streams f ∙ ap (λ (o : Option Stream). option_map entry_of o) s.1 in
-      let r = frame_past (net_of found streams) is f (entry_of s.0) past there in
-      let its : slice_get (map entry_of streams) f ≡ Some (frame_stream r.0) = subst (λ (e : Entry). slice_get (map entry_of streams) f ≡ Some e) r.3 there in
+      let there : slice_get (map entry_of net.set) f ≡ Some (entry_of s.0) = slice_get-map entry_of net.set f ∙ ap (λ (o : Option Stream). option_map entry_of o) s.1 in
+      let r = frame_past net is f (entry_of s.0) past there in
+      let its : slice_get (map entry_of net.set) f ≡ Some (frame_stream r.0) = subst (λ (e : Entry). slice_get (map entry_of net.set) f ≡ Some e) r.3 there in
       (r.0, r.1, r.2, frame_with r.0 f k past its here (sym s.2 ∙ ap timing_in r.3))
 
   -- the stream of a row of the table of PDOs
-  pub pdo_of : (p : ℕ) (row : PdoRow) → slice_get found.rows p ≡ Some row → (k : Stream) × IsPdoOf found plan p row k
+  pub pdo_of : (p : ℕ) (row : PdoRow) → slice_get net.rows p ≡ Some row → (k : Stream) × IsPdoOf net plan p row k
   pdo_of p row there =
-      let low : p < pdos = slice_get_within found.rows p row there in
-      let signals = signals_of found.nodes.frames pdos in
-      let r = row_stream (net_of found streams) is p row there in
+      let low : p < pdos = slice_get_within net.rows p row there in
+      let signals = signals_of net.nodes.frames pdos in
+      let r = row_stream net is p row there in
       let k = renamed_at p (pdo_stream signals p r.sent row) r.there in
       let bytes : k.0.bytes ≡ bytes_for (total_bits r.sent.mapping.entries) = ap (λ (t : Timing). t.bytes) k.2 in
       let every : k.0.every ≡ r.sent.every = ap (λ (t : Timing). t.every) k.2 in
@@ -130,13 +129,13 @@ module _ (found : Found) (streams : List Stream) (is : IsNetwork (net_of found s
         k.0,
         record {
           here = k.1;
-          id = id_renamed p k.0 k.1 (inside p (pdo_stream signals p r.sent row) r.there) ∙ id_of_pdo streams pdos (id_of plan.ids) p low;
+          id = id_renamed p k.0 k.1 (inside p (pdo_stream signals p r.sent row) r.there) ∙ id_of_pdo net.set pdos (id_of plan.ids) p low;
           bytes = rw bytes r.as_sent.bytes;
           type = rw every r.as_sent.type;
           by_events = λ none. period ∙ ap ticks (by_events signals.sync row r.sent.every (sym every ∙ none));
           by_sync = λ some.
               let s = by_sync signals.sync row r.sent.every (omega (arith, some, every)) r.as_sent.paced in
-              let its = sync_row found.nodes.frames s.1 s.2 in
+              let its = sync_row net.nodes.frames s.1 s.2 in
               let stream = frame_at s.1 its.0 its.1 in
               record {
                 no_period = s.0;
@@ -155,8 +154,8 @@ module _ (found : Found) (streams : List Stream) (is : IsNetwork (net_of found s
   tested_at f k d past here dated =
       let s = was_before f k here in
       let fixed : pdos ≤ f = omega (arith, past, planned.count) in
-      let low = slice_get_within streams f s.0 s.1 in
-      let deadline : deadline_at streams f ≡ Some d = ap (λ (o : Option Stream). option_and_then (λ (s : Stream). s.deadline) o) s.1 ∙ ap (λ (t : Timing). t.deadline) s.2 ∙ dated in
-      let some : IsSome (deadline_at streams f) = rw deadline cc in
+      let low = slice_get_within net.set f s.0 s.1 in
+      let deadline : deadline_at net.set f ≡ Some d = ap (λ (o : Option Stream). option_and_then (λ (s : Stream). s.deadline) o) s.1 ∙ ap (λ (t : Timing). t.deadline) s.2 ∙ dated in
+      let some : IsSome (deadline_at net.set f) = rw deadline cc in
       subst (λ (n : ℕ). IsTested plan.streams n f) (sym planned.count)
-      (still_tested plan.rate streams plan.streams pdos (id_of plan.ids) planned.renamed f (record { fixed = fixed; inside = low; sdo = is.streams.dated f fixed low some; deadline = (d, deadline) }))
+      (still_tested plan.rate net.set plan.streams pdos (id_of plan.ids) planned.renamed f (record { fixed = fixed; inside = low; sdo = is.streams.dated f fixed low some; deadline = (d, deadline) }))

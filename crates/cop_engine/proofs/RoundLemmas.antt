@@ -1,22 +1,17 @@
 -- The DCF files of a plan are read again.
-use Rattle.std.proofs.Common.{◌≡◌, ◌≤◌, ◌*◌, ◌==◌, ℕ, Bool, true, false, cond, List, [], ◌∷◌, length, map, find, option_map, Option, Some, None, Result, Ok, Err, All, refl, sym, ap, ◌∙◌, subst}
+use Rattle.std.proofs.Common.{◌≡◌, ◌≤◌, ◌*◌, ◌==◌, ℕ, Bool, true, false, cond, List, [], ◌∷◌, length, find, option_map, Option, Some, None, Result, Ok, Err, All, refl, sym, ap, ◌∙◌, subst}
 use Rattle.std.specs.Option.{option_map_or}
 use Rattle.cop_frame.specs.declared.rates.Rate.{Rate}
-use Rattle.cop_rta.specs.declared.streams.Stream.{Stream}
-use Rattle.cop_rta.specs.Entries.{Entry, entry_of}
 use Rattle.std.proofs.lemmas.List.Elements.{All-head, All-tail}
 use Rattle.cop_eds.proofs.EditLemmas.{sections_equal, found_test}
 use Rattle.cop_rows.specs.declared.node_table.DeviceRow.{DeviceRow}
 use Rattle.cop_rows.specs.NodeReading.{nodes_of}
-use Rattle.cop_rows.specs.PdoReading.{pdos_of}
 use Rattle.cop_rows.specs.declared.refusals.Refusal as rows
-use Rattle.cop_net.specs.declared.faults.Refusal.{Refusal}
 use Rattle.cop_net.specs.declared.faults.Table.{Table}
-use Rattle.cop_net.specs.declared.faults.Table.TheVariants.{Nodes, Pdos}
+use Rattle.cop_net.specs.declared.faults.Table.TheVariants.{Nodes}
 use Rattle.cop_net.specs.Devices.{File}
 use Rattle.cop_net.specs.Tables.{in_table}
-use Rattle.cop_net.specs.Network.{Net, IsNetwork, accepted, network_of}
-use Rattle.cop_rows.proofs.RangeLemmas.{bind_ok}
+use Rattle.cop_net.specs.Network.{Net}
 use Rattle.cop_plan.specs.Values.{PlanValue}
 use Rattle.cop_plan.specs.Plans.{IsPlan, IsOutcome}
 use Rattle.cop_plan.specs.declared.assigning.Outcome.{Outcome}
@@ -26,28 +21,13 @@ use Rattle.cop_dcf.specs.Dcf.{dcf_of}
 use Rattle.cop_dcf.specs.Planned.{IsReadAgain, IsNodeReadAgain}
 use Rattle.cop_dcf.proofs.SettingsLemmas.{ids_small}
 use Rattle.cop_dcf.proofs.DeviceLemmas.{node_round}
-use Rattle.cop_engine.specs.Networks.{Found, network_in, net_of}
+use Rattle.cop_engine.specs.Networks.{IsNetworkIn}
 use Rattle.cop_engine.specs.Dcfs.{eds_text, dcf_file, device_row, dcf_at, IsFileReadAgain, AreReadAgain}
 use Rattle.cop_engine.proofs.NameLemmas.{HasNames, devices_named}
-
--- what was found is the network of its tables, and its devices have names
-record IsFound (wanted : List Rate) (files : List File) (found : Found) : Type 0 where
-  network : network_of wanted found.nodes found.rows files ≡ Ok found.network
-  names : All HasNames found.nodes.devices
 
 table_ok : {A : Type 0} (table : Table) (r : Result A rows.Refusal) (x : A) → in_table table r ≡ Ok x → r ≡ Ok x
 table_ok table (Ok y) x h = let same : y ≡ x = cc in ap Ok same
 table_ok table (Err e) x h = cc
-
-found_is : (wanted : List Rate) (nodes pdos : List ℕ) (files : List File) (found : Found) → network_in wanted nodes pdos files ≡ Ok found → IsFound wanted files found
-unfolding network_in
-found_is wanted nodes pdos files found ok =
-    let p = bind_ok (in_table Nodes (nodes_of nodes)) _ found ok in
-    let q = bind_ok (in_table Pdos (pdos_of pdos)) _ found p.2 in
-    let r = bind_ok (network_of wanted p.0 q.0 files) _ found q.2 in
-    let whole : ◌≡◌ {A = Result Found Refusal} (Ok (record { nodes = p.0; rows = q.0; network = r.0 })) (Ok found) = r.2 in
-    let same : record { nodes = p.0; rows = q.0; network = r.0 } ≡ found = cc in
-    subst (IsFound wanted files) same (record { network = r.1; names = devices_named nodes p.0 (table_ok Nodes (nodes_of nodes) p.0 p.1) })
 
 some_same : (a b : File) → Some a ≡ Some b → a ≡ b
 some_same a b e = cc
@@ -63,21 +43,14 @@ found_names (x ∷ xs) p row all e = by_test (p x) e (found_names xs p row (All-
     by_test true k later = let same : x ≡ row = cc in subst HasNames same (All-head HasNames x xs all)
     by_test false k later = later k
 
-module _ (wanted : List Rate) (nodes pdos : List ℕ) (files : List File) (found : Found) (read : network_in wanted nodes pdos files ≡ Ok found) (streams : List Stream) (are : map entry_of streams ≡ found.network.streams)
-    (network : IsNetwork (net_of found streams)) (plan : PlanValue) (planned : IsPlan found.network.equipment.rates streams (length found.rows) plan) where
-  abbrev net : Net
-  net = net_of found streams
-
-  is_found : IsFound wanted files found
-  is_found = found_is wanted nodes pdos files found read
-
-  made : network_of wanted net.nodes net.rows files ≡ Ok (accepted net)
-  made = is_found.network ∙ ap (λ (es : List Entry). Ok (record { equipment = found.network.equipment; streams = es })) (sym are)
+module _ (wanted : List Rate) (nodes pdos : List ℕ) (files : List File) (net : Net) (is : IsNetworkIn wanted nodes pdos files net) (plan : PlanValue) (planned : IsPlan net.equipment.rates net.set (length net.rows) plan) where
+  have_names : All HasNames net.nodes.devices
+  have_names = devices_named nodes net.nodes (table_ok Nodes (nodes_of nodes) net.nodes is.node_table)
 
   again : (node : ℕ) (row : DeviceRow) → device_row net.nodes.devices node ≡ Some row → IsNodeReadAgain net files plan.ids plan.rate node row
   again node row own =
-      let names : HasNames row = found_names net.nodes.devices (λ r. r.node == node) row is_found.names own in
-      node_round net wanted files plan.ids plan.rate node row made network.nodes own (ids_small found.network.equipment.rates streams (length found.rows) plan planned) names.0 names.1
+      let names : HasNames row = found_names net.nodes.devices (λ r. r.node == node) row have_names own in
+      node_round net wanted files plan.ids plan.rate node row is.made is.network.nodes own (ids_small net.equipment.rates net.set (length net.rows) plan planned) names.0 names.1
 
   -- the file of a node
   of_row : (node : ℕ) (row : DeviceRow) (file : File) → device_row net.nodes.devices node ≡ Some row → dcf_file files net plan row ≡ file → IsFileReadAgain net plan node file
@@ -101,7 +74,7 @@ module _ (wanted : List Rate) (nodes pdos : List ℕ) (files : List File) (found
       by_row None is k = cc
       by_row (Some row) is k = of_row node row file is (some_same (dcf_file files net plan row) file k)
 
-pub are_read_again : (wanted : List Rate) (nodes pdos : List ℕ) (files : List File) (found : Found) → network_in wanted nodes pdos files ≡ Ok found → (streams : List Stream) → map entry_of streams ≡ found.network.streams
-    → IsNetwork (net_of found streams) → (outcome : Outcome) → IsOutcome found.network.equipment.rates streams (length found.rows) outcome → AreReadAgain files (net_of found streams) outcome
-are_read_again wanted nodes pdos files found read streams are network (Planned plan) planned = of_file wanted nodes pdos files found read streams are network plan planned
-are_read_again wanted nodes pdos files found read streams are network (Refused refusals) planned = tt
+pub are_read_again : (wanted : List Rate) (nodes pdos : List ℕ) (files : List File) (net : Net) → IsNetworkIn wanted nodes pdos files net
+    → (outcome : Outcome) → IsOutcome net.equipment.rates net.set (length net.rows) outcome → AreReadAgain files net outcome
+are_read_again wanted nodes pdos files net is (Planned plan) planned = of_file wanted nodes pdos files net is plan planned
+are_read_again wanted nodes pdos files net is (Refused refusals) planned = tt

@@ -1,10 +1,8 @@
 -- What `plan` writes of refusals is what `check` reads, and all of them hold.
-use Rattle.std.proofs.Common.{◌≡◌, ℕ, ◌+◌, ◌<◌, ◌≤◌, inl, inr, Bool, true, false, List, [], ◌∷◌, length, map, get_or, slice_get, All, Some, Ok, Err, Result, refl, sym, ap, ◌∙◌, subst, arith, length-append}
+use Rattle.std.proofs.Common.{◌≡◌, ℕ, ◌+◌, ◌<◌, ◌≤◌, inl, inr, Bool, true, false, List, [], ◌∷◌, length, get_or, slice_get, All, Some, Ok, Err, Result, refl, subst, arith, length-append}
 use Rattle.std.proofs.lemmas.Option.{slice_get-get_or}
 use Rattle.cop_frame.specs.declared.rates.Rate.{Rate}
 use Rattle.cop_rta.specs.declared.streams.Stream.{Stream}
-use Rattle.cop_rta.specs.Entries.{entry_of}
-use Rattle.cop_rta.proofs.StreamLemmas.{streams_same}
 use Rattle.cop_table.specs.Rows.{rows_from}
 use Rattle.cop_cert.specs.declared.refusals.Refusal.{Refusal}
 use Rattle.cop_cert.specs.Writable.{AreWritable}
@@ -15,13 +13,11 @@ use Rattle.cop_rows.specs.declared.refusals.Refusal as rows
 use Rattle.cop_rows.specs.declared.refusals.Rule.{Rule}
 use Rattle.cop_rows.specs.Refusals.{placed}
 use Rattle.cop_rows.specs.PdoReading.{pushed, pdo_in, added, rows_in, pdos_of}
-use Rattle.cop_net.specs.declared.faults.Refusal as net
 use Rattle.cop_net.specs.declared.faults.Table.{Table}
-use Rattle.cop_net.specs.declared.faults.Table.TheVariants.{Nodes, Pdos}
+use Rattle.cop_net.specs.declared.faults.Table.TheVariants.{Pdos}
 use Rattle.cop_net.specs.Devices.{File}
 use Rattle.cop_net.specs.Tables.{in_table}
-use Rattle.cop_net.specs.Network.{network_of}
-use Rattle.cop_rows.specs.NodeReading.{nodes_of}
+use Rattle.cop_net.specs.Network.{Net, accepted}
 use Rattle.cop_rows.proofs.RangeLemmas.{bind_ok}
 use Rattle.cop_plan.specs.Plans.{IsOutcome, IsGreatestRefusal}
 use Rattle.cop_plan.specs.declared.assigning.Outcome.{Outcome}
@@ -31,11 +27,11 @@ use Rattle.cop_engine.specs.declared.faults.Fault.{Fault}
 use Rattle.cop_engine.specs.declared.faults.Fault.TheVariants as faults
 use Rattle.cop_plan.specs.declared.choices.Asked.{Asked}
 use Rattle.cop_engine.specs.declared.plans.Files.{Files}
-use Rattle.cop_engine.specs.Networks.{Found, network_in}
 use Rattle.cop_engine.specs.PlanTexts.{refusals_of}
 use Rattle.cop_engine.specs.Plans.{AreFilesOf}
 use Rattle.cop_engine.specs.Checks.{AreChecked, IsCheckOf, ExplainsCheck}
-use Rattle.cop_engine.proofs.OnePlan.{ok_once}
+use Rattle.cop_engine.proofs.NetworkLemmas.{network_read}
+use Rattle.cop_engine.proofs.OnePlan.{ok_once, network_once}
 
 -- ---- a table has at most 512 PDOs
 
@@ -64,16 +60,6 @@ table_few text found h =
     let p = bind_ok (rows_in text) _ found h in
     from_few 1 [] found p.0 (omega arith) p.2
 
-pub few_rows : (wanted : List Rate) (nodes pdos : List ℕ) (files : List File) (found : Found) → network_in wanted nodes pdos files ≡ Ok found → length found.rows ≤ 512
-unfolding network_in
-few_rows wanted nodes pdos files found ok =
-    let p = bind_ok (in_table Nodes (nodes_of nodes)) _ found ok in
-    let q = bind_ok (in_table Pdos (pdos_of pdos)) _ found p.2 in
-    let r = bind_ok (network_of wanted p.0 q.0 files) _ found q.2 in
-    let whole : ◌≡◌ {A = Result Found net.Refusal} (Ok (record { nodes = p.0; rows = q.0; network = r.0 })) (Ok found) = r.2 in
-    let same : record { nodes = p.0; rows = q.0; network = r.0 } ≡ found = cc in
-    subst (λ (f : Found). length f.rows ≤ 512) same (table_few pdos q.0 (was_in_table Pdos (pdos_of pdos) q.0 q.1))
-
 -- ---- the refusals of an outcome
 
 outcome_writable : (rates : List Rate) (streams : List Stream) (pdos : ℕ) (o : Outcome) → pdos ≤ length streams → pdos ≤ 512 → IsOutcome rates streams pdos o → AreWritable (refusals_of o)
@@ -97,32 +83,31 @@ all_answered streams pdos (r ∷ rs) answers checked all = λ k d below.
     any_default answers k d below h = grind (arith, h, below, slice_get-get_or answers k d below, slice_get-get_or answers k false below)
 
 module _ (asked : Asked) (nodes pdos : List ℕ) (eds : List File) (files : Files) (f : AreFilesOf asked nodes pdos eds files) where
+  abbrev net : Net
+  net = f.network.net
+
+  few_rows : length net.rows ≤ 512
+  few_rows = table_few pdos net.rows (was_in_table Pdos (pdos_of pdos) net.rows f.network.said.pdo_table)
+
   -- the refusal file is read as the refusals of the outcome
-  pub read_again : cert.refusals_of files.refusals.items ≡ Ok (refusals_of f.planned.outcome)
+  pub read_again : cert.refusals_of files.refusals.items ≡ Ok (refusals_of f.outcome)
   read_again =
-      rw f.planned.refusals
-      (written_is_read (refusals_of f.planned.outcome)
-      (outcome_writable f.found.network.equipment.rates f.streams (length f.found.rows) f.planned.outcome f.begins.count (few_rows asked.rates nodes pdos eds f.found f.read) f.planned.planned))
+      rw f.written.refusals
+      (written_is_read (refusals_of f.outcome) (outcome_writable net.equipment.rates net.set (length net.rows) f.outcome f.network.said.network.streams.count few_rows f.network.planned))
 
   pub all_hold : (lines : List ℕ) (all : Bool) → IsCheckOf asked.rates nodes pdos eds files.refusals.items lines all → all ≡ true
   all_hold lines all c =
-      let found : f.found ≡ c.found = ok_once (network_in asked.rates nodes pdos eds) f.found c.found f.read c.read in
-      let entries : map entry_of f.streams ≡ map entry_of c.streams = f.streams_are ∙ ap (λ (x : Found). x.network.streams) found ∙ sym c.streams_are in
-      let streams : f.streams ≡ c.streams = streams_same f.streams c.streams entries in
-      let count : length f.found.rows ≡ length c.found.rows = ap (λ (x : Found). length x.rows) found in
-      let refusals : refusals_of f.planned.outcome ≡ c.refusals = ok_once (cert.refusals_of files.refusals.items) _ c.refusals read_again c.refusals_are in
-      let hold : All (IsGreatestRefusal f.streams (length f.found.rows)) (refusals_of f.planned.outcome) =
-      outcome_holds f.found.network.equipment.rates f.streams (length f.found.rows) f.planned.outcome f.planned.planned in
-      let there : All (IsGreatestRefusal c.streams (length f.found.rows)) (refusals_of f.planned.outcome) =
-      subst (λ (s : List Stream). All (IsGreatestRefusal s (length f.found.rows)) (refusals_of f.planned.outcome)) streams hold in
-      let over : All (IsGreatestRefusal c.streams (length c.found.rows)) (refusals_of f.planned.outcome) =
-      subst (λ (n : ℕ). All (IsGreatestRefusal c.streams n) (refusals_of f.planned.outcome)) count there in
-      let mine : All (IsGreatestRefusal c.streams (length c.found.rows)) c.refusals = subst (λ (rs : List Refusal). All (IsGreatestRefusal c.streams (length c.found.rows)) rs) refusals over in
-      c.answered.all_hold.1 (all_answered c.streams (length c.found.rows) c.refusals c.answered.answers c.answered.checked mine)
+      let same : net ≡ c.net = network_once asked.rates nodes pdos eds net c.net f.network.said c.said in
+      let refusals : refusals_of f.outcome ≡ c.refusals = ok_once (cert.refusals_of files.refusals.items) _ c.refusals read_again c.refusals_are in
+      let hold : All (IsGreatestRefusal net.set (length net.rows)) (refusals_of f.outcome) = outcome_holds net.equipment.rates net.set (length net.rows) f.outcome f.network.planned in
+      let there : All (IsGreatestRefusal c.net.set (length c.net.rows)) (refusals_of f.outcome) = subst (λ (n : Net). All (IsGreatestRefusal n.set (length n.rows)) (refusals_of f.outcome)) same hold in
+      let mine : All (IsGreatestRefusal c.net.set (length c.net.rows)) c.refusals = subst (λ (rs : List Refusal). All (IsGreatestRefusal c.net.set (length c.net.rows)) rs) refusals there in
+      c.answered.all_hold.1 (all_answered c.net.set (length c.net.rows) c.refusals c.answered.answers c.answered.checked mine)
 
   -- nothing but want of memory keeps the check from reading it
   pub only_memory : (fault : Fault) → ExplainsCheck asked.rates nodes pdos eds files.refusals.items fault → fault ≡ faults.Memory
-  only_memory (faults.Refused number place) (inl h) = let r = h in let clash = r.1 in let read = f.read in cc
+  only_memory (faults.Refused number place) (inl h) = let r = h in let clash = r.1 in
+      let read = network_read asked.rates nodes pdos eds net.nodes net.rows (accepted net) f.network.said.node_table f.network.said.pdo_table f.network.said.made in cc
   only_memory (faults.Refused number place) (inr h) = let b = h in let clash = b.3 in let read = read_again in cc
   only_memory (faults.File name) h = absurd h
   only_memory faults.Usage h = absurd h

@@ -1,17 +1,13 @@
 -- The boot of a planned network by drawn turns, and what is said of it.
-use Rattle.std.specs.Prelude.{◌≡◌, ℕ, zero, suc, List, [], ◌∷◌, ◌++◌, map, false, true, codes, decimal, length, Option, Some, None, is_some, unwrap_or, if◌then◌else◌, Ok, Bool, ◌^◌, ◌-◌}
+use Rattle.std.specs.Prelude.{◌≡◌, ℕ, zero, suc, List, [], ◌∷◌, ◌++◌, map, false, true, codes, decimal, length, Option, Some, None, is_some, unwrap_or, if◌then◌else◌, Bool, ◌^◌, ◌-◌}
 use Rattle.std.specs.List.{flat_map}
 use Rattle.std.specs.Fmt.{digits, padded_integral, format_spec}
 use Rattle.cop_nmt.specs.declared.states.NodeState.TheVariants.{PreOperational}
 use Rattle.cop_sdo.specs.Server.{idle}
 use Rattle.cop_dict.specs.Find.{Entry}
 use Rattle.cop_dict.specs.Dict.{initial}
-use Rattle.cop_rows.specs.NodeReading.{nodes_of}
-use Rattle.cop_rows.specs.PdoReading.{pdos_of}
-use Rattle.cop_net.specs.declared.faults.Table.TheVariants.{Nodes, Pdos}
 use Rattle.cop_net.specs.Devices.{File}
-use Rattle.cop_net.specs.Tables.{in_table}
-use Rattle.cop_net.specs.Network.{Net, IsNetwork, accepted, network_of}
+use Rattle.cop_net.specs.Network.{Net}
 use Rattle.cop_plan.specs.declared.assigning.Outcome.{Outcome}
 use Rattle.cop_plan.specs.declared.choices.Choice.{Choice}
 use Rattle.cop_plan.specs.declared.choices.Asked.{Asked}
@@ -27,6 +23,7 @@ use Rattle.cop_boot.specs.Device.{Attached}
 use Rattle.cop_boot.specs.Booted.{ReadyInTime}
 use Rattle.cop_boot.specs.Bus.{Runs, Made}
 use Rattle.cop_boot.specs.NetworkBoot.{HavePlannedPdos}
+use Rattle.cop_engine.specs.Networks.{IsPlannedNetwork}
 use Rattle.cop_engine.specs.Judgements.{none_passes}
 use Rattle.cop_engine.specs.Turns.{turns_drawn}
 
@@ -103,12 +100,6 @@ IsBootOfNetwork choice seed net text = (outcome : Outcome) × IsOutcome net.equi
 
 -- the boot of the network that the tables and the EDS files say, by its plan
 pub record IsBootOf (asked : Asked) (seed : ℕ) (nodes pdos : List ℕ) (eds : List File) (text : List ℕ) : Type 0 where
-  pub net : Net
-  pub network : IsNetwork net
-  pub node_table : in_table Nodes (nodes_of nodes) ≡ Ok net.nodes
-  pub pdo_table : in_table Pdos (pdos_of pdos) ≡ Ok net.rows
-  pub read : network_of asked.rates net.nodes net.rows eds ≡ Ok (accepted net)
   pub outcome : Outcome
-  pub planned : IsOutcome net.equipment.rates net.set (length net.rows) outcome
-  pub chosen : IsChosenBy asked.choice outcome
-  pub booted : IsBootedBy seed net outcome text
+  pub network : IsPlannedNetwork asked nodes pdos eds outcome
+  pub booted : IsBootedBy seed network.net outcome text

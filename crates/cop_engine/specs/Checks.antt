@@ -1,23 +1,23 @@
 -- The check of a refusal file.
-use Rattle.std.specs.Prelude.{◌≡◌, ◌↔◌, ℕ, ◌<◌, ◌⊎◌, List, [], ◌++◌, Bool, true, false, codes, decimal, length, map, get_or, slice_get, All, IsTrue, Ok, Err, Some}
+use Rattle.std.specs.Prelude.{◌≡◌, ◌↔◌, ℕ, ◌<◌, ◌⊎◌, List, [], ◌++◌, Bool, true, false, codes, decimal, length, get_or, slice_get, All, IsTrue, Ok, Err, Some}
 use Rattle.std.specs.Option.{option_map_or}
 use Rattle.cop_frame.specs.declared.rates.Rate.{Rate}
 use Rattle.cop_frame.specs.Rate.{kbits_of}
 use Rattle.cop_rta.specs.declared.streams.Stream.{Stream}
-use Rattle.cop_rta.specs.Entries.{entry_of}
 use Rattle.cop_cert.specs.declared.faults.Breach.{Breach}
 use Rattle.cop_cert.specs.declared.refusals.Refusal.{Refusal}
 use Rattle.cop_cert.specs.Assignments.{NoAssignmentPasses}
 use Rattle.cop_cert.specs.Causes.{IsRefusal}
 use Rattle.cop_cert.specs.Faults as breaches
 use Rattle.cop_cert.specs.Reading.{refusals_of}
-use Rattle.cop_net.specs.declared.faults.Refusal as net
+use Rattle.cop_net.specs.declared.faults.Refusal as broken
 use Rattle.cop_net.specs.Devices.{File}
 use Rattle.cop_net.specs.Faults.{number_of_rule}
+use Rattle.cop_net.specs.Network.{Net, Accepted}
 use Rattle.cop_engine.specs.declared.faults.Fault.{Fault}
 use Rattle.cop_engine.specs.declared.faults.Fault.TheVariants as faults
 use Rattle.cop_engine.specs.Reports.{lines_below}
-use Rattle.cop_engine.specs.Networks.{Found, network_in}
+use Rattle.cop_engine.specs.Networks.{network_in, IsNetworkIn}
 
 abbrev pub said : Bool → List ℕ
 said true = codes " holds\n"
@@ -49,20 +49,18 @@ RuleOut streams pdos refusals answers =
 
 -- A refusal file against the network that the tables and the EDS files say: a line for each refusal, and whether all hold.
 pub record IsCheckOf (wanted : List Rate) (nodes pdos : List ℕ) (eds : List File) (text : List ℕ) (lines : List ℕ) (all : Bool) : Type 0 where
-  pub found : Found
-  pub read : network_in wanted nodes pdos eds ≡ Ok found
-  pub streams : List Stream
-  pub streams_are : map entry_of streams ≡ found.network.streams
+  pub net : Net
+  pub said : IsNetworkIn wanted nodes pdos eds net
   pub refusals : List Refusal
   pub refusals_are : refusals_of text ≡ Ok refusals
-  pub answered : AreLinesOf streams (length found.rows) refusals lines all
-  pub rules_out : RuleOut streams (length found.rows) refusals answered.answers
+  pub answered : AreLinesOf net.set (length net.rows) refusals lines all
+  pub rules_out : RuleOut net.set (length net.rows) refusals answered.answers
 
 -- why there is none: the network, or else the refusal file
 abbrev pub ExplainsCheck : List Rate → List ℕ → List ℕ → List File → List ℕ → Fault → Type 0
 ExplainsCheck wanted nodes pdos files text (faults.Refused number place) =
-    ((r : net.Refusal) × (network_in wanted nodes pdos files ≡ Err r) × (number ≡ number_of_rule r.rule) × (place ≡ r.place))
-    ⊎ ((found : Found) × (network_in wanted nodes pdos files ≡ Ok found) × (b : Breach) × (refusals_of text ≡ Err b) × (number ≡ breaches.number_of_rule b.rule) × (place ≡ b.place))
+    ((r : broken.Refusal) × (network_in wanted nodes pdos files ≡ Err r) × (number ≡ number_of_rule r.rule) × (place ≡ r.place))
+    ⊎ ((made : Accepted) × (network_in wanted nodes pdos files ≡ Ok made) × (b : Breach) × (refusals_of text ≡ Err b) × (number ≡ breaches.number_of_rule b.rule) × (place ≡ b.place))
 ExplainsCheck wanted nodes pdos files text faults.Simulation = ⊥
 ExplainsCheck wanted nodes pdos files text (faults.File name) = ⊥
 ExplainsCheck wanted nodes pdos files text faults.Usage = ⊥

@@ -21,7 +21,7 @@ use Rattle.cop_plan.specs.declared.choices.Asked.{Asked}
 use Rattle.cop_plan.specs.declared.assigning.Outcome.TheVariants.{Planned, Refused}
 use Rattle.cop_sim.specs.Guarantee.{IsRunOf}
 use Rattle.cop_net.specs.Devices.{File}
-use Rattle.cop_engine.specs.Networks.{Found}
+use Rattle.cop_net.specs.Network.{Net}
 use Rattle.cop_engine.specs.declared.plans.Files.{Files}
 use Rattle.cop_engine.specs.Plans.{AreFilesOf}
 
@@ -61,13 +61,13 @@ pub record HasBytes (device : Option Device) (row : PdoRow) (bytes : ℕ) : Type
 -- The stream of a row's PDO under a plan: its identifier is the plan's, its jitter and deadline are the row's, and its bytes are those of its
 -- device's mapping. Where it is sent by events its period is the row's, and otherwise so many times SYNC's as the transmission type of its
 -- device says.
-pub record IsPdoOf (found : Found) (plan : PlanValue) (p : ℕ) (row : PdoRow) (k : Stream) : Type 0 where
+pub record IsPdoOf (net : Net) (plan : PlanValue) (p : ℕ) (row : PdoRow) (k : Stream) : Type 0 where
   pub here : slice_get plan.streams p ≡ Some k
   pub id : k.id ≡ id_of plan.ids p
-  pub bytes : HasBytes (get_or found.network.equipment.devices row.node None) row k.bytes
-  pub type : HasType (get_or found.network.equipment.devices row.node None) row k.every
+  pub bytes : HasBytes (get_or net.equipment.devices row.node None) row k.bytes
+  pub type : HasType (get_or net.equipment.devices row.node None) row k.every
   pub by_events : k.every ≡ 0 → k.period ≡ ticks row.period
-  pub by_sync : 1 ≤ k.every → IsBySync found.nodes.frames plan row k
+  pub by_sync : 1 ≤ k.every → IsBySync net.nodes.frames plan row k
   pub jitter : k.jitter ≡ ticks row.jitter
   pub deadline : k.deadline ≡ Some (ticks row.deadline)
 
@@ -79,21 +79,21 @@ AreOnTimeIn plan id deadline =
 -- Each row's PDO ends each of its transfers within the row's deadline, and by the plan's margin before it, in every legal run of the plan's
 -- streams at its rate in which all of them obey. So does each SDO frame for which the table of nodes has a deadline. The plan has no streams but those of
 -- the rows of both tables.
-pub record MeetsDeadlines (found : Found) (plan : PlanValue) : Type 0 where
-  pub pdos : (p : ℕ) (row : PdoRow) → slice_get found.rows p ≡ Some row → (k : Stream) × IsPdoOf found plan p row k
-  pub on_time : (p : ℕ) (row : PdoRow) → slice_get found.rows p ≡ Some row → AreOnTimeIn plan (id_of plan.ids p) (ticks row.deadline - margin_of plan)
-  pub frames : (row : FrameRow) → Contains found.nodes.frames row → row.period ≢ 0 → (k : Stream) × IsFrameOf plan row k
-  pub no_other : (f : ℕ) (k : Stream) → length found.rows ≤ f → slice_get plan.streams f ≡ Some k → (row : FrameRow) × Contains found.nodes.frames row × (row.period ≢ 0) × IsFrameOf plan row k
-  pub frames_on_time : (row : FrameRow) (d : ℕ) → Contains found.nodes.frames row → row.deadline ≡ Some d → AreOnTimeIn plan (base_of row.kind + row.node) (ticks d - margin_of plan)
+pub record MeetsDeadlines (net : Net) (plan : PlanValue) : Type 0 where
+  pub pdos : (p : ℕ) (row : PdoRow) → slice_get net.rows p ≡ Some row → (k : Stream) × IsPdoOf net plan p row k
+  pub on_time : (p : ℕ) (row : PdoRow) → slice_get net.rows p ≡ Some row → AreOnTimeIn plan (id_of plan.ids p) (ticks row.deadline - margin_of plan)
+  pub frames : (row : FrameRow) → Contains net.nodes.frames row → row.period ≢ 0 → (k : Stream) × IsFrameOf plan row k
+  pub no_other : (f : ℕ) (k : Stream) → length net.rows ≤ f → slice_get plan.streams f ≡ Some k → (row : FrameRow) × Contains net.nodes.frames row × (row.period ≢ 0) × IsFrameOf plan row k
+  pub frames_on_time : (row : FrameRow) (d : ℕ) → Contains net.nodes.frames row → row.deadline ≡ Some d → AreOnTimeIn plan (base_of row.kind + row.node) (ticks d - margin_of plan)
 
 -- The plan has the slowest candidate, of the rates that are wanted and that all devices support, at which some assignment of identifiers passes the
 -- response-time test, it passes there, and each slower rate has a refusal that holds; and its PDOs and SDO frames meet their
 -- deadlines. Where there is none, no assignment passes at any rate, and each has such a refusal.
-abbrev pub IsGuaranteed : Found → List Stream → Outcome → Type 0
-IsGuaranteed found streams (Planned plan) = IsPlan found.network.equipment.rates streams (length found.rows) plan × MeetsDeadlines found plan
-IsGuaranteed found streams (Refused refusals) = AreAllRefused found.network.equipment.rates streams (length found.rows) refusals
+abbrev pub IsGuaranteed : Net → Outcome → Type 0
+IsGuaranteed net (Planned plan) = IsPlan net.equipment.rates net.set (length net.rows) plan × MeetsDeadlines net plan
+IsGuaranteed net (Refused refusals) = AreAllRefused net.equipment.rates net.set (length net.rows) refusals
 
 -- the files of the plan of the network that the tables and the EDS files say, with what the plan guarantees
 pub record AreGuaranteedFiles (asked : Asked) (nodes pdos : List ℕ) (eds : List File) (files : Files) : Type 0 where
   pub exact : AreFilesOf asked nodes pdos eds files
-  pub guaranteed : IsGuaranteed exact.found exact.streams exact.planned.outcome
+  pub guaranteed : IsGuaranteed exact.network.net exact.outcome

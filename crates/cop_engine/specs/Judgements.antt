@@ -1,9 +1,8 @@
 -- The judgement of a trace by the plan of a network.
-use Rattle.std.specs.Prelude.{◌≡◌, ◌⊎◌, ℕ, List, ◌++◌, codes, decimal, Bool, true, false, length, map, count_by, Option, None, Some, Ok, Err}
+use Rattle.std.specs.Prelude.{◌≡◌, ◌⊎◌, ℕ, List, ◌++◌, codes, decimal, Bool, true, false, count_by, Option, None, Some, Ok, Err}
 use Rattle.cop_frame.specs.declared.rates.Rate.{Rate}
 use Rattle.cop_frame.specs.Rate.{ticks_of}
 use Rattle.cop_rta.specs.declared.streams.Stream.{Stream}
-use Rattle.cop_rta.specs.Entries.{entry_of}
 use Rattle.cop_bus.specs.declared.steps.Step.{Step}
 use Rattle.cop_bus.specs.declared.steps.Step.TheVariants as steps
 use Rattle.cop_bus.specs.Trace.{IsLegalTrace}
@@ -12,16 +11,14 @@ use Rattle.cop_bus.specs.Late.{first_late}
 use Rattle.cop_bus.specs.Reading.{Told, trace_of}
 use Rattle.cop_net.specs.declared.faults.Refusal as net
 use Rattle.cop_net.specs.Devices.{File}
-use Rattle.cop_net.specs.Network.{IsNetwork}
 use Rattle.cop_net.specs.Faults.{number_of_rule}
 use Rattle.cop_plan.specs.Values.{PlanValue}
-use Rattle.cop_plan.specs.Plans.{IsOutcome, IsChosenBy}
 use Rattle.cop_plan.specs.declared.assigning.Outcome.{Outcome}
 use Rattle.cop_plan.specs.declared.choices.Asked.{Asked}
 use Rattle.cop_plan.specs.declared.assigning.Outcome.TheVariants.{Planned, Refused}
 use Rattle.cop_engine.specs.declared.faults.Fault.{Fault}
 use Rattle.cop_engine.specs.declared.faults.Fault.TheVariants as faults
-use Rattle.cop_engine.specs.Networks.{Found, network_in, net_of}
+use Rattle.cop_engine.specs.Networks.{network_in, IsPlannedNetwork}
 
 -- a transfer starts
 abbrev pub is_start : Step → Bool
@@ -70,16 +67,6 @@ ExplainsTrace rate streams trace faults.Memory = Unit {0}
 abbrev pub IsJudgedBy : Outcome → List ℕ → List ℕ → Type 0
 IsJudgedBy (Planned plan) trace text = IsJudged plan.rate plan.streams trace text
 IsJudgedBy (Refused refusals) trace text = text ≡ none_passes
-
--- the network that the tables and the EDS files say, and its plan
-pub record IsPlannedNetwork (asked : Asked) (nodes pdos : List ℕ) (eds : List File) (outcome : Outcome) : Type 0 where
-  pub found : Found
-  pub read : network_in asked.rates nodes pdos eds ≡ Ok found
-  pub streams : List Stream
-  pub streams_are : map entry_of streams ≡ found.network.streams
-  pub network : IsNetwork (net_of found streams)
-  pub planned : IsOutcome found.network.equipment.rates streams (length found.rows) outcome
-  pub chosen : IsChosenBy asked.choice outcome
 
 -- the judgement of a trace by the plan of the network that the files say
 pub record IsJudgement (asked : Asked) (nodes pdos : List ℕ) (eds : List File) (trace text : List ℕ) : Type 0 where

@@ -1,12 +1,10 @@
 -- The files of a plan.
-use Rattle.std.specs.Prelude.{◌≡◌, ℕ, List, length, map, Ok}
-use Rattle.cop_rta.specs.declared.streams.Stream.{Stream}
+use Rattle.std.specs.Prelude.{◌≡◌, ℕ, List, length}
 use Rattle.cop_rta.specs.declared.verdicts.Verdict.{Verdict}
-use Rattle.cop_rta.specs.Entries.{entry_of}
 use Rattle.cop_cert.specs.Format.{text_of}
 use Rattle.cop_rows.specs.declared.pdo_table.PdoRow.{PdoRow}
 use Rattle.cop_net.specs.Devices.{File}
-use Rattle.cop_net.specs.Network.{Net, BeginsWith, IsNetwork}
+use Rattle.cop_net.specs.Network.{Net}
 use Rattle.cop_plan.specs.declared.assigning.Outcome.{Outcome}
 use Rattle.cop_plan.specs.declared.choices.Choice.{Choice}
 use Rattle.cop_plan.specs.declared.choices.Asked.{Asked}
@@ -15,7 +13,7 @@ use Rattle.cop_plan.specs.Plans.{IsOutcome, IsChosenBy}
 use Rattle.cop_plan.specs.Values.{PlanValue}
 use Rattle.cop_engine.specs.declared.plans.Files.{Files}
 use Rattle.cop_engine.specs.Tests.{AreVerdicts}
-use Rattle.cop_engine.specs.Networks.{Found, network_in, net_of}
+use Rattle.cop_engine.specs.Networks.{IsPlannedNetwork}
 use Rattle.cop_engine.specs.Dcfs.{dcfs_of}
 use Rattle.cop_engine.specs.PlanTexts.{plan_text, is_planned, refusals_of}
 
@@ -28,12 +26,9 @@ ArePlanVerdicts (Refused refusals) verdicts pdos = Unit {0}
 abbrev pub IsPlanText : List PdoRow → PlanValue → List ℕ → Type 0
 IsPlanText rows plan text = (verdicts : List Verdict) × AreVerdicts plan.rate plan.streams verdicts (length rows) × (text ≡ plan_text rows verdicts (Planned plan))
 
--- The plan's text with the response of each PDO, the refusal file with the greatest refusal set of each slower
--- candidate, or of each candidate where no rate passes, and the DCF file of each device.
-pub record AreFilesFor (choice : Choice) (eds : List File) (net : Net) (files : Files) : Type 0 where
-  pub outcome : Outcome
-  pub planned : IsOutcome net.equipment.rates net.set (length net.rows) outcome
-  pub chosen : IsChosenBy choice outcome
+-- The files of what the planner answers for a network: the plan's text with the response of each PDO, the refusal file with the greatest
+-- refusal set of each slower candidate, or of each candidate where no rate passes, and the DCF file of each device.
+pub record AreFilesFor (eds : List File) (net : Net) (outcome : Outcome) (files : Files) : Type 0 where
   pub verdicts : List Verdict
   pub judged : ArePlanVerdicts outcome verdicts (length net.rows)
   pub is_plan : files.planned ≡ is_planned outcome
@@ -41,12 +36,13 @@ pub record AreFilesFor (choice : Choice) (eds : List File) (net : Net) (files : 
   pub refusals : files.refusals.items ≡ text_of (refusals_of outcome)
   pub dcf : files.dcf ≡ dcfs_of eds net outcome
 
--- the files of what is asked of the network that the tables and the EDS files say, whose first streams are the PDOs
+-- the files of what the planner answers for a network
+abbrev pub AreFilesOfNetwork : Choice → List File → Net → Files → Type 0
+AreFilesOfNetwork choice eds net files =
+    (outcome : Outcome) × IsOutcome net.equipment.rates net.set (length net.rows) outcome × IsChosenBy choice outcome × AreFilesFor eds net outcome files
+
+-- the files of what is asked of the network that the tables and the EDS files say
 pub record AreFilesOf (asked : Asked) (nodes pdos : List ℕ) (eds : List File) (files : Files) : Type 0 where
-  pub found : Found
-  pub read : network_in asked.rates nodes pdos eds ≡ Ok found
-  pub streams : List Stream
-  pub streams_are : map entry_of streams ≡ found.network.streams
-  pub begins : BeginsWith (length found.rows) streams
-  pub network : IsNetwork (net_of found streams)
-  pub planned : AreFilesFor asked.choice eds (net_of found streams) files
+  pub outcome : Outcome
+  pub network : IsPlannedNetwork asked nodes pdos eds outcome
+  pub written : AreFilesFor eds network.net outcome files

@@ -20,8 +20,8 @@ use Rattle.cop_engine.specs.declared.faults.Fault.{Fault}
 use Rattle.cop_engine.specs.declared.faults.Fault.TheVariants as faults
 use Rattle.cop_engine.specs.declared.seeded_runs.RunFault.{RunFault}
 use Rattle.cop_engine.specs.declared.seeded_runs.RunFault.TheVariants as runs
-use Rattle.cop_engine.specs.Judgements.{transfers_in, judged_text, none_passes, IsPlannedNetwork}
-use Rattle.cop_engine.specs.Networks.{ExplainsNetwork}
+use Rattle.cop_engine.specs.Judgements.{transfers_in, judged_text, none_passes}
+use Rattle.cop_engine.specs.Networks.{ExplainsNetwork, IsPlannedNetwork}
 
 -- the behaviours of the streams by a seed
 abbrev pub seeded : ℕ → List Stream → List Actor

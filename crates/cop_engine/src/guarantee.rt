@@ -4,7 +4,6 @@ ghost use Rattle.std.specs.Prelude.{ℕ, List};
 ghost use Rattle.cop_net.specs.Devices.{File};
 ghost use Rattle.cop_plan.specs.declared.choices.Asked.{Asked};
 ghost use Rattle.cop_engine.specs.declared.plans.Files.{Files};
-ghost use Rattle.cop_engine.specs.Networks.{net_of};
 ghost use Rattle.cop_engine.specs.Dcfs.{AreReadAgain};
 ghost use Rattle.cop_engine.specs.Plans.{AreFilesOf};
 ghost use Rattle.cop_engine.specs.Guarantee.{IsGuaranteed};
@@ -17,7 +16,7 @@ ghost use Rattle.cop_engine.specs.Judgements.{IsJudgement, SaysOnTime};
 /// that has a deadline ends its transfer within it. That of a PDO that is sent by SYNC counts from SYNC's event, and the
 /// stream of such a PDO has as many times SYNC's period as the transmission type of its device says.
 pub fn planner_guarantee()
-    ensures { (asked : Asked) (nodes pdos : List ℕ) (eds : List File) (files : Files) → (f : AreFilesOf asked nodes pdos eds files) → IsGuaranteed f.found f.streams f.planned.outcome }
+    ensures { (asked : Asked) (nodes pdos : List ℕ) (eds : List File) (files : Files) → (f : AreFilesOf asked nodes pdos eds files) → IsGuaranteed f.network.net f.outcome }
 {}
 
 /// By it the judgement of a trace ([`judge_bytes`](crate::judge_bytes)) never says that an instance is late.
@@ -30,5 +29,5 @@ pub fn judged_on_time()
 /// each of the node's settings.
 pub fn dcf_round_trip()
     ensures { (asked : Asked) (nodes pdos : List ℕ) (eds : List File) (files : Files) → (f : AreFilesOf asked nodes pdos eds files)
-        → AreReadAgain eds (net_of f.found f.streams) f.planned.outcome }
+        → AreReadAgain eds f.network.net f.outcome }
 {}

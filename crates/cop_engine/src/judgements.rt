@@ -4,7 +4,8 @@ ghost use Rattle.std.specs.Prelude.{◌≡◌, ℕ, List, None, IfOk, IfSome, Ma
 ghost use Rattle.cop_net.specs.Devices.{File, handed_in};
 ghost use Rattle.cop_plan.specs.declared.choices.Asked.{Asked};
 ghost use Rattle.cop_table.specs.Pieces.{HoldsOfAll};
-ghost use Rattle.cop_engine.specs.Judgements.{transfers_in, judged_text, none_passes, IsCleared, ExplainsTrace, IsPlannedNetwork, IsJudgement, ExplainsJudgement};
+ghost use Rattle.cop_engine.specs.Networks.{IsPlannedNetwork};
+ghost use Rattle.cop_engine.specs.Judgements.{transfers_in, judged_text, none_passes, IsCleared, ExplainsTrace, IsJudgement, ExplainsJudgement};
 
 use crate::faults::Fault;
 use crate::reports::push_number;

@@ -9,7 +9,8 @@ ghost use Rattle.cop_engine.specs.Plans.{AreFilesOf};
 ghost use Rattle.cop_engine.specs.Checks.{IsCheckOf, ExplainsCheck};
 ghost use Rattle.cop_plan.specs.declared.assigning.Outcome.{Outcome};
 ghost use Rattle.cop_plan.specs.declared.choices.Asked.{Asked};
-ghost use Rattle.cop_engine.specs.Judgements.{IsPlannedNetwork, IsJudgement};
+ghost use Rattle.cop_engine.specs.Networks.{IsPlannedNetwork};
+ghost use Rattle.cop_engine.specs.Judgements.{IsJudgement};
 ghost use Rattle.cop_engine.specs.Runs.{IsNetworkRun};
 ghost use Rattle.cop_engine.specs.Boots.{IsBootOf};
 ghost use Rattle.cop_engine.specs.declared.faults.Fault.{Fault};
@@ -27,15 +28,17 @@ pub fn one_report()
 pub fn one_plan()
     ensures { (asked : Asked) (nodes pdos : List ℕ) (eds : List File) (a b : Files) → AreFilesOf asked nodes pdos eds a
         → AreFilesOf asked nodes pdos eds b → (a.planned ≡ b.planned) × (a.plan.items ≡ b.plan.items) × (a.refusals.items ≡ b.refusals.items) × (a.dcf ≡ b.dcf) }
-{}
+{
+    one_outcome();
+}
 
 /// It is one plan that [`plan_bytes`](crate::plan_bytes) gives and by which [`judge_bytes`](crate::judge_bytes) judges a
 /// trace, [`run_bytes`](crate::run_bytes) runs the network, and [`boot_bytes`](crate::boot_bytes) boots it.
 pub fn plan_is_used()
     ensures network { (asked : Asked) (nodes pdos : List ℕ) (eds : List File) (files : Files) (outcome : Outcome)
-        → (f : AreFilesOf asked nodes pdos eds files) → IsPlannedNetwork asked nodes pdos eds outcome → outcome ≡ f.planned.outcome }
+        → (f : AreFilesOf asked nodes pdos eds files) → IsPlannedNetwork asked nodes pdos eds outcome → outcome ≡ f.outcome }
     ensures boot { (asked : Asked) (seed : ℕ) (nodes pdos : List ℕ) (eds : List File) (files : Files) (text : List ℕ)
-        → (f : AreFilesOf asked nodes pdos eds files) → (b : IsBootOf asked seed nodes pdos eds text) → b.outcome ≡ f.planned.outcome }
+        → (f : AreFilesOf asked nodes pdos eds files) → (b : IsBootOf asked seed nodes pdos eds text) → b.outcome ≡ f.outcome }
 {
     one_outcome();
 }

@@ -3,13 +3,12 @@
 ghost use Rattle.std.specs.Prelude.{List, length, IfOk, All, MatchResult};
 ghost use Rattle.cop_net.specs.Devices.{File, handed_in};
 ghost use Rattle.cop_net.specs.Network.{Net};
-ghost use Rattle.cop_plan.specs.Plans.{IsOutcome, IsPlan, IsChosenBy};
+ghost use Rattle.cop_plan.specs.Plans.{IsPlan};
 ghost use Rattle.cop_plan.specs.declared.assigning.Outcome.TheVariants.{Planned, Refused};
-ghost use Rattle.cop_plan.specs.declared.choices.Choice.{Choice};
 ghost use Rattle.cop_engine.specs.Networks.{ExplainsNetwork};
 ghost use Rattle.cop_engine.specs.Dcfs.{HaveTexts};
 ghost use Rattle.cop_engine.specs.PlanTexts.{HasIdentifier};
-ghost use Rattle.cop_engine.specs.Plans.{AreFilesFor, IsPlanText};
+ghost use Rattle.cop_engine.specs.Plans.{AreFilesFor, AreFilesOfNetwork, IsPlanText};
 ghost use Rattle.cop_engine.specs.Guarantee.{AreGuaranteedFiles};
 
 use crate::dcfs::{DcfFile, dcf_files};
@@ -50,7 +49,7 @@ fn planned_files(
 ) -> Result<Files, AllocError>
     requires plan { IsPlan network.now.equipment.rates network.now.set (length network.now.rows) plan.now }
     requires texts { HaveTexts eds_files.now network.now.nodes.devices }
-    ensures { (choice : Choice) → IsChosenBy choice (Planned plan.now) → IfOk result (AreFilesFor choice eds_files.now network.now) }
+    ensures { IfOk result (AreFilesFor eds_files.now network.now (Planned plan.now)) }
 {
     Ok(Files {
         planned: true,
@@ -63,7 +62,7 @@ fn planned_files(
 /// The files where no rate passes.
 fn refused_files(alloc: Global, refusals: &[Refusal]) -> Result<Files, AllocError>
     requires { All (λ r. HasIdentifier r.cause) refusals.now }
-    ensures { (choice : Choice) (eds : List File) (net : Net) → IsOutcome net.equipment.rates net.set (length net.rows) (Refused refusals.now) → IfOk result (AreFilesFor choice eds net) }
+    ensures { (eds : List File) (net : Net) → IfOk result (AreFilesFor eds net (Refused refusals.now)) }
 {
     Ok(Files {
         planned: false,
@@ -81,7 +80,7 @@ fn files_of(
     choice: Choice,
 ) -> Result<Files, AllocError>
     requires { HaveTexts eds_files.now network.now.nodes.devices }
-    ensures { IfOk result (AreFilesFor choice eds_files.now network.now) }
+    ensures { IfOk result (AreFilesOfNetwork choice eds_files.now network.now) }
 {
     match plan(alloc, network, choice)? {
         Outcome::Planned(plan) => planned_files(alloc, network, &plan, eds_files),

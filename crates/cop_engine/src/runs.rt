@@ -2,8 +2,7 @@
 
 ghost use Rattle.std.specs.Prelude.{◌≡◌, ◌≤◌, MatchResult};
 ghost use Rattle.cop_net.specs.Devices.{handed_in};
-ghost use Rattle.cop_engine.specs.Judgements.{IsPlannedNetwork};
-ghost use Rattle.cop_engine.specs.Networks.{ExplainsNetwork};
+ghost use Rattle.cop_engine.specs.Networks.{ExplainsNetwork, IsPlannedNetwork};
 ghost use Rattle.cop_engine.specs.Runs.{fault_of_run, IsNetworkRun, ExplainsNetworkRun};
 
 use crate::faults::Fault;

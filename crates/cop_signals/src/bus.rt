@@ -10,6 +10,7 @@ ghost use Rattle.cop_signals.specs.Bus.{signals_in, sent_signals, takes_in, take
 use crate::places::{Signal, signals};
 use crate::takers::takes_from;
 use cop_dict::{Dictionary, Direction};
+use cop_frame::identifiers;
 use cop_net::{Consumer, Network, PdoRow};
 use cop_pdo::payload;
 use cop_plan::Plan;
@@ -133,7 +134,8 @@ pub fn receivers(
 fn fixed_sender(id: u16) -> Option<u8>
     ensures { result ≡ fixed_sender id }
 {
-    if id % 128 == 0 || (0x600 <= id && id <= 0x67F) {
+    let request = identifiers::SDO_REQUEST;
+    if id % 128 == 0 || (request <= id && id <= request + 127) {
         None
     } else {
         Some((id % 128) as u8)

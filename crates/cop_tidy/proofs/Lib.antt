@@ -4,3 +4,4 @@ pub mod LineLemmas
 pub mod LoopLemmas
 pub mod StandingLemmas
 pub mod EachNode
+pub mod AddedLemmas

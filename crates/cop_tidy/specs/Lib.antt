@@ -1,4 +1,5 @@
 pub mod Accepted
+pub mod Added
 pub mod Identified
 pub mod Kept
 pub mod Standing

@@ -32,7 +32,7 @@ fn left_of(refusal: Refusal) -> Left
 }
 
 /// The dictionary of an accepted text for a node, or what stands against it.
-fn built_for(
+pub(crate) fn built_for(
     alloc: Global,
     eds: &Eds<'_>,
     node: u8,

@@ -94,7 +94,7 @@ fn are_same_kinds(left: &Description, right: &Description) -> bool
     is_same_type(left.data_type, right.data_type) && is_same_access(left.access, right.access)
 }
 
-fn is_same_description(left: &Description, right: &Description) -> bool
+pub(crate) fn is_same_description(left: &Description, right: &Description) -> bool
     ensures { result ≡ true → right.now ≡ left.now }
 {
     are_same_kinds(left, right) && are_same_limits(left, right)

@@ -1,6 +1,8 @@
 //! EDS files as makers ship them, rewritten into texts that the strict reading takes, with the meaning that the maker had.
 #![tactic(auto)]
 
+mod adding;
+mod compact;
 mod judging;
 mod keeping;
 mod laws;

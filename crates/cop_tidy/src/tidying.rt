@@ -1,14 +1,16 @@
 //! A maker's text as one that the strict reading takes.
 
-ghost use Rattle.std.specs.Prelude.{◌≡◌, ◌≤◌, ℕ, true, None, Some, IfOk, IfErr, IfSome, IsOk, OnOk, vec_len};
+ghost use Rattle.std.specs.Prelude.{◌≡◌, ◌≤◌, ℕ, true, None, Some, IfOk, IfErr, IfSome, IsOk, IsSome, OnOk, vec_len};
 ghost use Rattle.cop_change.specs.Applied.{applied};
 ghost use Rattle.cop_change.specs.Told.{are_told};
 ghost use Rattle.cop_dict.specs.Build.{built};
 ghost use Rattle.cop_tidy.specs.Accepted.{IsAccepted};
+ghost use Rattle.cop_tidy.specs.Added.{Adds};
 ghost use Rattle.cop_tidy.specs.Identified.{AreIdentified};
 ghost use Rattle.cop_tidy.specs.Kept.{Stays};
 ghost use Rattle.cop_tidy.specs.Standing.{IsReason, standing};
 
+use crate::adding::adds;
 use crate::judging::{Left, judged};
 use crate::keeping::stays;
 use cop_change::{Change, Question, TextChange, TidyFault, Words, applied, are_told, refused};
@@ -78,8 +80,20 @@ fn keep(alloc: Global, old: &[u8], new: &[u8]) -> Result<(), TidyFault>
     Ok(())
 }
 
-/// Refuses a text that the strict reading does not take, that has a hazard, or in which an object of the old one does not
-/// stay. It has come from these rows.
+/// Refuses a text that adds to an accepted one something else than CompactPDO says.
+fn add(alloc: Global, old: &[u8], new: &[u8]) -> Result<(), TidyFault>
+    ensures first { OnOk result (Adds 1 old.now new.now) }
+    ensures last { OnOk result (Adds 127 old.now new.now) }
+{
+    if adds(alloc, old, new)? {
+        Ok(())
+    } else {
+        Err(refused(Question::Left(0), 0))
+    }
+}
+
+/// Refuses a text that the strict reading does not take, that has a hazard, in which an object of the old one does not stay, or which
+/// adds something else than CompactPDO says. It has come from these rows.
 fn take_up(
     alloc: Global,
     old: &[u8],
@@ -90,13 +104,18 @@ fn take_up(
     ensures settled { OnOk result (standing words.now new.now ≡ None) }
     ensures first { OnOk result (Stays 1 old.now new.now) }
     ensures last { OnOk result (Stays 127 old.now new.now) }
+    ensures first_adds { OnOk result (Adds 1 old.now new.now) }
+    ensures last_adds { OnOk result (Adds 127 old.now new.now) }
 {
     match judged(alloc, new, words)? {
         Some(left) => {
             let line = line_before(rows, left.line);
             Err(refused(Question::Left(left.number), line))
         }
-        None => keep(alloc, old, new),
+        None => {
+            keep(alloc, old, new)?;
+            add(alloc, old, new)
+        }
     }
 }
 
@@ -121,6 +140,8 @@ fn mended(alloc: Global, source: &[u8], words: &Words, left: Left) -> Result<Tid
     ensures base { IfOk result (λ t. vec_len t.text_changes ≡ 0 → t.base.items ≡ source.now) }
     ensures first { IfOk result (λ t. Stays 1 source.now t.text.items) }
     ensures last { IfOk result (λ t. Stays 127 source.now t.text.items) }
+    ensures first_adds { IfOk result (λ t. Adds 1 source.now t.text.items) }
+    ensures last_adds { IfOk result (λ t. Adds 127 source.now t.text.items) }
 {
     let (base, text_changes) = prepared(alloc, source)?;
     let rows = rewritten(alloc, &base, words)?;
@@ -183,6 +204,11 @@ pub fn tidy(alloc: Global, text: &[u8], words: &Words) -> Result<Tidied, TidyFau
     ensures first { IfOk result (λ t. Stays 1 text.now t.text.items) }
     ensures last { IfOk result (λ t. Stays 127 text.now t.text.items) }
     ensures each { IfOk result (λ t. (node : ℕ) → IsAccepted text.now → Stays node text.now t.text.items) }
+
+    // What is added to one that has no section or key in another spelling, at indexes of which it has no section, is exactly what CompactPDO says
+    // of the PDOs that no list names, as the first and the last node have it.
+    ensures first_adds { IfOk result (λ t. IsSome t.found → Adds 1 text.now t.text.items) }
+    ensures last_adds { IfOk result (λ t. IsSome t.found → Adds 127 text.now t.text.items) }
 
     // Each PDO of the result that has a record in its dictionary can be switched off.
     ensures identified { IfOk result (λ t. (node : ℕ) → AreIdentified node t.text.items) }

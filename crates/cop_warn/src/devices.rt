@@ -1,35 +1,21 @@
 //! Warnings on devices.
 
 ghost use Rattle.std.specs.Prelude.{◌≡◌, ◌+◌, ◌++◌, OnOk};
-ghost use Rattle.cop_net.specs.Fixed.{rank_of};
 ghost use Rattle.cop_warn.specs.Warnings.{is_row, has_row, no_row, emcy_warning, request_warning, response_warning, heartbeat_warning, other_identifier, sync_warning, of_frames, of_identifiers, of_device};
 
 use crate::numbers::{natural_at, word_at};
 use crate::rows::push_some;
 use crate::warning::Warning;
 use cop_dict::Dictionary;
+use cop_frame::identifiers;
 use cop_net::{FrameKind, FrameRow};
 use std::alloc::AllocError;
-
-/// A kind of frames by its number.
-fn rank(kind: FrameKind) -> u8
-    ensures { result ≡ rank_of kind }
-{
-    match kind {
-        FrameKind::Nmt => 0,
-        FrameKind::Sync => 1,
-        FrameKind::Emcy => 2,
-        FrameKind::SdoResponse => 3,
-        FrameKind::SdoRequest => 4,
-        FrameKind::Heartbeat => 5,
-    }
-}
 
 /// Whether a row is of a kind of frames of a node.
 fn is_row(row: &FrameRow, node: u8, kind: FrameKind) -> bool
     ensures { result ≡ is_row node kind row.now }
 {
-    row.node == node && rank(row.kind) == rank(kind)
+    row.node == node && row.kind == kind
 }
 
 /// Whether some row is of a kind of frames of a node.
@@ -125,7 +111,7 @@ fn sync_warning(node: u8, dict: &Dictionary) -> Option<Warning>
     if cob_id / 0x4000_0000 % 2 == 1 {
         return Some(Warning::MakesSync { node });
     }
-    if cob_id % 0x4000_0000 != 0x80 {
+    if cob_id % 0x4000_0000 != u64::from(identifiers::SYNC) {
         return Some(Warning::OtherIdentifier {
             node,
             index: 0x1005,
@@ -155,11 +141,13 @@ fn push_frames(
 fn push_identifiers(found: &mut Vec<Warning>, node: u8, dict: &Dictionary) -> Result<(), AllocError>
     ensures { OnOk result (found.new.items ≡ found.old.items ++ of_identifiers node dict.now) }
 {
-    let own = u64::from(node);
+    let emcy = u64::from(identifiers::EMCY + u16::from(node));
+    let request = u64::from(identifiers::SDO_REQUEST + u16::from(node));
+    let response = u64::from(identifiers::SDO_RESPONSE + u16::from(node));
     push_some(found, sync_warning(node, dict))?;
-    push_some(found, other_identifier(node, 0x1014, 0, 0x80 + own, dict))?;
-    push_some(found, other_identifier(node, 0x1200, 1, 0x600 + own, dict))?;
-    push_some(found, other_identifier(node, 0x1200, 2, 0x580 + own, dict))
+    push_some(found, other_identifier(node, 0x1014, 0, emcy, dict))?;
+    push_some(found, other_identifier(node, 0x1200, 1, request, dict))?;
+    push_some(found, other_identifier(node, 0x1200, 2, response, dict))
 }
 
 /// Adds what is found of a device.

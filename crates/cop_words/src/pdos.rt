@@ -233,6 +233,19 @@ fn taken_words(
     }
 }
 
+/// Adds the layout of a PDO of the tables, where its device is described.
+fn push_layout_of(
+    words: &mut Vec<u8>,
+    alloc: Global,
+    row: RefusedRow<'_>,
+    pdo: DevicePdo,
+) -> Result<(), AllocError> {
+    match row.device(alloc, pdo.node)? {
+        Some(device) => push_layout(words, alloc, &device, pdo),
+        None => Ok(()),
+    }
+}
+
 /// Adds the layouts of the TPDO of a row and of an RPDO.
 fn push_layouts(
     words: &mut Vec<u8>,
@@ -243,12 +256,8 @@ fn push_layouts(
     let Some(tpdo) = row.tpdo(alloc) else {
         return Ok(());
     };
-    if let Some(device) = row.device(alloc, tpdo.node)? {
-        push_layout(words, alloc, &device, tpdo)?;
-    }
-    if let Some(device) = row.device(alloc, rpdo.node)? {
-        push_layout(words, alloc, &device, rpdo)?;
-    }
+    push_layout_of(words, alloc, row, tpdo)?;
+    push_layout_of(words, alloc, row, rpdo)?;
     words.extend_from_slice(
         b"wanted are as many bits, and that each entry of the RPDO that is no dummy begins and ends with one of the TPDO\n",
     )?;

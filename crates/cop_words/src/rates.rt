@@ -18,14 +18,28 @@ fn push_rates(words: &mut Vec<u8>, alloc: Global, rates: &RateSet) -> Result<(),
         words.extend_from_slice(b" none")?;
         return Ok(());
     }
-    for rate in Rate::ALL {
-        if rates.contains(rate) {
+    for rate in Rate::ALL.iter() {
+        if rates.contains(*rate) {
             let kbits = rate.kbits();
             let said = format!(in alloc; " {kbits}")?;
             words.extend_from_slice(said.as_bytes())?;
         }
     }
     words.extend_from_slice(b" kbit/s")?;
+    Ok(())
+}
+
+/// Adds the name of an EDS file with some rates.
+fn push_supported(
+    words: &mut Vec<u8>,
+    alloc: Global,
+    name: &[u8],
+    rates: &RateSet,
+) -> Result<(), AllocError> {
+    push_shown(words, name)?;
+    words.extend_from_slice(b" supports")?;
+    push_rates(words, alloc, rates)?;
+    words.push(b'\n')?;
     Ok(())
 }
 
@@ -39,14 +53,10 @@ fn push_file(
     let Some(text) = text_named(files.eds_files, name) else {
         return Ok(());
     };
-    let Some(eds) = accepted(alloc, text)? else {
-        return Ok(());
-    };
-    push_shown(words, name)?;
-    words.extend_from_slice(b" supports")?;
-    push_rates(words, alloc, &eds.rates())?;
-    words.push(b'\n')?;
-    Ok(())
+    match accepted(alloc, text)? {
+        Some(eds) => push_supported(words, alloc, name, &eds.rates()),
+        None => Ok(()),
+    }
 }
 
 /// Adds the rates that are listed, where not all may be taken.

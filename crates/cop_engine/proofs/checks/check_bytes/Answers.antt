@@ -1,7 +1,7 @@
 use Rattle.std.proofs.Common.{subst}
-use Rattle.cop_net.specs.Network.{IsNetwork}
+use Rattle.cop_net.specs.Network.{IsNetwork, accepted}
 use Rattle.cop_engine.specs.Faults.{fault_of, fault_of_refusals}
-use Rattle.cop_engine.proofs.NetworkLemmas.{nodes_explain, pdos_explain, network_explains, network_found, err_is, of_network, refusals_explain, check_is}
+use Rattle.cop_engine.proofs.NetworkLemmas.{nodes_explain, pdos_explain, network_explains, network_read, network_is, err_is, of_network, refusals_explain, check_is}
 use Rattle.cop_engine.proofs.checks.check_bytes.Goals as goal
 
 pub returns-in_err-nodes : goal.returns-in_err-nodes
@@ -24,14 +24,14 @@ returns-in_err-network c =
 pub returns-in_err-refusals : goal.returns-in_err-refusals
 returns-in_err-refusals c =
     err_is c.from_residual-in_err-refusals.result _ _ (fault_of_refusals c.in_err-refusals.field-0.0) c.from_residual-in_err-refusals.ensures.1
-    (refusals_explain c.args.wanted.now c.args.nodes.now c.args.pdos.now _ c.args.refusals.now _ c.in_err-refusals.field-0.0
-    (network_found c.args.wanted.now c.args.nodes.now c.args.pdos.now _ c.in_ok-nodes.nodes c.in_ok-pdos.pdos c.in_ok-network.network c.in_ok-nodes.ensures c.in_ok-pdos.ensures c.in_ok-network.ensures.exact)
+    (refusals_explain c.args.wanted.now c.args.nodes.now c.args.pdos.now _ c.args.refusals.now (accepted c.in_ok-network.network) c.in_err-refusals.field-0.0
+    (network_read c.args.wanted.now c.args.nodes.now c.args.pdos.now _ c.in_ok-nodes.nodes c.in_ok-pdos.pdos (accepted c.in_ok-network.network) c.in_ok-nodes.ensures c.in_ok-pdos.ensures c.in_ok-network.ensures.exact)
     c.in_err-refusals.ensures.read)
 
 pub returns : goal.returns
 returns c =
-    check_is c.args.wanted.now c.args.nodes.now c.args.pdos.now _ c.in_ok-nodes.nodes c.in_ok-pdos.pdos c.in_ok-network.network c.args.refusals.now c.in_ok-checked.field-0.0.items
-    c.in_ok-refusals.refusals.items c.in_ok-checked.field-0.1
-    c.in_ok-nodes.ensures c.in_ok-pdos.ensures c.in_ok-network.ensures.exact c.in_ok-network.ensures.tables.1 c.in_ok-refusals.ensures.read
+    check_is c.args.wanted.now c.args.nodes.now c.args.pdos.now _ c.in_ok-network.network c.args.refusals.now c.in_ok-checked.field-0.0.items c.in_ok-refusals.refusals.items c.in_ok-checked.field-0.1
+    (network_is c.args.wanted.now c.args.nodes.now c.args.pdos.now _ c.in_ok-nodes.nodes c.in_ok-pdos.pdos c.in_ok-network.network c.in_ok-nodes.ensures c.in_ok-pdos.ensures
+    c.in_ok-network.ensures.exact c.in_ok-network.ensures.tables.0 c.in_ok-network.ensures.tables.1 (subst IsNetwork c.network-2.view_is c.network-2.invariant.0))
+    c.in_ok-refusals.ensures.read
     (rw c.deref.ensures.value at c.in_ok-checked.ensures)
-    (subst IsNetwork c.network-2.view_is c.network-2.invariant.0)

@@ -30,4 +30,4 @@ returns c =
     let f = files_are c.args.asked.now c.args.nodes.now c.args.pdos.now _ c.in_ok-nodes.nodes c.in_ok-pdos.pdos c.in_ok-network.network c.in_ok-files_of.field-0
     c.in_ok-nodes.ensures c.in_ok-pdos.ensures (rw c.in_ok-eds_files.ensures at c.in_ok-network.ensures.exact) c.in_ok-network.ensures.tables.0 c.in_ok-network.ensures.tables.1
     (subst IsNetwork c.network.view_is c.network.invariant.0) (rw c.in_ok-eds_files.ensures at c.in_ok-files_of.ensures) in
-    record { exact = f; guaranteed = guaranteed f.found f.streams f.network f.planned.outcome f.planned.planned }
+    record { exact = f; guaranteed = guaranteed f.network.net f.network.said.network f.outcome f.network.planned }

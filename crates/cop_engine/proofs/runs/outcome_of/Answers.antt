@@ -1,8 +1,7 @@
-use Rattle.std.proofs.Common.{subst, []}
+use Rattle.std.proofs.Common.{subst}
 use Rattle.cop_net.specs.Network.{IsNetwork}
 use Rattle.cop_engine.specs.Faults.{fault_of}
-use Rattle.cop_engine.proofs.NetworkLemmas.{nodes_explain, pdos_explain, network_explains, err_is}
-use Rattle.cop_engine.proofs.JudgementLemmas.{planned_network}
+use Rattle.cop_engine.proofs.NetworkLemmas.{nodes_explain, pdos_explain, network_explains, planned_network, err_is}
 use Rattle.cop_engine.proofs.runs.outcome_of.Goals as goal
 
 pub returns-in_err-nodes : goal.returns-in_err-nodes
@@ -22,5 +21,6 @@ returns-in_err-network c =
 
 pub returns : goal.returns
 returns c =
-    planned_network c.args.asked.now c.args.nodes.now c.args.pdos.now _ [] c.in_ok-nodes.nodes c.in_ok-pdos.pdos c.in_ok-network.network c.in_ok-plan.field-0 c.in_ok-nodes.ensures c.in_ok-pdos.ensures c.in_ok-network.ensures.exact c.in_ok-network.ensures.tables.0 c.in_ok-network.ensures.tables.1
+    planned_network c.args.asked.now c.args.nodes.now c.args.pdos.now _ c.in_ok-nodes.nodes c.in_ok-pdos.pdos c.in_ok-network.network c.in_ok-plan.field-0 c.in_ok-nodes.ensures c.in_ok-pdos.ensures
+    c.in_ok-network.ensures.exact c.in_ok-network.ensures.tables.0 c.in_ok-network.ensures.tables.1
     (subst IsNetwork c.network-2.view_is c.network-2.invariant.0) c.in_ok-plan.ensures.outcome c.in_ok-plan.ensures.choice

@@ -1,11 +1,8 @@
-use Rattle.std.proofs.Common.{◌≡◌, ℕ, ◌+◌, ◌||◌, Bool, true, false, List, decimal, refl, ap, ◌∙◌, add-one}
+use Rattle.std.proofs.Common.{◌≡◌, ℕ, ◌+◌, ◌||◌, Bool, List, decimal, ap, ◌∙◌, add-one}
 use Rattle.cop_hazard.specs.Stated.{stated}
 use Rattle.cop_hazard.specs.Listed.{names, is_named_by}
+use Rattle.cop_hazard.proofs.LineLemmas.{or_assoc}
 use Rattle.cop_hazard.proofs.listed.add_entries.Goals as goal
-
-or_assoc : (a b c : Bool) → ((a || b) || c) ≡ (a || (b || c))
-or_assoc true b c = refl
-or_assoc false b c = refl
 
 one_more : (text : List ℕ) (section index n : ℕ) (new old first : Bool) → new ≡ (old || names index (stated text section (decimal (n + 1))))
     → old ≡ (first || is_named_by text section index n) → new ≡ (first || is_named_by text section index (n + 1))

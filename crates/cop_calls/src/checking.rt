@@ -1,20 +1,23 @@
 //! The check of a refusal file against a network.
 
 use cop_answers::{Inputs, check_notes, checked};
-use cop_files::{Failure, print, read_eds_files, read_file, read_tables, tell};
+use cop_documents::check_document;
+use cop_files::{
+    Failure, Form, print, print_document, read_eds_files, read_file, read_tables, tell,
+};
 use cop_orders::NetworkFiles;
 
 /// What is wanted of a check.
 #[derive(Clone, Copy)]
 pub struct Wanted {
-    /// Whether rates that the file does not refuse are told in words.
-    pub told: bool,
+    /// In which form it is told. Rates that the file does not refuse are told where words are wanted.
+    pub form: Form,
     /// Whether a slower candidate that the file does not refuse is a failure.
     pub strict: bool,
 }
 
 /// Reads what a check needs: the tables, the refusal file, and then the EDS files.
-pub fn read_for_check(
+fn read_for_check(
     rt: &HostRuntime,
     network: NetworkFiles<'_>,
     refusals: &str,
@@ -35,8 +38,12 @@ pub fn check(
 ) -> Result<u8, Failure> {
     read_for_check(rt, network, refusals, inputs)?;
     let (text, status) = checked(rt.alloc(), inputs, wanted.strict)?;
-    print(rt, &text)?;
-    if wanted.told {
+    if wanted.form == Form::Document {
+        print_document(rt, &check_document(rt.alloc(), &text)?)?;
+    } else {
+        print(rt, &text)?;
+    }
+    if wanted.form == Form::Told {
         tell(rt, check_notes(rt.alloc(), inputs, refusals));
     }
     Ok(status)

@@ -1,10 +1,9 @@
 //! A log of a real bus, watched by the plan of its network.
 
-use crate::machines::Form;
 use cop_answers::Inputs;
 use cop_documents::watch_document;
 use cop_engine::none_passes;
-use cop_files::{Failure, Use, file_failure, open_file, print, print_document, read_network};
+use cop_files::{Failure, Form, Use, file_failure, open_file, print, print_document, read_network};
 use cop_log::Clock;
 use cop_logbook::{Logbook, WatchFault};
 use cop_orders::WatchOrder;
@@ -31,7 +30,7 @@ fn watched_in<'p, R: Read + Drop>(
 }
 
 /// The log of an order, watched by a plan. One in which no frame is of the channel is refused.
-pub fn watched<'p>(
+pub(crate) fn watched<'p>(
     rt: &HostRuntime,
     order: WatchOrder<'_>,
     plan: &'p Plan,
@@ -44,6 +43,16 @@ pub fn watched<'p>(
 }
 
 /// Says what a log shows in a form, and gives the status.
+fn tell_book(rt: &HostRuntime, form: Form, book: &Logbook<'_>) -> Result<u8, Failure> {
+    if form == Form::Document {
+        print_document(rt, &watch_document(rt.alloc(), Some(book))?)?;
+    } else {
+        print(rt, book.finish()?.as_bytes())?;
+    }
+    Ok(if book.breaches() == 0 { 0 } else { 3 })
+}
+
+/// Watches the log of an order by a plan, says what it shows, and gives the status.
 fn watch_by(
     rt: &HostRuntime,
     order: WatchOrder<'_>,
@@ -51,12 +60,7 @@ fn watch_by(
     plan: &Plan,
 ) -> Result<u8, Failure> {
     let book = watched(rt, order, plan)?;
-    if form == Form::Document {
-        print_document(rt, &watch_document(rt.alloc(), Some(&book))?)?;
-    } else {
-        print(rt, book.finish()?.as_bytes())?;
-    }
-    Ok(if book.breaches() == 0 { 0 } else { 3 })
+    tell_book(rt, form, &book)
 }
 
 /// Says in a form that no rate passes, and gives the status.

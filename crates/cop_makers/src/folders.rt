@@ -2,7 +2,7 @@
 
 use crate::tidying::{Answer, answer_for, check_name};
 use cop_answers::is_same;
-use cop_files::{Failure, Use, file_failure, print, read_file, write_file};
+use cop_files::{Failure, Form, Use, file_failure, print, read_file, write_file};
 use cop_orders::TidyOrder;
 use cop_tidy::{Refusal, Tidied, refusal_words, told};
 use cop_words::line_at;
@@ -42,13 +42,13 @@ fn tell_refused(
     name: &str,
     text: &[u8],
     refusal: Refusal,
-    is_explained: bool,
+    form: Form,
 ) -> Result<(), Failure> {
     let alloc = rt.alloc();
     let (number, line) = (refusal.question.number(), refusal.line);
     let fault = format!(in alloc; "canplan: refused {number} {line} {name}\n")?;
     let _ = rt.stderr().write_all(fault.as_bytes());
-    if is_explained {
+    if form == Form::Told {
         let found = line_at(text, line);
         let words = refusal_words(
             alloc,
@@ -62,25 +62,38 @@ fn tell_refused(
     Ok(())
 }
 
-/// What becomes of the files of a folder; nothing of one that is refused, which is said.
+/// What becomes of a file of the folder; nothing of one that is refused, which is said.
+fn mend_file(
+    rt: &HostRuntime,
+    order: TidyOrder<'_>,
+    name: &str,
+    form: Form,
+) -> Result<Option<Tidied>, Failure> {
+    let folder = order.input;
+    let path = format!(in rt.alloc(); "{folder}/{name}")?;
+    let text = read_file(rt, &path)?;
+    match answer_for(rt.alloc(), &text, &order.words)? {
+        Answer::Tidied(tidied) => Ok(Some(tidied)),
+        Answer::Refused(refusal) => {
+            tell_refused(rt, name, &text, refusal, form)?;
+            Ok(None)
+        }
+    }
+}
+
+/// What becomes of the files of a folder, and whether some file is refused.
 fn mend_files(
     rt: &HostRuntime,
     order: TidyOrder<'_>,
     names: Vec<String>,
-    is_explained: bool,
+    form: Form,
 ) -> Result<(Vec<Mended>, bool), Failure> {
-    let folder = order.input;
     let mut files = Vec::new(rt.alloc());
     let mut is_refused = false;
     for name in names {
-        let path = format!(in rt.alloc(); "{folder}/{name}")?;
-        let text = read_file(rt, &path)?;
-        match answer_for(rt.alloc(), &text, &order.words)? {
-            Answer::Tidied(tidied) => files.push(Mended { name, tidied })?,
-            Answer::Refused(refusal) => {
-                is_refused = true;
-                tell_refused(rt, &name, &text, refusal, is_explained)?;
-            }
+        match mend_file(rt, order, &name, form)? {
+            Some(tidied) => files.push(Mended { name, tidied })?,
+            None => is_refused = true,
         }
     }
     Ok((files, is_refused))
@@ -111,12 +124,34 @@ fn write_files(rt: &HostRuntime, folder: &str, files: &[Mended]) -> Result<(), F
     Ok(())
 }
 
-/// Makes of each EDS file of a folder one that plan reads, under its own name in another folder. Each change is told with the
-/// file's name. Where a file is refused, or has a name that the table of nodes does not take, nothing is written.
-pub fn tidy_folder(
+/// Tells the changes of all files, and writes the files where that is wanted and none is refused: the status.
+fn finish(
     rt: &HostRuntime,
     order: TidyOrder<'_>,
-    is_explained: bool,
+    files: &[Mended],
+    is_refused: bool,
+) -> Result<u8, Failure> {
+    for file in files {
+        tell_changes(rt, file)?;
+    }
+    match order.out {
+        Some(out) if !is_refused => {
+            write_files(rt, out, files)?;
+            Ok(0)
+        }
+        _ => {
+            let is_same = files.iter().all(|file| is_same(&file.tidied));
+            Ok(if is_same && !is_refused { 0 } else { 3 })
+        }
+    }
+}
+
+/// Makes of each EDS file of a folder one that plan reads, under its own name in another folder. Each change is told with the
+/// file's name. Where a file is refused, or has a name that the table of nodes does not take, nothing is written.
+pub(crate) fn tidy_folder(
+    rt: &HostRuntime,
+    order: TidyOrder<'_>,
+    form: Form,
 ) -> Result<u8, Failure> {
     let names = match names_in(rt, order.input) {
         Ok(names) => names,
@@ -127,18 +162,6 @@ pub fn tidy_folder(
             check_name(rt.alloc(), name)?;
         }
     }
-    let (files, is_refused) = mend_files(rt, order, names, is_explained)?;
-    for file in files.as_slice() {
-        tell_changes(rt, file)?;
-    }
-    match order.out {
-        Some(out) if !is_refused => {
-            write_files(rt, out, &files)?;
-            Ok(0)
-        }
-        _ => {
-            let is_same = files.iter().all(|file| is_same(&file.tidied));
-            Ok(if is_same && !is_refused { 0 } else { 3 })
-        }
-    }
+    let (files, is_refused) = mend_files(rt, order, names, form)?;
+    finish(rt, order, &files, is_refused)
 }

@@ -5,24 +5,13 @@ use cop_answers::{ABSENT, Inputs, RUNNING, boot_notes, identity_notes};
 use cop_commission::{Approach, Commissioned, Reach, commission};
 use cop_documents::boot_document;
 use cop_engine::{Fault, none_passes};
-use cop_files::{Failure, Use, file_failure, print, read_network};
+use cop_files::{Failure, Form, Use, file_failure, print, read_network};
 use cop_orders::MachineOrder;
 use std::io::Write;
 use std::str;
 
 /// A second has so many ticks.
 const SECOND: u64 = 4_000_000;
-
-/// In which form an answer is given.
-#[derive(Clone, Copy, PartialEq, Eq)]
-pub enum Form {
-    /// Its lines.
-    Lines,
-    /// Its lines, to a person who waits for them.
-    Told,
-    /// A document in JSON.
-    Document,
-}
 
 /// Says something on standard error.
 fn say(rt: &HostRuntime, words: &[u8]) {
@@ -87,7 +76,7 @@ fn tell_ended(
     rt: &HostRuntime,
     order: MachineOrder<'_>,
     form: Form,
-    ended: Commissioned,
+    ended: &Commissioned,
     port: &Serial<'_>,
 ) -> Result<u8, Failure> {
     let name = order.port;
@@ -99,19 +88,19 @@ fn tell_ended(
             rate,
             ..
         } => {
-            answer_in(rt, name, form, &text)?;
-            let words = str::from_utf8(&text).unwrap_or("");
-            say(rt, &boot_notes(rt.alloc(), words, rate)?);
-            Ok(if ready && on_time { 0 } else { 3 })
+            answer_in(rt, name, form, text)?;
+            let words = str::from_utf8(text).unwrap_or("");
+            say(rt, &boot_notes(rt.alloc(), words, *rate)?);
+            Ok(if *ready && *on_time { 0 } else { 3 })
         }
         Commissioned::Others { text, exchanges } => {
-            answer_in(rt, name, form, &text)?;
-            say(rt, &identity_notes(rt.alloc(), &exchanges)?);
+            answer_in(rt, name, form, text)?;
+            say(rt, &identity_notes(rt.alloc(), exchanges)?);
             Ok(3)
         }
         Commissioned::Running { node } => Err(Failure::from(Fault::Refused {
             number: RUNNING,
-            place: u64::from(node),
+            place: u64::from(*node),
         })),
         Commissioned::Absent => Err(Failure::from(Fault::Refused {
             number: ABSENT,
@@ -181,5 +170,5 @@ pub fn boot_machine(
     )?;
     let started = matches!(ended, Commissioned::Ended { started: true, .. });
     tell_refused(rt, port.refused, started);
-    tell_ended(rt, order, form, ended, &port)
+    tell_ended(rt, order, form, &ended, &port)
 }

@@ -1,9 +1,9 @@
-//! EDS files as makers ship them, made such that plan reads them.
+//! An EDS file as a maker ships it, made such that plan reads it.
 
-use crate::tidying_folders::tidy_folder;
+use crate::folders::tidy_folder;
 use cop_answers::{Inputs, is_same, is_taken, last_part, left_words};
 use cop_engine::Fault;
-use cop_files::{Failure, print, read_file, write_file};
+use cop_files::{Failure, Form, print, read_file, write_file};
 use cop_orders::TidyOrder;
 use cop_tidy::{Refusal, Tidied, TidyFault, Words, tidy, told};
 use std::alloc::Global;
@@ -24,13 +24,13 @@ fn refused(alloc: Global, refusal: Refusal) -> Failure {
 
 /// What becomes of a text.
 #[derive(Drop)]
-pub enum Answer {
+pub(crate) enum Answer {
     Tidied(Tidied),
     Refused(Refusal),
 }
 
 /// What becomes of a text; a failure is want of memory.
-pub fn answer_for(alloc: Global, text: &[u8], words: &Words) -> Result<Answer, Failure> {
+pub(crate) fn answer_for(alloc: Global, text: &[u8], words: &Words) -> Result<Answer, Failure> {
     match tidy(alloc, text, words) {
         Ok(tidied) => Ok(Answer::Tidied(tidied)),
         Err(TidyFault::Refused(refusal)) => Ok(Answer::Refused(refusal)),
@@ -39,7 +39,7 @@ pub fn answer_for(alloc: Global, text: &[u8], words: &Words) -> Result<Answer, F
 }
 
 /// Refuses a file's name that the table of nodes does not take, as one that no plan could read.
-pub fn check_name(alloc: Global, path: &str) -> Result<(), Failure> {
+pub(crate) fn check_name(alloc: Global, path: &str) -> Result<(), Failure> {
     let name = last_part(path);
     if is_taken(alloc, name)? {
         return Ok(());
@@ -74,11 +74,11 @@ fn tidy_file(rt: &HostRuntime, order: TidyOrder<'_>, inputs: &mut Inputs) -> Res
 pub fn carry_tidy(
     rt: &HostRuntime,
     order: TidyOrder<'_>,
-    is_explained: bool,
+    form: Form,
     inputs: &mut Inputs,
 ) -> Result<u8, Failure> {
     match fs::metadata(rt, order.input) {
-        Ok(found) if found.is_dir() => tidy_folder(rt, order, is_explained),
+        Ok(found) if found.is_dir() => tidy_folder(rt, order, form),
         _ => tidy_file(rt, order, inputs),
     }
 }
