@@ -2,6 +2,7 @@
 -- node's.
 use Rattle.std.proofs.Common.{◌≡◌, zero, suc, pow-suc, ◌≤◌, ◌<◌, ◌+◌, ◌-◌, ◌^◌, ◌⊎◌, inl, inr, ℕ, ℤ, pos, Bool, true, false, cond, nat_le, List, [], ◌∷◌, Option, Some, None, Result, Ok, Err, codes, refl, ap, sym, ◌∙◌, subst, arith}
 use Rattle.std.specs.Prelude.{unwrap_or}
+use Rattle.std.specs.Option.{option_map}
 use Rattle.std.specs.Int.{bytes_low_first}
 use Rattle.std.proofs.lemmas.Bool.Decides.{nat_tests}
 use Rattle.cop_eds.specs.declared.fault.Rule.{Rule}
@@ -21,7 +22,7 @@ use Rattle.cop_dict.specs.declared.data_type.DataType.TheVariants as types
 use Rattle.cop_dict.specs.Types.{greatest_of, is_text, type_numbered}
 use Rattle.cop_dict.specs.Number.{number, value_of}
 use Rattle.cop_dict.specs.Patterns.{at_most, pattern_by}
-use Rattle.cop_dict.specs.Find.{Entry, AreAlike}
+use Rattle.cop_dict.specs.Find.{Entry, AreAlike, integer_of}
 use Rattle.cop_dict.specs.Build.{least_width, number_bytes, initial_number, initial_of, limit_number, limit_of, value_entry, entry_of_type, entry_built, collected, built}
 use Rattle.cop_dict.proofs.PatternLemmas.{stands_for, own_number}
 use Rattle.cop_dict.proofs.AgreeLemmas.{entry_made, parts_of}
@@ -287,3 +288,102 @@ alike_between old new node o p a b c d e f one_o one_p one last_o last_p last he
 -- the type of an entry is its object's
 pub type_of_built : (text : List ℕ) (node : ℕ) (o : Object) (e : Entry) → entry_built text node o ≡ Ok e → e.description.data_type ≡ type_numbered o.data_type
 type_of_built text node o e h = let r = is_read text node o (type_numbered o.data_type) e h in ap (λ (x : Entry). x.description.data_type) r.rest
+
+-- ---- what an entry is for the first and for the last node, it is for each
+
+-- a description for both ends is one for each node between
+pub description_between : (text : List ℕ) (node : ℕ) (o : Object) (a b e : Entry) (d : Description) → entry_built text 1 o ≡ Ok a → entry_built text 127 o ≡ Ok b → entry_built text node o ≡ Ok e
+    → a.description ≡ d → b.description ≡ d → e.description ≡ d
+description_between text node o a b e d first last here one two =
+    let t = type_numbered o.data_type in
+    let ra = is_read text 1 o t a first in
+    let rb = is_read text 127 o t b last in
+    let re = is_read text node o t e here in
+    let low : d.low ≡ e.description.low = agree_between (limit_seen t) (top t) _ (λ (n : ℕ). Ok d.low) d.low d.low e.description.low d.low node (limits_apart t)
+    (limit_goes t (entry_of text o.place.section (codes "LowLimit"))) (inl (λ n. refl)) (ra.low ∙ ap (λ d. Ok d.low) one) refl (rb.low ∙ ap (λ d. Ok d.low) two) refl re.low refl in
+    let high : d.high ≡ e.description.high = agree_between (limit_seen t) (top t) _ (λ (n : ℕ). Ok d.high) d.high d.high e.description.high d.high node (limits_apart t)
+    (limit_goes t (entry_of text o.place.section (codes "HighLimit"))) (inl (λ n. refl)) (ra.high ∙ ap (λ d. Ok d.high) one) refl (rb.high ∙ ap (λ d. Ok d.high) two) refl re.high refl in
+    let made : a.description ≡ described_by o t a.description.low a.description.high = ap (λ (x : Entry). x.description) ra.rest in
+    let mine : e.description ≡ described_by o t e.description.low e.description.high = ap (λ (x : Entry). x.description) re.rest in
+    let same = same_description o o t a.description.low a.description.high e.description.low e.description.high refl refl (sym low ∙ sym (ap (λ d. d.low) one)) (sym high ∙ sym (ap (λ d. d.high) one)) in
+    mine ∙ (same ∙ (sym made ∙ one))
+
+-- the number of bytes, in a type that has numbers
+abbrev number_seen : DataType → List ℕ → Option ℤ
+number_seen t value = option_map (λ _. value_of t (number value)) (greatest_of t)
+
+seen_made : (t : DataType) (p : ℕ) → p ≤ top t → value_of t (number (bytes_of t p)) ≡ pos p
+seen_made t p le =
+    let fits : top t < 256 ^ least_width t = top_holds t (greatest_of t) refl in
+    ap (value_of t) (own_number (least_width t) p (omega (arith, le, fits))) ∙ stands_alone t (greatest_of t) p refl le
+
+-- of a pattern it is the pattern, where it is a number at all
+is_pattern : (t : DataType) (o : Option ℕ) (p : ℕ) (z : ℤ) → p ≤ top t → option_map (λ _. value_of t (number (bytes_of t p))) o ≡ Some z → z ≡ pos p
+is_pattern t None p z le h = cc
+is_pattern t (Some greatest) p z le h = let seen = seen_made t p le in cc
+
+has_pattern : (t : DataType) (o : Option ℕ) (value : List ℕ) (p : ℕ) (z : ℤ) → p ≤ top t → option_map (λ _. value_of t (number value)) o ≡ Some z
+    → option_map (λ _. value_of t (number (bytes_of t p))) o ≡ Some (pos p)
+has_pattern t None value p z le h = cc
+has_pattern t (Some greatest) value p z le h = ap Some (seen_made t p le)
+
+-- one number at both ends is that number for each
+number_steady : (t : DataType) (read : ℕ → Result (List ℕ) Refusal) (node : ℕ) (x y v : List ℕ) (z : ℤ) → Goes (bytes_of t) (top t) read → read 1 ≡ Ok x → read 127 ≡ Ok y → read node ≡ Ok v
+    → number_seen t x ≡ Some z → number_seen t y ≡ Some z → number_seen t v ≡ Some z
+number_steady t read node x y v z (inl steady) first last here one two =
+    let e : read 1 ≡ Ok v = sym (steady node) ∙ here in
+    let same : v ≡ x = cc in
+    ap (number_seen t) same ∙ one
+number_steady t read node x y v z (inr sum) first last here one two =
+    let a = sum.is 1 x first in
+    let b = sum.is 127 y last in
+    let p = is_pattern t (greatest_of t) (sum.number + 1) z a.0 (sym (ap (number_seen t) a.1) ∙ one) in
+    let q = is_pattern t (greatest_of t) (sum.number + 127) z b.0 (sym (ap (number_seen t) b.1) ∙ two) in
+    let e : pos (sum.number + 1) ≡ pos (sum.number + 127) = sym p ∙ q in
+    let equal : sum.number + 1 ≡ sum.number + 127 = cc in
+    absurd (omega (arith, equal))
+
+-- a number and the node's at both ends is that for each
+number_rises : (t : DataType) (read : ℕ → Result (List ℕ) Refusal) (node k : ℕ) (x y v : List ℕ) → Goes (bytes_of t) (top t) read → read 1 ≡ Ok x → read 127 ≡ Ok y → read node ≡ Ok v
+    → number_seen t x ≡ Some (pos (k + 1)) → number_seen t y ≡ Some (pos (k + 127)) → number_seen t v ≡ Some (pos (k + node))
+number_rises t read node k x y v (inl steady) first last here one two =
+    let e : read 1 ≡ Ok y = sym (steady 127) ∙ last in
+    let same : x ≡ y = cc in
+    let f : ◌≡◌ {A = Option ℤ} (Some (pos (k + 1))) (Some (pos (k + 127))) = sym one ∙ (ap (number_seen t) same ∙ two) in
+    let equal : k + 1 ≡ k + 127 = cc in
+    absurd (omega (arith, equal))
+number_rises t read node k x y v (inr sum) first last here one two =
+    let a = sum.is 1 x first in
+    let c = sum.is node v here in
+    let p = is_pattern t (greatest_of t) (sum.number + 1) (pos (k + 1)) a.0 (sym (ap (number_seen t) a.1) ∙ one) in
+    let equal : k + 1 ≡ sum.number + 1 = cc in
+    let same : sum.number ≡ k = omega (arith, equal) in
+    let seen = has_pattern t (greatest_of t) x (sum.number + node) (pos (k + 1)) c.0 one in
+    ap (number_seen t) c.1 ∙ (seen ∙ ap (λ n. Some (pos (n + node))) same)
+
+seen_in : (t : DataType) (e : Entry) → e.description.data_type ≡ t → integer_of e ≡ number_seen t e.value
+seen_in t e is = rw is refl
+
+-- an entry that is one number for the first and for the last node is that number for each
+pub number_between : (text : List ℕ) (node : ℕ) (o : Object) (a b e : Entry) (z : ℤ) → entry_built text 1 o ≡ Ok a → entry_built text 127 o ≡ Ok b → entry_built text node o ≡ Ok e
+    → integer_of a ≡ Some z → integer_of b ≡ Some z → integer_of e ≡ Some z
+number_between text node o a b e z first last here one two =
+    let t = type_numbered o.data_type in
+    let ra = is_read text 1 o t a first in
+    let rb = is_read text 127 o t b last in
+    let re = is_read text node o t e here in
+    seen_in t e (type_of_built text node o e here)
+        ∙ number_steady t (λ node. initial_of t node (value_entry text o.place.section)) node a.value b.value e.value z (initial_goes t (value_entry text o.place.section)) ra.value rb.value re.value
+    (sym (seen_in t a (type_of_built text 1 o a first)) ∙ one) (sym (seen_in t b (type_of_built text 127 o b last)) ∙ two)
+
+-- an entry that is a number and the node's for the first and for the last node is so for each
+pub node_number_between : (text : List ℕ) (node : ℕ) (o : Object) (a b e : Entry) (k : ℕ) → entry_built text 1 o ≡ Ok a → entry_built text 127 o ≡ Ok b → entry_built text node o ≡ Ok e
+    → integer_of a ≡ Some (pos (k + 1)) → integer_of b ≡ Some (pos (k + 127)) → integer_of e ≡ Some (pos (k + node))
+node_number_between text node o a b e k first last here one two =
+    let t = type_numbered o.data_type in
+    let ra = is_read text 1 o t a first in
+    let rb = is_read text 127 o t b last in
+    let re = is_read text node o t e here in
+    seen_in t e (type_of_built text node o e here)
+        ∙ number_rises t (λ node. initial_of t node (value_entry text o.place.section)) node k a.value b.value e.value (initial_goes t (value_entry text o.place.section)) ra.value rb.value re.value
+    (sym (seen_in t a (type_of_built text 1 o a first)) ∙ one) (sym (seen_in t b (type_of_built text 127 o b last)) ∙ two)

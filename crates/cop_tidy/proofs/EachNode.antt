@@ -19,33 +19,33 @@ use Rattle.cop_tidy.proofs.StandingLemmas.{accepted_of, last_identified_of}
 use Rattle.cop_tidy.specs.Kept.{is_absent, is_unidentified, IsLike, IsKept, Stays}
 
 -- the dictionary that is built
-is_built : (r : Result (List Entry) Refusal) → IsOk r → (dict : List Entry) × (r ≡ Ok dict)
+pub is_built : (r : Result (List Entry) Refusal) → IsOk r → (dict : List Entry) × (r ≡ Ok dict)
 is_built (Ok dict) h = (dict, refl)
 is_built (Err e) h = absurd (cc)
 
 -- an object that has an entry in a dictionary of its text
-record IsObjectOf (text : List ℕ) (node : ℕ) (e : Entry) : Type 0 where
-  object : Object
-  has : Contains (objects_of text) object
-  index : object.index ≡ e.index
-  sub : object.sub ≡ e.sub
-  built_as : entry_built text node object ≡ Ok e
+pub record IsObjectOf (text : List ℕ) (node : ℕ) (e : Entry) : Type 0 where
+  pub object : Object
+  pub has : Contains (objects_of text) object
+  pub index : object.index ≡ e.index
+  pub sub : object.sub ≡ e.sub
+  pub built_as : entry_built text node object ≡ Ok e
 
-object_of : (text : List ℕ) (node index sub : ℕ) (dict : List Entry) (e : Entry) → built text node ≡ Ok dict → entry_at dict index sub ≡ Some e → IsObjectOf text node e
+pub object_of : (text : List ℕ) (node index sub : ℕ) (dict : List Entry) (e : Entry) → built text node ≡ Ok dict → entry_at dict index sub ≡ Some e → IsObjectOf text node e
 object_of text node index sub dict e h at =
     let o = only_objects text node index sub dict e h at in
     let own = found_inside dict index sub e at in
     record { object = o.0; has = o.1; index = o.2 ∙ sym own.1; sub = o.3 ∙ sym own.2; built_as = o.4 }
 
 -- its entry in the dictionary of another node, at the same address
-record HasEntry (text : List ℕ) (node : ℕ) (dict : List Entry) (object : Object) (index sub : ℕ) : Type 0 where
-  entry : Entry
-  built_as : entry_built text node object ≡ Ok entry
-  at : entry_at dict index sub ≡ Some entry
-  index_is : entry.index ≡ index
-  sub_is : entry.sub ≡ sub
+pub record HasEntry (text : List ℕ) (node : ℕ) (dict : List Entry) (object : Object) (index sub : ℕ) : Type 0 where
+  pub entry : Entry
+  pub built_as : entry_built text node object ≡ Ok entry
+  pub at : entry_at dict index sub ≡ Some entry
+  pub index_is : entry.index ≡ index
+  pub sub_is : entry.sub ≡ sub
 
-entry_in : (text : List ℕ) (node : ℕ) (dict : List Entry) (object : Object) (index sub : ℕ) → built text node ≡ Ok dict → Contains (objects_of text) object → object.index ≡ index → object.sub ≡ sub
+pub entry_in : (text : List ℕ) (node : ℕ) (dict : List Entry) (object : Object) (index sub : ℕ) → built text node ≡ Ok dict → Contains (objects_of text) object → object.index ≡ index → object.sub ≡ sub
     → HasEntry text node dict object index sub
 entry_in text node dict object index sub h has i s =
     let x = each_object text node dict object h has in
@@ -66,14 +66,14 @@ seen_as text node other index sub here there e h t at =
     (x.entry, x.at, same_type text node other o.object e x.entry o.built_as x.built_as)
 
 -- what stands at an address has one type in all dictionaries of a text
-record HasType (o : Option Entry) (p : Option Entry) : Type 0 where
-  absent : is_absent p ≡ is_absent o
-  identifier : is_identifier p ≡ is_identifier o
+pub record HasType (o : Option Entry) (p : Option Entry) : Type 0 where
+  pub absent : is_absent p ≡ is_absent o
+  pub identifier : is_identifier p ≡ is_identifier o
 
 same_identifier : (e f : Entry) → f.description.data_type ≡ e.description.data_type → is_identifier (Some f) ≡ is_identifier (Some e)
 same_identifier e f same = ap is_unsigned32 same
 
-same_there : (text : List ℕ) (node other index sub : ℕ) (here there : List Entry) → built text node ≡ Ok here → built text other ≡ Ok there → HasType (entry_at here index sub) (entry_at there index sub)
+pub same_there : (text : List ℕ) (node other index sub : ℕ) (here there : List Entry) → built text node ≡ Ok here → built text other ≡ Ok there → HasType (entry_at here index sub) (entry_at there index sub)
 same_there text node other index sub here there h t = by_both (entry_at here index sub) (entry_at there index sub) refl refl
   where
     by_both : (o p : Option Entry) → entry_at here index sub ≡ o → entry_at there index sub ≡ p → HasType o p

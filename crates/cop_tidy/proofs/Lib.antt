@@ -5,3 +5,4 @@ pub mod LoopLemmas
 pub mod StandingLemmas
 pub mod EachNode
 pub mod AddedLemmas
+pub mod EachAdds

@@ -23,20 +23,25 @@ use Rattle.cop_tidy.specs.declared.compact.Said.{Said}
 
 -- ---- what a text counts
 
-abbrev pub counted : List ℕ → Option Place → List ℕ → ℕ
-counted text None key = 0
-counted text (Some place) key = unwrap_or (stated_or_0 text place.section key) 0
+-- what DeviceInfo states under a key, 0 where it has no such key, and nothing where that is no number
+abbrev pub stated_at : List ℕ → Option Place → List ℕ → Option ℕ
+stated_at text None key = Some 0
+stated_at text (Some place) key = stated_or_0 text place.section key
 
-abbrev pub counts_in : List ℕ → Option Place → CompactPdo
-counts_in text place = record {
-  subs = counted text place (codes "CompactPDO");
-  received = counted text place (codes "NrOfRXPDO");
-  sent = counted text place (codes "NrOfTXPDO");
-}
+abbrev pub stated_in : List ℕ → List ℕ → Option ℕ
+stated_in text key = stated_at text (place_of text (codes "DeviceInfo")) key
+
+-- a count as the old text states it, or where that is no number as the new one does
+abbrev pub counted : List ℕ → List ℕ → List ℕ → ℕ
+counted old new key = unwrap_or (option_or (stated_in old key) (stated_in new key)) 0
 
 -- what DeviceInfo says of PDOs: which subs their communication records have, bit by bit, and how many there are
-abbrev pub compact_of : List ℕ → CompactPdo
-compact_of text = counts_in text (place_of text (codes "DeviceInfo"))
+abbrev pub compact_of : List ℕ → List ℕ → CompactPdo
+compact_of old new = record {
+  subs = counted old new (codes "CompactPDO");
+  received = counted old new (codes "NrOfRXPDO");
+  sent = counted old new (codes "NrOfTXPDO");
+}
 
 -- ---- what CompactPDO and CiA 301 say of the records ("PDO communication parameter record", "PDO mapping parameter record")
 
@@ -154,7 +159,7 @@ pub record AddsExactly (text : List ℕ) (compact : CompactPdo) (node : ℕ) (be
   pub all : (place sub : ℕ) → place < 0x800 → sub < 7 → IsPutAt text compact node after (0x1400 + place) sub
 
 abbrev pub AddsTo : ℕ → List ℕ → List ℕ → Type 0
-AddsTo node old new = (before after : List Entry) → built old node ≡ Ok before → built new node ≡ Ok after → AddsExactly old (compact_of new) node before after
+AddsTo node old new = (before after : List Entry) → built old node ≡ Ok before → built new node ≡ Ok after → AddsExactly old (compact_of old new) node before after
 
 unfoldable pub Adds : ℕ → List ℕ → List ℕ → Type 0
 Adds node old new = reading old ≡ Ok old → first_line old tests.Unseen ≡ None → AddsTo node old new

@@ -207,7 +207,7 @@ fn adds_to(
     let Ok(after) = built_for(alloc, new, node)? else {
         return Ok(true);
     };
-    Ok(adds_exactly(old, compact_of(new), node, &before, &after))
+    Ok(adds_exactly(old, compact_of(old.eds(), new), node, &before, &after))
 }
 
 /// Whether it does as the first and the last node have them, where each section of the old text is read.

@@ -1,10 +1,10 @@
 //! What CompactPDO says of the records of PDOs (CiA 306), as CiA 301 has them.
 
 ghost use Rattle.std.specs.Prelude.{◌≡◌, ◌≤◌};
-ghost use Rattle.cop_tidy.specs.Added.{counted, compact_of, has_sub, highest, type_of, base_of, identifier, communication, mapping, first_of, count_of, is_left_out, said_of_kind, said_at};
+ghost use Rattle.cop_tidy.specs.Added.{stated_in, counted, compact_of, has_sub, highest, type_of, base_of, identifier, communication, mapping, first_of, count_of, is_left_out, said_of_kind, said_at};
 
 use cop_dict::DataType;
-use cop_eds::{Access, Eds, Place};
+use cop_eds::{Access, Eds};
 use cop_hazard::{Contents, stated_or_0};
 
 /// What DeviceInfo says of PDOs: which subs their communication records have, where bit k tells of sub k + 1, and how many there are.
@@ -30,25 +30,31 @@ pub struct Said {
     pub number: u64,
 }
 
-/// The number that a key of DeviceInfo states, 0 where it states none.
-fn counted(eds: &Eds<'_>, place: Option<Place>, key: &[u8]) -> u64
-    ensures { result ≡ counted eds.now place key.now }
+/// What DeviceInfo states under a key, 0 where it has no such key, and nothing where that is no number.
+fn stated_in(eds: &Eds<'_>, key: &[u8]) -> Option<u64>
+    ensures { result ≡ stated_in eds.now key.now }
 {
-    match place {
-        Some(place) => stated_or_0(eds, place.section, key).unwrap_or(0),
-        None => 0,
+    match eds.place(b"DeviceInfo") {
+        Some(place) => stated_or_0(eds, place.section, key),
+        None => Some(0),
     }
 }
 
-/// What a text says of PDOs.
-pub fn compact_of(eds: &Eds<'_>) -> CompactPdo
-    ensures { result ≡ compact_of eds.now }
+/// A count as the old text states it, or where that is no number as the new one does.
+fn counted(old: &Eds<'_>, new: &Eds<'_>, key: &[u8]) -> u64
+    ensures { result ≡ counted old.now new.now key.now }
 {
-    let place = eds.place(b"DeviceInfo");
+    stated_in(old, key).or(stated_in(new, key)).unwrap_or(0)
+}
+
+/// What an old text and a new one say of PDOs.
+pub fn compact_of(old: &Eds<'_>, new: &Eds<'_>) -> CompactPdo
+    ensures { result ≡ compact_of old.now new.now }
+{
     CompactPdo {
-        subs: counted(eds, place, b"CompactPDO"),
-        received: counted(eds, place, b"NrOfRXPDO"),
-        sent: counted(eds, place, b"NrOfTXPDO"),
+        subs: counted(old, new, b"CompactPDO"),
+        received: counted(old, new, b"NrOfRXPDO"),
+        sent: counted(old, new, b"NrOfTXPDO"),
     }
 }
 

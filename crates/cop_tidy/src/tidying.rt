@@ -184,7 +184,7 @@ fn unchanged(alloc: Global, text: &[u8]) -> Result<Tidied, AllocError>
 /// result, and it is the text with exactly the changes that are told. A text against which nothing stands comes back byte
 /// for byte; nothing stands against a result, so that it comes back as it is with the same words. A text is refused only
 /// where something stands against it.
-#[tactic(auto, using(crate::proofs::StandingLemmas::accepted_of, crate::proofs::EachNode::built_of, crate::proofs::EachNode::identified_of, crate::proofs::EachNode::stays_for_each))]
+#[tactic(auto, using(crate::proofs::StandingLemmas::accepted_of, crate::proofs::EachNode::built_of, crate::proofs::EachNode::identified_of, crate::proofs::EachNode::stays_for_each, crate::proofs::EachAdds::adds_for_each))]
 pub fn tidy(alloc: Global, text: &[u8], words: &Words) -> Result<Tidied, TidyFault>
     // What stood against the text, and that nothing stands against the result.
     ensures found { IfOk result (λ t. t.found ≡ standing words.now text.now) }
@@ -206,9 +206,10 @@ pub fn tidy(alloc: Global, text: &[u8], words: &Words) -> Result<Tidied, TidyFau
     ensures each { IfOk result (λ t. (node : ℕ) → IsAccepted text.now → Stays node text.now t.text.items) }
 
     // What is added to one that has no section or key in another spelling, at indexes of which it has no section, is exactly what CompactPDO says
-    // of the PDOs that no list names, as the first and the last node have it.
+    // of the PDOs that no list names, as each node has it.
     ensures first_adds { IfOk result (λ t. IsSome t.found → Adds 1 text.now t.text.items) }
     ensures last_adds { IfOk result (λ t. IsSome t.found → Adds 127 text.now t.text.items) }
+    ensures each_adds { IfOk result (λ t. (node : ℕ) → IsSome t.found → IsAccepted text.now → Adds node text.now t.text.items) }
 
     // Each PDO of the result that has a record in its dictionary can be switched off.
     ensures identified { IfOk result (λ t. (node : ℕ) → AreIdentified node t.text.items) }
