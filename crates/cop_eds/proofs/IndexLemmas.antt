@@ -298,10 +298,10 @@ line_within text lines entries i d index lt =
 abbrev is_wanted : List ℕ → Kind → Line → Bool
 is_wanted text kind line = is_kind line.kind kind && is_some (line_key text line)
 
-abbrev AreComplete : List ℕ → Kind → List Line → List Entry → ℕ → Type 0
-AreComplete text kind lines entries n =
+abbrev AreComplete : {X : Type 0} → (X → ℕ) → List ℕ → Kind → List Line → List X → ℕ → Type 0
+AreComplete {X} line_of text kind lines xs n =
     (place : ℕ) (line : Line) → place < n → slice_get lines place ≡ Some line → is_wanted text kind line ≡ true
-    → (entry : Entry) × Contains entries entry × (entry.line ≡ place + 1)
+    → (x : X) × Contains xs x × (line_of x ≡ place + 1)
 
 false_true : false ≡ true → ⊥
 false_true e = cc
@@ -316,15 +316,15 @@ by_last false place i e lt = let le : i ≤ place = grind (arith, nat_tests) in 
 pub at_last : (place i : ℕ) → place < i + 1 → (place < i) ⊎ (place ≡ i)
 at_last place i lt = by_last (nat_lt place i) place i refl lt
 
-pub complete_push : (text : List ℕ) (kind : Kind) (lines : List Line) (entries : List Entry) (i : ℕ) (e : Entry) → e.line ≡ i + 1
-    → AreComplete text kind lines entries i → AreComplete text kind lines (entries ++ e ∷ []) (i + 1)
-complete_push text kind lines entries i e number so_far place line lt at some =
-    ⊎_elim (λ before. let x = so_far place line before at some in (x.0, Contains-append_left entries (e ∷ []) x.0 x.1, x.2))
-    (λ same. (e, Contains-append_right entries (e ∷ []) e (0, omega arith, refl), number ∙ ap (λ n. n + 1) (sym same))) (at_last place i lt)
+pub complete_push : {X : Type 0} (line_of : X → ℕ) (text : List ℕ) (kind : Kind) (lines : List Line) (xs : List X) (i : ℕ) (x : X) → line_of x ≡ i + 1
+    → AreComplete line_of text kind lines xs i → AreComplete line_of text kind lines (xs ++ x ∷ []) (i + 1)
+complete_push line_of text kind lines xs i x number so_far place line lt at some =
+    ⊎_elim (λ before. let y = so_far place line before at some in (y.0, Contains-append_left xs (x ∷ []) y.0 y.1, y.2))
+    (λ same. (x, Contains-append_right xs (x ∷ []) x (0, omega arith, refl), number ∙ ap (λ n. n + 1) (sym same))) (at_last place i lt)
 
-pub kept_push : (old entries : List Entry) (e : Entry) → ((x : Entry) → Contains old x → Contains entries x)
-    → (x : Entry) → Contains old x → Contains (entries ++ e ∷ []) x
-kept_push old entries e so_far x c = Contains-append_left entries (e ∷ []) x (so_far x c)
+pub kept_push : {X : Type 0} (old xs : List X) (x : X) → ((y : X) → Contains old y → Contains xs y)
+    → (y : X) → Contains old y → Contains (xs ++ x ∷ []) y
+kept_push old xs x so_far y c = Contains-append_left xs (x ∷ []) y (so_far y c)
 
 wanted_by : (kind : Kind) (b : Bool) → b ≡ true → ((is_kind kind Header && b) ≡ true) ⊎ (((is_kind kind Pair && b) ≡ true) ⊎ (kind ≡ Other))
 wanted_by Other b e = inr (inr refl)
@@ -332,11 +332,11 @@ wanted_by Header b e = inl e
 wanted_by Pair b e = inr (inl e)
 
 -- headers and pairs are all that is found by a name
-pub complete_both : (text : List ℕ) (lines : List Line) (entries : List Entry)
-    → AreComplete text Header lines entries (length lines) → AreComplete text Pair lines entries (length lines)
+pub complete_both : {X : Type 0} (line_of : X → ℕ) (text : List ℕ) (lines : List Line) (xs : List X)
+    → AreComplete line_of text Header lines xs (length lines) → AreComplete line_of text Pair lines xs (length lines)
     → (place : ℕ) (line : Line) → slice_get lines place ≡ Some line → IsSome (line_key text line)
-    → (entry : Entry) × Contains entries entry × (entry.line ≡ place + 1)
-complete_both text lines entries headers pairs place line at some =
+    → (x : X) × Contains xs x × (line_of x ≡ place + 1)
+complete_both line_of text lines xs headers pairs place line at some =
     let lt : place < length lines = slice_get_below lines place line at in
     ⊎_elim (λ h. headers place line lt at h)
     (λ rest. ⊎_elim (λ p. pairs place line lt at p)
@@ -345,9 +345,9 @@ complete_both text lines entries headers pairs place line at some =
     absurd (no_key (line_key text line) none some)) rest)
     (wanted_by line.kind (is_some (line_key text line)) some)
 
-pub complete_kept : (text : List ℕ) (kind : Kind) (lines : List Line) (old entries : List Entry) (n : ℕ)
-    → ((x : Entry) → Contains old x → Contains entries x) → AreComplete text kind lines old n → AreComplete text kind lines entries n
-complete_kept text kind lines old entries n kept complete place line lt at some =
+pub complete_kept : {X : Type 0} (line_of : X → ℕ) (text : List ℕ) (kind : Kind) (lines : List Line) (old xs : List X) (n : ℕ)
+    → ((x : X) → Contains old x → Contains xs x) → AreComplete line_of text kind lines old n → AreComplete line_of text kind lines xs n
+complete_kept line_of text kind lines old xs n kept complete place line lt at some =
     let x = complete place line lt at some in
     (x.0, kept x.0 x.1, x.2)
 

@@ -6,7 +6,7 @@ use Rattle.std.specs.Option.{option_map}
 use Rattle.std.proofs.lemmas.Slice.Eq.{bytes_eq-Decides}
 use Rattle.std.proofs.lemmas.Option.{get_or_from_slice_get, slice_get-get_or}
 use Rattle.std.proofs.lemmas.List.Sorted.{IsNonDecreasingBy-from_all_adjacent, all_adjacent_more, All-permutation, Contains-permutation}
-use Rattle.std.proofs.lemmas.List.Elements.{All-append, Contains-append_left, Contains-append_right}
+use Rattle.std.proofs.lemmas.List.Elements.{All-append}
 use Rattle.std.proofs.lemmas.Bool.Decides.{nat_tests}
 use Rattle.cop_eds.specs.declared.line.Line.{Line}
 use Rattle.cop_eds.specs.declared.tickets.Ticket.{Ticket}
@@ -295,10 +295,6 @@ alone_ticket text lines bits tickets p x all rising at = alone_first text lines 
 
 -- the tickets of the lines so far
 
-abbrev pub AreComplete : List ℕ → List Line → List Ticket → ℕ → Type 0
-AreComplete text lines tickets n =
-    (place : ℕ) (line : Line) → place < n → slice_get lines place ≡ Some line → IsSome (line_key text line) → (ticket : Ticket) × Contains tickets ticket × (ticket.line ≡ place + 1)
-
 pub sound_push : (text : List ℕ) (lines : List Line) (bits : ℕ) (tickets : List Ticket) (i word : ℕ) (d : Line) (key : List ℕ) → i < length lines
     → line_key text (get_or lines i d) ≡ Some key → word ≡ word_of bits key
     → All (IsTicket text lines bits) tickets → All (IsTicket text lines bits) (tickets ++ record { word = word; line = i + 1 } ∷ [])
@@ -309,19 +305,13 @@ sound_push text lines bits tickets i word d key lt its_key its_word so_far =
     let own : IsTicket text lines bits t = (omega arith, (get_or lines i d, at, ap (option_map (word_of bits)) its_key ∙ ap (λ w. Some w) (sym its_word))) in
     All-append (IsTicket text lines bits) tickets (t ∷ []) so_far (all_one_by (IsTicket text lines bits) t own)
 
-pub complete_push : (text : List ℕ) (lines : List Line) (tickets : List Ticket) (i : ℕ) (t : Ticket) → t.line ≡ i + 1
-    → AreComplete text lines tickets i → AreComplete text lines (tickets ++ t ∷ []) (i + 1)
-complete_push text lines tickets i t number so_far place line lt at some =
-    ⊎_elim (λ before. let x = so_far place line before at some in (x.0, Contains-append_left tickets (t ∷ []) x.0 x.1, x.2))
-    (λ same. (t, Contains-append_right tickets (t ∷ []) t (0, omega arith, refl), number ∙ ap (λ n. n + 1) (sym same))) (at_last place i lt)
-
-pub all_tickets : (text : List ℕ) (lines : List Line) (bits : ℕ) (tickets sorted : List Ticket) (n : ℕ) → length lines ≤ n → IsPermutation tickets sorted
-    → All (IsTicket text lines bits) tickets → AreComplete text lines tickets n → AreTickets text lines bits sorted
-all_tickets text lines bits tickets sorted n le moved sound complete = record {
+pub all_tickets : (text : List ℕ) (lines : List Line) (bits : ℕ) (tickets sorted : List Ticket) → IsPermutation tickets sorted → All (IsTicket text lines bits) tickets
+    → ((place : ℕ) (line : Line) → slice_get lines place ≡ Some line → IsSome (line_key text line) → (ticket : Ticket) × Contains tickets ticket × (ticket.line ≡ place + 1))
+    → AreTickets text lines bits sorted
+all_tickets text lines bits tickets sorted moved sound complete = record {
   sound = All-permutation (IsTicket text lines bits) tickets sorted moved sound;
   complete = λ place line at some.
-      let lt : place < n = omega (arith, le, slice_get_below lines place line at) in
-      let x = complete place line lt at some in
+      let x = complete place line at some in
       (x.0, Contains-permutation tickets sorted x.0 moved x.1, x.2);
 }
 

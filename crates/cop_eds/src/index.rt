@@ -73,7 +73,8 @@ pub fn line_entry<'a>(source: &'a [u8], line: &Line) -> Option<Entry<'a>>
     }
 }
 
-fn is_kind(left: Kind, right: Kind) -> bool
+/// Whether two kinds are the same.
+pub fn is_kind(left: Kind, right: Kind) -> bool
     ensures { result ≡ is_kind left right }
 {
     matches!(

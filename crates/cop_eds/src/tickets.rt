@@ -1,18 +1,19 @@
 //! Tickets: the lines that are found by a name, by numbers that stand for the names. Where no two lines have one number,
 //! a line is found with no look at other lines' names.
 
-ghost use Rattle.std.specs.Prelude.{◌≡◌, ◌↔◌, ◌<◌, ◌≤◌, ◌-◌, ℕ, List, length, true, false, IfOk, MatchOption, Some, slice_get};
+ghost use Rattle.std.specs.Prelude.{◌≡◌, ◌↔◌, ◌<◌, ◌≤◌, ◌-◌, ◌+◌, ◌&&◌, ℕ, List, length, true, false, IfOk, OnOk, MatchOption, Some, is_some, slice_get, Contains};
 ghost use Rattle.std.specs.List.{All, AllWithin};
 ghost use Rattle.std.specs.List.Sorted.{IsPermutation};
 ghost use Rattle.std.specs.Str.{str_to_ascii_lowercase};
 ghost use Rattle.cop_eds.specs.declared.line.Line.{Line};
-ghost use Rattle.cop_eds.specs.Lines.{IsWithin, first_from};
-ghost use Rattle.cop_eds.specs.Index.{sort_key, is_found_by, IsNext};
-ghost use Rattle.cop_eds.specs.Tickets.{stirred, mixed, word_of, is_ahead, AreTickets, AreRising, AreOrdered, Surround};
+ghost use Rattle.cop_eds.specs.declared.tickets.Ticket.{Ticket};
+ghost use Rattle.cop_eds.specs.Lines.{IsWithin, first_from, is_kind};
+ghost use Rattle.cop_eds.specs.Index.{line_key, sort_key, is_found_by, IsNext};
+ghost use Rattle.cop_eds.specs.Tickets.{stirred, mixed, word_of, is_ahead, IsTicket, AreTickets, AreRising, AreOrdered, Surround};
 
 use crate::entry::Entry;
-use crate::index::{has_key, line_entry};
-use crate::line::Line;
+use crate::index::{has_key, is_kind, line_entry};
+use crate::line::{Kind, Line};
 use std::alloc::{AllocError, Global};
 
 /// The least number of a name that is none of an object's section.
@@ -73,15 +74,83 @@ pub fn bits_of(sections: usize) -> u32
     (places.ilog2() + 1).min(63)
 }
 
-/// Puts the tickets in order: by their numbers, and those with one number by their lines.
-fn sort_tickets(tickets: &mut Vec<Ticket>)
+/// A number that the tickets of all headers have in common, and those of the keys of each section.
+fn part_of(bits: u32, word: u64) -> u64
+    requires { bits < 64 }
+{
+    if word < OTHERS {
+        1
+    } else {
+        (word - OTHERS) >> (63 - bits)
+    }
+}
+
+/// Puts the tickets between two places in order, by their numbers.
+fn sort_between(tickets: &mut [Ticket], from: usize, to: usize)
+    requires { (from ≤ to) × (to ≤ length tickets.old) }
+    ensures { IsPermutation tickets.old tickets.new }
+{
+    tickets[from..to].sort_unstable_by_key(|ticket| ticket.word);
+}
+
+/// Puts the neighbours of each part in order, by their numbers.
+fn sort_parts(tickets: &mut [Ticket], bits: u32)
+    requires { bits < 64 }
+    ensures { IsPermutation tickets.old tickets.new }
+{
+    let mut from = 0;
+    for at in 1..tickets.len() {
+        if part_of(bits, tickets[at].word) != part_of(bits, tickets[from].word) {
+            sort_between(tickets, from, at);
+            from = at;
+        }
+    }
+    sort_between(tickets, from, tickets.len());
+}
+
+/// Puts the tickets in order: by their numbers, and those with one number by their lines. Those of a text's headers come first, and then those of
+/// its keys, so that each part is sorted by itself.
+fn sort_tickets(tickets: &mut Vec<Ticket>, bits: u32)
+    requires { bits < 64 }
     ensures { IsPermutation tickets.old.items tickets.new.items }
 {
-    tickets.sort_unstable_by_key(|ticket| ticket.word);
+    sort_parts(tickets, bits);
     // Most texts have no two lines with one number, and numbers alone are compared faster.
     if !are_rising(tickets) {
         tickets.sort_unstable_by_key(|ticket| (ticket.word, ticket.line));
     }
+}
+
+/// Adds the tickets of the lines of a kind that are found by a name, in their order.
+fn push_tickets(
+    tickets: &mut Vec<Ticket>,
+    source: &[u8],
+    lines: &[Line],
+    bits: u32,
+    kind: Kind,
+) -> Result<(), AllocError>
+    requires within { All (IsWithin (length source.now)) lines.now }
+    requires fits { (0 < bits) × (bits < 64) }
+    requires sound { All (IsTicket source.now lines.now bits) tickets.old.items }
+    ensures sound { OnOk result (All (IsTicket source.now lines.now bits) tickets.new.items) }
+    ensures complete { OnOk result ((place : ℕ) (line : Line) → place < length lines.now → slice_get lines.now place ≡ Some line
+        → (is_kind line.kind kind && is_some (line_key source.now line)) ≡ true
+        → (ticket : Ticket) × Contains tickets.new.items ticket × (ticket.line ≡ place + 1)) }
+    ensures kept { OnOk result ((ticket : Ticket) → Contains tickets.old.items ticket → Contains tickets.new.items ticket) }
+{
+    for (place, line) in lines.iter().enumerate() {
+        if !is_kind(line.kind, kind) {
+            continue;
+        }
+        let Some(entry) = line_entry(source, line) else {
+            continue;
+        };
+        tickets.push(Ticket {
+            word: word_of(bits, &entry),
+            line: place + 1,
+        })?;
+    }
+    Ok(())
 }
 
 /// The tickets of all lines that are found by a name, in order.
@@ -96,16 +165,9 @@ pub fn tickets_of(
     ensures { IfOk result (λ tickets. AreTickets source.now lines.now bits tickets.items) }
 {
     let mut tickets = Vec::with_capacity(alloc, lines.len())?;
-    for (place, line) in lines.iter().enumerate() {
-        let Some(entry) = line_entry(source, line) else {
-            continue;
-        };
-        tickets.push(Ticket {
-            word: word_of(bits, &entry),
-            line: place + 1,
-        })?;
-    }
-    sort_tickets(&mut tickets);
+    push_tickets(&mut tickets, source, lines, bits, Kind::Header)?;
+    push_tickets(&mut tickets, source, lines, bits, Kind::Pair)?;
+    sort_tickets(&mut tickets, bits);
     Ok(tickets)
 }
 

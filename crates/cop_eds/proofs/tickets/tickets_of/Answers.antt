@@ -1,13 +1,12 @@
-use Rattle.std.proofs.Common.{refl}
-use Rattle.cop_eds.proofs.TicketLemmas.{sound_push, complete_push, all_tickets}
+use Rattle.std.proofs.Common.{length}
+use Rattle.cop_eds.specs.declared.line.Kind.TheVariants.{Header}
+use Rattle.cop_eds.specs.declared.tickets.Ticket.{Ticket}
+use Rattle.cop_eds.proofs.IndexLemmas.{complete_both, complete_kept}
+use Rattle.cop_eds.proofs.TicketLemmas.{all_tickets}
 use Rattle.cop_eds.proofs.tickets.tickets_of.Goals as goal
 
-pub loop-place-preserved : goal.loop-place-preserved
-loop-place-preserved c = rw c.in_ok-push.ensures.items (record {
-  sound = sound_push c.args.source.now c.args.lines.now c.args.bits _ c.loop-place.place _ _ _ c.loop-place-test.true c.in-Some.ensures c.word_of.ensures c.loop-place.invariant.sound;
-  complete = complete_push c.args.source.now c.args.lines.now _ c.loop-place.place _ refl c.loop-place.invariant.complete;
-})
-
 pub returns : goal.returns
-returns c = all_tickets c.args.source.now c.args.lines.now c.args.bits _ _ c.loop-place.place c.loop-place-test.false c.sort_tickets.ensures
-    c.loop-place.invariant.sound c.loop-place.invariant.complete
+returns c = all_tickets c.args.source.now c.args.lines.now c.args.bits _ _ c.sort_tickets.ensures c.in_ok-push_tickets-2.ensures.sound
+    (complete_both (λ (t : Ticket). t.line) c.args.source.now c.args.lines.now _
+    (complete_kept (λ (t : Ticket). t.line) c.args.source.now Header c.args.lines.now _ _ (length c.args.lines.now) c.in_ok-push_tickets-2.ensures.kept c.in_ok-push_tickets.ensures.complete)
+    c.in_ok-push_tickets-2.ensures.complete)
