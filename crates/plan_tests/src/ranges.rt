@@ -13,7 +13,7 @@ use std::test::Fail;
 pub(crate) const RATES: &[Rate] = &[Rate::Kbit250, Rate::Kbit500, Rate::Kbit1000];
 
 /// Why a rate is refused.
-#[derive(Clone, Copy, PartialEq, Eq)]
+#[derive(Clone, Copy)]
 enum Why {
     /// By so many PDOs.
     Places(usize),
@@ -22,11 +22,14 @@ enum Why {
     Sdo(u16, usize),
 }
 
-fn reason_of(refusal: &Refusal) -> Why {
-    match &refusal.cause {
-        Cause::Places { members } => Why::Places(members.as_slice().len()),
-        Cause::Sync { .. } => Why::Sync,
-        Cause::Sdo { up, id, .. } => Why::Sdo(*id, up.as_slice().len()),
+fn has_reason(refusal: &Refusal, why: Why) -> bool {
+    match (&refusal.cause, why) {
+        (Cause::Places { members }, Why::Places(count)) => members.as_slice().len() == count,
+        (Cause::Sync { .. }, Why::Sync) => true,
+        (Cause::Sdo { up, id, .. }, Why::Sdo(wanted, count)) => {
+            *id == wanted && up.as_slice().len() == count
+        }
+        _ => false,
     }
 }
 
@@ -34,7 +37,7 @@ fn are_refused(refusals: &[Refusal], rows: &[(Rate, Why)]) -> bool {
     let mut wanted = rows.iter();
     for refusal in refusals {
         match wanted.next() {
-            Some((rate, why)) if *rate == refusal.rate && *why == reason_of(refusal) => {}
+            Some((rate, why)) if *rate == refusal.rate && has_reason(refusal, *why) => {}
             _ => return false,
         }
     }
@@ -232,6 +235,21 @@ fn sdo_frames_with_deadlines_are_planned_for(rt: HostRuntime) -> Result<(), Fail
     Ok(())
 }
 
+/// A frame of 8 bytes that is sent each second.
+fn frame_of(id: u16, deadline: u64) -> Stream
+    requires id { id < 2048 }
+    requires deadline { (1 ≤ deadline) × (deadline ≤ 240000000) }
+{
+    Stream {
+        id,
+        bytes: 8,
+        period: 4_000_000,
+        jitter: 0,
+        deadline: Some(deadline),
+        every: 0,
+    }
+}
+
 /// So many PDOs, and after them an SDO frame with its deadline, all of 8 bytes and sent each second. Numbers are ticks.
 pub(crate) fn many(alloc: Global, pdos: u16, deadline: u64) -> Result<StreamSet, SetFault>
     requires pdos { pdos ≤ 512 }
@@ -239,23 +257,9 @@ pub(crate) fn many(alloc: Global, pdos: u16, deadline: u64) -> Result<StreamSet,
 {
     let mut set = StreamSet::new(alloc);
     for k in 0..pdos {
-        set.push(Stream {
-            id: 0x181 + k,
-            bytes: 8,
-            period: 4_000_000,
-            jitter: 0,
-            deadline: Some(4_000_000),
-            every: 0,
-        })?;
+        set.push(frame_of(0x181 + k, 4_000_000))?;
     }
-    set.push(Stream {
-        id: 0x585,
-        bytes: 8,
-        period: 4_000_000,
-        jitter: 0,
-        deadline: Some(deadline),
-        every: 0,
-    })?;
+    set.push(frame_of(0x585, deadline))?;
     Ok(set)
 }
 
