@@ -1,5 +1,5 @@
-use cop_eds::{Access, Amount, Eds, EdsFault, Rule, amount_of, number_of, parse};
-use cop_frame::Rate;
+use cop_eds::{Access, Amount, Eds, EdsFault, Object, Rule, amount_of, number_of, parse};
+use cop_frame::{Rate, RateSet};
 use std::alloc::{AllocError, Global};
 
 const UNIT: &[u8] = b"\
@@ -103,9 +103,14 @@ const RATES: &[(Rate, bool)] = &[
     (Rate::Kbit1000, true),
 ];
 
+/// The rates that the sample supports.
+fn sample_rates(alloc: Global) -> Result<RateSet, EdsFault> {
+    Ok(parse(alloc, UNIT)?.rates())
+}
+
 #[test]
 fn rates_of_the_sample(rt: HostRuntime) -> Result<(), EdsFault> {
-    let rates = parse(rt.alloc(), UNIT)?.rates();
+    let rates = sample_rates(rt.alloc())?;
     for case in RATES {
         let (rate, wanted) = *case;
         assert!(rt; rates.contains(rate) == wanted, "{} kbit/s", rate.kbits());
@@ -113,8 +118,22 @@ fn rates_of_the_sample(rt: HostRuntime) -> Result<(), EdsFault> {
     Ok(())
 }
 
-/// Objects of the sample, each by its index and sub, and the names of their sections.
-const OBJECTS: &[(u16, u8, Option<&[u8]>)] = &[
+/// An object by its index and sub, and the name of its section.
+type Named = (u16, u8, Option<&'static [u8]>);
+
+/// The place of the first object that has another section.
+fn other_object(eds: &Eds<'_>, objects: &[Named]) -> Option<usize> {
+    for place in 0..objects.len() {
+        let (index, sub, name) = objects[place];
+        if eds.object(index, sub) != section_of(eds, name) {
+            return Some(place);
+        }
+    }
+    None
+}
+
+/// Objects of the sample.
+const OBJECTS: &[Named] = &[
     (0x1800, 1, Some(b"1800SUB01")),
     (0x1017, 0, Some(b"1017")),
     (0x1017, 1, None),
@@ -125,22 +144,24 @@ const OBJECTS: &[(u16, u8, Option<&[u8]>)] = &[
 #[test]
 fn objects_of_the_sample(rt: HostRuntime) -> Result<(), EdsFault> {
     let eds = parse(rt.alloc(), UNIT)?;
-    for case in OBJECTS {
-        let (index, sub, name) = *case;
-        assert!(rt;
-            eds.object(index, sub) == section_of(&eds, name),
-            "{index} sub {sub}"
-        );
-    }
+    let other = other_object(&eds, OBJECTS);
+    assert!(rt; other.is_none(), "{other:?}");
     Ok(())
+}
+
+/// Whether the section of 1800h sub 1 has a default value, and no parameter value.
+fn has_default_value(eds: &Eds<'_>, value: &[u8]) -> bool {
+    let Some(section) = eds.section(b"1800sub1") else {
+        return false;
+    };
+    eds.value(section, b"defaultvalue") == Some(value)
+        && eds.value(section, b"ParameterValue").is_none()
 }
 
 #[test]
 fn values_of_the_sample(rt: HostRuntime) -> Result<(), EdsFault> {
     let eds = parse(rt.alloc(), UNIT)?;
-    let section = eds.section(b"1800sub1").expect(&rt, "no section");
-    assert!(rt; eds.value(section, b"defaultvalue") == Some(b"$NODEID+0x40000180".as_slice()));
-    assert!(rt; eds.value(section, b"ParameterValue").is_none());
+    assert!(rt; has_default_value(&eds, b"$NODEID+0x40000180"));
     Ok(())
 }
 
@@ -256,18 +277,31 @@ fn the_first_broken_rule_is_named(rt: HostRuntime) -> Result<(), EdsFault> {
 const MESSY: &[u8] =
     b"\xEF\xBB\xBF; device\r\n[deviceinfo] ; rates\r\n\tBAUDRATE_125 = 1\t\r\n\r\n[optionalobjects]\r\nsupportedobjects=1\r\n1=0x2abC\r\n[2ABC]\r\nobjecttype=0x8\r\n[2abcsub01]\r\nParameterName= a;b \r\ndatatype=5\r\nAccessType=Rww\r\nDefaultValue=0x180 + $nodeid\r\nLowLimit=\r\n[2abcSub0a]\r\nDataType=7\r\nAccessType=const";
 
+/// Whether the rates are those of the messy text.
+fn are_messy_rates(rates: &RateSet) -> bool {
+    rates.contains(Rate::Kbit125) && !rates.contains(Rate::Kbit250)
+}
+
+/// Whether the first object is that of the messy text.
+fn is_messy_object(objects: &[Object]) -> bool {
+    match objects {
+        [object, ..] => {
+            (object.index == 0x2ABC && object.sub == 1)
+                && (object.data_type == 5 && object.access == Access::ReadWriteOutput)
+        }
+        [] => false,
+    }
+}
+
 #[test]
 fn a_messy_text_is_read(rt: HostRuntime) -> Result<(), EdsFault> {
     let eds = parse(rt.alloc(), MESSY)?;
-    assert!(rt; eds.rates().contains(Rate::Kbit125) && !eds.rates().contains(Rate::Kbit250));
-    let object = eds.objects().first().expect(&rt, "no objects");
-    assert!(rt; object.index == 0x2ABC && object.sub == 1);
-    assert!(rt; object.data_type == 5 && object.access == Access::ReadWriteOutput);
+    assert!(rt; are_messy_rates(&eds.rates()) && is_messy_object(eds.objects()));
     Ok(())
 }
 
-/// Objects of the messy text, each by its index and sub, and the names of their sections.
-const MESSY_OBJECTS: &[(u16, u8, Option<&[u8]>)] = &[
+/// Objects of the messy text.
+const MESSY_OBJECTS: &[Named] = &[
     (0x2ABC, 0, None),
     (0x2ABC, 1, Some(b"2ABCSUB1")),
     (0x2ABC, 10, Some(b"2abcsubA")),
@@ -276,32 +310,40 @@ const MESSY_OBJECTS: &[(u16, u8, Option<&[u8]>)] = &[
 #[test]
 fn objects_of_a_messy_text(rt: HostRuntime) -> Result<(), EdsFault> {
     let eds = parse(rt.alloc(), MESSY)?;
-    for case in MESSY_OBJECTS {
-        let (index, sub, name) = *case;
-        assert!(rt;
-            eds.object(index, sub) == section_of(&eds, name),
-            "{index} sub {sub}"
-        );
-    }
+    let other = other_object(&eds, MESSY_OBJECTS);
+    assert!(rt; other.is_none(), "{other:?}");
     Ok(())
+}
+
+/// Whether the object of the messy text has its name, and a lower limit that is empty.
+fn has_messy_keys(eds: &Eds<'_>) -> bool {
+    let Some(section) = eds.object(0x2ABC, 1) else {
+        return false;
+    };
+    eds.value(section, b"parametername") == Some(b"a;b".as_slice())
+        && eds.key_line(section, b"LowLimit") == Some(15)
+        && eds.entry(section, b"LowLimit").is_none()
 }
 
 #[test]
 fn keys_of_a_messy_text(rt: HostRuntime) -> Result<(), EdsFault> {
     let eds = parse(rt.alloc(), MESSY)?;
-    let section = eds.object(0x2ABC, 1).expect(&rt, "no object");
-    assert!(rt; eds.value(section, b"parametername") == Some(b"a;b".as_slice()));
-    assert!(rt; eds.key_line(section, b"LowLimit") == Some(15));
-    assert!(rt; eds.entry(section, b"LowLimit").is_none());
+    assert!(rt; has_messy_keys(&eds));
     Ok(())
+}
+
+/// Whether the default value of the object of the messy text is this amount on line 14.
+fn has_messy_amount(eds: &Eds<'_>, amount: Amount) -> bool {
+    let Some(section) = eds.object(0x2ABC, 1) else {
+        return false;
+    };
+    eds.amount(section, b"DefaultValue") == Ok(Some((14, amount)))
 }
 
 #[test]
 fn amounts_of_a_messy_text(rt: HostRuntime) -> Result<(), EdsFault> {
     let eds = parse(rt.alloc(), MESSY)?;
-    let section = eds.object(0x2ABC, 1).expect(&rt, "no object");
-    let amount = Amount::PlusNode(0x180);
-    assert!(rt; eds.amount(section, b"DefaultValue") == Ok(Some((14, amount))));
+    assert!(rt; has_messy_amount(&eds, Amount::PlusNode(0x180)));
     Ok(())
 }
 

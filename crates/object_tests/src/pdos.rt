@@ -11,20 +11,26 @@ type Row<'a> = (u16, u8, DataType, Access, &'a [u8]);
 fn dictionary(alloc: Global, rows: &[Row<'_>]) -> Result<Dictionary, AllocError> {
     let mut dict = Dictionary::new(alloc);
     for row in rows {
-        let (index, sub, data_type, access, initial) = *row;
-        let description = Description {
-            data_type,
-            access,
-            is_mappable: true,
-            low: None,
-            high: None,
-        };
-        let fits = data_type.width().is_none_or(|width| width == initial.len());
-        if fits && dict.entries().iter().all(|e| e.is_before(index, sub)) {
-            dict.push(Object::new(alloc, index, sub, description, initial)?)?;
-        }
+        push(alloc, &mut dict, row)?;
     }
     Ok(dict)
+}
+
+// An entry behind those of a dictionary, where it is of its type's width and they are before it.
+fn push(alloc: Global, dict: &mut Dictionary, row: &Row<'_>) -> Result<(), AllocError> {
+    let (index, sub, data_type, access, initial) = *row;
+    let description = Description {
+        data_type,
+        access,
+        is_mappable: true,
+        low: None,
+        high: None,
+    };
+    let fits = data_type.width().is_none_or(|width| width == initial.len());
+    if fits && dict.entries().iter().all(|e| e.is_before(index, sub)) {
+        dict.push(Object::new(alloc, index, sub, description, initial)?)?;
+    }
+    Ok(())
 }
 
 const FLAG_AND_BYTE: &[Row<'static>] = &[

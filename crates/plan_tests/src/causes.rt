@@ -65,22 +65,34 @@ fn sync_list(refusal: &Refusal) -> &[u64] {
     }
 }
 
+/// Whether a refusal by SYNC is made with this busy list, and holds.
+fn is_made(alloc: Global, set: &StreamSet, rate: Rate, list: &[u64]) -> Result<bool, AllocError> {
+    match made(alloc, set, 1, rate)? {
+        Some(refusal) => Ok(sync_list(&refusal) == list && holds(set, 1, &refusal) == Some(true)),
+        None => Ok(false),
+    }
+}
+
+/// Whether a refusal by SYNC is made where SYNC is sent each so many ticks.
+fn is_any_made(alloc: Global, period: u64, rate: Rate) -> Result<bool, Fail>
+    requires { (400 ≤ period) × (period ≤ 240000000) }
+{
+    let set = synchronous(alloc, period, 6_480)?;
+    Ok(made(alloc, &set, 1, rate)?.is_some())
+}
+
 #[test]
 fn refusals_by_sync_are_made(rt: HostRuntime) -> Result<(), Fail> {
     let set = synchronous(rt.alloc(), 400, 6_480)?;
-    let refusal = made(rt.alloc(), &set, 1, Rate::Kbit250)?.ok_or("SYNC is not long")?;
-    assert!(rt; sync_list(&refusal) == SYNC_BUSY);
-    assert!(rt; holds(&set, 1, &refusal) == Some(true));
-    assert!(rt; made(rt.alloc(), &set, 1, Rate::Kbit500)?.is_some());
+    assert!(rt; is_made(rt.alloc(), &set, Rate::Kbit250, SYNC_BUSY)?);
+    assert!(rt; is_any_made(rt.alloc(), 400, Rate::Kbit500)?);
     Ok(())
 }
 
 #[test]
 fn none_is_made_where_sync_is_short(rt: HostRuntime) -> Result<(), Fail> {
-    let set = synchronous(rt.alloc(), 400, 6_480)?;
-    assert!(rt; made(rt.alloc(), &set, 1, Rate::Kbit1000)?.is_none());
-    let slower = synchronous(rt.alloc(), 40_000, 6_480)?;
-    assert!(rt; made(rt.alloc(), &slower, 1, Rate::Kbit250)?.is_none());
+    assert!(rt; !is_any_made(rt.alloc(), 400, Rate::Kbit1000)?);
+    assert!(rt; !is_any_made(rt.alloc(), 40_000, Rate::Kbit250)?);
     Ok(())
 }
 
@@ -141,17 +153,33 @@ fn often(alloc: Global, every: u8) -> Result<StreamSet, SetFault>
     Ok(set)
 }
 
+/// Whether the refusal by SYNC holds of them.
+fn sync_is_cause(alloc: Global, set: &StreamSet) -> Result<Option<bool>, AllocError> {
+    Ok(holds(set, 1, &by_sync(alloc, Rate::Kbit250, SYNC_BUSY)?))
+}
+
+/// Whether the refusal by the PDO holds of them.
+fn first_is_cause(alloc: Global, set: &StreamSet) -> Result<Option<bool>, AllocError> {
+    Ok(holds(set, 1, &by_first(alloc, Rate::Kbit250, SYNC_BUSY)?))
+}
+
 #[test]
 fn sync_past_the_horizon_is_the_cause_where_a_pdo_is_synchronous(
     rt: HostRuntime,
 ) -> Result<(), Fail> {
-    for every in [0, 1] {
-        let set = often(rt.alloc(), every)?;
-        let by_sync = by_sync(rt.alloc(), Rate::Kbit250, SYNC_BUSY)?;
-        let by_first = by_first(rt.alloc(), Rate::Kbit250, SYNC_BUSY)?;
-        assert!(rt; holds(&set, 1, &by_sync) == Some(every == 1));
-        assert!(rt; holds(&set, 1, &by_first) == Some(every == 0));
-    }
+    let set = often(rt.alloc(), 1)?;
+    assert!(rt; sync_is_cause(rt.alloc(), &set)? == Some(true));
+    assert!(rt; first_is_cause(rt.alloc(), &set)? == Some(false));
+    Ok(())
+}
+
+#[test]
+fn sync_past_the_horizon_is_no_cause_where_no_pdo_is_synchronous(
+    rt: HostRuntime,
+) -> Result<(), Fail> {
+    let set = often(rt.alloc(), 0)?;
+    assert!(rt; sync_is_cause(rt.alloc(), &set)? == Some(false));
+    assert!(rt; first_is_cause(rt.alloc(), &set)? == Some(true));
     Ok(())
 }
 
@@ -335,28 +363,37 @@ fn beside(alloc: Global, id: u16, deadline: Option<u64>) -> Result<StreamSet, Fa
     Ok(set)
 }
 
+/// Whether the frame behind the PDO is tested. `None` where there are not two streams, or it is tested as a second PDO, too.
+fn is_frame_tested(streams: &[Stream]) -> Option<bool> {
+    if streams.len() == 2 && !is_tested(streams, 2, 1) {
+        Some(is_tested(streams, 1, 1))
+    } else {
+        None
+    }
+}
+
+/// A refusal at 250 kbit/s by this frame, which is busy past the horizon above all PDOs.
+fn by_busy_frame(alloc: Global, id: u16) -> Result<Refusal, AllocError> {
+    let busy = numbers(alloc, FRAME_BUSY)?;
+    let cause = Cause::Sdo {
+        up: Items::new(alloc),
+        id,
+        evidence: Evidence::Long { busy },
+    };
+    Ok(Refusal {
+        rate: Rate::Kbit250,
+        cause,
+    })
+}
+
 #[test]
 fn sdo_frames_with_deadlines_are_tested(rt: HostRuntime) -> Result<(), Fail> {
     for case in FRAMES {
         let (id, deadline, wanted) = *case;
         let set = beside(rt.alloc(), id, deadline)?;
-        let streams = set.streams();
-        assert!(rt; streams.len() == 2);
-        assert!(rt;
-            is_tested(streams, 1, 1) == wanted && !is_tested(streams, 2, 1),
-            "{id}"
-        );
-        let busy = numbers(rt.alloc(), FRAME_BUSY)?;
-        let cause = Cause::Sdo {
-            up: Items::new(rt.alloc()),
-            id,
-            evidence: Evidence::Long { busy },
-        };
-        let rate = Rate::Kbit250;
-        assert!(rt;
-            holds(&set, 1, &Refusal { rate, cause }) == Some(wanted),
-            "{id}"
-        );
+        assert!(rt; is_frame_tested(set.streams()) == Some(wanted), "{id}");
+        let refusal = by_busy_frame(rt.alloc(), id)?;
+        assert!(rt; holds(&set, 1, &refusal) == Some(wanted), "{id}");
     }
     Ok(())
 }
@@ -383,6 +420,20 @@ fn is_late(refusal: &Refusal, busy: &[u64], queue: &[u64]) -> bool {
     }
 }
 
+/// Whether the last of some refusals is such a one, and holds.
+fn ends_late(
+    set: &StreamSet,
+    pdos: usize,
+    refusals: &[Refusal],
+    busy: &[u64],
+    queue: &[u64],
+) -> bool {
+    match refusals {
+        [.., refusal] => is_late(refusal, busy, queue) && holds(set, pdos, refusal) == Some(true),
+        [] => false,
+    }
+}
+
 #[test]
 fn above_96_all_pdos_are_above_the_sdo_frames(rt: HostRuntime) -> Result<(), Fail> {
     for case in ABOVE {
@@ -390,9 +441,8 @@ fn above_96_all_pdos_are_above_the_sdo_frames(rt: HostRuntime) -> Result<(), Fai
         let set = many(rt.alloc(), pdos.min(512), 1_076)?;
         let pdos = usize::from(pdos);
         let (outcome, _) = answer_for(rt.alloc(), &set, pdos, &[Rate::Kbit1000])?;
-        let refusal = refusals_of(&outcome).last().ok_or("no refusal")?;
-        assert!(rt; is_late(refusal, busy, queue), "{pdos}");
-        assert!(rt; holds(&set, pdos, refusal) == Some(true), "{pdos}");
+        let refusals = refusals_of(&outcome);
+        assert!(rt; ends_late(&set, pdos, refusals, busy, queue), "{pdos}");
     }
     Ok(())
 }

@@ -1,20 +1,17 @@
-use crate::plans::plan_of;
-use cop_frame::{Rate, RateSet};
+use crate::plans::{plan_of, rates_of};
+use cop_frame::Rate;
 use cop_plan::{Plan, assign_with_margin, can_assign};
-use cop_rta::{StreamSet, read_streams};
+use cop_rta::read_streams;
 use std::alloc::Global;
 use std::test::Fail;
 
-// The plan of a set all of whose streams are PDOs, by the greatest margin.
-fn widest(alloc: Global, set: &StreamSet) -> Result<Plan, Fail> {
-    if !can_assign(set, set.len()) {
+// The plan of a table all of whose streams are PDOs, by the greatest margin.
+fn widest(alloc: Global, table: &[u8]) -> Result<Plan, Fail> {
+    let set = read_streams(alloc, table)?;
+    if !can_assign(&set, set.len()) {
         return Err(Fail::from("not to be assigned"));
     }
-    let mut rates = RateSet::new();
-    for rate in Rate::ALL {
-        rates.insert(rate);
-    }
-    plan_of(assign_with_margin(alloc, set, set.len(), &rates)?)
+    plan_of(assign_with_margin(alloc, &set, set.len(), &rates_of(&Rate::ALL))?)
 }
 
 // Tables, their slowest rate, and the greatest least margin of all orders there, in ticks.
@@ -52,10 +49,8 @@ const ROWS: &[(&[u8], Rate, u64)] = &[
 fn the_margin_is_the_greatest(rt: HostRuntime) -> Result<(), Fail> {
     for row in ROWS {
         let (table, rate, margin) = *row;
-        let set = read_streams(rt.alloc(), table)?;
-        let plan = widest(rt.alloc(), &set)?;
-        assert!(rt; plan.rate() == rate);
-        assert!(rt; plan.margin() == Some(margin));
+        let plan = widest(rt.alloc(), table)?;
+        assert!(rt; plan.rate() == rate && plan.margin() == Some(margin));
     }
     Ok(())
 }
@@ -65,9 +60,8 @@ fn the_order_is_that_of_lowered_deadlines(rt: HostRuntime) -> Result<(), Fail> {
     // The last row passes below the others, and is left more above them.
     let table =
         b"id,bytes,period,jitter,deadline\n0x181,8,100000,0,100000\n0x182,8,100000,0,100000\n0x183,8,100000,0,12000\n";
-    let set = read_streams(rt.alloc(), table)?;
-    let plan = widest(rt.alloc(), &set)?;
-    assert!(rt; plan.ids() == [0x182, 0x183, 0x181].as_slice());
-    assert!(rt; plan.margin() == Some(26400));
+    let plan = widest(rt.alloc(), table)?;
+    let order: &[u16] = &[0x182, 0x183, 0x181];
+    assert!(rt; plan.ids() == order && plan.margin() == Some(26400));
     Ok(())
 }

@@ -36,7 +36,7 @@ fn answer(alloc: Global, table: &[u8], candidates: &[Rate]) -> Result<(Outcome, 
 }
 
 /// The set of these rates.
-fn rates_of(rates: &[Rate]) -> RateSet {
+pub(crate) fn rates_of(rates: &[Rate]) -> RateSet {
     let mut set = RateSet::new();
     for rate in rates {
         set.insert(*rate);
@@ -69,7 +69,7 @@ pub(crate) fn plan_of(outcome: Outcome) -> Result<Plan, Fail> {
 }
 
 // The response of each PDO of a plan, in ticks.
-pub(crate) fn responses(alloc: Global, plan: &Plan) -> Result<Vec<u64>, Fail> {
+fn responses(alloc: Global, plan: &Plan) -> Result<Vec<u64>, Fail> {
     let set = plan.streams();
     let mut above = [false; StreamSet::MOST];
     let above = &mut above[..set.streams().len()];
@@ -82,6 +82,11 @@ pub(crate) fn responses(alloc: Global, plan: &Plan) -> Result<Vec<u64>, Fail> {
         }
     }
     Ok(found)
+}
+
+// Whether the PDOs of a plan have these responses, in ticks.
+pub(crate) fn respond_so(alloc: Global, plan: &Plan, wanted: &[u64]) -> Result<bool, Fail> {
+    Ok(responses(alloc, plan)?.as_slice() == wanted)
 }
 
 // A table, the candidates, the rate, the identifiers, the responses, and the rates and members of the refusals.
@@ -202,13 +207,17 @@ fn is_planned(plan: &Plan, count: Count, row: &Row) -> bool {
         && count.trials <= row.trials
 }
 
+// Whether the table of a row is planned as the row says.
+fn plans_row(alloc: Global, row: &Row) -> Result<bool, Fail> {
+    let (outcome, count) = answer(alloc, row.table, row.candidates)?;
+    let plan = plan_of(outcome)?;
+    Ok(is_planned(&plan, count, row) && respond_so(alloc, &plan, row.responses)?)
+}
+
 #[test]
 fn slowest_rates_are_planned(rt: HostRuntime) -> Result<(), Fail> {
     for row in ROWS {
-        let (outcome, count) = answer(rt.alloc(), row.table, row.candidates)?;
-        let plan = plan_of(outcome)?;
-        let found = responses(rt.alloc(), &plan)?;
-        assert!(rt; is_planned(&plan, count, row) && found.as_slice() == row.responses);
+        assert!(rt; plans_row(rt.alloc(), row)?);
     }
     Ok(())
 }
@@ -275,29 +284,44 @@ fn is_late(refusal: &Refusal, busy: &[u64], queue: &[u64]) -> bool {
     }
 }
 
+// Whether the last of some refusals has the evidence of a row.
+fn ends_so(refusals: &[Refusal], row: &Alone) -> bool {
+    match refusals {
+        [.., refusal] => is_late(refusal, row.busy, row.queue),
+        [] => false,
+    }
+}
+
+// Whether the last refusal for a row's table has its evidence.
+fn has_evidence(alloc: Global, row: &Alone) -> Result<bool, Fail> {
+    let (outcome, _) = answer(alloc, row.table, row.candidates)?;
+    Ok(ends_so(plan_of(outcome)?.refusals(), row))
+}
+
 #[test]
 fn the_last_refusal_has_its_evidence(rt: HostRuntime) -> Result<(), Fail> {
     for row in ALONE {
-        let (outcome, _) = answer(rt.alloc(), row.table, row.candidates)?;
-        let plan = plan_of(outcome)?;
-        let refusal = plan.refusals().last().ok_or("no refusal")?;
-        assert!(rt; is_late(refusal, row.busy, row.queue));
+        assert!(rt; has_evidence(rt.alloc(), row)?);
     }
     Ok(())
+}
+
+// Whether the one candidate of 125 kbit/s is refused by one PDO, which is busy past the horizon.
+fn is_too_busy(outcome: &Outcome) -> bool {
+    match outcome {
+        Outcome::Refused(refusals) => {
+            let refusals = refusals.as_slice();
+            are_refused(refusals, &[(Rate::Kbit125, 1)])
+                && refusals.iter().all(|refusal| is_long(refusal))
+        }
+        Outcome::Planned(_) => false,
+    }
 }
 
 #[test]
 fn no_rate_passes(rt: HostRuntime) -> Result<(), Fail> {
     let (outcome, count) = answer(rt.alloc(), TOO_BUSY, &[Rate::Kbit125])?;
-    match outcome {
-        Outcome::Refused(refusals) => {
-            let refusals = refusals.as_slice();
-            assert!(rt; are_refused(refusals, &[(Rate::Kbit125, 1)]));
-            assert!(rt; refusals.iter().all(|refusal| is_long(refusal)));
-        }
-        Outcome::Planned(_) => assert!(rt; false),
-    }
-    assert!(rt; count.trials == 1);
+    assert!(rt; is_too_busy(&outcome) && count.trials == 1);
     Ok(())
 }
 
@@ -332,24 +356,29 @@ fn largest_plan(alloc: Global) -> Result<Plan, Fail> {
     if !can_assign(&set, 512) {
         return Err(Fail::from("not to be assigned"));
     }
-    let mut rates = RateSet::new();
-    rates.insert(Rate::Kbit1000);
     let mut count = Count { trials: 0, busy: 0 };
-    plan_of(assign(alloc, &set, 512, &rates, &mut count)?)
+    plan_of(assign(alloc, &set, 512, &rates_of(&[Rate::Kbit1000]), &mut count)?)
 }
 
 // PDOs of the largest table, and their responses in ticks.
 const RESPONSES: &[(usize, u64)] = &[(0, 1080), (1, 1620), (510, 276_480), (511, 276_480)];
 
+// Whether some places of a list have these numbers.
+fn are_there(list: &[u64], wanted: &[(usize, u64)]) -> bool {
+    for case in wanted {
+        let (place, number) = *case;
+        if list.get(place) != Some(&number) {
+            return false;
+        }
+    }
+    true
+}
+
 #[test]
 fn the_largest_table_keeps_its_order(rt: HostRuntime) -> Result<(), Fail> {
     let plan = largest_plan(rt.alloc())?;
     assert!(rt; keeps_order(&plan));
-    let list = responses(rt.alloc(), &plan)?;
-    for case in RESPONSES {
-        let (pdo, response) = *case;
-        assert!(rt; list.get(pdo) == Some(&response));
-    }
+    assert!(rt; are_there(&responses(rt.alloc(), &plan)?, RESPONSES));
     Ok(())
 }
 

@@ -2,7 +2,7 @@
 
 ghost use Rattle.std.specs.Prelude.{◌≤◌, ◌<◌, ◌*◌};
 
-use crate::plans::{answer_for, plan_of, responses};
+use crate::plans::{answer_for, plan_of, respond_so};
 use cop_cert::{Cause, Refusal};
 use cop_frame::Rate;
 use cop_plan::{Outcome, Plan, can_assign};
@@ -13,7 +13,7 @@ use std::test::Fail;
 pub(crate) const RATES: &[Rate] = &[Rate::Kbit250, Rate::Kbit500, Rate::Kbit1000];
 
 /// Why a rate is refused.
-#[derive(Clone, Copy, PartialEq, Eq)]
+#[derive(Clone, Copy)]
 enum Why {
     /// By so many PDOs.
     Places(usize),
@@ -22,20 +22,33 @@ enum Why {
     Sdo(u16, usize),
 }
 
-fn reason_of(refusal: &Refusal) -> Why {
-    match &refusal.cause {
-        Cause::Places { members } => Why::Places(members.as_slice().len()),
-        Cause::Sync { .. } => Why::Sync,
-        Cause::Sdo { up, id, .. } => Why::Sdo(*id, up.as_slice().len()),
+fn has_reason(cause: &Cause, why: Why) -> bool {
+    match cause {
+        Cause::Places { members } => {
+            matches!(why, Why::Places(count) if count == members.as_slice().len())
+        }
+        Cause::Sync { .. } => matches!(why, Why::Sync),
+        Cause::Sdo { up, id, .. } => {
+            let above = up.as_slice().len();
+            matches!(why, Why::Sdo(frame, count) if frame == *id && count == above)
+        }
     }
+}
+
+/// Whether a refusal is of this rate, for this reason.
+fn is_refused(refusal: &Refusal, row: &(Rate, Why)) -> bool {
+    let (rate, why) = *row;
+    refusal.rate == rate && has_reason(&refusal.cause, why)
 }
 
 fn are_refused(refusals: &[Refusal], rows: &[(Rate, Why)]) -> bool {
     let mut wanted = rows.iter();
     for refusal in refusals {
-        match wanted.next() {
-            Some((rate, why)) if *rate == refusal.rate && *why == reason_of(refusal) => {}
-            _ => return false,
+        let Some(row) = wanted.next() else {
+            return false;
+        };
+        if !is_refused(refusal, row) {
+            return false;
         }
     }
     wanted.next().is_none()
@@ -77,17 +90,28 @@ const SYNCED: &[(u64, Rate, u64, &[(Rate, Why)])] = &[
     ),
 ];
 
+/// The plan of a synchronous PDO with this deadline where SYNC is sent each 10 ms.
+fn plan_with_sync(alloc: Global, deadline: u64) -> Result<Plan, Fail>
+    requires { (1 ≤ deadline) × (deadline ≤ 240000000) }
+{
+    let set = synchronous(alloc, 40_000, deadline)?;
+    let (outcome, _) = answer_for(alloc, &set, 1, RATES)?;
+    plan_of(outcome)
+}
+
+/// Whether the plan of one PDO is at this rate, with the first identifier and after these refusals.
+fn is_plan_of_one(plan: &Plan, rate: Rate, refused: &[(Rate, Why)]) -> bool {
+    let ids: &[u16] = &[0x181];
+    plan.rate() == rate && plan.ids() == ids && are_refused(plan.refusals(), refused)
+}
+
 #[test]
 fn a_synchronous_pdo_is_planned(rt: HostRuntime) -> Result<(), Fail> {
     for case in SYNCED {
         let (deadline, rate, response, refused) = *case;
-        let set = synchronous(rt.alloc(), 40_000, deadline.clamp(1, 40_000))?;
-        let (outcome, _) = answer_for(rt.alloc(), &set, 1, RATES)?;
-        let plan = plan_of(outcome)?;
-        assert!(rt; plan.rate() == rate && plan.ids() == [0x181].as_slice());
-        assert!(rt; are_refused(plan.refusals(), refused));
-        let found = responses(rt.alloc(), &plan)?;
-        assert!(rt; found.as_slice() == [response].as_slice());
+        let plan = plan_with_sync(rt.alloc(), deadline.clamp(1, 40_000))?;
+        assert!(rt; is_plan_of_one(&plan, rate, refused));
+        assert!(rt; respond_so(rt.alloc(), &plan, &[response])?);
     }
     Ok(())
 }
@@ -99,17 +123,19 @@ const TOO_OFTEN: &[(Rate, Why)] = &[
     (Rate::Kbit1000, Why::Places(1)),
 ];
 
+/// Whether there is no plan, but these refusals.
+fn has_no_plan(outcome: &Outcome, rows: &[(Rate, Why)]) -> bool {
+    match outcome {
+        Outcome::Refused(refusals) => are_refused(refusals.as_slice(), rows),
+        Outcome::Planned(_) => false,
+    }
+}
+
 #[test]
 fn sync_past_the_horizon_is_refused(rt: HostRuntime) -> Result<(), Fail> {
     let set = synchronous(rt.alloc(), 400, 6_480)?;
     let (outcome, count) = answer_for(rt.alloc(), &set, 1, RATES)?;
-    match outcome {
-        Outcome::Refused(refusals) => {
-            assert!(rt; are_refused(refusals.as_slice(), TOO_OFTEN));
-        }
-        Outcome::Planned(_) => assert!(rt; false),
-    }
-    assert!(rt; count.trials == 1 && count.busy == 1);
+    assert!(rt; has_no_plan(&outcome, TOO_OFTEN) && count.trials == 1 && count.busy == 1);
     Ok(())
 }
 
@@ -225,11 +251,24 @@ fn plan_for(alloc: Global, row: &Row) -> Result<Plan, Fail> {
 fn sdo_frames_with_deadlines_are_planned_for(rt: HostRuntime) -> Result<(), Fail> {
     for row in ROWS {
         let plan = plan_for(rt.alloc(), row)?;
-        assert!(rt; is_planned(&plan, row));
-        let found = responses(rt.alloc(), &plan)?;
-        assert!(rt; found.as_slice() == row.responses);
+        assert!(rt; is_planned(&plan, row) && respond_so(rt.alloc(), &plan, row.responses)?);
     }
     Ok(())
+}
+
+/// A frame of 8 bytes that is sent each second.
+fn frame_of(id: u16, deadline: u64) -> Stream
+    requires id { id < 2048 }
+    requires deadline { (1 ≤ deadline) × (deadline ≤ 240000000) }
+{
+    Stream {
+        id,
+        bytes: 8,
+        period: 4_000_000,
+        jitter: 0,
+        deadline: Some(deadline),
+        every: 0,
+    }
 }
 
 /// So many PDOs, and after them an SDO frame with its deadline, all of 8 bytes and sent each second. Numbers are ticks.
@@ -239,23 +278,9 @@ pub(crate) fn many(alloc: Global, pdos: u16, deadline: u64) -> Result<StreamSet,
 {
     let mut set = StreamSet::new(alloc);
     for k in 0..pdos {
-        set.push(Stream {
-            id: 0x181 + k,
-            bytes: 8,
-            period: 4_000_000,
-            jitter: 0,
-            deadline: Some(4_000_000),
-            every: 0,
-        })?;
+        set.push(frame_of(0x181 + k, 4_000_000))?;
     }
-    set.push(Stream {
-        id: 0x585,
-        bytes: 8,
-        period: 4_000_000,
-        jitter: 0,
-        deadline: Some(deadline),
-        every: 0,
-    })?;
+    set.push(frame_of(0x585, deadline))?;
     Ok(set)
 }
 
@@ -285,13 +310,22 @@ fn first_id(outcome: &Outcome) -> Result<Option<u16>, Fail> {
     Ok(Some(first))
 }
 
+/// The first identifier of so many PDOs above an SDO frame with its deadline.
+fn first_of_many(alloc: Global, pdos: u16, deadline: u64) -> Result<Option<u16>, Fail>
+    requires pdos { pdos ≤ 512 }
+    requires deadline { (1 ≤ deadline) × (deadline ≤ 240000000) }
+{
+    let set = many(alloc, pdos, deadline)?;
+    let (outcome, _) = answer_for(alloc, &set, usize::from(pdos), &[Rate::Kbit1000])?;
+    first_id(&outcome)
+}
+
 #[test]
 fn the_second_range_has_room_for_96(rt: HostRuntime) -> Result<(), Fail> {
     for case in ROOM {
         let (pdos, deadline, first) = *case;
-        let set = many(rt.alloc(), pdos.min(512), deadline.clamp(1, 4_000_000))?;
-        let (outcome, _) = answer_for(rt.alloc(), &set, usize::from(pdos), &[Rate::Kbit1000])?;
-        assert!(rt; first_id(&outcome)? == first, "{pdos} {deadline}");
+        let found = first_of_many(rt.alloc(), pdos.min(512), deadline.clamp(1, 4_000_000))?;
+        assert!(rt; found == first, "{pdos} {deadline}");
     }
     Ok(())
 }

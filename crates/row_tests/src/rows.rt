@@ -44,16 +44,33 @@ fn table(alloc: Global, header: &str, rows: &str) -> Result<String, AllocError> 
     Ok(text)
 }
 
+/// How rows are refused as a table of PDOs.
+fn refused_as_pdos(alloc: Global, rows: &str) -> Result<Option<Refused>, RowFault> {
+    let text = table(alloc, PDOS, rows)?;
+    refused_pdos(alloc, text.as_bytes())
+}
+
+/// How rows under a header are refused as a table of nodes.
+fn refused_as_nodes(alloc: Global, header: &str, rows: &str) -> Result<Option<Refused>, RowFault> {
+    let text = table(alloc, header, rows)?;
+    refused_nodes(alloc, text.as_bytes())
+}
+
 /// The table of PDOs with these rows.
 fn pdos_of(alloc: Global, rows: &str) -> Result<PdoTable, RowFault> {
     let text = table(alloc, PDOS, rows)?;
     read_pdos(alloc, text.as_bytes())
 }
 
+/// The table of nodes with these rows under a header.
+fn nodes_under(alloc: Global, header: &str, rows: &str) -> Result<NodeTable, RowFault> {
+    let text = table(alloc, header, rows)?;
+    read_nodes(alloc, text.as_bytes())
+}
+
 /// The table of nodes with these rows.
 fn nodes_of(alloc: Global, rows: &str) -> Result<NodeTable, RowFault> {
-    let text = table(alloc, NODES, rows)?;
-    read_nodes(alloc, text.as_bytes())
+    nodes_under(alloc, NODES, rows)
 }
 
 /// A row of PDOs: node, TPDO, period, jitter, deadline and consumers.
@@ -150,8 +167,7 @@ const BROKEN_PDOS: &[(&str, u8, u64)] = &[
 fn pdos_that_break_a_rule(rt: HostRuntime) -> Result<(), Fail> {
     for case in BROKEN_PDOS {
         let (rows, number, place) = *case;
-        let text = table(rt.alloc(), PDOS, rows)?;
-        let refused = refused_pdos(rt.alloc(), text.as_bytes())?;
+        let refused = refused_as_pdos(rt.alloc(), rows)?;
         assert!(rt; refused == Some((number, place)), "{rows}");
     }
     Ok(())
@@ -194,6 +210,12 @@ fn as_many_as_512_pdos(rt: HostRuntime) -> Result<(), Fail> {
     Ok(())
 }
 
+/// How rows behind 512 PDOs are refused.
+fn refused_behind(alloc: Global, rows: &str) -> Result<Option<Refused>, Fail> {
+    let text = full_table(alloc, rows)?;
+    Ok(refused_pdos(alloc, text.as_bytes())?)
+}
+
 /// A row behind 512 others, and the number of its refusal.
 const ONE_TOO_MANY: &[(&str, u8)] = &[("6,1,10000,0,670,\n", 49), ("5,512,10000,0,670,\n", 44)];
 
@@ -201,8 +223,7 @@ const ONE_TOO_MANY: &[(&str, u8)] = &[("6,1,10000,0,670,\n", 49), ("5,512,10000,
 fn more_than_512_pdos(rt: HostRuntime) -> Result<(), Fail> {
     for case in ONE_TOO_MANY {
         let (row, number) = *case;
-        let text = full_table(rt.alloc(), row)?;
-        let refused = refused_pdos(rt.alloc(), text.as_bytes())?;
+        let refused = refused_behind(rt.alloc(), row)?;
         assert!(rt; refused == Some((number, 513)), "{row}");
     }
     Ok(())
@@ -332,8 +353,7 @@ const BROKEN_NODES: &[(&str, u8, u64)] = &[
 fn nodes_that_break_a_rule(rt: HostRuntime) -> Result<(), Fail> {
     for case in BROKEN_NODES {
         let (rows, number, place) = *case;
-        let text = table(rt.alloc(), NODES, rows)?;
-        let refused = refused_nodes(rt.alloc(), text.as_bytes())?;
+        let refused = refused_as_nodes(rt.alloc(), NODES, rows)?;
         assert!(rt; refused == Some((number, place)), "{rows}");
     }
     Ok(())
@@ -344,18 +364,22 @@ const WITH_DEADLINES: &str = "row,node,name,eds,period,jitter,deadline\n";
 const DEADLINES: &str =
     "device,5,Valve,unit.eds,0,0,\nsdo_request,5,,,100000,0,1\nsdo_response,5,,,100000,0,60000000\nheartbeat,5,,,100000,0,\n";
 
+/// Whether frames are a request and a response with their deadlines, and a heartbeat without one.
+fn have_deadlines(frames: &[FrameRow]) -> bool {
+    match frames {
+        [request, response, heartbeat] => {
+            (request.kind == FrameKind::SdoRequest && request.deadline == Some(1))
+                && (response.deadline == Some(60_000_000) && response.place == 3)
+                && heartbeat.deadline.is_none()
+        }
+        _ => false,
+    }
+}
+
 #[test]
 fn sdo_frames_with_deadlines(rt: HostRuntime) -> Result<(), Fail> {
-    let text = table(rt.alloc(), WITH_DEADLINES, DEADLINES)?;
-    let nodes = read_nodes(rt.alloc(), text.as_bytes())?;
-    match nodes.frames() {
-        [request, response, heartbeat] => {
-            assert!(rt; request.kind == FrameKind::SdoRequest && request.deadline == Some(1));
-            assert!(rt; response.deadline == Some(60_000_000) && response.place == 3);
-            assert!(rt; heartbeat.deadline.is_none());
-        }
-        _ => assert!(rt; false),
-    }
+    let nodes = nodes_under(rt.alloc(), WITH_DEADLINES, DEADLINES)?;
+    assert!(rt; have_deadlines(nodes.frames()));
     Ok(())
 }
 
@@ -378,12 +402,11 @@ const BROKEN_DEADLINES: &[(&str, u8, u64)] = &[
 fn deadlines_that_break_a_rule(rt: HostRuntime) -> Result<(), Fail> {
     for case in BROKEN_DEADLINES {
         let (rows, number, place) = *case;
-        let text = table(rt.alloc(), WITH_DEADLINES, rows)?;
-        let refused = refused_nodes(rt.alloc(), text.as_bytes())?;
+        let refused = refused_as_nodes(rt.alloc(), WITH_DEADLINES, rows)?;
         assert!(rt; refused == Some((number, place)), "{rows}");
     }
-    let wide = table(rt.alloc(), NODES, "device,5,Valve,unit.eds,0,0,\n")?;
-    assert!(rt; refused_nodes(rt.alloc(), wide.as_bytes())? == Some((40, 1)));
+    let wide = refused_as_nodes(rt.alloc(), NODES, "device,5,Valve,unit.eds,0,0,\n")?;
+    assert!(rt; wide == Some((40, 1)));
     Ok(())
 }
 
@@ -397,26 +420,41 @@ fn bytes_that_are_no_text(rt: HostRuntime) -> Result<(), Fail> {
     Ok(())
 }
 
+/// Whether a copy has the node 5, the deadline 670 and the consumers of its row.
+fn is_pdo_copied(row: &PdoRow) -> Result<bool, AllocError> {
+    let copy = row.clone()?;
+    let has_numbers = copy.node == 5 && copy.deadline == 670;
+    Ok(has_numbers && copy.consumers.as_slice() == row.consumers.as_slice())
+}
+
 #[test]
 fn copies_of_pdos_are_equal(rt: HostRuntime) -> Result<(), Fail> {
     let table = pdos_of(rt.alloc(), "5,1,10000,0,670,6.1 7.2\n")?;
     for row in table.rows() {
-        let copy = row.clone()?;
-        assert!(rt; copy.node == 5 && copy.deadline == 670);
-        assert!(rt; copy.consumers.as_slice() == row.consumers.as_slice());
+        assert!(rt; is_pdo_copied(row)?);
     }
     Ok(())
+}
+
+/// Whether a copy has the place 1, the node 5, and the names of its row.
+fn is_device_copied(row: &DeviceRow) -> Result<bool, AllocError> {
+    let copy = row.clone()?;
+    let has_numbers = copy.place == 1 && copy.node == 5;
+    Ok(has_numbers && copy.name == row.name && copy.eds == row.eds)
 }
 
 #[test]
 fn copies_of_devices_are_equal(rt: HostRuntime) -> Result<(), Fail> {
     let table = nodes_of(rt.alloc(), "device,5,Valve,unit.eds,0,0\n")?;
     for row in table.devices() {
-        let copy = row.clone()?;
-        assert!(rt; copy.place == 1 && copy.node == 5);
-        assert!(rt; copy.name == row.name && copy.eds == row.eds);
+        assert!(rt; is_device_copied(row)?);
     }
     Ok(())
+}
+
+/// Whether a fault is printed so.
+fn is_printed(alloc: Global, fault: &RowFault, wanted: &str) -> Result<bool, AllocError> {
+    Ok(format!(in alloc; "{fault}")?.as_str() == wanted)
 }
 
 #[test]
@@ -424,12 +462,8 @@ fn faults_are_printed(rt: HostRuntime) -> Result<(), Fail> {
     match pdos_of(rt.alloc(), "5,1,1000,0,1000,\n5\n") {
         Ok(_) => assert!(rt; false),
         Err(RowFault::Memory) => return Err(Fail::from(RowFault::Memory)),
-        Err(fault) => {
-            let text = format!(in rt.alloc(); "{fault}")?;
-            assert!(rt; text.as_str() == "refused at record 2");
-        }
+        Err(fault) => assert!(rt; is_printed(rt.alloc(), &fault, "refused at record 2")?),
     }
-    let text = format!(in rt.alloc(); "{}", RowFault::Memory)?;
-    assert!(rt; text.as_str() == "out of memory");
+    assert!(rt; is_printed(rt.alloc(), &RowFault::Memory, "out of memory")?);
     Ok(())
 }

@@ -16,12 +16,12 @@ fn are_left(rows: &mut Records, row: &mut Record, wanted: &[Found]) -> Result<bo
     Ok(!rows.read(row)?)
 }
 
-/// Whether these are the records under the header.
-fn are_records(alloc: Global, text: &[u8], wanted: &[Found]) -> Result<bool, AllocError> {
+/// Whether these are the records under the header. `None` where the first record is another one.
+fn are_records(alloc: Global, text: &[u8], wanted: &[Found]) -> Result<Option<bool>, AllocError> {
     let mut row = Record::new(alloc);
     match under_header(alloc, text, HEADER, &mut row) {
-        Ok(mut rows) => are_left(&mut rows, &mut row, wanted),
-        Err(TableError::Header) => Ok(false),
+        Ok(mut rows) => Ok(Some(are_left(&mut rows, &mut row, wanted)?)),
+        Err(TableError::Header) => Ok(None),
         Err(TableError::Memory) => Err(AllocError),
     }
 }
@@ -70,21 +70,28 @@ const RECORDS: &[(&[u8], &[Found])] = &[
 fn records_are_lines_cut_at_commas(rt: HostRuntime) -> Result<(), AllocError> {
     for case in RECORDS {
         let (text, wanted) = *case;
-        assert!(rt; are_records(rt.alloc(), text, wanted)?);
+        assert!(rt; are_records(rt.alloc(), text, wanted)? == Some(true));
     }
     Ok(())
 }
 
 const HEADERS: [&[&[u8]]; 2] = [HEADER, &[b"id", b"bytes", b"period"]];
 
+/// The number of a header, and how many fields the next record has.
+fn read_under(
+    header: usize,
+    rows: &mut Records,
+    row: &mut Record,
+) -> Result<Option<(usize, usize)>, AllocError> {
+    rows.read(row)?;
+    Ok(Some((header, row.len())))
+}
+
 /// Which of two headers a text begins with, and how many fields the record under it has.
 fn header_of(alloc: Global, text: &[u8]) -> Result<Option<(usize, usize)>, AllocError> {
     let mut row = Record::new(alloc);
     match under_one_of(alloc, text, &HEADERS, &mut row) {
-        Ok((header, mut records)) => {
-            records.read(&mut row)?;
-            Ok(Some((header, row.len())))
-        }
+        Ok((header, mut records)) => read_under(header, &mut records, &mut row),
         Err(TableError::Header) => Ok(None),
         Err(TableError::Memory) => Err(AllocError),
     }
@@ -99,19 +106,9 @@ fn one_of_two_headers(rt: HostRuntime) -> Result<(), AllocError> {
     Ok(())
 }
 
-/// Whether a text is refused, since its first record is not the header.
-fn has_other_header(alloc: Global, text: &[u8]) -> Result<bool, AllocError> {
-    let mut row = Record::new(alloc);
-    match under_header(alloc, text, HEADER, &mut row) {
-        Ok(_) => Ok(false),
-        Err(TableError::Header) => Ok(true),
-        Err(TableError::Memory) => Err(AllocError),
-    }
-}
-
 #[test]
 fn another_header_is_refused(rt: HostRuntime) -> Result<(), AllocError> {
-    assert!(rt; has_other_header(rt.alloc(), b"")?);
-    assert!(rt; has_other_header(rt.alloc(), b"idb,ytes\n")?);
+    assert!(rt; are_records(rt.alloc(), b"", &[])?.is_none());
+    assert!(rt; are_records(rt.alloc(), b"idb,ytes\n", &[])?.is_none());
     Ok(())
 }

@@ -13,16 +13,25 @@ use std::alloc::{AllocError, Global};
 use std::collections::VecDeque;
 use std::test::Fail;
 
+/// A table of streams, how many of them are PDOs, and the rates that it may be planned at.
+pub type Table = (&'static [u8], usize, &'static [Rate]);
+
 /// The valve: a PDO, its emergency messages and its heartbeat, planned at 500 kbit/s.
-const VALVE: &[u8] =
-    b"id,bytes,period,jitter,deadline\n0x181,8,10000,0,670\n0x85,8,100000,0,\n0x705,1,100000,0,\n";
+pub const VALVE: Table = (
+    b"id,bytes,period,jitter,deadline\n0x181,8,10000,0,670\n0x85,8,100000,0,\n0x705,1,100000,0,\n",
+    1,
+    &[Rate::Kbit250, Rate::Kbit500, Rate::Kbit1000],
+);
 
 /// Two PDOs at 1000 kbit/s, of which the second gets the lower identifier.
-const TWO: &[u8] =
-    b"id,bytes,period,jitter,deadline\n0x181,8,1350,1282,1600\n0x182,8,13500,0,330\n";
+const TWO: Table = (
+    b"id,bytes,period,jitter,deadline\n0x181,8,1350,1282,1600\n0x182,8,13500,0,330\n",
+    2,
+    &[Rate::Kbit1000],
+);
 
 /// The set of these rates.
-pub fn set_of(rates: &[Rate]) -> RateSet {
+fn set_of(rates: &[Rate]) -> RateSet {
     let mut set = RateSet::new();
     for rate in rates {
         set.insert(*rate);
@@ -30,43 +39,28 @@ pub fn set_of(rates: &[Rate]) -> RateSet {
     set
 }
 
-/// The plan of streams of which so many are PDOs, if there is one.
+/// The plan of streams of which so many are PDOs.
 pub fn plan_for(
     alloc: Global,
     streams: &StreamSet,
     pdos: usize,
-    rates: &RateSet,
-) -> Result<Option<Plan>, AllocError> {
+    rates: &[Rate],
+) -> Result<Plan, Fail> {
     if !can_assign(streams, pdos) {
-        return Ok(None);
+        return Err(Fail::new("not to be planned"));
     }
     let mut count = Count { trials: 0, busy: 0 };
-    match assign(alloc, streams, pdos, rates, &mut count)? {
-        Outcome::Planned(plan) => Ok(Some(plan)),
-        Outcome::Refused(_) => Ok(None),
+    match assign(alloc, streams, pdos, &set_of(rates), &mut count)? {
+        Outcome::Planned(plan) => Ok(plan),
+        Outcome::Refused(_) => Err(Fail::new("no plan")),
     }
 }
 
-/// The plan of a table of streams, of which so many are PDOs.
-pub fn plan_of(alloc: Global, table: &[u8], pdos: usize, rates: &[Rate]) -> Result<Plan, Fail> {
-    let streams = read_streams(alloc, table)?;
-    match plan_for(alloc, &streams, pdos, &set_of(rates))? {
-        Some(plan) => Ok(plan),
-        None => Err(Fail::new("no plan")),
-    }
-}
-
-pub fn valve(alloc: Global) -> Result<Plan, Fail> {
-    plan_of(
-        alloc,
-        VALVE,
-        1,
-        &[Rate::Kbit250, Rate::Kbit500, Rate::Kbit1000],
-    )
-}
-
-fn two(alloc: Global) -> Result<Plan, Fail> {
-    plan_of(alloc, TWO, 2, &[Rate::Kbit1000])
+/// The plan of a table.
+pub fn plan_of(alloc: Global, table: Table) -> Result<Plan, Fail> {
+    let (text, pdos, rates) = table;
+    let streams = read_streams(alloc, text)?;
+    plan_for(alloc, &streams, pdos, rates)
 }
 
 /// A frame of 8 bytes with the most stuff bits.
@@ -132,6 +126,20 @@ pub fn are_steps(
 {
     let trace = simulated(alloc, plan, scripts, until)??;
     Ok(trace.steps.as_slice() == wanted)
+}
+
+/// Whether these are the steps of the play of scripts by the plan of a table.
+fn plays(
+    alloc: Global,
+    table: Table,
+    scripts: &[Script],
+    until: u64,
+    wanted: &[Step],
+) -> Result<bool, Fail>
+    requires { until ≤ 4000000000 }
+{
+    let plan = plan_of(alloc, table)?;
+    Ok(are_steps(alloc, &plan, scripts, until, wanted)?)
 }
 
 /// The fault of the simulation of scripts, if there is one.
@@ -211,8 +219,7 @@ pub const VALVE_STEPS: &[Step] = &[
 
 #[test]
 fn the_valve_to_4000_ticks(rt: HostRuntime) -> Result<(), Fail> {
-    let plan = valve(rt.alloc())?;
-    assert!(rt; are_steps(rt.alloc(), &plan, VALVE_SCRIPTS, 4000, VALVE_STEPS)?);
+    assert!(rt; plays(rt.alloc(), VALVE, VALVE_SCRIPTS, 4000, VALVE_STEPS)?);
     Ok(())
 }
 
@@ -402,10 +409,9 @@ const PLAYS: &[(&[Script], u64, &[Step])] = &[
 
 #[test]
 fn plays_of_two(rt: HostRuntime) -> Result<(), Fail> {
-    let plan = two(rt.alloc())?;
     for case in PLAYS {
         let (scripts, until, wanted) = *case;
-        assert!(rt; are_steps(rt.alloc(), &plan, scripts, until.min(10000), wanted)?);
+        assert!(rt; plays(rt.alloc(), TWO, scripts, until.min(10000), wanted)?);
     }
     Ok(())
 }
@@ -533,7 +539,7 @@ const FAULTS: &[(&[Script], u64, Option<SimFault>)] = &[
 
 #[test]
 fn faults(rt: HostRuntime) -> Result<(), Fail> {
-    let plan = valve(rt.alloc())?;
+    let plan = plan_of(rt.alloc(), VALVE)?;
     for case in FAULTS {
         let (scripts, until, wanted) = *case;
         let fault = fault_of(rt.alloc(), &plan, scripts, until.min(50000))?;
@@ -575,8 +581,11 @@ fn offers_of_a_seed(rt: HostRuntime) -> Result<(), Fail> {
 }
 
 /// Three PDOs whose second and third have deadlines of their periods at 125 kbit/s.
-const THREE: &[u8] =
-    b"id,bytes,period,jitter,deadline\n0x181,7,2500,0,2500\n0x182,7,3500,0,3500\n0x183,7,3500,0,3500\n";
+const THREE: Table = (
+    b"id,bytes,period,jitter,deadline\n0x181,7,2500,0,2500\n0x182,7,3500,0,3500\n0x183,7,3500,0,3500\n",
+    3,
+    &[Rate::Kbit125],
+);
 
 /// A frame of 7 bytes with the most stuff bits.
 const SEVEN: Content = Content {
@@ -660,14 +669,19 @@ const STARTS: &[(u64, u16)] = &[
     (24000, 0x183),
 ];
 
-/// Whether the run of the three PDOs to 28,000 ticks has these starts and this last step.
+/// The run of the three PDOs to 28,000 ticks.
+fn three_run(alloc: Global) -> Result<Trace, Fail> {
+    let plan = plan_of(alloc, THREE)?;
+    Ok(simulated(alloc, &plan, THREE_SCRIPTS, 28_000)??)
+}
+
+/// Whether a run has these starts and this last step.
 fn runs_so(
     alloc: Global,
-    plan: &Plan,
+    trace: &Trace,
     starts: &[(u64, u16)],
     last: &Step,
-) -> Result<bool, SimFault> {
-    let trace = simulated(alloc, plan, THREE_SCRIPTS, 28_000)??;
+) -> Result<bool, AllocError> {
     let found = starts_of(alloc, &trace.steps)?;
     Ok(found.as_slice() == starts && trace.steps.last() == Some(last))
 }
@@ -675,11 +689,11 @@ fn runs_so(
 // The second instance of the third PDO, of 14,000, ends at 28,000: its longest response.
 #[test]
 fn the_longest_response_is_reached(rt: HostRuntime) -> Result<(), Fail> {
-    let plan = plan_of(rt.alloc(), THREE, 3, &[Rate::Kbit125])?;
+    let trace = three_run(rt.alloc())?;
     let last = Step::End {
         at: 28_000,
         id: 0x183,
     };
-    assert!(rt; runs_so(rt.alloc(), &plan, STARTS, &last)?);
+    assert!(rt; runs_so(rt.alloc(), &trace, STARTS, &last)?);
     Ok(())
 }

@@ -1,6 +1,6 @@
 //! Sinks of the valve's run.
 
-use crate::simulator::{VALVE_SCRIPTS, VALVE_STEPS, scripted, valve};
+use crate::simulator::{VALVE, VALVE_SCRIPTS, VALVE_STEPS, plan_of, scripted};
 use cop_bus::{Step, Trace, write_trace};
 use cop_plan::Plan;
 use cop_sim::{Scripted, SimFault, Sink, TraceSink, simulate_over};
@@ -44,19 +44,25 @@ fn valve_behaviours(alloc: Global) -> Result<Vec<Scripted>, AllocError> {
     Ok(behaviours)
 }
 
+/// Whether a sink with room for these steps of the valve's run has taken them when it fails.
+fn fails_after(alloc: Global, plan: &Plan, steps: &[Step]) -> Result<bool, AllocError> {
+    let behaviours = valve_behaviours(alloc)?;
+    let mut sink = Failing {
+        taken: Vec::new(alloc),
+        room: steps.len(),
+        failed: false,
+    };
+    let end = simulate_over(alloc, plan, behaviours, 4000, &mut sink);
+    let has_failed = matches!(end, Err(SimFault::Sink)) && sink.failed();
+    Ok(has_failed && sink.taken.as_slice() == steps)
+}
+
 #[test]
 fn a_sink_fails_at_each_step(rt: HostRuntime) -> Result<(), Fail> {
-    let plan = valve(rt.alloc())?;
+    let plan = plan_of(rt.alloc(), VALVE)?;
     for room in 0..VALVE_STEPS.len() {
-        let mut sink = Failing {
-            taken: Vec::new(rt.alloc()),
-            room,
-            failed: false,
-        };
-        let behaviours = valve_behaviours(rt.alloc())?;
-        let fault = simulate_over(rt.alloc(), &plan, behaviours, 4000, &mut sink);
-        assert!(rt; fault == Err(SimFault::Sink) && sink.failed(), "at {room}");
-        assert!(rt; sink.taken.as_slice() == &VALVE_STEPS[..room], "at {room}");
+        let has_failed = fails_after(rt.alloc(), &plan, &VALVE_STEPS[..room])?;
+        assert!(rt; has_failed, "at {room}");
     }
     Ok(())
 }
@@ -67,20 +73,25 @@ fn valve_trace(alloc: Global) -> Result<Vec<u8>, AllocError> {
     write_trace(alloc, &Trace { until: 4000, steps })
 }
 
-/// What a trace's sink wrote of the valve's run, if it could.
-fn written_trace(alloc: Global, plan: &Plan) -> Result<Option<Vec<u8>>, SimFault> {
-    let behaviours = valve_behaviours(alloc)?;
-    let mut sink = TraceSink::new(Vec::new(alloc));
+/// The valve's run into a trace's sink.
+fn run_into(alloc: Global, plan: &Plan, sink: &mut TraceSink<Vec<u8>>) -> Result<(), SimFault> {
     if sink.failed() {
-        return Ok(None);
+        return Err(SimFault::Sink);
     }
-    simulate_over(alloc, plan, behaviours, 4000, &mut sink)?;
+    simulate_over(alloc, plan, valve_behaviours(alloc)?, 4000, sink)
+}
+
+/// What a trace's sink wrote of the valve's run, if it could.
+fn written_trace(alloc: Global) -> Result<Option<Vec<u8>>, Fail> {
+    let plan = plan_of(alloc, VALVE)?;
+    let mut sink = TraceSink::new(Vec::new(alloc));
+    run_into(alloc, &plan, &mut sink)?;
     Ok(sink.finish(4000))
 }
 
 /// Whether a trace's sink wrote the trace of the valve's steps.
-fn is_written(alloc: Global, plan: &Plan) -> Result<bool, SimFault> {
-    match written_trace(alloc, plan)? {
+fn is_written(alloc: Global) -> Result<bool, Fail> {
+    match written_trace(alloc)? {
         Some(text) => Ok(text.as_slice() == valve_trace(alloc)?.as_slice()),
         None => Ok(false),
     }
@@ -88,7 +99,6 @@ fn is_written(alloc: Global, plan: &Plan) -> Result<bool, SimFault> {
 
 #[test]
 fn a_trace_is_written_as_it_goes(rt: HostRuntime) -> Result<(), Fail> {
-    let plan = valve(rt.alloc())?;
-    assert!(rt; is_written(rt.alloc(), &plan)?);
+    assert!(rt; is_written(rt.alloc())?);
     Ok(())
 }

@@ -1,6 +1,6 @@
 //! Runs in which a PDO is sent for each second SYNC, at 500 kbit/s.
 
-use crate::simulator::{LONG, Script, are_steps, fault_of, plan_for, set_of};
+use crate::simulator::{LONG, Script, are_steps, fault_of, plan_for};
 use cop_bus::{Content, Step};
 use cop_frame::Rate;
 use cop_plan::Plan;
@@ -36,10 +36,7 @@ fn streams(alloc: Global) -> Result<StreamSet, SetFault> {
 
 fn plan(alloc: Global) -> Result<Plan, Fail> {
     let set = streams(alloc)?;
-    match plan_for(alloc, &set, 1, &set_of(&[Rate::Kbit500]))? {
-        Some(plan) => Ok(plan),
-        None => Err(Fail::new("no plan")),
-    }
+    plan_for(alloc, &set, 1, &[Rate::Kbit500])
 }
 
 /// SYNC's frame, which takes 440 ticks.
