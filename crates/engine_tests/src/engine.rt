@@ -282,9 +282,19 @@ pub(crate) fn by(choice: Choice) -> Asked {
     }
 }
 
+/// The files of a network's plan, by the order of the PDOs.
+pub(crate) fn plan_of(
+    alloc: Global,
+    nodes: &[u8],
+    pdos: &[u8],
+    eds: &[(String, Vec<u8>)],
+) -> Result<Files, Fault> {
+    plan_bytes(alloc, nodes, pdos, eds, &by(Choice::Order))
+}
+
 fn planned(alloc: Global, nodes: &[u8], pdos: &[u8], eds: &[u8]) -> Result<Files, Fault> {
     let files = eds_files(alloc, eds)?;
-    plan_bytes(alloc, nodes, pdos, &files, &by(Choice::Order))
+    plan_of(alloc, nodes, pdos, &files)
 }
 
 /// Tables and an EDS file, whether some rate passes, and the plan.

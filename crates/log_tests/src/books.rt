@@ -2,7 +2,7 @@
 
 use cop_log::Clock;
 use cop_logbook::{BookFault, WatchFault, watched};
-use cop_net::{all_rates, network, read_nodes, read_pdos};
+use cop_net::{Network, NodeTable, PdoTable, all_rates, network, read_nodes, read_pdos};
 use cop_plan::{Choice, Outcome, Plan, plan};
 use std::alloc::{AllocError, Global};
 use std::io::{self, Read};
@@ -55,16 +55,26 @@ fn eds_files(alloc: Global) -> Result<Vec<(String, Vec<u8>)>, AllocError> {
     Ok(files)
 }
 
-/// The PDO has the identifier 181h, and an event every 10 ms.
-fn planned(alloc: Global) -> Result<Plan, Fail> {
+/// The tables of the network.
+fn tables(alloc: Global) -> Result<(NodeTable, PdoTable), Fail> {
     let nodes = read_nodes(alloc, NODES)?;
-    let pdos = read_pdos(alloc, PDOS)?;
-    let files = eds_files(alloc)?;
-    let network = network(alloc, &all_rates(), &nodes, &pdos, &files)?;
-    match plan(alloc, &network, Choice::Order)? {
+    Ok((nodes, read_pdos(alloc, PDOS)?))
+}
+
+/// The plan of a network.
+fn plan_of(alloc: Global, network: &Network<'_>) -> Result<Plan, Fail> {
+    match plan(alloc, network, Choice::Order)? {
         Outcome::Planned(plan) => Ok(plan),
         Outcome::Refused(_) => Err(Fail::from("no rate passes")),
     }
+}
+
+/// The PDO has the identifier 181h, and an event every 10 ms.
+fn planned(alloc: Global) -> Result<Plan, Fail> {
+    let (nodes, pdos) = tables(alloc)?;
+    let files = eds_files(alloc)?;
+    let network = network(alloc, &all_rates(), &nodes, &pdos, &files)?;
+    plan_of(alloc, &network)
 }
 
 /// Gives a text in pieces of 1 to 7 bytes, and at its end fails, if it is to.
@@ -140,23 +150,23 @@ fn a_log_is_watched_to_its_end(rt: HostRuntime) -> Result<(), Fail> {
     Ok(())
 }
 
+/// The number of a refusal of a log, and its line.
+fn refused(found: Result<u64, WatchFault>) -> Option<(u8, u64)> {
+    match found {
+        Err(WatchFault::Book(BookFault::Refused { number, line })) => Some((number, line)),
+        _ => None,
+    }
+}
+
 #[test]
 fn a_log_that_is_refused_has_its_line(rt: HostRuntime) -> Result<(), Fail> {
     let plan = planned(rt.alloc())?;
     let log = in_pieces("(0.000000) can0 181#00112233\n(0.01 can0 181#\n", false);
-    let found = breaches(rt.alloc(), &plan, None, log);
-    let refused = matches!(
-        found,
-        Err(WatchFault::Book(BookFault::Refused { line: 2, .. }))
-    );
-    assert!(rt; refused);
+    let found = refused(breaches(rt.alloc(), &plan, None, log));
+    assert!(rt; matches!(found, Some((_, 2))));
     let log = in_pieces("(0.000000) can0 181#00112233\n", false);
-    let found = breaches(rt.alloc(), &plan, Some("can1"), log);
-    let none = BookFault::Refused {
-        number: 94,
-        line: 0,
-    };
-    assert!(rt; matches!(found, Err(WatchFault::Book(fault)) if fault == none));
+    let found = refused(breaches(rt.alloc(), &plan, Some("can1"), log));
+    assert!(rt; matches!(found, Some((94, 0))));
     Ok(())
 }
 

@@ -10,6 +10,19 @@ const TEXT: &[u8] =
     b"date Thu Nov 26 10:14:44 2026\r\nbase hex  timestamps relative\r\n\r\n 1.5 1 181 Rx d 2 00 FF\r\n\
     \x20 0.5 Start of measurement\r\n 0.25 2 182 Rx d 0\r\n 0.000001 1 183 Rx r";
 
+/// Adds what a reader gives of a piece.
+fn push_entries(log: &mut Vec<Entry>, reader: &mut LogReader, piece: &[u8]) -> Result<(), Fail> {
+    let mut rest = piece;
+    for _ in 0..TEXT.len() {
+        let Some(found) = reader.next(rest)? else {
+            break;
+        };
+        log.push(found.message.entry)?;
+        rest = found.rest;
+    }
+    Ok(())
+}
+
 // What a reader gives of a text in pieces of a length.
 fn read_by(rt: &HostRuntime, len: usize) -> Result<Vec<Entry>, Fail>
     requires { 0 < len }
@@ -17,14 +30,7 @@ fn read_by(rt: &HostRuntime, len: usize) -> Result<Vec<Entry>, Fail>
     let mut log = Vec::new(rt.alloc());
     let mut reader = LogReader::new(rt.alloc(), None, false);
     for piece in TEXT.chunks(len) {
-        let mut rest = piece;
-        for _ in 0..TEXT.len() {
-            let Some(found) = reader.next(rest)? else {
-                break;
-            };
-            log.push(found.message.entry)?;
-            rest = found.rest;
-        }
+        push_entries(&mut log, &mut reader, piece)?;
     }
     if let Some(message) = reader.end()? {
         log.push(message.entry)?;
@@ -47,21 +53,26 @@ fn pieces_of_any_length_give_one_log(rt: HostRuntime) -> Result<(), Fail> {
     Ok(())
 }
 
+/// Whether a reader gives nothing of a text.
+fn gives_nothing(reader: &mut LogReader, text: &[u8]) -> Result<bool, LogFault> {
+    Ok(reader.next(text)?.is_none())
+}
+
 #[test]
 fn a_line_that_is_too_long_is_refused(rt: HostRuntime) -> Result<(), Fail> {
     let mut reader = LogReader::new(rt.alloc(), None, false);
-    assert!(rt;
-        reader
-            .next(b"date\nbase hex timestamps absolute\n")?
-            .is_none()
-    );
+    assert!(rt; gives_nothing(&mut reader, b"date\nbase hex timestamps absolute\n")?);
     let comment = [b'/'; 4096];
-    assert!(rt; reader.next(&comment)?.is_none());
-    let fault = LogFault::Line {
-        number: 3,
-        fault: LineFault::Long,
-    };
-    assert!(rt; matches!(reader.next(b"/"), Err(told) if told == fault));
+    assert!(rt; gives_nothing(&mut reader, &comment)?);
+    let fault = reader.next(b"/").err();
+    let is_too_long = matches!(
+        fault,
+        Some(LogFault::Line {
+            number: 3,
+            fault: LineFault::Long
+        })
+    );
+    assert!(rt; is_too_long);
     assert!(rt; LineFault::Long.number() == 95);
     Ok(())
 }

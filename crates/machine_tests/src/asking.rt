@@ -83,11 +83,11 @@ fn asks(rt: HostRuntime) -> Result<(), Fail> {
     let Some(exchanges) = ask_all(rt.alloc(), QUESTIONS, &mut port)? else {
         return Err(Fail::new("the port failed"));
     };
-    assert_eq!(rt; exchanges.len(), OUTCOMES.len());
+    assert!(rt; exchanges.len() == OUTCOMES.len());
     for (exchange, wanted) in exchanges.iter().zip(&OUTCOMES) {
-        assert_eq!(rt; exchange.outcome, *wanted);
+        assert!(rt; exchange.outcome == *wanted);
     }
-    assert_eq!(rt; port.written.as_slice(), REQUESTS);
+    assert!(rt; port.written.as_slice() == REQUESTS);
     assert!(rt; !has_other(&exchanges), "an abort and silence are no proof");
     Ok(())
 }

@@ -103,18 +103,41 @@ pub fn told(alloc: Global, ended: Commissioned) -> Result<(Vec<u8>, bool), Alloc
     }
 }
 
-/// What is said of a boot of a network with some PDOs, and whether the nodes were started.
-pub fn booted(alloc: Global, pdos: &[u8], port: &mut Script) -> Result<(Vec<u8>, bool), Fail> {
+/// The tables of a network, and the EDS file of its devices.
+#[derive(Clone, Copy)]
+pub struct Tables<'a> {
+    pub nodes: &'a [u8],
+    pub pdos: &'a [u8],
+    pub eds: &'a [u8],
+}
+
+/// What comes of a boot of a network.
+pub fn ended(
+    alloc: Global,
+    tables: Tables<'_>,
+    approach: Approach,
+    port: &mut Script,
+) -> Result<Commissioned, Fail> {
     let file = (
         String::from_str(alloc, "unit.eds")?,
-        Vec::from_slice(alloc, UNIT)?,
+        Vec::from_slice(alloc, tables.eds)?,
     );
     let asked = Asked {
         rates: all_rates(),
         choice: Choice::Order,
     };
-    let ended = commission(alloc, NODES, pdos, &[file], &asked, PLAIN, port)?;
-    Ok(told(alloc, ended)?)
+    let (nodes, pdos) = (tables.nodes, tables.pdos);
+    Ok(commission(alloc, nodes, pdos, &[file], &asked, approach, port)?)
+}
+
+/// What is said of a boot of a network with some PDOs, and whether the nodes were started.
+pub fn booted(alloc: Global, pdos: &[u8], port: &mut Script) -> Result<(Vec<u8>, bool), Fail> {
+    let tables = Tables {
+        nodes: NODES,
+        pdos,
+        eds: UNIT,
+    };
+    Ok(told(alloc, ended(alloc, tables, PLAIN, port)?)?)
 }
 
 #[test]
@@ -122,9 +145,9 @@ fn boots_over_a_port(rt: HostRuntime) -> Result<(), Fail> {
     for (turns, wanted, starts, written) in BOOTS {
         let mut port = Script::new(rt.alloc(), *turns);
         let (text, started) = booted(rt.alloc(), PDOS, &mut port)?;
-        assert_eq!(rt; text.as_slice(), *wanted);
-        assert_eq!(rt; started, *starts);
-        assert_eq!(rt; port.written.as_slice(), *written);
+        assert!(rt; text.as_slice() == *wanted);
+        assert!(rt; started == *starts);
+        assert!(rt; port.written.as_slice() == *written);
     }
     Ok(())
 }
@@ -133,7 +156,7 @@ fn boots_over_a_port(rt: HostRuntime) -> Result<(), Fail> {
 fn does_nothing_without_a_plan(rt: HostRuntime) -> Result<(), Fail> {
     let mut port = Script::new(rt.alloc(), TAKES_ALL);
     let (text, _) = booted(rt.alloc(), TOO_FAST, &mut port)?;
-    assert_eq!(rt; text.as_slice(), b"none passes".as_slice());
+    assert!(rt; text.as_slice() == b"none passes".as_slice());
     assert!(rt; port.written.is_empty(), "nothing is written");
     Ok(())
 }

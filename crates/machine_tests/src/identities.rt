@@ -1,10 +1,8 @@
 //! Boots of a planned network whose device is asked who it is.
 
-use crate::boots::PLAIN;
+use crate::boots::{PLAIN, Tables, ended};
 use crate::scripts::{Script, Turn};
-use cop_commission::{Approach, Commissioned, commission};
-use cop_net::all_rates;
-use cop_plan::{Asked, Choice};
+use cop_commission::{Approach, Commissioned};
 use std::alloc::{AllocError, Global};
 use std::test::Fail;
 
@@ -134,21 +132,17 @@ fn text_of(alloc: Global, ended: Commissioned) -> Result<Vec<u8>, AllocError> {
 
 /// What is said of a boot of a bus that is taken over.
 fn said(alloc: Global, identify: bool, port: &mut Script) -> Result<Vec<u8>, Fail> {
-    let file = (
-        String::from_str(alloc, "unit.eds")?,
-        Vec::from_slice(alloc, UNIT)?,
-    );
-    let asked = Asked {
-        rates: all_rates(),
-        choice: Choice::Order,
+    let tables = Tables {
+        nodes: NODES,
+        pdos: PDOS,
+        eds: UNIT,
     };
     let approach = Approach {
         take_over: true,
         identify,
         ..PLAIN
     };
-    let ended = commission(alloc, NODES, PDOS, &[file], &asked, approach, port)?;
-    Ok(text_of(alloc, ended)?)
+    Ok(text_of(alloc, ended(alloc, tables, approach, port)?)?)
 }
 
 #[test]
@@ -156,8 +150,8 @@ fn asks_who_they_are(rt: HostRuntime) -> Result<(), Fail> {
     for (identify, turns, wanted, written) in CASES {
         let mut port = Script::new(rt.alloc(), *turns);
         let text = said(rt.alloc(), *identify, &mut port)?;
-        assert_eq!(rt; text.as_slice(), *wanted);
-        assert_eq!(rt; port.written.as_slice(), *written);
+        assert!(rt; text.as_slice() == *wanted);
+        assert!(rt; port.written.as_slice() == *written);
     }
     Ok(())
 }

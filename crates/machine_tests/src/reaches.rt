@@ -1,10 +1,8 @@
 //! Boots of one node alone, without a start, with a start that is watched, and with settings that are stored.
 
-use crate::boots::{PLAIN, told};
+use crate::boots::{PLAIN, Tables, ended, told};
 use crate::scripts::{Script, Turn};
-use cop_commission::{Approach, Reach, commission};
-use cop_net::all_rates;
-use cop_plan::{Asked, Choice};
+use cop_commission::{Approach, Reach};
 use std::test::Fail;
 
 /// A device that can store its settings.
@@ -196,16 +194,12 @@ const REACHES: &[(Approach, &[Turn], &[u8], &[u8])] = &[
 /// What is said of a boot of the two nodes.
 fn said(rt: &HostRuntime, approach: Approach, port: &mut Script) -> Result<Vec<u8>, Fail> {
     let alloc = rt.alloc();
-    let file = (
-        String::from_str(alloc, "unit.eds")?,
-        Vec::from_slice(alloc, UNIT)?,
-    );
-    let asked = Asked {
-        rates: all_rates(),
-        choice: Choice::Order,
+    let tables = Tables {
+        nodes: NODES,
+        pdos: PDOS,
+        eds: UNIT,
     };
-    let ended = commission(alloc, NODES, PDOS, &[file], &asked, approach, port)?;
-    let (text, _) = told(alloc, ended)?;
+    let (text, _) = told(alloc, ended(alloc, tables, approach, port)?)?;
     Ok(text)
 }
 
@@ -214,8 +208,8 @@ fn reaches_as_far_as_it_is_to(rt: HostRuntime) -> Result<(), Fail> {
     for (approach, turns, wanted, written) in REACHES {
         let mut port = Script::new(rt.alloc(), *turns);
         let text = said(&rt, *approach, &mut port)?;
-        assert_eq!(rt; text.as_slice(), *wanted);
-        assert_eq!(rt; port.written.as_slice(), *written);
+        assert!(rt; text.as_slice() == *wanted);
+        assert!(rt; port.written.as_slice() == *written);
     }
     Ok(())
 }
@@ -224,9 +218,7 @@ fn reaches_as_far_as_it_is_to(rt: HostRuntime) -> Result<(), Fail> {
 fn notes_each_node_that_boots_up_again(rt: HostRuntime) -> Result<(), Fail> {
     let mut port = Script::new(rt.alloc(), BOTH_BOOT_UP);
     let text = said(&rt, PLAIN, &mut port)?;
-    assert_eq!(rt;
-        text.as_slice(),
-        b"node 5 restarting\nnode 6 restarting\nnot started\n".as_slice()
-    );
+    let wanted = b"node 5 restarting\nnode 6 restarting\nnot started\n".as_slice();
+    assert!(rt; text.as_slice() == wanted);
     Ok(())
 }

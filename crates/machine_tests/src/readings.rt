@@ -137,9 +137,9 @@ fn reads_back(rt: HostRuntime) -> Result<(), Fail> {
     for (turns, wanted, written) in READINGS {
         let mut port = Script::new(rt.alloc(), *turns);
         let (text, started) = booted(rt.alloc(), PDOS, &mut port)?;
-        assert_eq!(rt; text.as_slice(), *wanted);
+        assert!(rt; text.as_slice() == *wanted);
         assert!(rt; !started, "the nodes are not started");
-        assert_eq!(rt; port.written.as_slice(), *written);
+        assert!(rt; port.written.as_slice() == *written);
     }
     Ok(())
 }

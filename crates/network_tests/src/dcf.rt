@@ -1,8 +1,9 @@
+use crate::networks::{nodes_of, pdos_of};
 use cop_dcf::{Setting, settings, write};
 use cop_dict::build;
 use cop_eds::parse;
 use cop_frame::Rate;
-use cop_net::{Network, NodeTable, PdoTable, all_rates, network, read_nodes, read_pdos};
+use cop_net::{Network, NodeTable, PdoTable, all_rates, network};
 use cop_plan::{Choice, Outcome, plan};
 use std::alloc::{AllocError, Global};
 use std::test::Fail;
@@ -19,15 +20,11 @@ const PLAIN: &[u8] =
 
 /// The valve at node 5, and the plain device at node 7.
 fn valve_tables(alloc: Global) -> Result<(NodeTable, PdoTable), Fail> {
-    let nodes = read_nodes(
+    let nodes = nodes_of(
         alloc,
-        b"row,node,name,eds,period,jitter\ndevice,5,Valve,unit.eds,0,0\ndevice,7,Plain,plain.eds,0,0\nemcy,5,,,100000,0\nheartbeat,5,,,100000,0\n",
+        "device,5,Valve,unit.eds,0,0\ndevice,7,Plain,plain.eds,0,0\nemcy,5,,,100000,0\nheartbeat,5,,,100000,0\n",
     )?;
-    let pdos = read_pdos(
-        alloc,
-        b"node,tpdo,period,jitter,deadline,consumers\n5,1,10000,0,670,\n",
-    )?;
-    Ok((nodes, pdos))
+    Ok((nodes, pdos_of(alloc, "5,1,10000,0,670,\n")?))
 }
 
 fn file(alloc: Global, name: &str, text: &[u8]) -> Result<(String, Vec<u8>), Fail> {
@@ -146,6 +143,11 @@ const ENDS: &[(&str, &str)] = &[
     ),
 ];
 
+/// A text behind the lists.
+fn behind_lists(alloc: Global, text: &str) -> Result<String, AllocError> {
+    format!(in alloc; "{LISTS}{text}")
+}
+
 #[test]
 fn ends_of_lines(rt: HostRuntime) -> Result<(), Fail> {
     let alloc = rt.alloc();
@@ -153,9 +155,9 @@ fn ends_of_lines(rt: HostRuntime) -> Result<(), Fail> {
     let beat = [setting(0x1017, 0, 100, 2)];
     for case in ENDS {
         let (eds, dcf) = *case;
-        let text = format!(in alloc; "{LISTS}{eds}")?;
-        let wanted = format!(in alloc; "{LISTS}{dcf}")?;
+        let text = behind_lists(alloc, eds)?;
         let found = dcf_of(alloc, text.as_bytes(), &beat, b"a.eds")?;
+        let wanted = behind_lists(alloc, dcf)?;
         assert!(rt; found.as_slice() == wanted.as_bytes());
     }
     Ok(())

@@ -6,3 +6,5 @@
 mod dcf;
 #[cfg(test)]
 mod networks;
+#[cfg(test)]
+mod tables;

@@ -1,9 +1,8 @@
-use crate::words::{NODES, UNIT, files};
+use crate::words::{NODES, UNIT, files, text_of, unit_with};
 use cop_net::{NodeTable, PdoTable, all_rates, network, read_nodes, read_pdos};
 use cop_warn::warnings_of;
 use cop_words::{Finding, finding_words, findings_of};
 use std::alloc::Global;
-use std::str;
 use std::test::Fail;
 
 /// What is warned of: a part of the EDS text of the device and what stands in its place, what is appended to it, the row of the
@@ -147,20 +146,15 @@ fn warned(alloc: Global, eds: &str, pdo: &str) -> Result<String, Fail> {
     let nodes = read_nodes(alloc, NODES.as_bytes())?;
     let pdos = pdos_of(alloc, pdo)?;
     let said = words_on(alloc, &nodes, &pdos, &files)?;
-    match str::from_utf8(&said) {
-        Ok(text) => Ok(String::from_str(alloc, text)?),
-        Err(_) => Err(Fail::from("no text")),
-    }
+    text_of(alloc, &said)
 }
 
 #[test]
 fn what_devices_say_otherwise_is_warned_of(rt: HostRuntime) -> Result<(), Fail> {
     for case in WARNED {
         let (old, new, more, pdo, wanted) = *case;
-        let Some((before, after)) = UNIT.split_once(old) else {
-            return Err(Fail::from("no such part"));
-        };
-        let eds = format!(in rt.alloc(); "{before}{new}{after}{more}")?;
+        let mut eds = unit_with(rt.alloc(), old, new)?;
+        eds.push_str(more)?;
         let said = warned(rt.alloc(), &eds, pdo)?;
         assert!(rt; said.as_str() == wanted, "{said}");
     }

@@ -83,6 +83,14 @@ pub(crate) fn files(
     Ok(files)
 }
 
+/// The text that some bytes are.
+pub(crate) fn text_of(alloc: Global, bytes: &[u8]) -> Result<String, Fail> {
+    match str::from_utf8(bytes) {
+        Ok(text) => Ok(String::from_str(alloc, text)?),
+        Err(_) => Err(Fail::from("no text")),
+    }
+}
+
 /// The words on a network of one device.
 fn words(alloc: Global, nodes: &str, pdos: &str, eds: &str) -> Result<String, Fail> {
     words_of(alloc, nodes, pdos, &[("unit.eds", eds)], &all_rates())
@@ -110,10 +118,7 @@ fn words_of(
         wanted,
     };
     let said = network_words(alloc, network)?;
-    match str::from_utf8(&said) {
-        Ok(text) => Ok(String::from_str(alloc, text)?),
-        Err(_) => Err(Fail::from("no text")),
-    }
+    text_of(alloc, &said)
 }
 
 /// Mistakes in the table of nodes: a record, and what the words begin with and have in them.
@@ -480,6 +485,37 @@ const SEPARATORS: &[(&str, &str)] = &[
     ),
 ];
 
+/// The EDS text of the device with another text in place of a part.
+pub(crate) fn unit_with(alloc: Global, old: &str, new: &str) -> Result<String, Fail> {
+    match UNIT.split_once(old) {
+        Some((before, after)) => Ok(format!(in alloc; "{before}{new}{after}")?),
+        None => Err(Fail::from("no such part")),
+    }
+}
+
+/// The table of PDOs with these rows.
+fn pdos_with(alloc: Global, rows: &str) -> Result<String, AllocError> {
+    format!(in alloc; "node,tpdo,period,jitter,deadline,consumers\n{rows}\n")
+}
+
+/// The words on a network of one device whose table of nodes has this header and record.
+fn words_on_node(alloc: Global, header: &str, record: &str) -> Result<String, Fail> {
+    let nodes = format!(in alloc; "{header}\n{record}\n")?;
+    words(alloc, &nodes, PDOS, UNIT)
+}
+
+/// The words on a network of one device whose table of PDOs has these rows.
+fn words_on_pdos(alloc: Global, rows: &str) -> Result<String, Fail> {
+    let pdos = pdos_with(alloc, rows)?;
+    words(alloc, NODES, &pdos, UNIT)
+}
+
+/// The words on a network of one device with another text in place of a part of its EDS text.
+fn words_on_unit(alloc: Global, old: &str, new: &str) -> Result<String, Fail> {
+    let eds = unit_with(alloc, old, new)?;
+    words(alloc, NODES, PDOS, &eds)
+}
+
 /// Whether the words on a mistake begin so and have this in them.
 fn says(said: &str, begin: &str, part: &str) -> bool {
     said.starts_with(begin) && said.contains(part)
@@ -489,8 +525,7 @@ fn says(said: &str, begin: &str, part: &str) -> bool {
 fn mistakes_in_the_table_of_nodes(rt: HostRuntime) -> Result<(), Fail> {
     for case in NODE_MISTAKES {
         let (record, begin, part) = *case;
-        let nodes = format!(in rt.alloc(); "row,node,name,eds,period,jitter\n{record}\n")?;
-        let said = words(rt.alloc(), &nodes, PDOS, UNIT)?;
+        let said = words_on_node(rt.alloc(), "row,node,name,eds,period,jitter", record)?;
         assert!(rt; says(&said, begin, part), "{said}");
     }
     Ok(())
@@ -500,8 +535,11 @@ fn mistakes_in_the_table_of_nodes(rt: HostRuntime) -> Result<(), Fail> {
 fn mistakes_with_deadlines(rt: HostRuntime) -> Result<(), Fail> {
     for case in DEADLINE_MISTAKES {
         let (record, part) = *case;
-        let nodes = format!(in rt.alloc(); "row,node,name,eds,period,jitter,deadline\n{record}\n")?;
-        let said = words(rt.alloc(), &nodes, PDOS, UNIT)?;
+        let said = words_on_node(
+            rt.alloc(),
+            "row,node,name,eds,period,jitter,deadline",
+            record,
+        )?;
         assert!(rt; says(&said, "nodes.csv, line 2: ", part), "{said}");
     }
     let said = words(rt.alloc(), "row,node\n", PDOS, UNIT)?;
@@ -516,10 +554,7 @@ fn mistakes_with_deadlines(rt: HostRuntime) -> Result<(), Fail> {
 fn mistakes_in_the_table_of_pdos(rt: HostRuntime) -> Result<(), Fail> {
     for case in PDO_MISTAKES {
         let (record, begin, part) = *case;
-        let pdos = format!(in rt.alloc();
-            "node,tpdo,period,jitter,deadline,consumers\n{record}\n"
-        )?;
-        let said = words(rt.alloc(), NODES, &pdos, UNIT)?;
+        let said = words_on_pdos(rt.alloc(), record)?;
         assert!(rt; says(&said, begin, part), "{said}");
     }
     Ok(())
@@ -559,17 +594,19 @@ const PACES: &[(&str, &str, &str, &str)] = &[
     ),
 ];
 
+/// The words on a transmission type, a row of SYNC and one of the PDO.
+fn words_on_pace(alloc: Global, value: &str, sync: &str, pdo: &str) -> Result<String, Fail> {
+    let eds = unit_with(alloc, "255", value)?;
+    let nodes = format!(in alloc; "{NODES}{sync}\n")?;
+    let pdos = pdos_with(alloc, pdo)?;
+    words(alloc, &nodes, &pdos, &eds)
+}
+
 #[test]
 fn rows_that_do_not_go_with_the_type(rt: HostRuntime) -> Result<(), Fail> {
     for case in PACES {
         let (value, sync, pdo, part) = *case;
-        let Some((before, after)) = UNIT.split_once("DefaultValue=255") else {
-            return Err(Fail::from("no such part"));
-        };
-        let eds = format!(in rt.alloc(); "{before}DefaultValue={value}{after}")?;
-        let nodes = format!(in rt.alloc(); "{NODES}{sync}\n")?;
-        let pdos = format!(in rt.alloc(); "node,tpdo,period,jitter,deadline,consumers\n{pdo}\n")?;
-        let said = words(rt.alloc(), &nodes, &pdos, &eds)?;
+        let said = words_on_pace(rt.alloc(), value, sync, pdo)?;
         assert!(rt; says(&said, "pdos.csv, line 2: ", part), "{said}");
         assert!(rt; said.contains("rule 53: "), "{said}");
     }
@@ -580,30 +617,33 @@ fn rows_that_do_not_go_with_the_type(rt: HostRuntime) -> Result<(), Fail> {
 fn mistakes_in_the_eds_text(rt: HostRuntime) -> Result<(), Fail> {
     for case in EDS_MISTAKES {
         let (old, new, place, part) = *case;
-        let Some((before, after)) = UNIT.split_once(old) else {
-            return Err(Fail::from("no such part"));
-        };
-        let eds = format!(in rt.alloc(); "{before}{new}{after}")?;
-        let said = words(rt.alloc(), NODES, PDOS, &eds)?;
+        let said = words_on_unit(rt.alloc(), old, new)?;
         assert!(rt; said.contains(place) && said.contains(part), "{said}");
     }
     Ok(())
 }
 
+/// The words on the device and a second one, node 6, with another text in place of a part of its EDS text.
+fn words_on_two(alloc: Global, old: &str, new: &str, rows: &str) -> Result<String, Fail> {
+    let nodes = format!(in alloc; "{NODES}device,6,Drive,other.eds,0,0\n")?;
+    let eds = unit_with(alloc, old, new)?;
+    let pdos = pdos_with(alloc, rows)?;
+    let texts = [("unit.eds", UNIT), ("other.eds", eds.as_str())];
+    words_of(alloc, &nodes, &pdos, &texts, &all_rates())
+}
+
 #[test]
 fn mistakes_of_a_consumer(rt: HostRuntime) -> Result<(), Fail> {
-    let nodes = format!(in rt.alloc(); "{NODES}device,6,Drive,other.eds,0,0\n")?;
     for case in CONSUMER_MISTAKES {
         let (old, new, rows, part, rule) = *case;
-        let Some((before, after)) = UNIT.split_once(old) else {
-            return Err(Fail::from("no such part"));
-        };
-        let eds = format!(in rt.alloc(); "{before}{new}{after}")?;
-        let pdos = format!(in rt.alloc(); "node,tpdo,period,jitter,deadline,consumers\n{rows}\n")?;
-        let texts = [("unit.eds", UNIT), ("other.eds", eds.as_str())];
-        let said = words_of(rt.alloc(), &nodes, &pdos, &texts, &all_rates())?;
+        let said = words_on_two(rt.alloc(), old, new, rows)?;
         assert!(rt; said.contains(part) && said.contains(rule), "{said}");
     }
+    Ok(())
+}
+
+#[test]
+fn rates_that_are_not_listed(rt: HostRuntime) -> Result<(), Fail> {
     let mut wanted = RateSet::new();
     wanted.insert(Rate::Kbit125);
     let said = words_of(rt.alloc(), NODES, PDOS, &[("unit.eds", UNIT)], &wanted)?;

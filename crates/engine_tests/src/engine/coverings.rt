@@ -1,19 +1,16 @@
 //! Whether a refusal file has each rate that the plan refuses.
 
-use crate::engine::{ONE_PDO, UNIT, VALVE, by, eds_files};
+use crate::engine::{ONE_PDO, UNIT, VALVE, eds_files, plan_of};
 use cop_cert::Refusal;
 use cop_covering::covers_slower;
-use cop_engine::plan_bytes;
 use cop_net::{all_rates, network, read_nodes, read_pdos};
-use cop_plan::Choice;
 use std::alloc::Global;
 use std::test::Fail;
 
 /// The refusal file of the valve's plan.
 fn refusal_file(alloc: Global) -> Result<Vec<u8>, Fail> {
     let eds = eds_files(alloc, UNIT)?;
-    let files = plan_bytes(alloc, VALVE, ONE_PDO, &eds, &by(Choice::Order))?;
-    Ok(files.refusals)
+    Ok(plan_of(alloc, VALVE, ONE_PDO, &eds)?.refusals)
 }
 
 /// Whether refusals are of each rate that the valve's plan refuses.

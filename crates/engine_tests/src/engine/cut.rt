@@ -1,7 +1,9 @@
 //! Files that are cut off at each byte: each is read or refused, and nothing else comes.
 
-use crate::engine::{ONE_PDO, UNIT, VALVE, VALVE_REFUSED, VALVE_TRACE, by, eds_files, refused};
-use cop_engine::{check_bytes, judge_bytes, plan_bytes};
+use crate::engine::{
+    ONE_PDO, UNIT, VALVE, VALVE_REFUSED, VALVE_TRACE, by, eds_files, plan_of, refused,
+};
+use cop_engine::{check_bytes, judge_bytes};
 use cop_net::all_rates;
 use cop_plan::Choice;
 use std::test::Fail;
@@ -10,13 +12,7 @@ use std::test::Fail;
 fn each_cut_table_of_nodes(rt: HostRuntime) -> Result<(), Fail> {
     let eds = eds_files(rt.alloc(), UNIT)?;
     for length in 0..VALVE.len() {
-        let planned = plan_bytes(
-            rt.alloc(),
-            &VALVE[..length],
-            ONE_PDO,
-            &eds,
-            &by(Choice::Order),
-        );
+        let planned = plan_of(rt.alloc(), &VALVE[..length], ONE_PDO, &eds);
         let _ = refused(planned)?;
     }
     Ok(())
@@ -26,13 +22,7 @@ fn each_cut_table_of_nodes(rt: HostRuntime) -> Result<(), Fail> {
 fn each_cut_table_of_pdos(rt: HostRuntime) -> Result<(), Fail> {
     let eds = eds_files(rt.alloc(), UNIT)?;
     for length in 0..ONE_PDO.len() {
-        let planned = plan_bytes(
-            rt.alloc(),
-            VALVE,
-            &ONE_PDO[..length],
-            &eds,
-            &by(Choice::Order),
-        );
+        let planned = plan_of(rt.alloc(), VALVE, &ONE_PDO[..length], &eds);
         let _ = refused(planned)?;
     }
     Ok(())
@@ -42,7 +32,7 @@ fn each_cut_table_of_pdos(rt: HostRuntime) -> Result<(), Fail> {
 fn each_cut_eds_text(rt: HostRuntime) -> Result<(), Fail> {
     for length in 0..UNIT.len() {
         let eds = eds_files(rt.alloc(), &UNIT[..length])?;
-        let planned = plan_bytes(rt.alloc(), VALVE, ONE_PDO, &eds, &by(Choice::Order));
+        let planned = plan_of(rt.alloc(), VALVE, ONE_PDO, &eds);
         let _ = refused(planned)?;
     }
     Ok(())

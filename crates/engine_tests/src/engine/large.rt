@@ -3,10 +3,8 @@
 
 ghost use Rattle.std.specs.Prelude.{◌≤◌, ◌<◌};
 
-use crate::engine::by;
-use cop_engine::{
-    Fault, Files, boot_bytes, check_bytes, judge_bytes, plan_bytes, run_bytes, test_bytes,
-};
+use crate::engine::{by, plan_of};
+use cop_engine::{Fault, Files, boot_bytes, check_bytes, judge_bytes, run_bytes, test_bytes};
 use cop_frame::Rate;
 use cop_net::all_rates;
 use cop_plan::Choice;
@@ -168,12 +166,11 @@ fn network(alloc: Global, each: u16, count: u16) -> Result<Sources, AllocError>
 
 /// The files of its plan.
 fn planned(alloc: Global, network: &Sources) -> Result<Files, Fault> {
-    plan_bytes(
+    plan_of(
         alloc,
         network.nodes.as_bytes(),
         network.pdos.as_bytes(),
         &network.eds,
-        &by(Choice::Order),
     )
 }
 

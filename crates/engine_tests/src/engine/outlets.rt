@@ -2,9 +2,8 @@
 
 ghost use Rattle.std.specs.Prelude.{◌≡◌, false};
 
-use crate::engine::{NO_PDO, TWO_VALVES, UNIT, by, eds_files};
-use cop_engine::{Outlet, deliver, plan_bytes};
-use cop_plan::Choice;
+use crate::engine::{NO_PDO, TWO_VALVES, UNIT, eds_files, plan_of};
+use cop_engine::{Outlet, deliver};
 use std::alloc::Global;
 use std::test::Fail;
 
@@ -50,23 +49,23 @@ fn with_room(alloc: Global, room: usize) -> Shelf
 }
 
 /// The names that stand on a shelf with so much room, and where it fails.
-const DELIVERED: &[(usize, Result<(), usize>, &[u8])] = &[
-    (0, Err(0), b""),
-    (1, Err(1), b"plan.txt"),
-    (2, Err(2), b"plan.txtrefusals.csv"),
-    (3, Err(3), b"plan.txtrefusals.csvnode-005.dcf"),
-    (4, Ok(()), b"plan.txtrefusals.csvnode-005.dcfnode-007.dcf"),
+const DELIVERED: &[(usize, Option<usize>, &[u8])] = &[
+    (0, Some(0), b""),
+    (1, Some(1), b"plan.txt"),
+    (2, Some(2), b"plan.txtrefusals.csv"),
+    (3, Some(3), b"plan.txtrefusals.csvnode-005.dcf"),
+    (4, None, b"plan.txtrefusals.csvnode-005.dcfnode-007.dcf"),
 ];
 
 #[test]
 fn an_outlet_fails_at_each_file(rt: HostRuntime) -> Result<(), Fail> {
     let eds = eds_files(rt.alloc(), UNIT)?;
-    let files = plan_bytes(rt.alloc(), TWO_VALVES, NO_PDO, &eds, &by(Choice::Order))?;
+    let files = plan_of(rt.alloc(), TWO_VALVES, NO_PDO, &eds)?;
     for case in DELIVERED {
         let (room, wanted, names) = *case;
         let mut shelf = with_room(rt.alloc(), room);
-        assert!(rt; deliver(&files, &mut shelf) == wanted);
-        assert!(rt; shelf.failed() == wanted.is_err());
+        assert!(rt; deliver(&files, &mut shelf).err() == wanted);
+        assert!(rt; shelf.failed() == wanted.is_some());
         assert!(rt; shelf.names.as_slice() == names);
     }
     Ok(())

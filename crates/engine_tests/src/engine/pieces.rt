@@ -3,7 +3,7 @@
 ghost use Rattle.std.specs.Prelude.{◌≤◌};
 
 use crate::engine::{ONE_PDO, UNIT, VALVE, by, eds_files};
-use cop_engine::{judge_outcome, judge_pieces, outcome_of, run_bytes};
+use cop_engine::{Fault, judge_outcome, judge_pieces, outcome_of, run_bytes};
 use cop_plan::{Choice, Outcome};
 use std::alloc::Global;
 use std::io::{self, Read};
@@ -39,22 +39,22 @@ fn in_pieces(text: &[u8], fails: bool) -> Pieces<'_> {
 }
 
 /// What is planned for the valve.
-fn outcome(alloc: Global) -> Result<Outcome, Fail> {
+fn outcome(alloc: Global) -> Result<Outcome, Fault> {
     let files = eds_files(alloc, UNIT)?;
-    Ok(outcome_of(alloc, VALVE, ONE_PDO, &files, &by(Choice::Order))?)
+    outcome_of(alloc, VALVE, ONE_PDO, &files, &by(Choice::Order))
 }
 
 /// A run of the valve's plan up to a moment in microseconds: what is said of it, and its trace.
-fn ran(alloc: Global, until: u64) -> Result<(Vec<u8>, Vec<u8>), Fail>
+fn ran(alloc: Global, until: u64) -> Result<(Vec<u8>, Vec<u8>), Fault>
     requires { until ≤ 1000000000 }
 {
     let files = eds_files(alloc, UNIT)?;
     let asked = by(Choice::Order);
-    Ok(run_bytes(alloc, 42, until, VALVE, ONE_PDO, &files, &asked)?)
+    run_bytes(alloc, 42, until, VALVE, ONE_PDO, &files, &asked)
 }
 
 /// What is judged of a trace in pieces.
-fn judged(alloc: Global, trace: &[u8], fails: bool) -> Result<Option<Vec<u8>>, Fail> {
+fn judged(alloc: Global, trace: &[u8], fails: bool) -> Result<Option<Vec<u8>>, Fault> {
     let outcome = outcome(alloc)?;
     Ok(judge_pieces(alloc, &outcome, in_pieces(trace, fails)))
 }

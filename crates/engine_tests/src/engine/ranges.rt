@@ -1,7 +1,7 @@
 //! Plans with synchronous PDOs and over both ranges of identifiers, their refusals, their boots and their traces.
 
-use crate::engine::{UNIT, by, eds_files, refused};
-use cop_engine::{Fault, boot_bytes, check_bytes, judge_bytes, plan_bytes};
+use crate::engine::{UNIT, by, eds_files, plan_of, refused};
+use cop_engine::{Fault, Files, boot_bytes, check_bytes, judge_bytes};
 use cop_net::all_rates;
 use cop_plan::Choice;
 use std::alloc::{AllocError, Global};
@@ -95,21 +95,30 @@ const ROWS: &[Row] = &[
     },
 ];
 
+/// The files of a network's plan, and the check of its refusals.
+fn planned_and_checked(
+    alloc: Global,
+    transmission: &str,
+    nodes: &[u8],
+    pdos: &[u8],
+) -> Result<(Files, (Vec<u8>, bool)), Fail> {
+    let eds = eds_of(alloc, transmission)?;
+    let files = plan_of(alloc, nodes, pdos, &eds)?;
+    let check = check_bytes(alloc, &all_rates(), nodes, pdos, &eds, &files.refusals)?;
+    Ok((files, check))
+}
+
 #[test]
 fn synchronous_pdos_and_sdo_deadlines_are_planned(rt: HostRuntime) -> Result<(), Fail> {
     for row in ROWS {
-        let eds = eds_of(rt.alloc(), row.transmission)?;
-        let files = plan_bytes(rt.alloc(), row.nodes, row.pdos, &eds, &by(Choice::Order))?;
-        assert!(rt; files.plan.as_slice() == row.plan);
-        assert!(rt; files.refusals.as_slice() == row.refusals);
-        let (lines, _) = check_bytes(
+        let (files, (lines, _)) = planned_and_checked(
             rt.alloc(),
-            &all_rates(),
+            row.transmission,
             row.nodes,
             row.pdos,
-            &eds,
-            &files.refusals,
         )?;
+        assert!(rt; files.plan.as_slice() == row.plan);
+        assert!(rt; files.refusals.as_slice() == row.refusals);
         assert!(rt; lines.as_slice() == row.check);
     }
     Ok(())
@@ -131,22 +140,13 @@ const TOO_OFTEN: &[u8] =
 
 #[test]
 fn sync_past_the_horizon_is_told(rt: HostRuntime) -> Result<(), Fail> {
-    let eds = eds_of(rt.alloc(), "1")?;
-    let files = plan_bytes(rt.alloc(), TOO_OFTEN, AT_SYNC, &eds, &by(Choice::Order))?;
+    let (files, (lines, hold)) = planned_and_checked(rt.alloc(), "1", TOO_OFTEN, AT_SYNC)?;
     let plan =
         b"no rate passes\nrefused 250 sync\nrefused 500 sync\nrefused 1000 members 1\n".as_slice();
     assert!(rt; !files.planned && files.plan.as_slice() == plan);
     let begin =
         b"rate,pdo,what,value\n0,0,version,2\n250,0,sync,0\n250,0,busy,1\n250,0,busy,3040\n";
     assert!(rt; files.refusals.starts_with(begin));
-    let (lines, hold) = check_bytes(
-        rt.alloc(),
-        &all_rates(),
-        TOO_OFTEN,
-        AT_SYNC,
-        &eds,
-        &files.refusals,
-    )?;
     assert!(rt; lines.as_slice() == b"250 holds\n500 holds\n1000 holds\n".as_slice() && hold);
     Ok(())
 }
@@ -184,21 +184,24 @@ const ROOM: &[(u16, u32, &str, &str)] = &[
     ),
 ];
 
+/// The plan of so many PDOs, with this deadline of the SDO response.
+fn plan_of_many(
+    alloc: Global,
+    eds: &[(String, Vec<u8>)],
+    count: u16,
+    deadline: u32,
+) -> Result<Vec<u8>, Fault> {
+    let nodes = many_nodes(alloc, count, deadline)?;
+    let pdos = many_pdos(alloc, count)?;
+    Ok(plan_of(alloc, nodes.as_bytes(), pdos.as_bytes(), eds)?.plan)
+}
+
 #[test]
 fn the_second_range_has_room_for_96(rt: HostRuntime) -> Result<(), Fail> {
     let eds = eds_of(rt.alloc(), "255")?;
     for case in ROOM {
         let (count, deadline, begin, end) = *case;
-        let nodes = many_nodes(rt.alloc(), count, deadline)?;
-        let pdos = many_pdos(rt.alloc(), count)?;
-        let files = plan_bytes(
-            rt.alloc(),
-            nodes.as_bytes(),
-            pdos.as_bytes(),
-            &eds,
-            &by(Choice::Order),
-        )?;
-        let plan = files.plan.as_slice();
+        let plan = plan_of_many(rt.alloc(), &eds, count, deadline)?;
         assert!(rt;
             plan.starts_with(begin.as_bytes()) && plan.ends_with(end.as_bytes()),
             "{count} {deadline}"

@@ -1,6 +1,7 @@
 //! A network, and its report.
 
 ghost use Rattle.std.specs.Prelude.{length};
+ghost use Rattle.cop_figures.specs.Figures.{AreFigures};
 ghost use Rattle.cop_plan.specs.Plans.{IsOutcome};
 
 use cop_figures::{Breakdown, Figures, Timeline, breakdowns_of, figures_of, timeline_of};
@@ -8,6 +9,7 @@ use cop_net::{Network, NodeTable, PdoTable, all_rates, network, read_nodes, read
 use cop_plan::{Choice, Outcome, Plan, plan};
 use cop_report::{Input, Report, page_of};
 use std::alloc::{AllocError, Global};
+use std::process::Abort;
 use std::test::Fail;
 
 /// A device that sends one PDO of 64 bits and has another that no row uses.
@@ -105,6 +107,11 @@ fn read_tables(alloc: Global, tables: Tables<'_>) -> Result<(NodeTable, PdoTable
     Ok((nodes, read_pdos(alloc, tables.pdos.as_bytes())?))
 }
 
+/// The bus over time under a plan.
+pub fn timeline_under(alloc: Global, plan: &Plan, trace: &str) -> Result<Timeline, Fail> {
+    Ok(timeline_of(alloc, plan, trace.as_bytes())?)
+}
+
 /// The bus over time, where there are a plan and a trace.
 fn timeline(
     alloc: Global,
@@ -112,9 +119,7 @@ fn timeline(
     trace: Option<&str>,
 ) -> Result<Option<Timeline>, Fail> {
     match (outcome, trace) {
-        (Outcome::Planned(plan), Some(trace)) => {
-            Ok(Some(timeline_of(alloc, plan, trace.as_bytes())?))
-        }
+        (Outcome::Planned(plan), Some(trace)) => Ok(Some(timeline_under(alloc, plan, trace)?)),
         _ => Ok(None),
     }
 }
@@ -124,6 +129,21 @@ const INPUTS: &[Input<'static>] = &[Input {
     name: "a<b>&\"c\".csv",
     size: 117,
 }];
+
+/// The parts of the response of each PDO, where there is a plan.
+fn breakdowns(
+    alloc: Global,
+    network: &Network<'_>,
+    outcome: &Outcome,
+    figures: &Figures,
+) -> Result<Vec<Breakdown>, AllocError>
+    requires { AreFigures network.now outcome.now figures.now }
+{
+    match outcome {
+        Outcome::Planned(plan) => breakdowns_of(alloc, plan, &figures.pdos),
+        Outcome::Refused(_) => Ok(Vec::new(alloc)),
+    }
+}
 
 /// The page of a report.
 fn page<'a>(
@@ -152,6 +172,29 @@ fn page<'a>(
     )
 }
 
+/// The page of a network, of what came of it and of its numbers.
+fn page_with(
+    alloc: Global,
+    network: &Network<'_>,
+    outcome: &Outcome,
+    figures: &Figures,
+    trace: Option<&str>,
+) -> Result<String, Fail>
+    requires planned { IsOutcome network.now.equipment.rates network.now.set (length network.now.rows) outcome.now }
+    requires counted { AreFigures network.now outcome.now figures.now }
+{
+    let breakdowns = breakdowns(alloc, network, outcome, figures)?;
+    let timeline = timeline(alloc, outcome, trace)?;
+    Ok(page(
+        alloc,
+        network,
+        outcome,
+        figures,
+        &breakdowns,
+        timeline.as_ref(),
+    )?)
+}
+
 /// The numbers of what came of a network, and its page.
 fn told(
     alloc: Global,
@@ -162,19 +205,7 @@ fn told(
     requires { IsOutcome network.now.equipment.rates network.now.set (length network.now.rows) outcome.now }
 {
     let figures = figures_of(alloc, network, outcome)?;
-    let breakdowns = match outcome {
-        Outcome::Planned(plan) => breakdowns_of(alloc, plan, &figures.pdos)?,
-        Outcome::Refused(_) => Vec::new(alloc),
-    };
-    let timeline = timeline(alloc, outcome, trace)?;
-    let page = page(
-        alloc,
-        network,
-        outcome,
-        &figures,
-        &breakdowns,
-        timeline.as_ref(),
-    )?;
+    let page = page_with(alloc, network, outcome, &figures, trace)?;
     Ok((figures, page))
 }
 
@@ -203,6 +234,25 @@ fn valve(pdos: &str) -> Tables<'_> {
 /// The same of the network of one valve.
 pub fn report(alloc: Global, pdos: &str, trace: Option<&str>) -> Result<(Figures, String), Fail> {
     report_of(alloc, valve(pdos), trace)
+}
+
+/// The numbers of the network of one valve.
+pub fn valve_figures(alloc: Global, pdos: &str) -> Result<Figures, Fail> {
+    let (figures, _page) = report(alloc, pdos, None)?;
+    Ok(figures)
+}
+
+/// The page of the network of one valve.
+pub fn valve_page(alloc: Global, pdos: &str, trace: Option<&str>) -> Result<String, Fail> {
+    let (_figures, page) = report(alloc, pdos, trace)?;
+    Ok(page)
+}
+
+/// Each of these texts stands in a page.
+pub fn assert_says(rt: &impl Abort, page: &str, said: &[&str]) {
+    for part in said {
+        assert!(rt; page.contains(*part), "{part}");
+    }
 }
 
 /// The plan of that network.

@@ -1,8 +1,8 @@
 //! Tests of the bus over time.
 
-use crate::reports::networks::{PDOS, planned, report};
+use crate::reports::networks::{PDOS, assert_says, planned, timeline_under, valve_page};
 use cop_bus::{BusFault, Transfer};
-use cop_figures::{MOST_SHOWN, timeline_of};
+use cop_figures::{Lane, MOST_SHOWN, Timeline, timeline_of};
 use std::alloc::{AllocError, Global};
 use std::test::Fail;
 
@@ -33,17 +33,28 @@ const TRANSFERS: &[Transfer] = &[
     },
 ];
 
+/// Whether a lane has this transfer alone.
+fn has_alone(lane: &Lane, wanted: Option<&Transfer>) -> bool {
+    match (lane.transfers.as_slice(), wanted) {
+        ([shown], Some(wanted)) => shown == wanted && shown.id == lane.id,
+        _ => false,
+    }
+}
+
+/// What a trace tells of the bus under the plan of the valve.
+fn valve_timeline(alloc: Global, trace: &str) -> Result<Timeline, Fail> {
+    let plan = planned(alloc)?;
+    timeline_under(alloc, &plan, trace)
+}
+
 #[test]
 fn the_timeline_is_that_of_the_trace(rt: HostRuntime) -> Result<(), Fail> {
-    let plan = planned(rt.alloc())?;
-    let timeline = timeline_of(rt.alloc(), &plan, TRACE.as_bytes())?;
+    let timeline = valve_timeline(rt.alloc(), TRACE)?;
     assert!(rt; timeline.until == 4000 && timeline.ended == 2 && timeline.late.is_none());
     assert!(rt; timeline.lanes.len() == 2);
     let mut wanted = TRANSFERS.iter();
     for lane in timeline.lanes.iter() {
-        let shown = lane.transfers.as_slice();
-        assert!(rt; shown.len() == 1 && shown.first() == wanted.next());
-        assert!(rt; shown.first().is_some_and(|transfer| transfer.id == lane.id));
+        assert!(rt; has_alone(lane, wanted.next()));
     }
     Ok(())
 }
@@ -78,7 +89,7 @@ fn traces_are_refused(rt: HostRuntime) -> Result<(), Fail> {
     let plan = planned(rt.alloc())?;
     for (trace, fault) in REFUSED {
         let found = timeline_of(rt.alloc(), &plan, trace.as_bytes()).err();
-        assert_eq!(rt; found, Some(*fault));
+        assert!(rt; found == Some(*fault));
     }
     Ok(())
 }
@@ -100,10 +111,8 @@ const SAID: &[&str] = &[
 
 #[test]
 fn the_page_shows_the_bus_over_time(rt: HostRuntime) -> Result<(), Fail> {
-    let (_figures, page) = report(rt.alloc(), PDOS, Some(TRACE))?;
-    for said in SAID {
-        assert!(rt; page.contains(*said), "{said}");
-    }
+    let page = valve_page(rt.alloc(), PDOS, Some(TRACE))?;
+    assert_says(&rt, &page, SAID);
     assert!(rt; page.matches("class=\"sends\"").count() == 2);
     assert!(rt; page.matches("class=\"waits\"").count() == 1);
     assert!(rt; !page.contains("Only the first"));
@@ -112,7 +121,7 @@ fn the_page_shows_the_bus_over_time(rt: HostRuntime) -> Result<(), Fail> {
 
 #[test]
 fn a_page_without_a_trace_has_no_lanes(rt: HostRuntime) -> Result<(), Fail> {
-    let (_figures, page) = report(rt.alloc(), PDOS, None)?;
+    let page = valve_page(rt.alloc(), PDOS, None)?;
     assert!(rt; !page.contains("id=\"lanes\""));
     assert!(rt; !page.contains("The bus over time"));
     Ok(())
@@ -121,7 +130,7 @@ fn a_page_without_a_trace_has_no_lanes(rt: HostRuntime) -> Result<(), Fail> {
 #[test]
 fn a_trace_with_no_transfer_has_no_lanes(rt: HostRuntime) -> Result<(), Fail> {
     let empty = "kind,moment,id,event,bits,data\nuntil,400,0,,,\n";
-    let (_figures, page) = report(rt.alloc(), PDOS, Some(empty))?;
+    let page = valve_page(rt.alloc(), PDOS, Some(empty))?;
     assert!(rt; page.contains("In it 0 transfers came to an end."));
     assert!(rt; !page.contains("id=\"lanes\""));
     Ok(())
@@ -146,7 +155,7 @@ fn long_trace(alloc: Global, transfers: u16) -> Result<String, AllocError> {
 #[test]
 fn a_long_trace_is_cut(rt: HostRuntime) -> Result<(), Fail> {
     let trace = long_trace(rt.alloc(), 5001)?;
-    let (_figures, page) = report(rt.alloc(), PDOS, Some(trace.as_str()))?;
+    let page = valve_page(rt.alloc(), PDOS, Some(trace.as_str()))?;
     assert!(rt; page.matches("class=\"sends\"").count() == MOST_SHOWN);
     assert!(rt; page.contains("In it 5001 transfers came to an end."));
     assert!(rt; page.contains("Only the first 5000 transfers are drawn"));
