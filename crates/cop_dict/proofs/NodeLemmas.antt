@@ -373,7 +373,7 @@ number_between text node o a b e z first last here one two =
     let rb = is_read text 127 o t b last in
     let re = is_read text node o t e here in
     seen_in t e (type_of_built text node o e here)
-        ∙ number_steady t (λ node. initial_of t node (value_entry text o.place.section)) node a.value b.value e.value z (initial_goes t (value_entry text o.place.section)) ra.value rb.value re.value
+    ∙ number_steady t (λ node. initial_of t node (value_entry text o.place.section)) node a.value b.value e.value z (initial_goes t (value_entry text o.place.section)) ra.value rb.value re.value
     (sym (seen_in t a (type_of_built text 1 o a first)) ∙ one) (sym (seen_in t b (type_of_built text 127 o b last)) ∙ two)
 
 -- an entry that is a number and the node's for the first and for the last node is so for each
@@ -385,5 +385,5 @@ node_number_between text node o a b e k first last here one two =
     let rb = is_read text 127 o t b last in
     let re = is_read text node o t e here in
     seen_in t e (type_of_built text node o e here)
-        ∙ number_rises t (λ node. initial_of t node (value_entry text o.place.section)) node k a.value b.value e.value (initial_goes t (value_entry text o.place.section)) ra.value rb.value re.value
+    ∙ number_rises t (λ node. initial_of t node (value_entry text o.place.section)) node k a.value b.value e.value (initial_goes t (value_entry text o.place.section)) ra.value rb.value re.value
     (sym (seen_in t a (type_of_built text 1 o a first)) ∙ one) (sym (seen_in t b (type_of_built text 127 o b last)) ∙ two)
