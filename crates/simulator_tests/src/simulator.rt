@@ -97,21 +97,21 @@ pub fn scripted(alloc: Global, script: Script) -> Result<Scripted, AllocError> {
     })
 }
 
-/// What the simulator answers to scripts of the plan's streams.
-fn simulated(
-    alloc: Global,
-    plan: &Plan,
-    scripts: &[Script],
-    until: u64,
-) -> Result<Result<Trace, SimFault>, AllocError>
-    requires { until ≤ 4000000000 }
-{
+/// The behaviours by scripts.
+fn boxed(alloc: Global, scripts: &[Script]) -> Result<Vec<Box<dyn Behaviour>>, AllocError> {
     let mut behaviours = Vec::new(alloc);
     for script in scripts {
         let one: Box<dyn Behaviour> = Box::new(alloc, scripted(alloc, *script)?)?;
         behaviours.push(one)?;
     }
-    Ok(simulate(alloc, plan, behaviours, until))
+    Ok(behaviours)
+}
+
+/// What the simulator answers to scripts of the plan's streams.
+fn simulated(alloc: Global, plan: &Plan, scripts: &[Script], until: u64) -> Result<Trace, SimFault>
+    requires { until ≤ 4000000000 }
+{
+    simulate(alloc, plan, boxed(alloc, scripts)?, until)
 }
 
 /// Whether these are the steps of the play of scripts.
@@ -124,7 +124,7 @@ pub fn are_steps(
 ) -> Result<bool, SimFault>
     requires { until ≤ 4000000000 }
 {
-    let trace = simulated(alloc, plan, scripts, until)??;
+    let trace = simulated(alloc, plan, scripts, until)?;
     Ok(trace.steps.as_slice() == wanted)
 }
 
@@ -142,6 +142,15 @@ fn plays(
     Ok(are_steps(alloc, &plan, scripts, until, wanted)?)
 }
 
+/// The fault of an answer, if there is one but for want of memory.
+pub fn fault_in<T: Drop>(answer: Result<T, SimFault>) -> Result<Option<SimFault>, AllocError> {
+    match answer {
+        Ok(_) => Ok(None),
+        Err(SimFault::Memory) => Err(AllocError),
+        Err(fault) => Ok(Some(fault)),
+    }
+}
+
 /// The fault of the simulation of scripts, if there is one.
 pub fn fault_of(
     alloc: Global,
@@ -151,10 +160,7 @@ pub fn fault_of(
 ) -> Result<Option<SimFault>, AllocError>
     requires { until ≤ 4000000000 }
 {
-    match simulated(alloc, plan, scripts, until)? {
-        Ok(_) => Ok(None),
-        Err(fault) => Ok(Some(fault)),
-    }
+    fault_in(simulated(alloc, plan, scripts, until))
 }
 
 pub const VALVE_SCRIPTS: &[Script] = &[
@@ -672,7 +678,7 @@ const STARTS: &[(u64, u16)] = &[
 /// The run of the three PDOs to 28,000 ticks.
 fn three_run(alloc: Global) -> Result<Trace, Fail> {
     let plan = plan_of(alloc, THREE)?;
-    Ok(simulated(alloc, &plan, THREE_SCRIPTS, 28_000)??)
+    Ok(simulated(alloc, &plan, THREE_SCRIPTS, 28_000)?)
 }
 
 /// Whether a run has these starts and this last step.

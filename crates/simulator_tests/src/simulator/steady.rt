@@ -2,7 +2,7 @@
 
 ghost use Rattle.std.specs.Prelude.{◌≤◌, ◌<◌};
 
-use crate::simulator::{LONG, Table, plan_for, plan_of};
+use crate::simulator::{LONG, Table, fault_in, plan_for, plan_of};
 use cop_bus::{Step, Trace};
 use cop_frame::Rate;
 use cop_plan::Plan;
@@ -60,31 +60,28 @@ fn fault_into(
 {
     let behaviours = steady_each(alloc, paces)?;
     let mut steps = Steps::new(alloc);
-    match simulate_over(alloc, plan, behaviours, until, &mut steps) {
-        Ok(()) => Ok(None),
-        Err(fault) => Ok(Some(fault)),
-    }
+    fault_in(simulate_over(alloc, plan, behaviours, until, &mut steps))
 }
 
-/// What the simulator answers to paces.
-fn simulated(
-    alloc: Global,
-    plan: &Plan,
-    paces: &[Pace],
-    until: u64,
-) -> Result<Result<Trace, SimFault>, AllocError>
-    requires { until ≤ 4000000000 }
-{
+/// The same behaviours, each in a box.
+fn boxed(alloc: Global, paces: &[Pace]) -> Result<Vec<Box<dyn Behaviour>>, AllocError> {
     let mut behaviours = Vec::new(alloc);
     for pace in paces {
         let one: Box<dyn Behaviour> = Box::new(alloc, steady(alloc, pace)?)?;
         behaviours.push(one)?;
     }
-    Ok(simulate(alloc, plan, behaviours, until))
+    Ok(behaviours)
+}
+
+/// What the simulator answers to paces.
+fn simulated(alloc: Global, plan: &Plan, paces: &[Pace], until: u64) -> Result<Trace, SimFault>
+    requires { until ≤ 4000000000 }
+{
+    simulate(alloc, plan, boxed(alloc, paces)?, until)
 }
 
 /// The fault of a run at paces to this moment whose steps are kept, if there is one.
-fn fault_of(
+fn fault_kept(
     alloc: Global,
     plan: &Plan,
     paces: &[Pace],
@@ -92,10 +89,7 @@ fn fault_of(
 ) -> Result<Option<SimFault>, AllocError>
     requires { until ≤ 4000000000 }
 {
-    match simulated(alloc, plan, paces, until)? {
-        Ok(_) => Ok(None),
-        Err(fault) => Ok(Some(fault)),
-    }
+    fault_in(simulated(alloc, plan, paces, until))
 }
 
 /// A PDO, and a frame of lower priority that is queued every 400 ticks and takes 540.
@@ -123,7 +117,7 @@ fn hurried_to(alloc: Global, until: u64) -> Result<[Option<SimFault>; 2], Fail>
 {
     let plan = plan_of(alloc, HURRIED)?;
     let into = fault_into(alloc, &plan, HURRIED_PACES, until)?;
-    let kept = fault_of(alloc, &plan, HURRIED_PACES, until)?;
+    let kept = fault_kept(alloc, &plan, HURRIED_PACES, until)?;
     Ok([into, kept])
 }
 
@@ -176,7 +170,7 @@ fn hundred(alloc: Global) -> Result<StreamSet, SetFault> {
 fn hundred_run(alloc: Global) -> Result<Trace, Fail> {
     let set = hundred(alloc)?;
     let plan = plan_for(alloc, &set, 99, &[Rate::Kbit1000])?;
-    Ok(simulated(alloc, &plan, &[SECONDS; 100], 334 * 4_000_000)??)
+    Ok(simulated(alloc, &plan, &[SECONDS; 100], 334 * 4_000_000)?)
 }
 
 // All instances of a second are queued at its begin, and each takes 540 ticks: the last is the SDO frame's.
