@@ -7,7 +7,7 @@ ghost use Rattle.cop_eds.specs.Lines.{IsInside};
 ghost use Rattle.cop_hazard.specs.Spelled.{spelled};
 ghost use Rattle.cop_hazard.specs.Hazards.{is_missing, inside, is_bracketed, is_hidden, is_unseen};
 
-use crate::spelled::{read_spelled, spelled};
+use crate::spelling::{read_spelled, spelled};
 use crate::text::{text_of, without_first};
 use cop_eds::{Eds, Kind, Line, after_first, before_first, name_of, trim_start};
 use std::alloc::{AllocError, Global};

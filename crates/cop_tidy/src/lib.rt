@@ -2,6 +2,7 @@
 #![tactic(auto)]
 
 mod adding;
+mod causing;
 mod compact;
 mod judging;
 mod keeping;

@@ -1,9 +1,11 @@
 //! A maker's text as one that the strict reading takes.
 
-ghost use Rattle.std.specs.Prelude.{◌≡◌, ◌≤◌, ℕ, true, None, Some, IfOk, IfErr, IfSome, IsOk, IsSome, OnOk, vec_len};
+ghost use Rattle.std.specs.Prelude.{◌≡◌, ◌≤◌, ℕ, true, Option, None, Some, All, IfOk, IfErr, IfSome, IsOk, IsSome, OnOk, vec_len};
 ghost use Rattle.cop_change.specs.Applied.{applied};
 ghost use Rattle.cop_change.specs.Told.{are_told};
+ghost use Rattle.cop_change.specs.declared.words.Digits.{Digits};
 ghost use Rattle.cop_dict.specs.Build.{built};
+ghost use Rattle.cop_meaning.specs.Causes.{IsByCause};
 ghost use Rattle.cop_tidy.specs.Accepted.{IsAccepted};
 ghost use Rattle.cop_tidy.specs.Added.{Adds};
 ghost use Rattle.cop_tidy.specs.Identified.{AreIdentified};
@@ -11,6 +13,7 @@ ghost use Rattle.cop_tidy.specs.Kept.{Stays};
 ghost use Rattle.cop_tidy.specs.Standing.{IsReason, standing};
 
 use crate::adding::adds;
+use crate::causing::are_by_cause;
 use crate::judging::{Left, judged};
 use crate::keeping::stays;
 use cop_change::{Change, Question, TextChange, TidyFault, Words, applied, are_told, refused};
@@ -119,12 +122,18 @@ fn take_up(
     }
 }
 
-/// The changes that rows have come through, each of which tells what stood there.
-fn told_changes(alloc: Global, base: &[u8], rows: &[Row<'_>]) -> Result<Vec<Change>, TidyFault>
-    ensures { IfOk result (λ changes. are_told base.now changes.items ≡ true) }
+/// The changes that rows have come through, each of which tells what stood there, and is one that its rule makes.
+fn told_changes(
+    alloc: Global,
+    base: &[u8],
+    rows: &[Row<'_>],
+    words: &Words,
+) -> Result<Vec<Change>, TidyFault>
+    ensures told { IfOk result (λ changes. are_told base.now changes.items ≡ true) }
+    ensures by_cause { IfOk result (λ changes. All (IsByCause words.now.digits) changes.items) }
 {
     let changes = changes_of(alloc, rows)?;
-    if are_told(base, &changes) {
+    if are_told(base, &changes) && are_by_cause(alloc, words.digits, &changes)? {
         Ok(changes)
     } else {
         Err(refused(Question::Left(0), 0))
@@ -137,6 +146,7 @@ fn mended(alloc: Global, source: &[u8], words: &Words, left: Left) -> Result<Tid
     ensures found { IfOk result (λ t. t.found ≡ Some left) }
     ensures told { IfOk result (λ t. t.text.items ≡ applied t.base.items t.changes.items) }
     ensures each_told { IfOk result (λ t. are_told t.base.items t.changes.items ≡ true) }
+    ensures each_by_cause { IfOk result (λ t. All (IsByCause words.now.digits) t.changes.items) }
     ensures base { IfOk result (λ t. vec_len t.text_changes ≡ 0 → t.base.items ≡ source.now) }
     ensures first { IfOk result (λ t. Stays 1 source.now t.text.items) }
     ensures last { IfOk result (λ t. Stays 127 source.now t.text.items) }
@@ -145,7 +155,7 @@ fn mended(alloc: Global, source: &[u8], words: &Words, left: Left) -> Result<Tid
 {
     let (base, text_changes) = prepared(alloc, source)?;
     let rows = rewritten(alloc, &base, words)?;
-    let changes = told_changes(alloc, &base, &rows)?;
+    let changes = told_changes(alloc, &base, &rows, words)?;
     let text = applied(alloc, &base, &changes)?;
     take_up(alloc, source, &text, &rows, words)?;
     drop(rows);
@@ -167,6 +177,7 @@ fn unchanged(alloc: Global, text: &[u8]) -> Result<Tidied, AllocError>
     ensures same { IfOk result (λ t. t.text.items ≡ text.now) }
     ensures told { IfOk result (λ t. t.text.items ≡ applied t.base.items t.changes.items) }
     ensures each_told { IfOk result (λ t. are_told t.base.items t.changes.items ≡ true) }
+    ensures each_by_cause { (choice : Option Digits) → IfOk result (λ t. All (IsByCause choice) t.changes.items) }
     ensures base { IfOk result (λ t. t.base.items ≡ text.now) }
     ensures first { IfOk result (λ t. Stays 1 text.now t.text.items) }
     ensures last { IfOk result (λ t. Stays 127 text.now t.text.items) }
@@ -195,9 +206,10 @@ pub fn tidy(alloc: Global, text: &[u8], words: &Words) -> Result<Tidied, TidyFau
     ensures accepted { IfOk result (λ t. IsAccepted t.text.items) }
     ensures built { IfOk result (λ t. (node : ℕ) → node ≤ 127 → IsOk (built t.text.items node)) }
 
-    // The result is the text with exactly the changes that are told, each of which tells what stood there.
+    // The result is the text with exactly the changes that are told, each of which tells what stood there, and is one that its rule makes.
     ensures told { IfOk result (λ t. t.text.items ≡ applied t.base.items t.changes.items) }
     ensures each_told { IfOk result (λ t. are_told t.base.items t.changes.items ≡ true) }
+    ensures each_by_cause { IfOk result (λ t. All (IsByCause words.now.digits) t.changes.items) }
     ensures base { IfOk result (λ t. vec_len t.text_changes ≡ 0 → t.base.items ≡ text.now) }
 
     // The objects of an accepted text stay, as each node has them.

@@ -1,6 +1,6 @@
 use Rattle.std.proofs.Common.{◌≡◌, length}
 use Rattle.cop_hazard.specs.Spelled.{without_signs}
-use Rattle.cop_hazard.proofs.spelled.without_signs.Given as goal
+use Rattle.cop_hazard.proofs.spelling.without_signs.Given as goal
 
 abbrev pub invariant-loop-first : goal.invariant-loop-first
 invariant-loop-first l = without_signs l.dots l.rest ≡ without_signs l.dots l.bytes

@@ -1,0 +1,5 @@
+pub mod Blanks
+pub mod Causes
+pub mod Lines
+pub mod Numerals
+pub mod Values

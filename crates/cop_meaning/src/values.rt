@@ -1,0 +1,315 @@
+//! What a value may become where it is written in another way.
+
+ghost use Rattle.std.specs.Prelude.{◌≡◌, ◌<◌, ◌≤◌, ◌^◌, ◌||◌, IfOk};
+ghost use Rattle.std.specs.List.{list_any};
+ghost use Rattle.cop_eds.specs.Amount.{amount_of};
+ghost use Rattle.cop_meaning.specs.Values.{same_signed, amount_number, read, are_so, low_bytes, fits, is_widened_to, is_widened, same_bytes, same_pattern, are_ones, is_true_pattern, is_below, is_end_of, is_end, is_raised, is_lowered, is_node_word, is_bracket, plus_of, summed, is_term, is_sum, is_sum_read, is_no_value, is_yes, is_no, is_truth, is_same_text, meant};
+
+use crate::numerals::{Signed, meant};
+use cop_change::Digits;
+use cop_eds::{Amount, after_first, amount_of, before_first, same_name, trim};
+use std::alloc::{AllocError, Global};
+
+fn same_signed(a: Signed, b: Signed) -> bool
+    ensures { result ≡ same_signed a b }
+{
+    a.number == b.number && (a.is_negative == b.is_negative || a.number == 0)
+}
+
+fn amount_number(amount: Amount) -> Option<Signed>
+    ensures { result ≡ amount_number amount }
+{
+    match amount {
+        Amount::Decimal(number) | Amount::Hexadecimal(number) => Some(Signed {
+            is_negative: false,
+            number,
+        }),
+        Amount::Negative(number) => Some(Signed {
+            is_negative: true,
+            number,
+        }),
+        Amount::PlusNode(_) => None,
+    }
+}
+
+/// The number that a text is by CiA 306.
+pub fn read(text: &[u8]) -> Option<Signed>
+    ensures { result ≡ read text.now }
+{
+    match amount_of(text) {
+        Ok(amount) => amount_number(amount),
+        Err(_) => None,
+    }
+}
+
+/// Whether both numbers are there and the same.
+pub fn are_same(a: Option<Signed>, b: Option<Signed>) -> bool
+    ensures { result ≡ are_so same_signed a b }
+{
+    match (a, b) {
+        (Some(a), Some(b)) => same_signed(a, b),
+        _ => false,
+    }
+}
+
+/// The pattern of the low bytes of a number in a type of so many patterns.
+fn low_bytes(size: u128, a: Signed) -> u128
+    requires { 0 < size }
+    ensures { result ≡ low_bytes size a }
+{
+    let rest = u128::from(a.number) % size;
+    if a.is_negative && 0 < rest {
+        size - rest
+    } else {
+        rest
+    }
+}
+
+/// Whether a number is one of the signed or of the unsigned type.
+fn fits(size: u128, a: Signed) -> bool
+    ensures { result ≡ fits size a }
+{
+    let number = u128::from(a.number);
+    if a.is_negative {
+        2 * number <= size
+    } else {
+        number < size
+    }
+}
+
+fn is_widened_to(size: u128, wide: u128, a: Signed) -> bool
+    requires { wide ≤ 2 ^ 64 }
+    ensures { result ≡ is_widened_to size wide a }
+{
+    let number = u128::from(a.number);
+    !a.is_negative && (number < wide && 2 * (wide - number) <= size)
+}
+
+/// Whether a number is the pattern that a negative one of the type has in a wider type.
+fn is_widened(size: u128, a: Signed) -> bool
+    ensures { result ≡ is_widened size a }
+{
+    is_widened_to(size, 0x1_0000, a)
+        || (is_widened_to(size, 0x1_0000_0000, a)
+            || is_widened_to(size, 0x1_0000_0000_0000_0000, a))
+}
+
+fn same_bytes(size: u128, a: Signed, b: Signed) -> bool
+    requires { 0 < size }
+    ensures { result ≡ same_bytes size a b }
+{
+    fits(size, b)
+        && ((fits(size, a) || is_widened(size, a)) && low_bytes(size, a) == low_bytes(size, b))
+}
+
+/// Whether two numbers have the same bytes in a type of 8, 16, 32 or 64 bits.
+fn same_pattern(a: Signed, b: Signed) -> bool
+    ensures { result ≡ same_pattern a b }
+{
+    (same_bytes(0x100, a, b) || same_bytes(0x1_0000, a, b))
+        || (same_bytes(0x1_0000_0000, a, b) || same_bytes(0x1_0000_0000_0000_0000, a, b))
+}
+
+fn are_ones(size: u128, a: Signed) -> bool
+    requires low { 0 < size }
+    requires high { size ≤ 2 ^ 64 }
+    ensures { result ≡ are_ones size a }
+{
+    low_bytes(size, a) == size - 1
+}
+
+/// Whether a BOOLEAN is 1 where all bits of a pattern are set.
+fn is_true_pattern(a: Signed, b: Signed) -> bool
+    ensures { result ≡ is_true_pattern a b }
+{
+    (b.number == 1 && !b.is_negative)
+        && (are_ones(0x100, a) || (are_ones(0x1_0000, a) || are_ones(0x1_0000_0000, a)))
+}
+
+/// Whether a number that does not fit its type became the pattern that its bytes have there.
+pub fn are_same_patterns(a: Option<Signed>, b: Option<Signed>) -> bool
+    ensures { result ≡ are_so same_pattern a b || are_so is_true_pattern a b }
+{
+    match (a, b) {
+        (Some(a), Some(b)) => same_pattern(a, b) || is_true_pattern(a, b),
+        _ => false,
+    }
+}
+
+fn is_below(a: Signed, b: Signed) -> bool
+    ensures { result ≡ is_below a b }
+{
+    match (a.is_negative, b.is_negative) {
+        (true, true) => b.number < a.number,
+        (true, false) => 0 < a.number || 0 < b.number,
+        (false, true) => false,
+        (false, false) => a.number < b.number,
+    }
+}
+
+/// Whether a number is the least or the greatest of a type of this size.
+fn is_end_of(size: u128, b: Signed) -> bool
+    ensures { result ≡ is_end_of size b }
+{
+    let number = u128::from(b.number);
+    if b.is_negative {
+        2 * number == size
+    } else {
+        number == 0 || (number + 1 == size || 2 * (number + 1) == size)
+    }
+}
+
+fn is_end(b: Signed) -> bool
+    ensures { result ≡ is_end b }
+{
+    (is_end_of(2, b) || (is_end_of(0x100, b) || is_end_of(0x1_0000, b)))
+        || (is_end_of(0x1_0000_0000, b) || is_end_of(0x1_0000_0000_0000_0000, b))
+}
+
+/// Whether a low limit below its type became the least number.
+pub fn is_raised(a: Option<Signed>, b: Option<Signed>) -> bool
+    ensures { result ≡ are_so is_raised a b }
+{
+    match (a, b) {
+        (Some(a), Some(b)) => is_end(b) && is_below(a, b),
+        _ => false,
+    }
+}
+
+/// Whether a high limit above its type became the greatest number.
+pub fn is_lowered(a: Option<Signed>, b: Option<Signed>) -> bool
+    ensures { result ≡ are_so is_lowered a b }
+{
+    match (a, b) {
+        (Some(a), Some(b)) => is_end(b) && is_below(b, a),
+        _ => false,
+    }
+}
+
+fn is_node_word(text: &[u8]) -> bool
+    ensures { result ≡ is_node_word text.now }
+{
+    ((same_name(text, b"$NODEID") || same_name(text, b"NODEID"))
+        || (same_name(text, b"NODE_ID") || same_name(text, b"NODE-ID")))
+        || (same_name(text, b"NODE") || same_name(text, b"%NODEID%"))
+}
+
+fn is_bracket(byte: u8) -> bool
+    ensures { result ≡ is_bracket byte }
+{
+    (byte == b'(' || byte == b')') || (byte == b'{' || byte == b'}')
+}
+
+/// A plus for a bar.
+fn plus_of(byte: u8) -> u8
+    ensures { result ≡ plus_of byte }
+{
+    if byte == b'|' { b'+' } else { byte }
+}
+
+/// A text without brackets, and with a plus for each bar.
+#[tactic(auto, unfolding(crate::specs::Values::summed))]
+fn summed(alloc: Global, text: &[u8]) -> Result<Vec<u8>, AllocError>
+    ensures { IfOk result (λ v. v.items ≡ summed text.now) }
+{
+    text.iter()
+        .copied()
+        .filter(|byte| !is_bracket(*byte))
+        .map(|byte| plus_of(byte))
+        .collect(alloc)
+}
+
+fn is_term(
+    alloc: Global,
+    choice: Option<Digits>,
+    number: u64,
+    text: &[u8],
+) -> Result<bool, AllocError>
+    ensures { IfOk result (λ b. b ≡ is_term choice number text.now) }
+{
+    let said = Signed {
+        is_negative: false,
+        number,
+    };
+    Ok(are_same(meant(alloc, choice, text)?, Some(said)))
+}
+
+/// Whether a text is a sum of the node's number and this one.
+#[tactic(auto, unfolding(crate::specs::Values::is_sum))]
+fn is_sum(
+    alloc: Global,
+    choice: Option<Digits>,
+    number: u64,
+    sum: &[u8],
+) -> Result<bool, AllocError>
+    ensures { IfOk result (λ b. b ≡ is_sum choice number sum.now) }
+{
+    let left = trim(before_first(sum, b'+'));
+    let right = trim(after_first(sum, b'+'));
+    if right.contains(&b'+') {
+        return Ok(true);
+    }
+    if is_node_word(left) {
+        return Ok(is_term(alloc, choice, number, right)? || (right.is_empty() && number == 0));
+    }
+    Ok(is_node_word(right) && is_term(alloc, choice, number, left)?)
+}
+
+/// Whether a new text is the sum of the node's number that a text is.
+pub fn is_sum_read(
+    alloc: Global,
+    choice: Option<Digits>,
+    text: &[u8],
+    new: &[u8],
+) -> Result<bool, AllocError>
+    ensures { IfOk result (λ b. b ≡ is_sum_read choice (summed text.now) (amount_of new.now)) }
+{
+    match amount_of(new) {
+        Ok(Amount::PlusNode(number)) => is_sum(alloc, choice, number, &summed(alloc, text)?),
+        _ => Ok(false),
+    }
+}
+
+/// Whether a text stands for no value.
+pub fn is_no_value(text: &[u8]) -> bool
+    ensures { result ≡ is_no_value text.now }
+{
+    ((same_name(text, b"n/a") || same_name(text, b"na"))
+        || (same_name(text, b"none") || same_name(text, b"null")))
+        || ((same_name(text, b"-") || same_name(text, b"--"))
+            || (same_name(text, b"---") || same_name(text, b"0x")))
+}
+
+fn is_yes(text: &[u8]) -> bool
+    ensures { result ≡ is_yes text.now }
+{
+    same_name(text, b"true") || (same_name(text, b"yes") || same_name(text, b"on"))
+}
+
+fn is_no(text: &[u8]) -> bool
+    ensures { result ≡ is_no text.now }
+{
+    same_name(text, b"false") || (same_name(text, b"no") || same_name(text, b"off"))
+}
+
+/// Whether a new text is 1 or 0 for a word of truth.
+fn is_truth(text: &[u8], new: &[u8]) -> bool
+    ensures { result ≡ is_truth text.now new.now }
+{
+    (is_yes(text) && new == b"1".as_slice()) || (is_no(text) && new == b"0".as_slice())
+}
+
+/// Whether a new text is a text without what stood round it, or the same number or word of truth.
+pub fn is_same_text(
+    alloc: Global,
+    choice: Option<Digits>,
+    text: &[u8],
+    new: &[u8],
+) -> Result<bool, AllocError>
+    ensures { IfOk result (λ b. b ≡ is_same_text choice text.now new.now) }
+{
+    if new == text || is_truth(text, new) {
+        return Ok(true);
+    }
+    Ok(are_same(meant(alloc, choice, text)?, read(new)))
+}
