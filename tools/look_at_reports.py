@@ -1,7 +1,8 @@
 #!/usr/bin/env python3
-"""Draws the report of each example in a browser, at the width of a desk and of a phone, light and dark, to be looked at.
+"""Draws the report of each example in a browser, at the width of a desk and of a phone, light and dark, and prints it, to be looked at.
 
-usage: tools/look_at_reports.py [--trace] FOLDER [PAGE..]    the pages and their pictures go into FOLDER, as valve-390-dark.png;
+usage: tools/look_at_reports.py [--trace] FOLDER [PAGE..]    the pages and their pictures go into FOLDER, as valve-390-dark.png,
+                                                             and on paper as valve.pdf;
                                                              where pages are given, these are drawn in place of the examples'
                                                              reports; with --trace these show the examples' runs, too,
                                                              or their traces where there is no run
@@ -59,8 +60,11 @@ def size_of(page, width):
 
 
 def draw(page, folder):
-    """The pictures of a page."""
+    """A page on paper, and its pictures."""
     name = os.path.splitext(os.path.basename(page))[0]
+    paper = f"{folder}/{name}.pdf"
+    opened(page, WIDTHS[0], 800, "--no-pdf-header-footer", f"--print-to-pdf={paper}")
+    print(paper if os.path.exists(paper) else f"not printed: {paper}")
     for width in WIDTHS:
         wide, height = size_of(page, width)
         if wide > width:

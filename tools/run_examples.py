@@ -6,9 +6,11 @@
 Each plan also has to stand in examples/README.md, each stored refusal has to hold, and one that is altered to fail. Of a plan
 that is refused it has to be said where its folder has the files of another. Each network is booted by two seeds. A stored trace
 has to be on time. A run by a seed has to give the stored one, where there is one, and the judgement of it what the run said; its
-report has to show each transfer, and one of a trace that is refused has to end as the judgement, with no page.
+report has to show each transfer, and one of a trace that is refused has to end as the judgement, with no page. In a page each link
+has to lead to a part of it, and each consumer has to be one. A run so long that its trace is above 64 MiB is judged as it was run.
 """
 import os
+import re
 import subprocess
 import sys
 import tempfile
@@ -54,11 +56,26 @@ def ends_in(trace):
     return sum(line.startswith(b"end,") for line in bytes_of(trace).splitlines())
 
 
+def consumers_in(pdos):
+    """How many consumers a table of PDOs has."""
+    return sum(len(line.split(b",")[5].split()) for line in bytes_of(pdos).splitlines()[1:])
+
+
+def faults_of_links(tables, page):
+    """What is wrong with the links of a page."""
+    text = bytes_of(page)
+    if set(re.findall(rb'href="#([^"]*)"', text)) - set(re.findall(rb'id="([^"]*)"', text)):
+        yield "the links of the report"
+    if len(re.findall(rb'<a href="#node-\d+">RPDO ', text)) != consumers_in(tables[1]):
+        yield "the consumers of the report"
+
+
 def faults_of_report(tables, trace, out):
     """What is wrong with the report of a run, and with that of the run without its header."""
     page, headless = f"{out}/report.html", f"{out}/headless.csv"
     if run("report", *tables, page) != (0, b"") or b"id=\"lanes\"" in bytes_of(page):
         yield "the report"
+    yield from faults_of_links(tables, page)
     os.remove(page)
     drawn = run("report", "--trace", trace, *tables, page)
     if drawn != (0, b"") or bytes_of(page).count(b'class="sends"') != ends_in(trace):
@@ -98,6 +115,18 @@ def faults_of_traces(tables, folder, out):
     yield from faults_of_report(tables, seeded, out)
 
 
+def faults_of_long_run():
+    """What is wrong with a run whose trace is above 64 MiB, and with the judgement of it."""
+    tables = [f"{EXAMPLES}/conveyor/nodes.csv", f"{EXAMPLES}/conveyor/pdos.csv"]
+    with tempfile.TemporaryDirectory() as out:
+        trace = f"{out}/run.csv"
+        said = run("run", "--seed", "1", "--until", "1000000000", *tables, trace)
+        if os.path.getsize(trace) <= 64 << 20 or said != (0, b"transfers %d\non time\n" % ends_in(trace)):
+            yield "the long run"
+        if run("judge", *tables, trace) != said:
+            yield "the judgement of the long run"
+
+
 def faults_of(name):
     """What differs in an example network."""
     folder, page = f"{EXAMPLES}/{name}", bytes_of(f"{EXAMPLES}/README.md")
@@ -134,6 +163,9 @@ def main():
         faults = list(faults_of(name))
         wrong += len(faults)
         print(f"{name}: {'differs: ' + ', '.join(faults) if faults else 'ok'}")
+    faults = list(faults_of_long_run())
+    wrong += len(faults)
+    print(f"a long run: {'differs: ' + ', '.join(faults) if faults else 'ok'}")
     wanted = b"181h pass 8000\n182h pass 12000\n183h late 1 14000\n"
     if run("test", "--rate", "125", f"{EXAMPLES}/three-frames.csv") != (0, wanted):
         wrong += 1

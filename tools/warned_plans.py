@@ -32,6 +32,10 @@ def listed(index, *sections):
 
 RECORD = "[1801]\nObjectType=9\n[1801sub1]\nDataType=7\nAccessType=rw"
 SHORT = "[1801]\nObjectType=9\n[1801sub0]\nDataType=5\nAccessType=ro\nDefaultValue=2"
+SERVER = "[1200]\nObjectType=9\n[1200sub1]\nDataType=7\nAccessType=ro\nDefaultValue=0x"
+CLIENT = SERVER.replace("sub1", "sub2")
+EMCY = "emcy,5,,,100000,0\n"
+REQUEST = "sdo_request,5,,,100000,0\n"
 # The number, the parts of the EDS text that become others (none: appended), the nodes, the rows of PDOs, the node, and a part of the words.
 DEVICES = (
     (None, [], NODES, ROW, None, ""),
@@ -47,6 +51,11 @@ DEVICES = (
     (88, listed("0x1014", "[1014]\nDataType=7\nAccessType=rw\nDefaultValue=0x85"), NODES, ROW, 5, "no row emcy of node 5"),
     (89, listed("0x1005", "[1005]\nDataType=7\nAccessType=rw\nDefaultValue=0x181"), NODES, ROW, 5, "1005h sub 0 is 00000181h"),
     (89, listed("0x1005", "[1005]\nDataType=7\nAccessType=rw\nDefaultValue=0x40000080"), NODES, ROW, 5, "node 5 makes SYNC itself"),
+    (88, listed("0x1014", "[1014]\nDataType=7\nAccessType=rw\nDefaultValue=0x86"), NODES + EMCY, ROW, 5, "1014h sub 0 is 00000086h"),
+    (None, listed("0x1200", SERVER + "606"), NODES + REQUEST, ROW, 5, "1200h sub 1 is 00000606h"),
+    (None, listed("0x1200", SERVER + "605"), NODES, ROW, 5, "no row sdo_request of node 5: by its EDS file it has an SDO server (1200h sub 1)"),
+    (None, listed("0x1200", CLIENT + "585"), NODES, ROW, 5, "no row sdo_response of node 5: by its EDS file it has an SDO server (1200h sub 2)"),
+    (None, [("DefaultValue=0\n", "DefaultValue=1000\n")], NODES, ROW, 5, "no row heartbeat of node 5: by its EDS file it begins with a heartbeat (1017h)"),
     (None, [], NODES, "5,1,10000,8000,8000,\n", 5, "is not above its jitter"),
 )
 

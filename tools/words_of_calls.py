@@ -1,9 +1,11 @@
 #!/usr/bin/env python3
-"""Tries words of the command line that no test of the gate reaches: rates that are listed, strict calls, formats, and words that exclude one another.
+"""Tries words of the command line that no test of the gate reaches: rates that are listed, strict calls, formats, words that exclude one another,
+and the numbers that `explain` knows, which it tells where it is asked for another.
 
     python3 tools/words_of_calls.py
 """
 import os
+import re
 import subprocess
 import sys
 import tempfile
@@ -12,13 +14,17 @@ from files import bytes_of, status_of, write
 
 HERE = os.path.dirname(os.path.dirname(os.path.realpath(__file__)))
 PROGRAM = os.environ.get("CANPLAN", f"{HERE}/bin/canplan")
-CRANE = (f"{HERE}/examples/crane/nodes.csv", f"{HERE}/examples/crane/pdos.csv")
+CRANE, SDO, RANGES = ((f"{HERE}/examples/{it}/nodes.csv", f"{HERE}/examples/{it}/pdos.csv") for it in ("crane", "sdo-refusal", "second-range"))
 NO_REFUSAL = b"rate,pdo,what,value\n0,0,version,1\n"
 
 # The words, the status, and what stands in the answer and on standard error. OUT is a folder of its own.
 CALLS = (
+    (("plan", "--explain", *SDO, "OUT"), 0, "refused 250 sdo 585", "at 250 kbit/s the SDO frame 585h needs 1080 us, its deadline is 1000 us, with all PDOs below it\n"),
+    (("plan", "--explain", *RANGES, "OUT"), 0, "refused 125 sdo 582", ", below 1 PDO that cannot go below it\n"),
     (("plan", *CRANE, "OUT"), 0, "refused 250", ""),
     (("plan", "--strict", *CRANE, "OUT"), 3, "refused 250", ""),
+    (("plan", "--explain", *CRANE, "OUT"), 0, "refused 250", "at 250 kbit/s "),
+    (("check", "--explain", *CRANE, "OUT/none.csv"), 0, "", "no refusal in"),
     (("explain", "80"), 0, "rule 80: ", ""),
     (("explain", "86"), 0, "warning 86: ", ""),
     (("check", "--strict", *CRANE, "OUT/refusals.csv"), 0, "250 holds", ""),
@@ -41,7 +47,7 @@ CALLS = (
     (("explain", "90"), 0, "", ""),
     (("explain", "94"), 0, "no frame of the channel", ""),
     (("explain", "95"), 0, "4096 bytes", ""),
-    (("explain", "96"), 2, "", ""),
+    (("explain", "96"), 2, "", "60 to 95"),
     (("explain", "100"), 0, "--take-over", ""),
     (("watch", "--json", *CRANE, "OUT/none.csv"), 3, '"number":91', ""),
     (("report", "--json", *CRANE, "OUT/page.html"), 2, "", "--json"),
@@ -57,6 +63,24 @@ def fault_of(words, status, answer, error, folder):
     return None
 
 
+def told_numbers(line):
+    """The numbers that a line has, such as 1 to 3 and 5."""
+    ranges = re.findall(r"(\d+)(?: to (\d+))?", line)
+    return {number for first, last in ranges for number in range(int(first), int(last or first) + 1)}
+
+
+def faults_of_numbers():
+    """What is wrong with the numbers that are told to be explained, and with what is said of each number."""
+    line = subprocess.run([PROGRAM, "explain", "7"], capture_output=True, text=True).stderr
+    if not line.startswith("canplan: usage\ncanplan: explained are "):
+        yield f"explain 7: {line!r}"
+    for number in range(1, 256):
+        done = subprocess.run([PROGRAM, "explain", str(number)], capture_output=True, text=True)
+        wanted = (0, "") if number in told_numbers(line) else (2, line)
+        if (done.returncode, done.stderr) != wanted or bool(done.stdout) != (done.returncode == 0):
+            yield f"explain {number}: status {done.returncode}, {done.stdout!r}, {done.stderr!r}"
+
+
 def main():
     with tempfile.TemporaryDirectory() as folder:
         write(f"{folder}/none.csv", NO_REFUSAL)
@@ -65,6 +89,7 @@ def main():
         faults = [fault for fault in (fault_of(*call, folder) for call in CALLS) if fault]
         if os.path.exists(f"{folder}/node-099.cdcf") or bytes_of(f"{folder}/node-099.txt") != b"mine":
             faults.append("files of an earlier plan, and they alone, are to be removed")
+    faults += faults_of_numbers()
     return status_of(faults)
 
 

@@ -1,20 +1,29 @@
 //! How a request is carried out.
 
+use crate::faults::tell;
 use cop_answers::{Inputs, words_of_rule};
 use cop_calls::{
     Drawn, Wanted, boot, check, export, judge, plan, run, test, watch_bus, write_report,
 };
-use cop_engine::{Fault, test_status};
+use cop_engine::{Fault, status, test_status};
 use cop_files::{Failure, Form, print};
 use cop_makers::carry_tidy;
 use cop_orders::{Order, Request};
 use cop_serial::boot_machine;
+use std::io::Write;
 
-/// What the rule of a number says.
+/// The numbers that have a rule, as a line.
+const EXPLAINED: &[u8] =
+    b"canplan: explained are 1 to 6, 10 to 18, 20 to 23, 30 to 36, 40 to 53, 60 to 95, 100 and 101\n";
+
+/// What the rule of a number says. A number that has none is a usage fault, and those that have one are told below it.
 fn explain(rt: &HostRuntime, number: u8) -> Result<u8, Failure> {
     let words = words_of_rule(rt.alloc(), number)?;
     if words.is_empty() {
-        return Err(Failure::from(Fault::Usage));
+        let fault = Fault::Usage;
+        tell(rt, &fault);
+        let _ = rt.stderr().write_all(EXPLAINED);
+        return Ok(status(&fault));
     }
     print(rt, &words)?;
     Ok(0)

@@ -36,7 +36,7 @@ pub(crate) fn tightest(times: &[PdoTimes]) -> Option<&PdoTimes> {
     found
 }
 
-/// Adds who takes a PDO.
+/// Adds who takes a PDO, each with a link to its node.
 fn push_consumers(
     page: &mut String,
     network: &Network<'_>,
@@ -47,8 +47,8 @@ fn push_consumers(
     }
     for (number, consumer) in consumers.iter().enumerate() {
         let comma = if number == 0 { "" } else { ", " };
-        let taken = taken_by(network, *consumer);
-        write!(page, "{comma}{taken}")?;
+        let (node, taken) = (consumer.node, taken_by(network, *consumer));
+        write!(page, "{comma}<a href=\"#node-{node}\">{taken}</a>")?;
     }
     Ok(())
 }

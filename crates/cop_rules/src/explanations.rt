@@ -19,14 +19,6 @@ const STREAMS_HEADER: &str = "id,bytes,period,jitter,deadline";
 
 const TRACE_HEADER: &str = "kind,moment,id,event,bits,data";
 
-/// The numbers of the rules that are explained, as words of a command line.
-pub static RULE_WORDS: [&str; 50] = [
-    "1", "2", "3", "4", "5", "6", "10", "11", "12", "13", "14", "15", "16", "17", "18", "20", "21",
-    "22", "23", "30", "31", "32", "33", "34", "35", "36", "40", "41", "42", "43", "44", "45", "46",
-    "47", "48", "49", "50", "51", "52", "53", "60", "61", "62", "63", "64", "65", "66", "67", "68",
-    "69",
-];
-
 static EXPLANATIONS: [Explanation; 50] = [
     Explanation {
         number: 1,
@@ -96,7 +88,7 @@ static EXPLANATIONS: [Explanation; 50] = [
     },
     Explanation {
         number: 15,
-        rule: "a list of the EDS text names an object that has no section, or lacks an entry that SupportedObjects counts",
+        rule: "a list of the EDS text has no SupportedObjects, lacks an entry that this counts, or names an object that has no section",
         cause: "an object that was removed and is still listed, or a number of objects that is not that of the entries 1=, 2= and on",
         right: "1=0x1800 and a section [1800]",
     },
@@ -152,19 +144,19 @@ static EXPLANATIONS: [Explanation; 50] = [
         number: 31,
         rule: "the refusals begin with another header or version",
         cause: "another file, or an empty one",
-        right: "rate,pdo,what,value and then 0,0,version,1",
+        right: "rate,pdo,what,value and then 0,0,version,1, or 0,0,version,2 where SYNC or an SDO frame is the cause of a refusal",
     },
     Explanation {
         number: 32,
-        rule: "a number of the refusals cannot be read, or the rate or the PDO is none",
-        cause: "a rate in bit/s in place of kbit/s",
-        right: "250,1,late,0",
+        rule: "a number of the refusals cannot be read; the rate or the PDO is none; long, uplong or sync has another value than 0; or that of sdo is no SDO frame's identifier",
+        cause: "a rate in bit/s in place of kbit/s, or PDO 0 in version 1, which has PDOs alone",
+        right: "250,1,late,0 of a PDO; in version 2 also 250,0,sync,0 of SYNC, and 250,0,sdo,1413 of the SDO frame 585h",
     },
     Explanation {
         number: 33,
-        rule: "a rate is below the one before it",
+        rule: "a rate is below the one before it, or has a second cause",
         cause: "records that were sorted or joined",
-        right: "rates rise",
+        right: "rates rise, and each has one cause: some PDOs, or in version 2 also SYNC or an SDO frame",
     },
     Explanation {
         number: 34,
@@ -175,7 +167,7 @@ static EXPLANATIONS: [Explanation; 50] = [
     Explanation {
         number: 35,
         rule: "a word is out of place, or a list is missing",
-        cause: "a file that was cut off",
+        cause: "a file that was cut off, or a word of version 2 (sync, sdo, uplong or uplate) in version 1",
         right: "late, then busy numbers, then queue numbers",
     },
     Explanation {
@@ -223,13 +215,13 @@ static EXPLANATIONS: [Explanation; 50] = [
     Explanation {
         number: 46,
         rule: "the COB-ID of the PDO cannot be switched off and then given each identifier from 181h to 57Fh, and from 680h to 6DFh where an SDO frame has a deadline and there are at most 96 PDOs",
-        cause: "sub 1 of 1800h or 1400h and on is read-only, absent, or has limits; where only 680h to 6DFh are beyond them, the table of nodes can be left without deadlines",
+        cause: "sub 1 of 1800h or 1400h and on is absent, read-only, of another type than UNSIGNED32, or has limits",
         right: "AccessType=rw and DataType=0x0007 in [1800sub1]",
     },
     Explanation {
         number: 47,
         rule: "the TPDO has no transmission type, or one that is refused: 0 and 241 to 253 are, 1 to 240, 254 and 255 are not",
-        cause: "type 0, which waits for an event and then for SYNC, 252 or 253 for remote frames, or 241 to 251, which are reserved; or a type that is no integer",
+        cause: "type 0, which waits for an event and then for SYNC, 252 or 253 for remote frames, or 241 to 251, which are reserved; or a DataType that is no integer type, such as BOOLEAN",
         right: "DefaultValue=255 in [1800sub2] for events, or 1 for each SYNC, where the device's manual says that it sends the PDO so; else leave the PDO out",
     },
     Explanation {
@@ -282,15 +274,15 @@ static EXPLANATIONS: [Explanation; 50] = [
     },
     Explanation {
         number: 62,
-        rule: "an event comes less than its period after the one before it",
-        cause: "an inhibit time that is not set, or a period in the table that is too long",
-        right: "events a period apart",
+        rule: "an event comes less than its period after the one before it; or, of a PDO that each n-th SYNC sends, its SYNC is less than n SYNCs after that of the one before it",
+        cause: "an inhibit time that is not set, a period in the table that is too long, or another transmission type in the device than in its EDS file",
+        right: "events a period apart; of a PDO that each n-th SYNC sends, its SYNCs n numbers apart",
     },
     Explanation {
         number: 63,
-        rule: "a frame is queued before its event, or later than its jitter allows",
-        cause: "a device that is slower than the table says",
-        right: "queued from the event to the jitter after it",
+        rule: "a frame is queued before its event, or later than its jitter allows; or, of a PDO that is sent by SYNC, before the end of its SYNC's transfer, or later than its latency allows",
+        cause: "a device that is slower than the table says, or a PDO that is sent by SYNC with an event that is no SYNC's",
+        right: "queued from the event to the jitter after it; of a PDO that is sent by SYNC, from the end of its SYNC's transfer to the latency after it",
     },
     Explanation {
         number: 64,

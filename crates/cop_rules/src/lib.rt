@@ -5,4 +5,4 @@ mod columns;
 mod explanations;
 
 pub use columns::{header, header_with_deadline, name_of, wanted};
-pub use explanations::{Explanation, NONE_LISTED, RULE_WORDS, explained};
+pub use explanations::{Explanation, NONE_LISTED, explained};

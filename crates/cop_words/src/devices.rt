@@ -79,6 +79,24 @@ fn value_line(eds: &Eds<'_>, index: u16, sub: u8) -> Option<usize> {
     }
 }
 
+/// The line of the data type at an index and a sub.
+fn type_line(eds: &Eds<'_>, index: u16, sub: u8) -> Option<usize> {
+    eds.key_line(eds.object(index, sub)?, b"DataType")
+}
+
+/// Adds a line of a device's EDS text, where there is one.
+fn push_line(
+    words: &mut Vec<u8>,
+    alloc: Global,
+    eds: &Eds<'_>,
+    line: Option<usize>,
+) -> Result<(), AllocError> {
+    match line.and_then(|line| line_at(eds.source(), line)) {
+        Some(place) => push_place(words, alloc, "its EDS file", &place),
+        None => Ok(()),
+    }
+}
+
 /// Adds the line of a device's EDS text that gives the value at an index and a sub, where there is one.
 pub(crate) fn push_value_line(
     words: &mut Vec<u8>,
@@ -87,11 +105,16 @@ pub(crate) fn push_value_line(
     index: u16,
     sub: u8,
 ) -> Result<(), AllocError> {
-    let Some(line) = value_line(eds, index, sub) else {
-        return Ok(());
-    };
-    match line_at(eds.source(), line) {
-        Some(place) => push_place(words, alloc, "its EDS file", &place),
-        None => Ok(()),
-    }
+    push_line(words, alloc, eds, value_line(eds, index, sub))
+}
+
+/// Adds the line of a device's EDS text that gives the data type at an index and a sub, where there is one.
+pub(crate) fn push_type_line(
+    words: &mut Vec<u8>,
+    alloc: Global,
+    eds: &Eds<'_>,
+    index: u16,
+    sub: u8,
+) -> Result<(), AllocError> {
+    push_line(words, alloc, eds, type_line(eds, index, sub))
 }

@@ -83,7 +83,7 @@ fn record_words(
         );
     }
     format!(in alloc;
-        "{pdo} of {devices} has no UNSIGNED32 at sub 1 of [{section}]: it is not switched off. Describe sub 1 as the device has it"
+        "{pdo} of {devices} has no UNSIGNED32 at sub 1 of [{section}]: it is not switched off. Describe the record (ObjectType=9) and its sub 1 as the device has them"
     )
 }
 
@@ -102,7 +102,7 @@ fn line_words(alloc: Global, text: Text<'_, '_, '_>, hazard: Hazard) -> Result<S
             "{line} is spelled otherwise than CiA 306 says: nothing reads that section. canplan tidy respells it"
         ),
         _ => format!(in alloc;
-            "{line} is more than the lists of {devices} name: the number is wrong, or PDOs are not switched off"
+            "{line} is more than the lists of {devices} name: the number is wrong, or PDOs are not switched off: correct it, or list the PDOs that the device has"
         ),
     }
 }

@@ -1,11 +1,11 @@
 //! What is said of a PDO of a device that is refused.
 
-use crate::devices::{Device, device_of, push_value_line, row_of};
+use crate::devices::{Device, device_of, push_type_line, push_value_line, row_of};
 use crate::mappings::{communication, pdo_name, push_layout, push_mapping};
 use crate::networks::Network;
 use crate::paces::sender;
 use crate::words::push_rule;
-use cop_dict::{Access, Description, Dictionary, Direction, MappingFault};
+use cop_dict::{Access, DataType, Description, Dictionary, Direction, MappingFault, Object};
 use cop_net::{Consumer, DevicePdo, NodeTable, ReceiveFault, read_pdos};
 use std::alloc::{AllocError, Global};
 
@@ -165,20 +165,37 @@ pub(crate) fn push_stray(
     }
 }
 
-/// What the transmission type of a communication record is.
-fn type_words(alloc: Global, dict: &Dictionary, index: u16) -> Result<String, AllocError> {
-    let Some(entry) = dict.entry(index, 2) else {
-        return format!(in alloc; "{index:04X}h sub 2, its transmission type, is absent");
-    };
-    match entry
-        .integer()
-        .and_then(|number| i64::try_from(number).ok())
-    {
-        Some(number) => format!(in alloc; "{index:04X}h sub 2, its transmission type, is {number}"),
-        None => format!(in alloc; "{index:04X}h sub 2, its transmission type, is no integer"),
+/// The number of an entry of an integer type.
+fn whole_of(entry: &Object) -> Option<i128> {
+    match entry.description().data_type {
+        DataType::Boolean => None,
+        _ => entry.integer(),
     }
 }
 
+/// The number of an entry, or what it is where it has none.
+fn number_words(alloc: Global, entry: &Object) -> Result<String, AllocError> {
+    if let Some(number) = whole_of(entry) {
+        return format!(in alloc; "{number}");
+    }
+    let said = match entry.description().data_type {
+        DataType::Boolean => "a BOOLEAN, which is no integer type",
+        _ => "of no integer type",
+    };
+    String::from_str(alloc, said)
+}
+
+/// What the transmission type of a communication record is.
+fn type_words(alloc: Global, dict: &Dictionary, index: u16) -> Result<String, AllocError> {
+    let said = match dict.entry(index, 2) {
+        Some(entry) => number_words(alloc, entry)?,
+        None => String::from_str(alloc, "absent")?,
+    };
+    format!(in alloc; "{index:04X}h sub 2, its transmission type, is {said}")
+}
+
+/// Adds what the transmission type of a TPDO is, and the line of its EDS text that gives its value, or its data type where this is no
+/// integer type.
 fn push_type_of(
     words: &mut Vec<u8>,
     alloc: Global,
@@ -190,7 +207,12 @@ fn push_type_of(
     let said = type_words(alloc, &device.dictionary, index)?;
     let line = format!(in alloc; "{name}: {said}\n")?;
     words.extend_from_slice(line.as_bytes())?;
-    push_value_line(words, alloc, &device.eds, index, 2)
+    match device.dictionary.entry(index, 2) {
+        Some(entry) if whole_of(entry).is_none() => {
+            push_type_line(words, alloc, &device.eds, index, 2)
+        }
+        _ => push_value_line(words, alloc, &device.eds, index, 2),
+    }
 }
 
 /// Adds the transmission type of the TPDO of a row.

@@ -87,13 +87,23 @@ fn places_words(
     format!(in alloc; "none of {count} PDOs can be the lowest of them: below the others {said}")
 }
 
+/// Where an SDO frame stands that so many PDOs cannot go below.
+fn above_words(alloc: Global, above: usize) -> Result<String, AllocError> {
+    match above {
+        0 => String::from_str(alloc, "with all PDOs below it"),
+        1 => String::from_str(alloc, "below 1 PDO that cannot go below it"),
+        _ => format!(in alloc; "below {above} PDOs that cannot go below it"),
+    }
+}
+
 /// What is said of an SDO frame.
 fn frame_words(alloc: Global, frame: &FailingFrame, above: usize) -> Result<String, AllocError> {
-    let (id, needs) = (
+    let (id, needs, place) = (
         frame.id,
         verdict_words(alloc, frame.verdict, frame.deadline)?,
+        above_words(alloc, above)?,
     );
-    format!(in alloc; "the SDO frame {id:03X}h {needs}, below {above} PDOs that cannot go below it")
+    format!(in alloc; "the SDO frame {id:03X}h {needs}, {place}")
 }
 
 fn reason_words(

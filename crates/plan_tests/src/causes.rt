@@ -3,7 +3,7 @@
 ghost use Rattle.std.specs.Prelude.{◌≤◌, ◌<◌};
 
 use crate::plans::answer_for;
-use crate::ranges::{ONE_TOO_MANY, RATES, TOO_LATE, many, synchronous};
+use crate::ranges::{BOTH_TOO_MANY, ONE_TOO_MANY, RATES, TOO_LATE, many, synchronous};
 use crate::refusals::{BEGIN, are_written, breach, holds, joined, late_member};
 use cop_cert::{
     Breach, Cause, CertFault, Evidence, Items, Member, Refusal, Rule, fail_together, is_sync_long,
@@ -205,10 +205,15 @@ const FRAME_AT_250: &[u8] =
 const BELOW_FIRST_AT_250: &[u8] =
     b"rate,pdo,what,value\n0,0,version,2\n250,1,uplate,0\n250,1,busy,1\n250,1,busy,6480\n250,1,queue,2160\n250,1,queue,4320\n250,0,sdo,1413\n250,0,late,0\n250,0,busy,1\n250,0,busy,6480\n250,0,queue,2160\n250,0,queue,4320\n";
 
+/// Neither PDO can stand below the SDO frames, and below both one of them is late.
+const BELOW_BOTH_AT_250: &[u8] =
+    b"rate,pdo,what,value\n0,0,version,2\n250,1,uplate,0\n250,1,busy,1\n250,1,busy,8640\n250,1,queue,0\n250,1,queue,6480\n250,2,uplate,0\n250,2,busy,1\n250,2,busy,8640\n250,2,queue,0\n250,2,queue,6480\n250,0,sdo,1413\n250,0,late,0\n250,0,busy,1\n250,0,busy,8640\n250,0,queue,2160\n250,0,queue,6480\n";
+
 /// A table whose first streams are PDOs, and the file of its plan's refusals.
 const FILES: &[(&[u8], usize, &[u8])] = &[
     (TOO_LATE, 2, FRAME_AT_250),
     (ONE_TOO_MANY, 3, BELOW_FIRST_AT_250),
+    (BOTH_TOO_MANY, 2, BELOW_BOTH_AT_250),
 ];
 
 /// The file of the refusals that are planned for streams of which the first are PDOs.
@@ -572,6 +577,40 @@ const BROKEN: &[(&[u8], &[u8], Rule, u64)] = &[
         4,
     ),
 ];
+
+/// The rule that the file with both PDOs breaks, and where, if it ends after so many records. The first record is the version, and the last two
+/// are the numbers of a queue list, of which one is enough.
+fn breach_after(records: usize) -> Option<Breach> {
+    match records {
+        0 => Some(Breach {
+            rule: Rule::Version,
+            place: 1,
+        }),
+        2..=15 => Some(Breach {
+            rule: Rule::Misplaced,
+            place: records as u64,
+        }),
+        _ => None,
+    }
+}
+
+/// How many records a text has that ends before a line feed.
+fn records_in(text: &[u8]) -> usize {
+    text.iter().filter(|byte| **byte == b'\n').count()
+}
+
+#[test]
+fn a_file_that_ends_within_a_refusal_is_refused(rt: HostRuntime) -> Result<(), CertFault> {
+    let file = BELOW_BOTH_AT_250;
+    for length in 0..file.len() {
+        if file[length] == b'\n' {
+            let cut = &file[..length];
+            let found = breach(rt.alloc(), cut)?;
+            assert!(rt; found == breach_after(records_in(cut)), "{length}");
+        }
+    }
+    Ok(())
+}
 
 #[test]
 fn broken_files_of_both_versions_are_refused(rt: HostRuntime) -> Result<(), CertFault> {

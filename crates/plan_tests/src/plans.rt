@@ -1,7 +1,9 @@
+ghost use Rattle.std.specs.Prelude.{◌≤◌, ◌<◌};
+
 use cop_cert::{Cause, Evidence, Member, Refusal};
 use cop_frame::{Rate, RateSet};
 use cop_plan::{Count, Outcome, Plan, assign, can_assign};
-use cop_rta::{Stream, StreamSet, Verdict, above_by_id, read_streams, verdict};
+use cop_rta::{SetFault, Stream, StreamSet, Verdict, above_by_id, read_streams, verdict};
 use std::alloc::Global;
 use std::test::Fail;
 
@@ -379,6 +381,78 @@ fn the_largest_table_keeps_its_order(rt: HostRuntime) -> Result<(), Fail> {
     let plan = largest_plan(rt.alloc())?;
     assert!(rt; keeps_order(&plan));
     assert!(rt; are_there(&responses(rt.alloc(), &plan)?, RESPONSES));
+    Ok(())
+}
+
+// 512 PDOs of 8 bytes, each sent at each SYNC, which comes each second.
+fn push_synchronous(set: &mut StreamSet) -> Result<(), SetFault> {
+    for k in 0..512u16 {
+        set.push(Stream {
+            id: 0x181 + k,
+            bytes: 8,
+            period: 4_000_000,
+            jitter: 0,
+            deadline: Some(4_000_000),
+            every: 1,
+        })?;
+    }
+    Ok(())
+}
+
+// A frame without data.
+fn without_data(id: u16, period: u64) -> Stream
+    requires id { id < 2048 }
+    requires period { (400 ≤ period) × (period ≤ 240000000) }
+{
+    Stream {
+        id,
+        bytes: 0,
+        period,
+        jitter: 0,
+        deadline: None,
+        every: 0,
+    }
+}
+
+// The identifiers of 587 other frames, from one on and below another.
+const OTHERS: &[(u16, u16)] = &[(0, 0x80), (0x81, 0x181), (0x580, 0x64B)];
+
+// SYNC each second, and these each minute.
+fn push_fixed(set: &mut StreamSet) -> Result<(), SetFault> {
+    set.push(without_data(0x80, 4_000_000))?;
+    for case in OTHERS {
+        let (first, end) = *case;
+        for id in first..end {
+            set.push(without_data(id.min(0x7FF), 240_000_000))?;
+        }
+    }
+    Ok(())
+}
+
+// The plan at 1 Mbit/s of as many streams as a set has at most, of which all PDOs are synchronous.
+fn synchronous_plan(alloc: Global) -> Result<Plan, Fail> {
+    let mut set = StreamSet::new(alloc);
+    push_synchronous(&mut set)?;
+    push_fixed(&mut set)?;
+    let (outcome, _) = answer_for(alloc, &set, 512, &[Rate::Kbit1000])?;
+    plan_of(outcome)
+}
+
+// PDOs of that plan, and their responses in ticks. A frame without data takes 220, a PDO 540. SYNC waits for a PDO and for the 128 frames
+// below 80h, and ends 28,920 after its event; the first PDO is queued then, and waits for another PDO and for all 385 frames below 181h.
+const SYNCHRONOUS_RESPONSES: &[(usize, u64)] = &[
+    (0, 114_700),
+    (1, 115_240),
+    (510, 390_100),
+    // No PDO is below it, but a frame without data.
+    (511, 390_320),
+];
+
+#[test]
+fn eleven_hundred_streams_with_synchronous_pdos_are_planned(rt: HostRuntime) -> Result<(), Fail> {
+    let plan = synchronous_plan(rt.alloc())?;
+    assert!(rt; plan.streams().len() == StreamSet::MOST && keeps_order(&plan));
+    assert!(rt; are_there(&responses(rt.alloc(), &plan)?, SYNCHRONOUS_RESPONSES));
     Ok(())
 }
 

@@ -155,6 +155,20 @@ const ONE_ABOVE: &[u8] =
 pub(crate) const ONE_TOO_MANY: &[u8] =
     b"id,bytes,period,jitter,deadline\n0x181,8,10000,0,1080\n0x182,8,10000,0,10000\n0x183,8,10000,0,10000\n0x585,8,100000,0,1619\n";
 
+/// Neither PDO can stand below both SDO frames, and the first of these passes below both PDOs. At 250 kbit/s each frame takes 540 us: a
+/// PDO ends within four of them below the other PDO and the SDO frames, and within three above the SDO frames.
+const BOTH_ABOVE: &[u8] =
+    b"id,bytes,period,jitter,deadline\n0x181,8,10000,0,1620\n0x182,8,10000,0,1620\n0x585,8,100000,0,2160\n0x605,8,100000,0,\n";
+
+/// There it does not.
+pub(crate) const BOTH_TOO_MANY: &[u8] =
+    b"id,bytes,period,jitter,deadline\n0x181,8,10000,0,1620\n0x182,8,10000,0,1620\n0x585,8,100000,0,2159\n0x605,8,100000,0,\n";
+
+/// The first PDO can stand below both SDO frames, the others cannot. Among all three the second PDO has the lowest place of the first range,
+/// since the third does not pass there; among these two the third has it.
+const PLACED_ANEW: &[u8] =
+    b"id,bytes,period,jitter,deadline\n0x181,8,10000,0,10000\n0x182,8,10000,0,2160\n0x183,8,10000,0,1620\n0x585,8,100000,0,2160\n0x605,8,100000,0,\n";
+
 /// Two SDO frames that pass below no PDO.
 const TWO_FRAMES: &[u8] =
     b"id,bytes,period,jitter,deadline\n0x181,8,10000,0,10000\n0x182,8,10000,0,10000\n0x605,8,100000,0,1079\n0x585,8,100000,0,1079\n";
@@ -209,6 +223,30 @@ const ROWS: &[Row] = &[
         ids: &[0x181, 0x182, 0x183],
         responses: &[2_160, 3_240, 4_320],
         refused: &[(Rate::Kbit250, Why::Sdo(0x585, 1))],
+    },
+    Row {
+        table: BOTH_ABOVE,
+        pdos: 2,
+        rate: Rate::Kbit250,
+        ids: &[0x181, 0x182],
+        responses: &[4_320, 6_480],
+        refused: &[],
+    },
+    Row {
+        table: BOTH_TOO_MANY,
+        pdos: 2,
+        rate: Rate::Kbit500,
+        ids: &[0x181, 0x182],
+        responses: &[2_160, 3_240],
+        refused: &[(Rate::Kbit250, Why::Sdo(0x585, 2))],
+    },
+    Row {
+        table: PLACED_ANEW,
+        pdos: 3,
+        rate: Rate::Kbit250,
+        ids: &[0x680, 0x181, 0x182],
+        responses: &[10_800, 4_320, 6_480],
+        refused: &[],
     },
     Row {
         table: TWO_FRAMES,

@@ -540,6 +540,40 @@ const FAULTS: &[(&[Script], u64, Option<SimFault>)] = &[
             instance: 0,
         }),
     ),
+    // Each stream is asked for its first offer before any is asked for its second.
+    (
+        &[
+            (
+                &[
+                    Offer {
+                        event: 1,
+                        delay: 0,
+                        frame: LONG,
+                    },
+                    Offer {
+                        event: 40000,
+                        delay: 0,
+                        frame: LONG,
+                    },
+                ],
+                &[],
+            ),
+            (
+                &[Offer {
+                    event: 1,
+                    delay: 1,
+                    frame: LONG,
+                }],
+                &[],
+            ),
+            (&[], &[]),
+        ],
+        50000,
+        Some(SimFault::Disobeys {
+            stream: 1,
+            instance: 0,
+        }),
+    ),
     (&[(&[], &[]), (&[], &[])], 100, Some(SimFault::Count)),
 ];
 

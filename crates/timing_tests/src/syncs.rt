@@ -18,6 +18,9 @@ const OTHER: u16 = 0x182;
 // The end of a SYNC of 47 bits that starts at its event 0.
 const SYNC_ENDS: u64 = 376;
 
+// How long after its event SYNC is queued at most.
+const DELAY: u64 = 100;
+
 const LATENCY: u64 = 400;
 
 // SYNC each 40,000 ticks, a PDO of 8 bytes for each so many SYNCs, and one that is not synchronous.
@@ -29,7 +32,7 @@ fn streams(every: u8) -> [Stream; 3]
             id: SYNC,
             bytes: 0,
             period: 40_000,
-            jitter: 0,
+            jitter: DELAY,
             deadline: None,
             every: 0,
         },
@@ -72,12 +75,14 @@ fn broken(alloc: Global, every: u8, until: u64, steps: &[Step]) -> Result<Option
     }
 }
 
-/// The same of an instance of the PDO with this event that is queued after the first SYNC.
-fn after_sync(alloc: Global, at: u64, event: u64) -> Result<Option<(usize, u8)>, Fail> {
+/// The same of an instance of the PDO with this event that is queued after the first SYNC, whose event is 0 and which is queued so much later.
+fn after_sync(alloc: Global, delay: u64, at: u64, event: u64) -> Result<Option<(usize, u8)>, Fail>
+    requires { delay ≤ 1000 }
+{
     let steps = [
-        queue(0, SYNC, 0, 47, 0),
-        start(0, SYNC),
-        end(SYNC_ENDS, SYNC),
+        queue(delay, SYNC, 0, 47, 0),
+        start(delay, SYNC),
+        end(delay + SYNC_ENDS, SYNC),
         queue(at, PDO, event, 111, 8),
     ];
     broken(alloc, 1, at, &steps)
@@ -89,16 +94,21 @@ fn a_synchronous_instance_is_queued_from_the_end_of_its_sync_on(
 ) -> Result<(), Fail> {
     let alloc = rt.alloc();
     let latest = SYNC_ENDS + LATENCY;
-    // the queue moment, the event, and the rule that is broken
-    let cases: &[(u64, u64, Option<(usize, u8)>)] = &[
-        (SYNC_ENDS, 0, None),
-        (latest, 0, None),
-        (latest + 1, 0, Some((4, 63))),
-        (500, 1, Some((4, 63))),
+    // how much later SYNC is queued, the queue moment, the event, and the rule that is broken
+    let cases: &[(u64, u64, u64, Option<(usize, u8)>)] = &[
+        (0, SYNC_ENDS, 0, None),
+        (0, latest, 0, None),
+        (0, latest + 1, 0, Some((4, 63))),
+        (0, 500, 1, Some((4, 63))),
+        (DELAY, DELAY + SYNC_ENDS, 0, None),
+        (DELAY, DELAY + latest, 0, None),
+        (DELAY, DELAY + latest + 1, 0, Some((4, 63))),
+        // SYNC's queue moment in place of its event
+        (DELAY, 500, DELAY, Some((4, 63))),
     ];
     for case in cases {
-        let (at, event, wanted) = *case;
-        assert!(rt; after_sync(alloc, at, event)? == wanted);
+        let (delay, at, event, wanted) = *case;
+        assert!(rt; after_sync(alloc, delay.min(DELAY), at, event)? == wanted);
     }
     let sooner = [
         queue(0, SYNC, 0, 47, 0),

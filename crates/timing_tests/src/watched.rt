@@ -39,18 +39,31 @@ fn a_late_joiner_is_watched(rt: HostRuntime) -> Result<(), Fail> {
     Ok(())
 }
 
-const AFTER_SYNC: &str = "kind,moment,id,event,bits,data\n\
-    queue,0,128,0,47,\n\
-    start,0,128,,,\n\
-    end,376,128,,,\n\
-    queue,376,385,0,111,0000000000000000\n\
-    start,376,385,,,\n\
-    end,1264,385,,,\n\
-    until,1264,0,,,\n";
+/// An instance after a SYNC that is queued at its event, and one at the end of the latency after a SYNC that is queued 100 ticks later.
+const AFTER_SYNC: &[&str] = &[
+    "kind,moment,id,event,bits,data\n\
+        queue,0,128,0,47,\n\
+        start,0,128,,,\n\
+        end,376,128,,,\n\
+        queue,376,385,0,111,0000000000000000\n\
+        start,376,385,,,\n\
+        end,1264,385,,,\n\
+        until,1264,0,,,\n",
+    "kind,moment,id,event,bits,data\n\
+        queue,100,128,0,47,\n\
+        start,100,128,,,\n\
+        end,476,128,,,\n\
+        queue,876,385,0,111,0000000000000000\n\
+        start,876,385,,,\n\
+        end,1764,385,,,\n\
+        until,1764,0,,,\n",
+];
 
 #[test]
 fn a_synchronous_instance_is_watched(rt: HostRuntime) -> Result<(), Fail> {
     let set = set(rt.alloc(), 1)?;
-    assert!(rt; starts(rt.alloc(), &set, Rate::Kbit500, AFTER_SYNC, 64)? == Some(2));
+    for text in AFTER_SYNC {
+        assert!(rt; starts(rt.alloc(), &set, Rate::Kbit500, *text, 64)? == Some(2));
+    }
     Ok(())
 }

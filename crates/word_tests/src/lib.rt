@@ -1,7 +1,9 @@
-//! Tests of the words on a fault and of warnings, in a crate of their own so that each library is proved once.
+//! Tests of the words on a fault, on refused rates and of warnings, in a crate of their own so that each library is proved once.
 
 #![tactic(auto)]
 
+#[cfg(test)]
+mod refusals;
 #[cfg(test)]
 mod warnings;
 #[cfg(test)]

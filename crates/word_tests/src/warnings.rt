@@ -70,7 +70,14 @@ const WARNED: &[(&str, &str, &str, &str, &str)] = &[
         "SupportedObjects=6\n6=0x1801",
         "[1801]\nObjectType=9\n[1801sub0]\nDataType=5\nAccessType=ro\nDefaultValue=2\n",
         "5,1,10000,0,670,",
-        "warning: unit.eds, line 57: TPDO 2 of Valve has no UNSIGNED32 at sub 1 of [1801]: it is not switched off. Describe sub 1 as the device has it\n",
+        "warning: unit.eds, line 57: TPDO 2 of Valve has no UNSIGNED32 at sub 1 of [1801]: it is not switched off. Describe the record (ObjectType=9) and its sub 1 as the device has them\n",
+    ),
+    (
+        "SupportedObjects=5",
+        "SupportedObjects=6\n6=0x1801",
+        "[1801]\nObjectType=7\nDataType=7\nAccessType=rw\n[1801sub1]\nDataType=7\nAccessType=rw\n",
+        "5,1,10000,0,670,",
+        "warning: unit.eds, line 57: TPDO 2 of Valve has no UNSIGNED32 at sub 1 of [1801]: it is not switched off. Describe the record (ObjectType=9) and its sub 1 as the device has them\n",
     ),
     (
         "BaudRate_250=1",
@@ -98,7 +105,7 @@ const WARNED: &[(&str, &str, &str, &str, &str)] = &[
         "BaudRate_250=1\nNrOfTXPDO=2",
         "",
         "5,1,10000,0,670,",
-        "warning: unit.eds, line 3: NrOfTXPDO=2 is more than the lists of Valve name: the number is wrong, or PDOs are not switched off\n",
+        "warning: unit.eds, line 3: NrOfTXPDO=2 is more than the lists of Valve name: the number is wrong, or PDOs are not switched off: correct it, or list the PDOs that the device has\n",
     ),
 ];
 

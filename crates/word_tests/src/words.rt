@@ -1,6 +1,6 @@
 use cop_frame::{Rate, RateSet};
 use cop_net::all_rates;
-use cop_rules::{RULE_WORDS, explained};
+use cop_rules::explained;
 use cop_words::{Network, Source, late_words, line_at, network_words, record_at, record_words};
 use std::alloc::{AllocError, Global};
 use std::str;
@@ -8,7 +8,7 @@ use std::test::Fail;
 
 pub(crate) const NODES: &str = "row,node,name,eds,period,jitter\ndevice,5,Valve,unit.eds,0,0\n";
 
-const PDOS: &str = "node,tpdo,period,jitter,deadline,consumers\n5,1,10000,0,670,\n";
+pub(crate) const PDOS: &str = "node,tpdo,period,jitter,deadline,consumers\n5,1,10000,0,670,\n";
 
 /// A device that sends one PDO of 32 bits and receives one.
 pub(crate) const UNIT: &str = "[DeviceInfo]
@@ -262,6 +262,11 @@ const PDO_MISTAKES: &[(&str, &str, &str)] = &[
         "in column period: 100 to 60000000 microseconds",
     ),
     (
+        "5,1,60000001,0,670,",
+        "pdos.csv, line 2: ",
+        "in column period: 100 to 60000000 microseconds, or 0 of a PDO that is sent by SYNC\nrule 41: ",
+    ),
+    (
         "5,1,10 ms,0,670,",
         "pdos.csv, line 2: ",
         "in column period: ",
@@ -388,6 +393,24 @@ const EDS_MISTAKES: &[(&str, &str, &str, &str)] = &[
         "DefaultValue=255",
         "DefaultValue=0",
         "TPDO 1 of node 5: 1800h sub 2, its transmission type, is 0\nits EDS file, line 41: DefaultValue=0\n",
+        "rule 47: ",
+    ),
+    (
+        "DataType=5\nAccessType=rw\nDefaultValue=255",
+        "DataType=1\nAccessType=rw\nDefaultValue=1",
+        "TPDO 1 of node 5: 1800h sub 2, its transmission type, is a BOOLEAN, which is no integer type\nits EDS file, line 39: DataType=1\n",
+        "rule 47: ",
+    ),
+    (
+        "DataType=5\nAccessType=rw\nDefaultValue=255",
+        "DataType=9\nAccessType=rw\nDefaultValue=1",
+        "TPDO 1 of node 5: 1800h sub 2, its transmission type, is of no integer type\nits EDS file, line 39: DataType=9\n",
+        "rule 47: ",
+    ),
+    (
+        "DataType=5\nAccessType=rw\nDefaultValue=255",
+        "DataType=0x1B\nAccessType=rw\nDefaultValue=0xFFFFFFFFFFFFFFFF",
+        "TPDO 1 of node 5: 1800h sub 2, its transmission type, is 18446744073709551615\nits EDS file, line 41: ",
         "rule 47: ",
     ),
     (
@@ -672,12 +695,6 @@ fn each_rule_is_explained(rt: HostRuntime) {
         }
     }
     assert!(rt; explained(54).is_none());
-    for word in RULE_WORDS.iter() {
-        assert!(rt;
-            word.parse::<u8>()
-                .is_ok_and(|number| explained(number).is_some())
-        );
-    }
 }
 
 #[test]

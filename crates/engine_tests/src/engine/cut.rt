@@ -1,5 +1,6 @@
 //! Files that are cut off at each byte: each is read or refused, and nothing else comes.
 
+use crate::engine::ranges::{LATE_RESPONSE, RESPONSE_REFUSED, TWO_PDOS};
 use crate::engine::{
     ONE_PDO, UNIT, VALVE, VALVE_REFUSED, VALVE_TRACE, by, eds_files, plan_of, refused,
 };
@@ -38,12 +39,21 @@ fn each_cut_eds_text(rt: HostRuntime) -> Result<(), Fail> {
     Ok(())
 }
 
+/// Tables, and the refusal file of their plan: one of each version.
+const REFUSAL_FILES: &[(&[u8], &[u8], &[u8])] = &[
+    (VALVE, ONE_PDO, VALVE_REFUSED),
+    (LATE_RESPONSE, TWO_PDOS, RESPONSE_REFUSED),
+];
+
 #[test]
 fn each_cut_refusal_file(rt: HostRuntime) -> Result<(), Fail> {
     let eds = eds_files(rt.alloc(), UNIT)?;
-    for length in 0..VALVE_REFUSED.len() {
-        let cut = &VALVE_REFUSED[..length];
-        let _ = refused(check_bytes(rt.alloc(), &all_rates(), VALVE, ONE_PDO, &eds, cut))?;
+    for case in REFUSAL_FILES {
+        let (nodes, pdos, file) = *case;
+        for length in 0..file.len() {
+            let cut = &file[..length];
+            let _ = refused(check_bytes(rt.alloc(), &all_rates(), nodes, pdos, &eds, cut))?;
+        }
     }
     Ok(())
 }

@@ -1,5 +1,5 @@
 //! The greatest tables that are taken, a network of 512 PDOs of which one rate is refused with all, and one of 127 nodes
-//! with as many, which is booted and run.
+//! with as many and an EDS file for each, which is booted and run.
 
 ghost use Rattle.std.specs.Prelude.{◌≤◌, ◌<◌};
 
@@ -116,14 +116,28 @@ fn device(alloc: Global, each: u16) -> Result<String, AllocError>
     Ok(text)
 }
 
-/// The nodes from 1 to some number, all with that device.
+/// The nodes from 1 to some number, all with that device, each by an EDS file of its own.
 fn nodes(alloc: Global, count: u16) -> Result<String, AllocError> {
     let mut text = String::from_str(alloc, "row,node,name,eds,period,jitter\n")?;
     for node in 1..=count {
-        text.push_str("device,")?;
-        push_number(&mut text, node, ",Device,many.eds,0,0\n")?;
+        write!(text, "device,{node},Device,many-{node}.eds,0,0\n")?;
     }
     Ok(text)
+}
+
+/// The EDS file of a node.
+fn eds_file(alloc: Global, node: u16, text: &[u8]) -> Result<(String, Vec<u8>), AllocError> {
+    let name = format!(in alloc; "many-{node}.eds")?;
+    Ok((name, Vec::from_slice(alloc, text)?))
+}
+
+/// The EDS files of the nodes from 1 to some number.
+fn eds_files(alloc: Global, count: u16, text: &[u8]) -> Result<Vec<(String, Vec<u8>)>, AllocError> {
+    let mut files = Vec::new(alloc);
+    for node in 1..=count {
+        files.push(eds_file(alloc, node, text)?)?;
+    }
+    Ok(files)
 }
 
 /// Their PDOs, the first of each node and then the second, until there are 512: each has a period of a second, and a
@@ -142,7 +156,7 @@ fn pdos(alloc: Global, each: u16, count: u16) -> Result<String, AllocError> {
     Ok(text)
 }
 
-/// The tables of a network, and the EDS file of its devices.
+/// The tables of a network, and the EDS files of its devices.
 #[derive(Drop)]
 struct Sources {
     nodes: String,
@@ -154,13 +168,11 @@ struct Sources {
 fn network(alloc: Global, each: u16, count: u16) -> Result<Sources, AllocError>
     requires { each ≤ 512 }
 {
-    let text = Vec::from_slice(alloc, device(alloc, each)?.as_bytes())?;
-    let mut eds = Vec::new(alloc);
-    eds.push((String::from_str(alloc, "many.eds")?, text))?;
+    let text = device(alloc, each)?;
     Ok(Sources {
         nodes: nodes(alloc, count)?,
         pdos: pdos(alloc, each, count)?,
-        eds,
+        eds: eds_files(alloc, count, text.as_bytes())?,
     })
 }
 

@@ -37,10 +37,18 @@ const SYNCED: &[u8] =
 const AT_SYNC: &[u8] = b"node,tpdo,period,jitter,deadline,consumers\n5,1,0,100,1620,\n";
 
 /// Two PDOs that can wait.
-const TWO_PDOS: &[u8] =
+pub(crate) const TWO_PDOS: &[u8] =
     b"node,tpdo,period,jitter,deadline,consumers\n5,1,10000,0,10000,\n6,1,10000,0,10000,\n";
 
 const NO_PDO: &[u8] = b"node,tpdo,period,jitter,deadline,consumers\n";
+
+/// Two nodes, and an SDO response that does not pass at 250 kbit/s.
+pub(crate) const LATE_RESPONSE: &[u8] =
+    b"row,node,name,eds,period,jitter,deadline\ndevice,5,Valve,unit.eds,0,0,\ndevice,6,Pump,unit.eds,0,0,\nsdo_response,5,,,100000,0,1079\n";
+
+/// The refusal of that rate, with those two PDOs.
+pub(crate) const RESPONSE_REFUSED: &[u8] =
+    b"rate,pdo,what,value\n0,0,version,2\n250,0,sdo,1413\n250,0,late,0\n250,0,busy,1\n250,0,busy,4320\n250,0,queue,2160\n";
 
 const NOTHING_REFUSED: &[u8] = b"rate,pdo,what,value\n0,0,version,1\n";
 
@@ -76,10 +84,10 @@ const ROWS: &[Row] = &[
     },
     Row {
         transmission: "255",
-        nodes: b"row,node,name,eds,period,jitter,deadline\ndevice,5,Valve,unit.eds,0,0,\ndevice,6,Pump,unit.eds,0,0,\nsdo_response,5,,,100000,0,1079\n",
+        nodes: LATE_RESPONSE,
         pdos: TWO_PDOS,
         plan: b"rate 500\npdo 5.1 id 181h response 2160\npdo 6.1 id 182h response 3240\nrefused 250 sdo 585\n",
-        refusals: b"rate,pdo,what,value\n0,0,version,2\n250,0,sdo,1413\n250,0,late,0\n250,0,busy,1\n250,0,busy,4320\n250,0,queue,2160\n",
+        refusals: RESPONSE_REFUSED,
         check: b"250 holds\n",
         boot: b"node 5 ready\nnode 6 ready\nstarted\n",
     },

@@ -19,7 +19,7 @@ const SECOND: Stream = Stream {
     every: 2,
 };
 
-/// The PDO, and SYNC each 40,000 ticks.
+/// The PDO, and SYNC each 40,000 ticks, queued at most 100 ticks after its event.
 fn streams(alloc: Global) -> Result<StreamSet, SetFault> {
     let mut set = StreamSet::new(alloc);
     set.push(SECOND)?;
@@ -27,7 +27,7 @@ fn streams(alloc: Global) -> Result<StreamSet, SetFault> {
         id: 0x80,
         bytes: 0,
         period: 40_000,
-        jitter: 0,
+        jitter: 100,
         deadline: None,
         every: 0,
     })?;
@@ -46,8 +46,8 @@ const SYNC: Content = Content {
     len: 0,
 };
 
-/// Three SYNCs, of which the second is the PDO's: its answer's event is not looked at, it has that of the SYNC, and is queued 100 ticks after
-/// SYNC's end.
+/// Three SYNCs, of which the second is the PDO's: its answer's event is not looked at, it has that of the SYNC, which is queued 60 ticks
+/// after it, and is itself queued 100 ticks after SYNC's end.
 const SCRIPTS: &[Script] = &[
     (
         &[
@@ -73,7 +73,7 @@ const SCRIPTS: &[Script] = &[
             },
             Offer {
                 event: 40_000,
-                delay: 0,
+                delay: 60,
                 frame: SYNC,
             },
             Offer {
@@ -96,31 +96,31 @@ const STEPS: &[Step] = &[
     Step::Start { at: 0, id: 0x80 },
     Step::End { at: 440, id: 0x80 },
     Step::Queue {
-        at: 40_000,
+        at: 40_060,
         id: 0x80,
         event: 40_000,
         frame: SYNC,
     },
     Step::Start {
-        at: 40_000,
+        at: 40_060,
         id: 0x80,
     },
     Step::End {
-        at: 40_440,
+        at: 40_500,
         id: 0x80,
     },
     Step::Queue {
-        at: 40_540,
+        at: 40_600,
         id: 0x181,
         event: 40_000,
         frame: LONG,
     },
     Step::Start {
-        at: 40_540,
+        at: 40_600,
         id: 0x181,
     },
     Step::End {
-        at: 41_620,
+        at: 41_680,
         id: 0x181,
     },
     Step::Queue {
