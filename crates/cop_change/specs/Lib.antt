@@ -1,2 +1,3 @@
 pub mod Applied
 pub mod Told
+pub mod Words

@@ -52,7 +52,7 @@ pub enum Cause {
 /// A line that has another text now, or that was added.
 #[derive(Debug, Drop)]
 pub struct Change {
-    /// The number of the line, from 1; of an added line that of the line before it, 0 at the front.
+    /// The number of the line, from 1; of an added line that of the line before it.
     pub place: usize,
     pub is_added: bool,
     /// The text before, without its end; none where the line is added.

@@ -1,5 +1,8 @@
 //! The words that choose where a text leaves two meanings open.
 
+ghost use Rattle.std.specs.Prelude.{◌≡◌};
+ghost use Rattle.cop_change.specs.Words.{word_of};
+
 use cop_eds::Access;
 
 /// How decimal digits are read that would read otherwise as octal.
@@ -44,7 +47,9 @@ impl Words {
 }
 
 /// The word of an access (CiA 306).
-pub fn word_of(access: Access) -> &'static [u8] {
+pub fn word_of(access: Access) -> &'static [u8]
+    ensures { result.now ≡ word_of access }
+{
     match access {
         Access::ReadOnly => b"ro",
         Access::WriteOnly => b"wo",

@@ -1,14 +1,13 @@
 //! Numbers and words of keys in the spelling of CiA 306.
 
 use crate::repeats::{COUNTS, RATES, is_among};
-use cop_change::{Cause, Digits, Question, TidyFault, refused};
+use cop_change::{Cause, Digits, Question, TidyFault, refused, word_of};
 use cop_eds::number_of;
+use cop_meaning::{is_access, named_access, named_data_type, named_object_type, undivided};
 use cop_outline::outline::{Outline, Section};
 use cop_outline::row::Row;
 use cop_spelling::names::{Part, is_decimal, is_hexadecimal};
-use cop_spelling::spelling::{
-    Spelling, access, bare, data_type, is_access, number, object_type, truth, word,
-};
+use cop_spelling::spelling::{Spelling, bare, number, truth};
 use cop_spelling::text::{Form, key_of, same_name};
 use std::alloc::{AllocError, Global};
 use std::collections::BTreeSet;
@@ -79,17 +78,44 @@ fn kind_in(part: Part, key: &[u8]) -> Option<Kind> {
     }
 }
 
-/// What a text that is no number becomes.
-fn named(alloc: Global, kind: Kind, text: &[u8]) -> Result<Option<&'static [u8]>, AllocError> {
-    let word = word(alloc, text)?;
-    Ok(match kind {
-        Kind::ObjectType => object_type(&word),
-        Kind::DataType => data_type(&word),
-        Kind::AccessWord => access(&word),
+/// The number of the object type that a word names, as a text.
+fn named_kind(alloc: Global, word: &[u8]) -> Result<Option<Vec<u8>>, AllocError> {
+    match named_object_type(word) {
+        Some(number) => Ok(Some(format!(in alloc; "0x{number:X}")?.into_bytes())),
+        None => Ok(None),
+    }
+}
+
+/// The number of the data type that a word names, as a text.
+fn named_type(alloc: Global, word: &[u8]) -> Result<Option<Vec<u8>>, AllocError> {
+    match named_data_type(word) {
+        Some(number) => Ok(Some(format!(in alloc; "0x{number:04X}")?.into_bytes())),
+        None => Ok(None),
+    }
+}
+
+/// What a word that needs no other text stands for.
+fn fixed(kind: Kind, text: &[u8], word: &[u8]) -> Option<&'static [u8]> {
+    match kind {
+        Kind::AccessWord => named_access(word).map(|access| word_of(access)),
         Kind::Truth => truth(text),
         Kind::Unneeded => Some(b""),
-        Kind::Number | Kind::Entry => None,
-    })
+        Kind::ObjectType | Kind::DataType | Kind::Number | Kind::Entry => None,
+    }
+}
+
+/// What a text that is no number becomes.
+fn named(alloc: Global, kind: Kind, text: &[u8]) -> Result<Option<Vec<u8>>, AllocError> {
+    let word = undivided(alloc, text)?;
+    match kind {
+        Kind::ObjectType => return named_kind(alloc, &word),
+        Kind::DataType => return named_type(alloc, &word),
+        _ => {}
+    }
+    match fixed(kind, text, &word) {
+        Some(text) => Ok(Some(Vec::from_slice(alloc, text)?)),
+        None => Ok(None),
+    }
 }
 
 /// What is open where a text is none of what its key has.
@@ -129,7 +155,7 @@ pub fn respelled(
         }
     }
     match named(alloc, kind, &text)? {
-        Some(meant) => Ok(Vec::from_slice(alloc, meant)?),
+        Some(meant) => Ok(meant),
         None => Err(refused(question(kind), place)),
     }
 }

@@ -2,7 +2,7 @@
 use Rattle.std.specs.Prelude.{ℕ, Bool, not, ◌||◌, ◌&&◌, ◌==◌, List, [], ◌∷◌, reverse, filter, slice_index, if◌then◌else◌}
 use Rattle.cop_eds.specs.Text.{is_blank}
 
--- a blank of CiA 306, or one that makers write besides: a vertical tab, a form feed, a no-break space (A0h, or C2h and A0h)
+-- a blank of CiA 306, or one that makers write besides: a vertical tab, a form feed, each byte of a no-break space (A0h, or C2h and A0h)
 abbrev pub is_any_blank : ℕ → Bool
 is_any_blank b = (is_blank b || (b == 11)) || ((b == 12) || ((b == 160) || (b == 194)))
 

@@ -3,3 +3,4 @@ pub mod Causes
 pub mod Lines
 pub mod Numerals
 pub mod Values
+pub mod Words

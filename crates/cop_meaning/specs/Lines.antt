@@ -1,8 +1,8 @@
 -- What a changed line is to the line that stood there.
 use Rattle.std.specs.Prelude.{ℕ, ◌+◌, ◌-◌, ◌/◌, ◌%◌, Bool, false, not, ◌||◌, ◌&&◌, ◌==◌, nat_eq, nat_lt, nat_le, is_some, unwrap_or, List, length, take, drop, slice_index, codes, if◌then◌else◌, Option, Some, None}
-use Rattle.std.specs.List.{list_all, starts_with, after_first}
+use Rattle.std.specs.List.{list_any, list_all, starts_with, after_first}
 use Rattle.std.specs.Str.{bytes_eq}
-use Rattle.cop_eds.specs.Text.{trim, trim_start, same_name, name_of, is_header, key_of, value_of, is_pair}
+use Rattle.cop_eds.specs.Text.{is_blank, trim, trim_start, same_name, is_comment, name_of, is_header, key_of, value_of, is_pair}
 use Rattle.cop_eds.specs.Names.{code_of}
 use Rattle.cop_eds.specs.Number.{number_in, number_of}
 use Rattle.cop_hazard.specs.Spelled.{spelled}
@@ -23,6 +23,28 @@ is_marked new = slice_index new 0 == 59
 abbrev pub is_commented : List ℕ → List ℕ → Bool
 is_commented old new = is_marked new && is_left old (drop 1 new)
 
+-- neither blank, nor a comment, a header or a pair
+abbrev pub is_bad : List ℕ → Bool
+is_bad line = not (is_comment line || (is_header line || is_pair line))
+
+-- a comment of another kind begins with # or with //
+abbrev pub begins_with_mark : List ℕ → Bool
+begins_with_mark rest = (slice_index rest 0 == 35) || ((slice_index rest 0 == 47) && (slice_index rest 1 == 47))
+
+-- blanks, and the signs of which rules are drawn: - = * _ ~ + # / .
+abbrev pub is_rule_sign : ℕ → Bool
+is_rule_sign b =
+    (((b == 45) || (b == 61)) || ((b == 42) || (b == 95)))
+    || (((b == 126) || (b == 43)) || ((b == 35) || ((b == 47) || ((b == 46) || is_blank b))))
+
+-- a comment of another kind, or a rule that is drawn
+abbrev pub is_drawn : List ℕ → Bool
+is_drawn line = begins_with_mark (trim_start line) || (nat_le 3 (length line) && list_all is_rule_sign line)
+
+-- an opening bracket stands first
+abbrev pub begins_as_header : List ℕ → Bool
+begins_as_header line = slice_index (trim_start line) 0 == 91
+
 -- ---- headers
 
 -- both numbers are there, and the same
@@ -35,21 +57,26 @@ is_same_number (Some m) (Some n) = m == n
 abbrev pub is_same_section : List ℕ → List ℕ → Bool
 is_same_section a b = is_same_number (code_of a) (code_of b) || same_name a b
 
+-- a name stands between brackets at the front, and no equals sign behind it
+abbrev pub is_bracketed : List ℕ → Bool
+is_bracketed line =
+    (slice_index line 0 == 91) && (list_any (λ b. b == 93) line && not (slice_index (trim_start (after_first (λ b. b == 93) line)) 0 == 61))
+
 -- the name between brackets at the front of the old line, in the spelling of CiA 306, is of the new header's section
 abbrev pub names_it : List ℕ → List ℕ → Bool
-names_it line new = (slice_index line 0 == 91) && is_same_section (name_of new) (unwrap_or (spelled (name_of line)) (name_of line))
+names_it line new = is_bracketed line && is_same_section (name_of new) (unwrap_or (spelled (name_of line)) (name_of line))
 
 unfoldable pub keeps_name : List ℕ → List ℕ → Bool
 keeps_name old new = is_header new && (names_it (trim_start old) new || names_it (loose_start old) new)
 
 -- ---- keys
 
--- behind a key stands an equals sign, or a colon or nothing where a maker wrote no equals sign
-abbrev pub is_key_end : List ℕ → Bool
-is_key_end rest = (length rest == 0) || ((slice_index rest 0 == 61) || (slice_index rest 0 == 58))
+-- behind the key of a pair stands an equals sign, and a colon or nothing where a maker wrote no equals sign
+abbrev pub is_key_end : Bool → List ℕ → Bool
+is_key_end paired rest = if paired then slice_index rest 0 == 61 else ((length rest == 0) || (slice_index rest 0 == 58))
 
 abbrev pub begins_with_key : List ℕ → List ℕ → Bool
-begins_with_key key line = starts_with nat_eq line key && is_key_end (trim_start (drop (length key) line))
+begins_with_key key line = starts_with nat_eq line key && is_key_end (is_pair line) (trim_start (drop (length key) line))
 
 -- the new line is a pair with the key of the old line
 unfoldable pub keeps_key : List ℕ → List ℕ → Bool

@@ -41,14 +41,20 @@ hexadecimal_digits text =
 abbrev pub is_octal_too : List ℕ → Bool
 is_octal_too digits = (slice_index digits 0 == 48) && is_some (number_in 8 digits)
 
-abbrev pub radix_of : Option Digits → ℕ
-radix_of None = 10
-radix_of (Some Decimal) = 10
-radix_of (Some Octal) = 8
+-- the number on which both readings agree
+abbrev pub agreed : Option ℕ → Option ℕ → Option ℕ
+agreed None n = None
+agreed (Some m) None = None
+agreed (Some m) (Some n) = if m == n then Some n else None
 
--- the number that decimal digits are, by this choice where they read otherwise as octal
+abbrev pub chosen_number : Option Digits → List ℕ → Option ℕ
+chosen_number None digits = agreed (number_in 8 digits) (number_in 10 digits)
+chosen_number (Some Decimal) digits = number_in 10 digits
+chosen_number (Some Octal) digits = number_in 8 digits
+
+-- the number that decimal digits are, by this choice where they read otherwise as octal, and none where nothing is chosen
 abbrev pub decimal_number : Option Digits → List ℕ → Option ℕ
-decimal_number choice digits = number_in (if is_octal_too digits then radix_of choice else 10) digits
+decimal_number choice digits = if is_octal_too digits then chosen_number choice digits else number_in 10 digits
 
 -- the number that a text is without its sign
 unfoldable pub magnitude : Option Digits → List ℕ → Option ℕ

@@ -1,6 +1,6 @@
 -- What a value may become where it is written in another way: the number or the word that it was.
-use Rattle.std.specs.Prelude.{ℕ, ◌+◌, ◌-◌, ◌*◌, ◌%◌, ◌^◌, Bool, true, false, not, ◌||◌, ◌&&◌, ◌==◌, nat_lt, nat_le, List, length, map, filter, codes, if◌then◌else◌, Option, Some, None, Result, Ok, Err}
-use Rattle.std.specs.List.{list_any, before_first, after_first}
+use Rattle.std.specs.Prelude.{ℕ, ◌+◌, ◌-◌, ◌*◌, ◌%◌, ◌^◌, Bool, true, false, not, ◌||◌, ◌&&◌, ◌==◌, nat_lt, nat_le, List, [], ◌∷◌, length, filter, codes, if◌then◌else◌, Option, Some, None, Result, Ok, Err}
+use Rattle.std.specs.List.{list_any, slice_split}
 use Rattle.std.specs.Option.{option_map}
 use Rattle.std.specs.Str.{bytes_eq}
 use Rattle.cop_eds.specs.declared.fault.Rule.{Rule}
@@ -67,8 +67,9 @@ same_bytes size a b = fits size b && ((fits size a || is_widened size a) && (low
 abbrev pub same_pattern : Signed → Signed → Bool
 same_pattern a b = (same_bytes (2 ^ 8) a b || same_bytes (2 ^ 16) a b) || (same_bytes (2 ^ 32) a b || same_bytes (2 ^ 64) a b)
 
+-- all bits of a number are set
 abbrev pub are_ones : ℕ → Signed → Bool
-are_ones size a = low_bytes size a + 1 == size
+are_ones size a = if a.is_negative then a.number == 1 else a.number + 1 == size
 
 abbrev pub is_true_pattern : Signed → Signed → Bool
 is_true_pattern a b = ((b.number == 1) && not b.is_negative) && (are_ones (2 ^ 8) a || (are_ones (2 ^ 16) a || are_ones (2 ^ 32) a))
@@ -80,21 +81,30 @@ is_below a b =
     if a.is_negative then (if b.is_negative then nat_lt b.number a.number else (nat_lt 0 a.number || nat_lt 0 b.number))
     else (if b.is_negative then false else nat_lt a.number b.number)
 
--- the least or the greatest number of a type of this size
-abbrev pub is_end_of : ℕ → Signed → Bool
-is_end_of size b =
-    if b.is_negative then 2 * b.number == size else ((b.number == 0) || ((b.number + 1 == size) || (2 * (b.number + 1) == size)))
+-- the least number of a type of this size, which has a sign or none
+abbrev pub is_least_of : ℕ → Signed → Bool
+is_least_of size b = if b.is_negative then 2 * b.number == size else b.number == 0
 
-abbrev pub is_end : Signed → Bool
-is_end b = (is_end_of 2 b || (is_end_of (2 ^ 8) b || is_end_of (2 ^ 16) b)) || (is_end_of (2 ^ 32) b || is_end_of (2 ^ 64) b)
+abbrev pub is_least : Signed → Bool
+is_least b = (is_least_of (2 ^ 8) b || is_least_of (2 ^ 16) b) || (is_least_of (2 ^ 32) b || is_least_of (2 ^ 64) b)
 
--- a low limit below a type became its least number
+-- the greatest number of a type of this size, which has no sign or one
+abbrev pub is_greatest_of : ℕ → Signed → Bool
+is_greatest_of size b = not b.is_negative && ((b.number + 1 == size) || (2 * (b.number + 1) == size))
+
+-- that of a BOOLEAN is 1
+abbrev pub is_greatest : Signed → Bool
+is_greatest b =
+    (not b.is_negative && (b.number == 1))
+    || ((is_greatest_of (2 ^ 8) b || is_greatest_of (2 ^ 16) b) || (is_greatest_of (2 ^ 32) b || is_greatest_of (2 ^ 64) b))
+
+-- a low limit became the least number of a type, which is greater
 abbrev pub is_raised : Signed → Signed → Bool
-is_raised a b = is_end b && is_below a b
+is_raised a b = is_least b && is_below a b
 
--- a high limit above a type became its greatest number
+-- a high limit became the greatest number of a type, which is less
 abbrev pub is_lowered : Signed → Signed → Bool
-is_lowered a b = is_end b && is_below b a
+is_lowered a b = is_greatest b && is_below b a
 
 -- ---- sums with the node's number
 
@@ -103,42 +113,57 @@ is_node_word text =
     ((same_name text (codes "$NODEID") || same_name text (codes "NODEID")) || (same_name text (codes "NODE_ID") || same_name text (codes "NODE-ID")))
     || (same_name text (codes "NODE") || same_name text (codes "%NODEID%"))
 
--- without brackets, and with a plus for each bar
+-- brackets may stand round a sum
 abbrev pub is_bracket : ℕ → Bool
 is_bracket b = ((b == 40) || (b == 41)) || ((b == 123) || (b == 125))
 
-abbrev pub plus_of : ℕ → ℕ
-plus_of b = if b == 124 then 43 else b
+unfoldable pub unbracketed : List ℕ → List ℕ
+unbracketed text = filter (λ b. not (is_bracket b)) text
 
-unfoldable pub summed : List ℕ → List ℕ
-summed text = map plus_of (filter (λ b. not (is_bracket b)) text)
+-- a plus or a bar stands between the terms of a sum
+abbrev pub is_between : ℕ → Bool
+is_between b = (b == 43) || (b == 124)
 
-abbrev pub is_term : Option Digits → ℕ → List ℕ → Bool
-is_term choice n text = are_so same_signed (meant choice text) (Some (record { is_negative = false; number = n }))
+abbrev pub terms : List ℕ → List (List ℕ)
+terms text = slice_split is_between text
 
--- a sum of the node's number and this one; of a sum of more than two terms nothing more is said
-unfoldable pub is_sum : Option Digits → ℕ → List ℕ → Bool
-is_sum choice n sum =
-    let left = trim (before_first (λ b. b == 43) sum) in
-    let right = trim (after_first (λ b. b == 43) sum) in
-    if list_any (λ b. b == 43) right then true
-    else if is_node_word left then (is_term choice n right || ((length right == 0) && (n == 0)))
-    else (is_node_word right && is_term choice n left)
+-- bits that a bar sets are added where the number has none below the eighth and stands there with the node's number alone
+abbrev pub adds_by_bar : ℕ → List ℕ → Bool
+adds_by_bar n text = not (list_any (λ b. b == 124) text) || ((length (terms text) == 2) && (n % 128 == 0))
+
+abbrev pub is_within : ℕ → Option Signed → Bool
+is_within n None = false
+is_within n (Some a) = not a.is_negative && nat_le a.number n
+
+abbrev pub size_of : Option Signed → ℕ
+size_of None = 0
+size_of (Some a) = a.number
+
+-- these terms are the node's number, so often, and numbers that are so many together
+unfoldable pub are_together : Option Digits → ℕ → ℕ → List (List ℕ) → Bool
+are_together choice nodes n [] = (nodes == 0) && (n == 0)
+are_together choice nodes n (term ∷ rest) =
+    if is_node_word (trim term) then nat_lt 0 nodes && are_together choice (nodes - 1) n rest
+    else (is_within n (meant choice (trim term)) && are_together choice nodes (n - size_of (meant choice (trim term))) rest)
+
+-- a text without brackets is the sum of the node's number and this one
+abbrev pub is_sum : Option Digits → ℕ → List ℕ → Bool
+is_sum choice n sum = adds_by_bar n sum && are_together choice 1 n (terms sum)
 
 abbrev pub is_sum_read : Option Digits → List ℕ → Result Amount Rule → Bool
-is_sum_read choice sum (Err rule) = false
-is_sum_read choice sum (Ok amount) = is_sum_amount choice sum amount
+is_sum_read choice text (Err rule) = false
+is_sum_read choice text (Ok amount) = is_sum_amount choice text amount
   where
     is_sum_amount : Option Digits → List ℕ → Amount → Bool
-    is_sum_amount choice sum (amounts.PlusNode n) = is_sum choice n sum
-    is_sum_amount choice sum _ = false
+    is_sum_amount choice text (amounts.PlusNode n) = is_sum choice n (unbracketed text)
+    is_sum_amount choice text _ = false
 
 -- ---- words
 
 abbrev pub is_no_value : List ℕ → Bool
 is_no_value text =
     ((same_name text (codes "n/a") || same_name text (codes "na")) || (same_name text (codes "none") || same_name text (codes "null")))
-    || ((same_name text (codes "-") || same_name text (codes "--")) || (same_name text (codes "---") || same_name text (codes "0x")))
+    || (same_name text (codes "-") || (same_name text (codes "--") || same_name text (codes "---")))
 
 abbrev pub is_yes : List ℕ → Bool
 is_yes text = same_name text (codes "true") || (same_name text (codes "yes") || same_name text (codes "on"))

@@ -1,16 +1,17 @@
 //! What a changed line is to the line that stood there.
 
-ghost use Rattle.std.specs.Prelude.{◌≡◌, IfOk, unwrap_or, nat_eq, drop, length};
-ghost use Rattle.std.specs.List.{starts_with};
+ghost use Rattle.std.specs.Prelude.{◌≡◌, ◌==◌, IfOk, unwrap_or, nat_eq, drop, length, slice_index};
+ghost use Rattle.cop_eds.specs.Text.{trim_start};
+ghost use Rattle.std.specs.List.{list_all, starts_with};
 ghost use Rattle.cop_hazard.specs.Stated.{ok_number};
 ghost use Rattle.cop_hazard.specs.Spelled.{spelled};
 ghost use Rattle.cop_eds.specs.Number.{number_of};
-ghost use Rattle.cop_meaning.specs.Lines.{is_left, is_marked, is_commented, is_same_section, names_it, keeps_name, is_key_end, begins_with_key, keeps_key, has_key, old_value, entry_number, is_same_number, is_entry, stays_entry, keeps_number, is_list_name, is_list_header, is_record_of, is_index_of, lists_record, is_code_of, is_record_header, is_sub_code, is_sub_header};
+ghost use Rattle.cop_meaning.specs.Lines.{is_left, is_marked, is_commented, is_bad, begins_with_mark, is_rule_sign, is_drawn, begins_as_header, is_bracketed, is_same_section, names_it, keeps_name, is_key_end, begins_with_key, keeps_key, has_key, old_value, entry_number, is_same_number, is_entry, stays_entry, keeps_number, is_list_name, is_list_header, is_record_of, is_index_of, lists_record, is_code_of, is_record_header, is_sub_code, is_sub_header};
 
 use crate::blanks::{are_blanks, loose_start};
 use cop_eds::{
-    after_first, code_of, is_header, is_pair, key_of, name_of, number_in, number_of, same_name,
-    trim, trim_start, value_of,
+    after_first, code_of, is_blank, is_comment, is_header, is_pair, key_of, name_of, number_in,
+    number_of, same_name, trim, trim_start, value_of,
 };
 use cop_hazard::spelled;
 use std::alloc::{AllocError, Global};
@@ -50,8 +51,54 @@ pub fn is_commented(old: &[u8], new: &[u8]) -> bool
     is_marked(new) && is_left(old, without_first(new))
 }
 
+/// Whether a line is none of CiA 306: neither blank, nor a comment, a header or a pair.
+pub fn is_bad(line: &[u8]) -> bool
+    ensures { result ≡ is_bad line.now }
+{
+    !(is_comment(line) || (is_header(line) || is_pair(line)))
+}
+
+fn begins_with_mark(rest: &[u8]) -> bool
+    ensures { result ≡ begins_with_mark rest.now }
+{
+    match rest {
+        [b'#', ..] => true,
+        [b'/', b'/', ..] => true,
+        _ => false,
+    }
+}
+
+/// Whether a byte is a blank, or a sign of which rules are drawn.
+fn is_rule_sign(byte: u8) -> bool
+    ensures { result ≡ is_rule_sign byte }
+{
+    ((byte == b'-' || byte == b'=') || (byte == b'*' || byte == b'_'))
+        || ((byte == b'~' || byte == b'+')
+            || (byte == b'#' || (byte == b'/' || (byte == b'.' || is_blank(byte)))))
+}
+
+fn are_rule_signs(line: &[u8]) -> bool
+    ensures { result ≡ list_all is_rule_sign line.now }
+{
+    line.iter().all(|byte| is_rule_sign(*byte))
+}
+
+/// Whether a line is a comment of another kind, or a rule that is drawn.
+pub fn is_drawn(line: &[u8]) -> bool
+    ensures { result ≡ is_drawn line.now }
+{
+    begins_with_mark(trim_start(line)) || (3 <= line.len() && are_rule_signs(line))
+}
+
+/// Whether an opening bracket stands first.
+pub fn begins_as_header(line: &[u8]) -> bool
+    ensures { result ≡ begins_as_header line.now }
+{
+    matches!(trim_start(line), [b'[', ..])
+}
+
 /// Whether both numbers are there, and the same.
-fn is_same_number(left: Option<u64>, right: Option<u64>) -> bool
+pub fn is_same_number(left: Option<u64>, right: Option<u64>) -> bool
     ensures { result ≡ is_same_number left right }
 {
     match (left, right) {
@@ -67,11 +114,25 @@ fn is_same_section(left: &[u8], right: &[u8]) -> bool
     is_same_number(code_of(left), code_of(right)) || same_name(left, right)
 }
 
+fn begins_as_value(rest: &[u8]) -> bool
+    ensures { result ≡ (slice_index (trim_start rest.now) 0 == 61) }
+{
+    matches!(trim_start(rest), [b'=', ..])
+}
+
+/// Whether a name stands between brackets at the front of a line, and no equals sign behind it.
+fn is_bracketed(line: &[u8]) -> bool
+    ensures { result ≡ is_bracketed line.now }
+{
+    matches!(line, [b'[', ..])
+        && (line.contains(&b']') && !begins_as_value(after_first(line, b']')))
+}
+
 /// Whether the name between brackets at the front of a line is that of a new header.
 fn names_it(alloc: Global, line: &[u8], new: &[u8]) -> Result<bool, AllocError>
     ensures { IfOk result (λ b. b ≡ names_it line.now new.now) }
 {
-    if !matches!(line, [b'[', ..]) {
+    if !is_bracketed(line) {
         return Ok(false);
     }
     let name = name_of(line);
@@ -92,19 +153,20 @@ pub fn keeps_name(alloc: Global, old: &[u8], new: &[u8]) -> Result<bool, AllocEr
     Ok(names_it(alloc, trim_start(old), new)? || names_it(alloc, loose_start(old), new)?)
 }
 
-fn is_key_end(rest: &[u8]) -> bool
-    ensures { result ≡ is_key_end rest.now }
+/// Whether a key ends here: at an equals sign in a pair, and else at a colon or the end.
+fn is_key_end(paired: bool, rest: &[u8]) -> bool
+    ensures { result ≡ is_key_end paired rest.now }
 {
     match rest {
-        [] => true,
-        [first, ..] => *first == b'=' || *first == b':',
+        [] => !paired,
+        [first, ..] => *first == if paired { b'=' } else { b':' },
     }
 }
 
 fn begins_with_key(key: &[u8], line: &[u8]) -> bool
     ensures { result ≡ begins_with_key key.now line.now }
 {
-    line.starts_with(key) && is_key_end(trim_start(&line[key.len()..]))
+    line.starts_with(key) && is_key_end(is_pair(line), trim_start(&line[key.len()..]))
 }
 
 /// Whether the new line is a pair with the key of the old line.

@@ -1,12 +1,12 @@
 //! Numbers as makers write them.
 
-ghost use Rattle.std.specs.Prelude.{◌≡◌, ◌==◌, ◌-◌, ◌≤◌, ◌||◌, IfOk, filter, length, not, slice_index};
+ghost use Rattle.std.specs.Prelude.{◌≡◌, ◌==◌, ◌-◌, ◌||◌, IfOk, filter, length, not, slice_index};
 ghost use Rattle.std.specs.List.{list_all};
 ghost use Rattle.std.specs.Char.{is_digit};
 ghost use Rattle.std.specs.Option.{option_map};
 ghost use Rattle.cop_eds.specs.Number.{is_numeral};
 ghost use Rattle.cop_eds.specs.Text.{is_blank};
-ghost use Rattle.cop_meaning.specs.Numerals.{is_signed, without_sign, is_suffix, without_suffix, without_zeros, plain, hexadecimal_digits, is_octal_too, radix_of, decimal_number, magnitude, is_negative};
+ghost use Rattle.cop_meaning.specs.Numerals.{is_signed, without_sign, is_suffix, without_suffix, without_zeros, plain, hexadecimal_digits, is_octal_too, agreed, chosen_number, decimal_number, magnitude, is_negative};
 ghost use Rattle.cop_meaning.specs.Values.{meant};
 
 use cop_change::Digits;
@@ -124,23 +124,33 @@ fn is_octal_too(digits: &[u8]) -> bool
     matches!(digits, [b'0', ..]) && number_in(8, digits).is_some()
 }
 
-fn radix_of(choice: Option<Digits>) -> u32
-    ensures value { result ≡ radix_of choice }
-    ensures low { 2 ≤ result }
-    ensures high { result ≤ 16 }
+/// The number on which both readings agree.
+fn agreed(octal: Option<u64>, decimal: Option<u64>) -> Option<u64>
+    ensures { result ≡ agreed octal decimal }
 {
-    match choice {
-        Some(Digits::Octal) => 8,
-        Some(Digits::Decimal) | None => 10,
+    match (octal, decimal) {
+        (Some(octal), Some(decimal)) if octal == decimal => Some(decimal),
+        _ => None,
     }
 }
 
-/// The number that decimal digits are, by the choice where they read otherwise as octal.
+/// The number that digits are by a choice; without one, that on which both readings agree.
+fn chosen_number(choice: Option<Digits>, digits: &[u8]) -> Option<u64>
+    ensures { result ≡ chosen_number choice digits.now }
+{
+    match choice {
+        Some(Digits::Octal) => number_in(8, digits),
+        Some(Digits::Decimal) => number_in(10, digits),
+        None => agreed(number_in(8, digits), number_in(10, digits)),
+    }
+}
+
+/// The number that decimal digits are, by the choice where they read otherwise as octal, and none where nothing is chosen.
 fn decimal_number(choice: Option<Digits>, digits: &[u8]) -> Option<u64>
     ensures { result ≡ decimal_number choice digits.now }
 {
     if is_octal_too(digits) {
-        number_in(radix_of(choice), digits)
+        chosen_number(choice, digits)
     } else {
         number_in(10, digits)
     }
@@ -160,7 +170,11 @@ fn are_decimal(digits: &[u8]) -> bool
 
 /// The number that a text is without its sign.
 #[tactic(auto, unfolding(crate::specs::Numerals::magnitude))]
-fn magnitude(alloc: Global, choice: Option<Digits>, text: &[u8]) -> Result<Option<u64>, AllocError>
+pub fn magnitude(
+    alloc: Global,
+    choice: Option<Digits>,
+    text: &[u8],
+) -> Result<Option<u64>, AllocError>
     ensures { IfOk result (λ found. found ≡ magnitude choice text.now) }
 {
     let plain = plain(text);

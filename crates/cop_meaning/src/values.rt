@@ -1,13 +1,12 @@
 //! What a value may become where it is written in another way.
 
-ghost use Rattle.std.specs.Prelude.{◌≡◌, ◌<◌, ◌≤◌, ◌^◌, ◌||◌, IfOk};
-ghost use Rattle.std.specs.List.{list_any};
+ghost use Rattle.std.specs.Prelude.{◌≡◌, ◌<◌, ◌≤◌, ◌^◌, ◌||◌, ℕ, false, List, ◌∷◌, IfOk, IfSome, IfNone, length, map};
 ghost use Rattle.cop_eds.specs.Amount.{amount_of};
-ghost use Rattle.cop_meaning.specs.Values.{same_signed, amount_number, read, are_so, low_bytes, fits, is_widened_to, is_widened, same_bytes, same_pattern, are_ones, is_true_pattern, is_below, is_end_of, is_end, is_raised, is_lowered, is_node_word, is_bracket, plus_of, summed, is_term, is_sum, is_sum_read, is_no_value, is_yes, is_no, is_truth, is_same_text, meant};
+ghost use Rattle.cop_meaning.specs.Values.{same_signed, amount_number, read, are_so, low_bytes, fits, is_widened_to, is_widened, same_bytes, same_pattern, are_ones, is_true_pattern, is_below, is_least_of, is_least, is_greatest_of, is_greatest, is_raised, is_lowered, is_node_word, is_bracket, unbracketed, is_between, terms, adds_by_bar, is_within, size_of, are_together, is_sum, is_sum_read, is_no_value, is_yes, is_no, is_truth, is_same_text, meant};
 
 use crate::numerals::{Signed, meant};
 use cop_change::Digits;
-use cop_eds::{Amount, after_first, amount_of, before_first, same_name, trim};
+use cop_eds::{Amount, amount_of, same_name, trim};
 use std::alloc::{AllocError, Global};
 
 fn same_signed(a: Signed, b: Signed) -> bool
@@ -110,15 +109,19 @@ fn same_pattern(a: Signed, b: Signed) -> bool
         || (same_bytes(0x1_0000_0000, a, b) || same_bytes(0x1_0000_0000_0000_0000, a, b))
 }
 
+/// Whether all bits of a number are set.
 fn are_ones(size: u128, a: Signed) -> bool
-    requires low { 0 < size }
-    requires high { size ≤ 2 ^ 64 }
     ensures { result ≡ are_ones size a }
 {
-    low_bytes(size, a) == size - 1
+    let number = u128::from(a.number);
+    if a.is_negative {
+        number == 1
+    } else {
+        number + 1 == size
+    }
 }
 
-/// Whether a BOOLEAN is 1 where all bits of a pattern are set.
+/// Whether a BOOLEAN is 1 where all bits of a number are set.
 fn is_true_pattern(a: Signed, b: Signed) -> bool
     ensures { result ≡ is_true_pattern a b }
 {
@@ -147,46 +150,63 @@ fn is_below(a: Signed, b: Signed) -> bool
     }
 }
 
-/// Whether a number is the least or the greatest of a type of this size.
-fn is_end_of(size: u128, b: Signed) -> bool
-    ensures { result ≡ is_end_of size b }
+/// Whether a number is the least of a type of this size, which has a sign or none.
+fn is_least_of(size: u128, b: Signed) -> bool
+    ensures { result ≡ is_least_of size b }
 {
-    let number = u128::from(b.number);
     if b.is_negative {
-        2 * number == size
+        2 * u128::from(b.number) == size
     } else {
-        number == 0 || (number + 1 == size || 2 * (number + 1) == size)
+        b.number == 0
     }
 }
 
-fn is_end(b: Signed) -> bool
-    ensures { result ≡ is_end b }
+fn is_least(b: Signed) -> bool
+    ensures { result ≡ is_least b }
 {
-    (is_end_of(2, b) || (is_end_of(0x100, b) || is_end_of(0x1_0000, b)))
-        || (is_end_of(0x1_0000_0000, b) || is_end_of(0x1_0000_0000_0000_0000, b))
+    (is_least_of(0x100, b) || is_least_of(0x1_0000, b))
+        || (is_least_of(0x1_0000_0000, b) || is_least_of(0x1_0000_0000_0000_0000, b))
 }
 
-/// Whether a low limit below its type became the least number.
+/// Whether a number is the greatest of a type of this size, which has no sign or one.
+fn is_greatest_of(size: u128, b: Signed) -> bool
+    ensures { result ≡ is_greatest_of size b }
+{
+    let number = u128::from(b.number);
+    !b.is_negative && (number + 1 == size || 2 * (number + 1) == size)
+}
+
+/// Whether a number is the greatest of a type; that of a BOOLEAN is 1.
+fn is_greatest(b: Signed) -> bool
+    ensures { result ≡ is_greatest b }
+{
+    (!b.is_negative && b.number == 1)
+        || ((is_greatest_of(0x100, b) || is_greatest_of(0x1_0000, b))
+            || (is_greatest_of(0x1_0000_0000, b) || is_greatest_of(0x1_0000_0000_0000_0000, b)))
+}
+
+/// Whether a low limit became the least number of a type, which is greater.
 pub fn is_raised(a: Option<Signed>, b: Option<Signed>) -> bool
     ensures { result ≡ are_so is_raised a b }
 {
     match (a, b) {
-        (Some(a), Some(b)) => is_end(b) && is_below(a, b),
+        (Some(a), Some(b)) => is_least(b) && is_below(a, b),
         _ => false,
     }
 }
 
-/// Whether a high limit above its type became the greatest number.
+/// Whether a high limit became the greatest number of a type, which is less.
 pub fn is_lowered(a: Option<Signed>, b: Option<Signed>) -> bool
     ensures { result ≡ are_so is_lowered a b }
 {
     match (a, b) {
-        (Some(a), Some(b)) => is_end(b) && is_below(b, a),
+        (Some(a), Some(b)) => is_greatest(b) && is_below(b, a),
         _ => false,
     }
 }
 
-fn is_node_word(text: &[u8]) -> bool
+/// Whether a text is a word for the node's number.
+pub fn is_node_word(text: &[u8]) -> bool
     ensures { result ≡ is_node_word text.now }
 {
     ((same_name(text, b"$NODEID") || same_name(text, b"NODEID"))
@@ -200,42 +220,115 @@ fn is_bracket(byte: u8) -> bool
     (byte == b'(' || byte == b')') || (byte == b'{' || byte == b'}')
 }
 
-/// A plus for a bar.
-fn plus_of(byte: u8) -> u8
-    ensures { result ≡ plus_of byte }
-{
-    if byte == b'|' { b'+' } else { byte }
-}
-
-/// A text without brackets, and with a plus for each bar.
-#[tactic(auto, unfolding(crate::specs::Values::summed))]
-fn summed(alloc: Global, text: &[u8]) -> Result<Vec<u8>, AllocError>
-    ensures { IfOk result (λ v. v.items ≡ summed text.now) }
+/// A text without brackets.
+#[tactic(auto, unfolding(crate::specs::Values::unbracketed))]
+fn unbracketed(alloc: Global, text: &[u8]) -> Result<Vec<u8>, AllocError>
+    ensures { IfOk result (λ v. v.items ≡ unbracketed text.now) }
 {
     text.iter()
         .copied()
         .filter(|byte| !is_bracket(*byte))
-        .map(|byte| plus_of(byte))
         .collect(alloc)
 }
 
-fn is_term(
+/// Whether a byte stands between the terms of a sum.
+fn is_between(byte: u8) -> bool
+    ensures { result ≡ is_between byte }
+{
+    byte == b'+' || byte == b'|'
+}
+
+/// The terms of a sum.
+fn terms(alloc: Global, sum: &[u8]) -> Result<Vec<&[u8]>, AllocError>
+    ensures { IfOk result (λ v. map (λ term. term.now) v.items ≡ terms sum.now) }
+{
+    sum.split(|byte| is_between(*byte)).collect(alloc)
+}
+
+/// Whether a bar between so many terms adds, where the sum is the node's number and this one.
+fn adds_by_bar(number: u64, sum: &[u8], count: usize) -> bool
+    requires { count ≡ length (terms sum.now) }
+    ensures { result ≡ adds_by_bar number sum.now }
+{
+    !sum.contains(&b'|') || (count == 2 && number % 128 == 0)
+}
+
+fn is_within(number: u64, term: Option<Signed>) -> bool
+    ensures { result ≡ is_within number term }
+{
+    match term {
+        Some(term) => !term.is_negative && term.number <= number,
+        None => false,
+    }
+}
+
+fn size_of(term: Option<Signed>) -> u64
+    ensures { result ≡ size_of term }
+{
+    match term {
+        Some(term) => term.number,
+        None => 0,
+    }
+}
+
+/// What is still to be found among the terms of a sum: the node's number, so often, and numbers that are so many together.
+#[derive(Clone, Copy)]
+struct Open {
+    nodes: u8,
+    number: u64,
+}
+
+/// What is still to be found behind a term; nothing where the term is more than that, or no number.
+#[tactic(auto, unfolding(crate::specs::Values::are_together))]
+fn behind(
+    alloc: Global,
+    choice: Option<Digits>,
+    open: Open,
+    term: &[u8],
+) -> Result<Option<Open>, AllocError>
+    ensures left { IfOk result (λ left. IfSome left (λ next. (terms : List (List ℕ)) → are_together choice open.nodes open.number (term.now ∷ terms) ≡ are_together choice next.nodes next.number terms)) }
+    ensures none { IfOk result (λ left. IfNone left ((terms : List (List ℕ)) → are_together choice open.nodes open.number (term.now ∷ terms) ≡ false)) }
+{
+    let Open { nodes, number } = open;
+    let term = trim(term);
+    if is_node_word(term) {
+        if nodes == 0 {
+            return Ok(None);
+        }
+        return Ok(Some(Open {
+            nodes: nodes - 1,
+            number,
+        }));
+    }
+    let meant = meant(alloc, choice, term)?;
+    if !is_within(number, meant) {
+        return Ok(None);
+    }
+    let number = number - size_of(meant);
+    Ok(Some(Open { nodes, number }))
+}
+
+/// Whether terms are the node's number and numbers that are so many together.
+#[tactic(auto, unfolding(crate::specs::Values::are_together))]
+fn are_together(
     alloc: Global,
     choice: Option<Digits>,
     number: u64,
-    text: &[u8],
+    terms: &[&[u8]],
 ) -> Result<bool, AllocError>
-    ensures { IfOk result (λ b. b ≡ is_term choice number text.now) }
+    ensures { IfOk result (λ b. b ≡ are_together choice 1 number (map (λ term. term.now) terms.now)) }
 {
-    let said = Signed {
-        is_negative: false,
-        number,
-    };
-    Ok(are_same(meant(alloc, choice, text)?, Some(said)))
+    let mut open = Open { nodes: 1, number };
+    for term in terms {
+        let Some(next) = behind(alloc, choice, open, term)? else {
+            return Ok(false);
+        };
+        open = next;
+    }
+    Ok(open.nodes == 0 && open.number == 0)
 }
 
-/// Whether a text is a sum of the node's number and this one.
-#[tactic(auto, unfolding(crate::specs::Values::is_sum))]
+/// Whether a text without brackets is the sum of the node's number and this one.
 fn is_sum(
     alloc: Global,
     choice: Option<Digits>,
@@ -244,15 +337,12 @@ fn is_sum(
 ) -> Result<bool, AllocError>
     ensures { IfOk result (λ b. b ≡ is_sum choice number sum.now) }
 {
-    let left = trim(before_first(sum, b'+'));
-    let right = trim(after_first(sum, b'+'));
-    if right.contains(&b'+') {
-        return Ok(true);
+    let terms = terms(alloc, sum)?;
+    if adds_by_bar(number, sum, terms.len()) {
+        are_together(alloc, choice, number, &terms)
+    } else {
+        Ok(false)
     }
-    if is_node_word(left) {
-        return Ok(is_term(alloc, choice, number, right)? || (right.is_empty() && number == 0));
-    }
-    Ok(is_node_word(right) && is_term(alloc, choice, number, left)?)
 }
 
 /// Whether a new text is the sum of the node's number that a text is.
@@ -262,10 +352,10 @@ pub fn is_sum_read(
     text: &[u8],
     new: &[u8],
 ) -> Result<bool, AllocError>
-    ensures { IfOk result (λ b. b ≡ is_sum_read choice (summed text.now) (amount_of new.now)) }
+    ensures { IfOk result (λ b. b ≡ is_sum_read choice text.now (amount_of new.now)) }
 {
     match amount_of(new) {
-        Ok(Amount::PlusNode(number)) => is_sum(alloc, choice, number, &summed(alloc, text)?),
+        Ok(Amount::PlusNode(number)) => is_sum(alloc, choice, number, &unbracketed(alloc, text)?),
         _ => Ok(false),
     }
 }
@@ -276,17 +366,18 @@ pub fn is_no_value(text: &[u8]) -> bool
 {
     ((same_name(text, b"n/a") || same_name(text, b"na"))
         || (same_name(text, b"none") || same_name(text, b"null")))
-        || ((same_name(text, b"-") || same_name(text, b"--"))
-            || (same_name(text, b"---") || same_name(text, b"0x")))
+        || (same_name(text, b"-") || (same_name(text, b"--") || same_name(text, b"---")))
 }
 
-fn is_yes(text: &[u8]) -> bool
+/// Whether a text is a word for true.
+pub fn is_yes(text: &[u8]) -> bool
     ensures { result ≡ is_yes text.now }
 {
     same_name(text, b"true") || (same_name(text, b"yes") || same_name(text, b"on"))
 }
 
-fn is_no(text: &[u8]) -> bool
+/// Whether a text is a word for false.
+pub fn is_no(text: &[u8]) -> bool
     ensures { result ≡ is_no text.now }
 {
     same_name(text, b"false") || (same_name(text, b"no") || same_name(text, b"off"))

@@ -1,9 +1,10 @@
 //! Numbers of types, and what texts write them.
 
 use crate::spelling::{Spelling, number};
-use crate::text::{same_name, trim};
+use crate::text::trim;
 use cop_change::{Digits, Question, TidyFault, refused};
 use cop_eds::{Amount, amount_of};
+use cop_meaning::is_node_word;
 use std::alloc::{AllocError, Global};
 
 /// A type whose values are numbers.
@@ -173,20 +174,6 @@ pub fn pattern_text(alloc: Global, numbers: Numbers, pattern: i128) -> Result<Ve
     Ok(text.into_bytes())
 }
 
-/// Whether a word stands for the node's number.
-fn is_node(word: &[u8]) -> bool {
-    [
-        b"$NODEID" as &[u8],
-        b"NODEID",
-        b"NODE_ID",
-        b"NODE-ID",
-        b"NODE",
-        b"%NODEID%",
-    ]
-    .iter()
-    .any(|known| same_name(known, word))
-}
-
 /// What is known of a sum while its terms are read.
 #[derive(Clone, Copy)]
 struct Sum {
@@ -220,7 +207,7 @@ fn with_term(
     digits: Option<Digits>,
     place: usize,
 ) -> Result<Option<Sum>, TidyFault> {
-    if is_node(text) {
+    if is_node_word(text) {
         let nodes = sum.nodes.saturating_add(1);
         return Ok(Some(Sum { nodes, ..sum }));
     }

@@ -1,9 +1,10 @@
-//! Other spellings of numbers and words.
+//! Other spellings of numbers.
 
 use crate::blanks::{bare_ends, before_comment};
 use crate::names::{is_decimal, is_hexadecimal, number_in};
-use crate::text::{is_blank, joined, same_name, trim, trim_start};
+use crate::text::{is_blank, joined, trim, trim_start};
 use cop_change::Digits;
+use cop_meaning::{is_no, is_yes};
 use std::alloc::{AllocError, Global};
 
 /// A value without a comment behind it, quotes, and blanks and commas at its ends.
@@ -135,133 +136,13 @@ pub fn number(alloc: Global, text: &[u8], choice: Option<Digits>) -> Result<Spel
     }
 }
 
-/// A word without case, blanks, `_` and `-`.
-pub fn word(alloc: Global, text: &[u8]) -> Result<Vec<u8>, AllocError> {
-    text.iter()
-        .filter(|b| !is_blank(**b) && !matches!(**b, b'_' | b'-'))
-        .map(|b| b.to_ascii_lowercase())
-        .collect(alloc)
-}
-
-/// What a word stands for, among words and their meanings.
-fn meant(meanings: &[(&'static [u8], &'static [u8])], word: &[u8]) -> Option<&'static [u8]> {
-    for (name, text) in meanings {
-        if *name == word {
-            return Some(text);
-        }
-    }
-    None
-}
-
-/// The number of the object type that a word names (CiA 301).
-pub fn object_type(word: &[u8]) -> Option<&'static [u8]> {
-    meant(
-        &[
-            (b"null", b"0x0"),
-            (b"domain", b"0x2"),
-            (b"deftype", b"0x5"),
-            (b"defstruct", b"0x6"),
-            (b"var", b"0x7"),
-            (b"variable", b"0x7"),
-            (b"array", b"0x8"),
-            (b"record", b"0x9"),
-        ],
-        word,
-    )
-}
-
-/// The number of the integer type of so many bits.
-fn integer_type(bits: &[u8], is_signed: bool) -> Option<&'static [u8]> {
-    let number: &[u8] = match (bits, is_signed) {
-        (b"8", true) => b"0x0002",
-        (b"16", true) => b"0x0003",
-        (b"32", true) => b"0x0004",
-        (b"64", true) => b"0x0015",
-        (b"8", false) => b"0x0005",
-        (b"16", false) => b"0x0006",
-        (b"32", false) => b"0x0007",
-        (b"64", false) => b"0x001B",
-        _ => return None,
-    };
-    Some(number)
-}
-
-/// The number of the data type that a word names (CiA 301).
-pub fn data_type(word: &[u8]) -> Option<&'static [u8]> {
-    match word {
-        [b'u', b'n', b's', b'i', b'g', b'n', b'e', b'd', bits @ ..]
-        | [b'u', b'i', b'n', b't', bits @ ..]
-        | [b'u', bits @ ..]
-            if integer_type(bits, false).is_some() => integer_type(bits, false),
-        [b'i', b'n', b't', b'e', b'g', b'e', b'r', bits @ ..]
-        | [b'i', b'n', b't', bits @ ..]
-        | [b'i' | b's', bits @ ..]
-            if integer_type(bits, true).is_some() => integer_type(bits, true),
-        _ => meant(
-            &[
-                (b"boolean", b"0x0001"),
-                (b"bool", b"0x0001"),
-                (b"real32", b"0x0008"),
-                (b"visiblestring", b"0x0009"),
-                (b"octetstring", b"0x000A"),
-                (b"domain", b"0x000F"),
-                (b"real64", b"0x0011"),
-            ],
-            word,
-        ),
-    }
-}
-
-/// The word of CiA 306 for an access.
-pub fn access(word: &[u8]) -> Option<&'static [u8]> {
-    meant(
-        &[
-            (b"ro", b"ro"),
-            (b"r", b"ro"),
-            (b"read", b"ro"),
-            (b"readonly", b"ro"),
-            (b"r/o", b"ro"),
-            (b"wo", b"wo"),
-            (b"w", b"wo"),
-            (b"write", b"wo"),
-            (b"writeonly", b"wo"),
-            (b"w/o", b"wo"),
-            (b"rw", b"rw"),
-            (b"wr", b"rw"),
-            (b"r/w", b"rw"),
-            (b"readwrite", b"rw"),
-            (b"read/write", b"rw"),
-            (b"rwr", b"rwr"),
-            (b"rww", b"rww"),
-            (b"const", b"const"),
-            (b"c", b"const"),
-            (b"cst", b"const"),
-            (b"constant", b"const"),
-        ],
-        word,
-    )
-}
-
 /// 1 or 0 for a word of truth.
 pub fn truth(text: &[u8]) -> Option<&'static [u8]> {
-    if [b"true" as &[u8], b"yes", b"on"]
-        .iter()
-        .any(|w| same_name(w, text))
-    {
+    if is_yes(text) {
         Some(b"1")
-    } else if [b"false" as &[u8], b"no", b"off"]
-        .iter()
-        .any(|w| same_name(w, text))
-    {
+    } else if is_no(text) {
         Some(b"0")
     } else {
         None
     }
-}
-
-/// Whether a word is an access of CiA 306.
-pub fn is_access(text: &[u8]) -> bool {
-    [b"ro" as &[u8], b"wo", b"rw", b"rwr", b"rww", b"const"]
-        .iter()
-        .any(|word| same_name(word, text))
 }

@@ -127,9 +127,13 @@ abbrev pub IsSaidBy : Option Said → Entry → Type 0
 IsSaidBy None entry = Unit {0} → ⊥
 IsSaidBy (Some said) entry = IsSaid said entry
 
--- an entry stood there before, or the old text has a section of its index
+-- the old text has a section of this index that no list names, or that is of a record of a PDO
+abbrev pub is_left_open : List ℕ → ℕ → Bool
+is_left_open text index = has_section text index && (not (is_listed text index) || is_between 0x1400 0x1BFF index)
+
+-- an entry stood there before, or the old text leaves its index open
 abbrev pub is_known : List ℕ → List Entry → Entry → Bool
-is_known text before entry = is_some (entry_at before entry.index entry.sub) || has_section text entry.index
+is_known text before entry = is_some (entry_at before entry.index entry.sub) || is_left_open text entry.index
 
 -- an entry of the new dictionary is known, or it is what CompactPDO says of its address
 abbrev pub IsAccounted : List ℕ → CompactPdo → ℕ → List Entry → Entry → Type 0

@@ -5,7 +5,7 @@ ghost use Rattle.cop_eds.specs.Reading.{reading};
 ghost use Rattle.cop_dict.specs.Find.{integer_of};
 ghost use Rattle.cop_hazard.specs.declared.tests.Test.TheVariants as tests;
 ghost use Rattle.cop_hazard.specs.Hazards.{first_line};
-ghost use Rattle.cop_tidy.specs.Added.{said_description, IsSaid, IsSaidBy, is_known, IsAccounted, record_of, is_described, IsPut, IsPutAt, AddsExactly, AddsTo, Adds};
+ghost use Rattle.cop_tidy.specs.Added.{said_description, IsSaid, IsSaidBy, is_left_open, is_known, IsAccounted, record_of, is_described, IsPut, IsPutAt, AddsExactly, AddsTo, Adds};
 
 use crate::compact::{CompactPdo, Said, compact_of, said_at};
 use crate::judging::built_for;
@@ -55,12 +55,19 @@ fn is_said_by(said: Option<Said>, entry: &Object) -> bool
     }
 }
 
-/// Whether an entry stood there before, or a text has a section of its index.
+/// Whether a text has a section of an index that no list names, or that is of a record of a PDO.
+fn is_left_open(contents: &Contents<'_, '_>, index: u16) -> bool
+    ensures { result ≡ is_left_open contents.now index }
+{
+    contents.has_section(u64::from(index))
+        && (!contents.is_listed(u64::from(index)) || matches!(index, 0x1400..=0x1BFF))
+}
+
+/// Whether an entry stood there before, or a text leaves its index open.
 fn is_known(contents: &Contents<'_, '_>, before: &Dictionary, entry: &Object) -> bool
     ensures { result ≡ is_known contents.now before.now entry.now }
 {
-    before.entry(entry.index(), entry.sub()).is_some()
-        || contents.has_section(u64::from(entry.index()))
+    before.entry(entry.index(), entry.sub()).is_some() || is_left_open(contents, entry.index())
 }
 
 /// Whether an entry is known, or is what CompactPDO says of its address.

@@ -217,8 +217,8 @@ pub fn tidy(alloc: Global, text: &[u8], words: &Words) -> Result<Tidied, TidyFau
     ensures last { IfOk result (λ t. Stays 127 text.now t.text.items) }
     ensures each { IfOk result (λ t. (node : ℕ) → IsAccepted text.now → Stays node text.now t.text.items) }
 
-    // What is added to one that has no section or key in another spelling, at indexes of which it has no section, is exactly what CompactPDO says
-    // of the PDOs that no list names, as each node has it.
+    // What is added to one that has no section or key in another spelling is exactly what CompactPDO says of the PDOs that no list names, as each node
+    // has it, but at indexes of which it has a section that no list names, or that is of a PDO's record.
     ensures first_adds { IfOk result (λ t. IsSome t.found → Adds 1 text.now t.text.items) }
     ensures last_adds { IfOk result (λ t. IsSome t.found → Adds 127 text.now t.text.items) }
     ensures each_adds { IfOk result (λ t. (node : ℕ) → IsSome t.found → IsAccepted text.now → Adds node text.now t.text.items) }

@@ -3,6 +3,7 @@
 use crate::types::{Main, stated};
 use cop_change::{Cause, Question, TidyFault, Words, refused};
 use cop_eds::{Amount, Rule, amount_of};
+use cop_meaning::is_no_value;
 use cop_outline::outline::{Section, value_in};
 use cop_outline::row::Row;
 use cop_spelling::amounts::{
@@ -13,13 +14,6 @@ use cop_spelling::spelling::{Spelling, bare, number, truth};
 use cop_spelling::text::{Form, from, key_of, name_of, same_name, upto};
 use std::alloc::{AllocError, Global};
 use std::collections::BTreeMap;
-
-/// Words for no value.
-const NO_VALUE: [&[u8]; 7] = [b"n/a", b"na", b"none", b"null", b"-", b"--", b"---"];
-
-fn is_no_value(text: &[u8]) -> bool {
-    NO_VALUE.iter().any(|word| same_name(word, text))
-}
 
 /// What a key of a section is for.
 #[derive(Clone, Copy, Debug, PartialEq, Eq)]
