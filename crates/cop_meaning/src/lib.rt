@@ -7,9 +7,12 @@ mod causes;
 mod given;
 mod lines;
 mod numerals;
+mod typed;
 mod values;
 mod words;
 
 pub use causes::is_by_cause;
+pub use lines::{is_entry, is_list_name};
+pub use typed::is_of_type;
 pub use values::{is_no, is_no_value, is_node_word, is_yes};
 pub use words::{is_access, named_access, named_data_type, named_object_type, undivided};

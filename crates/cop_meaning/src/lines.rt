@@ -231,7 +231,7 @@ pub fn keeps_number(old: &[u8], new: &[u8]) -> bool
     is_same_number(entry_number(loose_start(old)), entry_number(new))
 }
 
-fn is_list_name(name: &[u8]) -> bool
+pub fn is_list_name(name: &[u8]) -> bool
     ensures { result ≡ is_list_name name.now }
 {
     same_name(name, b"MandatoryObjects")

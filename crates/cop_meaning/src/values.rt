@@ -9,7 +9,7 @@ use cop_change::Digits;
 use cop_eds::{Amount, amount_of, same_name, trim};
 use std::alloc::{AllocError, Global};
 
-fn same_signed(a: Signed, b: Signed) -> bool
+pub fn same_signed(a: Signed, b: Signed) -> bool
     ensures { result ≡ same_signed a b }
 {
     a.number == b.number && (a.is_negative == b.is_negative || a.number == 0)
@@ -93,7 +93,7 @@ fn is_widened(size: u128, a: Signed) -> bool
             || is_widened_to(size, 0x1_0000_0000_0000_0000, a))
 }
 
-fn same_bytes(size: u128, a: Signed, b: Signed) -> bool
+pub fn same_bytes(size: u128, a: Signed, b: Signed) -> bool
     requires { 0 < size }
     ensures { result ≡ same_bytes size a b }
 {
@@ -122,7 +122,7 @@ fn are_ones(size: u128, a: Signed) -> bool
 }
 
 /// Whether a BOOLEAN is 1 where all bits of a number are set.
-fn is_true_pattern(a: Signed, b: Signed) -> bool
+pub fn is_true_pattern(a: Signed, b: Signed) -> bool
     ensures { result ≡ is_true_pattern a b }
 {
     (b.number == 1 && !b.is_negative)
@@ -139,7 +139,7 @@ pub fn are_same_patterns(a: Option<Signed>, b: Option<Signed>) -> bool
     }
 }
 
-fn is_below(a: Signed, b: Signed) -> bool
+pub fn is_below(a: Signed, b: Signed) -> bool
     ensures { result ≡ is_below a b }
 {
     match (a.is_negative, b.is_negative) {
@@ -151,7 +151,7 @@ fn is_below(a: Signed, b: Signed) -> bool
 }
 
 /// Whether a number is the least of a type of this size, which has a sign or none.
-fn is_least_of(size: u128, b: Signed) -> bool
+pub fn is_least_of(size: u128, b: Signed) -> bool
     ensures { result ≡ is_least_of size b }
 {
     if b.is_negative {
@@ -169,7 +169,7 @@ fn is_least(b: Signed) -> bool
 }
 
 /// Whether a number is the greatest of a type of this size, which has no sign or one.
-fn is_greatest_of(size: u128, b: Signed) -> bool
+pub fn is_greatest_of(size: u128, b: Signed) -> bool
     ensures { result ≡ is_greatest_of size b }
 {
     let number = u128::from(b.number);

@@ -1,5 +1,5 @@
 -- What holds of the dictionaries of the first and the last node holds of each.
-use Rattle.std.proofs.Common.{◌≡◌, ◌≤◌, inl, inr, ℕ, true, List, Option, Some, None, Result, Ok, Err, IsOk, get_or, refl, ap, sym, ◌∙◌, subst, Contains, All}
+use Rattle.std.proofs.Common.{◌≡◌, ◌≤◌, inl, inr, ℕ, List, Option, Some, None, Result, Ok, Err, IsOk, get_or, refl, ap, sym, ◌∙◌, subst, Contains, All}
 use Rattle.std.proofs.lemmas.List.Elements.{All-contains, All-contains_itself}
 use Rattle.cop_eds.specs.declared.fault.Refusal.{Refusal}
 use Rattle.cop_eds.specs.declared.description.Object.{Object}
@@ -13,10 +13,10 @@ use Rattle.cop_dict.proofs.PointwiseLemmas.{each_object, only_objects}
 use Rattle.cop_dict.proofs.NodeLemmas.{built_before, alike_between, type_of_built}
 use Rattle.cop_change.specs.declared.words.Words.{Words}
 use Rattle.cop_tidy.specs.Accepted.{IsAccepted}
-use Rattle.cop_tidy.specs.Identified.{is_identifier, identified, IsIdentified, AreIdentified}
+use Rattle.cop_tidy.specs.Identified.{identified, IsIdentified, AreIdentified}
 use Rattle.cop_tidy.specs.Standing.{standing}
 use Rattle.cop_tidy.proofs.StandingLemmas.{accepted_of, last_identified_of}
-use Rattle.cop_tidy.specs.Kept.{is_absent, is_unidentified, IsLike, IsKept, Stays}
+use Rattle.cop_tidy.specs.Kept.{is_identifier, is_absent, is_unidentified, IsIdentifiedNow, IsLike, IsKept, Stays}
 
 -- the dictionary that is built
 pub is_built : (r : Result (List Entry) Refusal) → IsOk r → (dict : List Entry) × (r ≡ Ok dict)
@@ -112,12 +112,14 @@ is_like : (e : Entry) (o : Option Entry) → IsLike e o → (f : Entry) × (o �
 is_like e None h = absurd (h tt)
 is_like e (Some f) h = (f, refl, h)
 
--- of an entry by which its record has no identifier nothing is asked
-kept_alone : (text : List ℕ) (node other : ℕ) (here there after : List Entry) (e f : Entry) → built text node ≡ Ok here → built text other ≡ Ok there → f.index ≡ e.index → f.sub ≡ e.sub
-    → f.description.data_type ≡ e.description.data_type → is_unidentified there f ≡ true → IsKept here after e
-kept_alone text node other here there after e f h t index sub type un =
-    let same = same_there text node other e.index 1 here there h t in
-    inl (sym (same_unidentified here there e f index sub type same.absent) ∙ un)
+-- a record that has an identifier now in the dictionary of another node has one in that of this node
+kept_alone : (old new : List ℕ) (node other : ℕ) (here there after there_after : List Entry) (e f : Entry) → built old node ≡ Ok here → built old other ≡ Ok there → built new node ≡ Ok after
+    → built new other ≡ Ok there_after → f.index ≡ e.index → f.sub ≡ e.sub → f.description.data_type ≡ e.description.data_type → IsIdentifiedNow there there_after f → IsKept here after e
+kept_alone old new node other here there after there_after e f h t n m index sub type now =
+    let same = same_there old node other e.index 1 here there h t in
+    let has = same_there new other node e.index 1 there_after after m n in
+    let moved : is_identifier (entry_at there_after e.index 1) ≡ is_identifier (entry_at there_after f.index 1) = ap (λ i. is_identifier (entry_at there_after i 1)) (sym index) in
+    inl (sym (same_unidentified here there e f index sub type same.absent) ∙ now.0, has.identifier ∙ (moved ∙ now.1))
 
 module _ (old new : List ℕ) (node : ℕ) (before after first last new_first new_last : List Entry)
     (ob : built old node ≡ Ok before) (nb : built new node ≡ Ok after)
@@ -143,8 +145,8 @@ module _ (old new : List ℕ) (node : ℕ) (before after first last new_first ne
 
   kept_by : (e : Entry) (o : IsObjectOf old node e) (a : HasEntry old 1 first o.object e.index e.sub) (b : HasEntry old 127 last o.object e.index e.sub)
       → IsKept first new_first a.entry → IsKept last new_last b.entry → IsKept before after e
-  kept_by e o a b (inl un) two = kept_alone old node 1 before first after e a.entry ob o1 a.index_is a.sub_is (same_type old node 1 o.object e a.entry o.built_as a.built_as) un
-  kept_by e o a b (inr one) (inl un) = kept_alone old node 127 before last after e b.entry ob o2 b.index_is b.sub_is (same_type old node 127 o.object e b.entry o.built_as b.built_as) un
+  kept_by e o a b (inl now) two = kept_alone old new node 1 before first after new_first e a.entry ob o1 nb n1 a.index_is a.sub_is (same_type old node 1 o.object e a.entry o.built_as a.built_as) now
+  kept_by e o a b (inr one) (inl now) = kept_alone old new node 127 before last after new_last e b.entry ob o2 nb n2 b.index_is b.sub_is (same_type old node 127 o.object e b.entry o.built_as b.built_as) now
   kept_by e o a b (inr one) (inr two) = inr (both_like e o a b one two)
 
   all_kept : All (IsKept first new_first) first → All (IsKept last new_last) last → All (IsKept before after) before

@@ -2,6 +2,7 @@ pub mod AcceptedLemmas
 pub mod KeptLemmas
 pub mod LineLemmas
 pub mod LoopLemmas
+pub mod RateLemmas
 pub mod StandingLemmas
 pub mod EachNode
 pub mod AddedLemmas

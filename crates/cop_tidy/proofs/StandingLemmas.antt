@@ -15,7 +15,7 @@ use Rattle.cop_hazard.specs.Hazards.{first_line, unlisted_line, beyond_line, haz
 use Rattle.cop_tidy.specs.declared.judging.Left.{Left}
 use Rattle.cop_tidy.specs.Accepted.{IsAccepted}
 use Rattle.cop_tidy.specs.Identified.{identified, IsIdentified, AreIdentified}
-use Rattle.cop_tidy.specs.Standing.{is_leaving, left_at, unidentified, standing_built, standing_read, standing}
+use Rattle.cop_tidy.specs.Standing.{is_leaving, left_of, left_at, unidentified, standing_built, standing_read, standing}
 use Rattle.cop_tidy.proofs.AcceptedLemmas.{read_as_itself}
 
 neither : {X : Type 0} (a b : Option X) → option_or a b ≡ None → (a ≡ None) × (b ≡ None)
@@ -142,3 +142,16 @@ hazards_alone words text a = rw a.read (hazards_built (is_leaving words) text (b
 pub found_hazard : (words : Words) (text : List ℕ) (found : Option Left) → found ≡ standing words text → IfSome found (λ left. IsAccepted text → 80 ≤ left.number)
 found_hazard words text None e = tt
 found_hazard words text (Some left) e = λ a. subst (λ (o : Option Left). IfSome o (λ left. 80 ≤ left.number)) (sym e) (hazards_alone words text a)
+
+-- what stands against a text that is read is that of its dictionaries and hazards
+pub stands_by : (words : Words) (text x : List ℕ) (found : Option Left) → reading text ≡ Ok x
+    → found ≡ standing_built (is_leaving words) x (built x 1) (built x 127) → standing words text ≡ found
+unfolding standing
+stands_by words text x found e h =
+    let P : List ℕ → Type 0 = λ t. found ≡ standing_built (is_leaving words) t (built t 1) (built t 127) in
+    rw e (sym (subst P (read_as_itself text x e) h))
+
+-- and against one that is refused it is the refusal
+pub refused_by : (words : Words) (text : List ℕ) (refusal : Refusal) → reading text ≡ Err refusal → standing words text ≡ Some (left_of refusal)
+unfolding standing
+refused_by words text refusal e = rw e refl

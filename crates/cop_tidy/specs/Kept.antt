@@ -26,14 +26,23 @@ is_alone dict entry = (entry.sub == 0) && is_absent (entry_at dict entry.index 1
 abbrev pub is_unidentified : List Entry → Entry → Bool
 is_unidentified dict entry = is_record entry.index && (is_mistyped entry || is_alone dict entry)
 
+-- an entry is an UNSIGNED32, as an identifier is
+abbrev pub is_identifier : Option Entry → Bool
+is_identifier None = false
+is_identifier (Some entry) = is_unsigned32 entry.description.data_type
+
 -- another entry has the type, the access, the flag, the limits and the value of this one
 abbrev pub IsLike : Entry → Option Entry → Type 0
 IsLike entry None = Unit {0} → ⊥
 IsLike entry (Some other) = AreAlike entry other
 
--- the entry of the first dictionary stands in the second, unless the record of a PDO has no identifier by it
+-- the record of a PDO has no identifier by an entry of the first dictionary, and has one in the second
+abbrev pub IsIdentifiedNow : List Entry → List Entry → Entry → Type 0
+IsIdentifiedNow before after entry = (is_unidentified before entry ≡ true) × (is_identifier (entry_at after entry.index 1) ≡ true)
+
+-- the entry of the first dictionary stands in the second, unless the record of a PDO had no identifier by it, and has one now
 abbrev pub IsKept : List Entry → List Entry → Entry → Type 0
-IsKept before after entry = is_unidentified before entry ≡ true ⊎ IsLike entry (entry_at after entry.index entry.sub)
+IsKept before after entry = IsIdentifiedNow before after entry ⊎ IsLike entry (entry_at after entry.index entry.sub)
 
 -- where the old text is accepted, each entry of its dictionary of a node stands in that of the new text
 abbrev pub Stays : ℕ → List ℕ → List ℕ → Type 0

@@ -1,5 +1,7 @@
 pub mod Accepted
 pub mod Added
+pub mod Chosen
 pub mod Identified
 pub mod Kept
+pub mod Rates
 pub mod Standing

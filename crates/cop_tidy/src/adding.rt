@@ -5,11 +5,13 @@ ghost use Rattle.cop_eds.specs.Reading.{reading};
 ghost use Rattle.cop_dict.specs.Find.{integer_of};
 ghost use Rattle.cop_hazard.specs.declared.tests.Test.TheVariants as tests;
 ghost use Rattle.cop_hazard.specs.Hazards.{first_line};
+ghost use Rattle.cop_tidy.specs.Rates.{SupportsSame};
 ghost use Rattle.cop_tidy.specs.Added.{said_description, IsSaid, IsSaidBy, is_left_open, is_known, IsAccounted, record_of, is_described, IsPut, IsPutAt, AddsExactly, AddsTo, Adds};
 
 use crate::compact::{CompactPdo, Said, compact_of, said_at};
 use crate::judging::built_for;
 use crate::keeping::is_same_description;
+use crate::rating::supports_same;
 use cop_dict::{Description, Dictionary, Object};
 use cop_eds::{Eds, EdsFault, parse};
 use cop_hazard::Contents;
@@ -243,19 +245,20 @@ fn read<'a>(alloc: Global, text: &'a [u8]) -> Result<Option<Eds<'a>>, AllocError
     }
 }
 
-/// Whether what a new text adds to an old one that is accepted is exactly what CompactPDO says, as the first and the last node have them. One
-/// that the strict reading does not take adds nothing.
-#[tactic(auto, unfolding(crate::specs::Added::Adds))]
-pub fn adds(alloc: Global, old: &[u8], new: &[u8]) -> Result<bool, AllocError>
+/// Whether what a new text adds to an old one that is accepted is exactly what CompactPDO says, as the first and the last node have them, and
+/// both support the same rates. One that the strict reading does not take adds nothing.
+#[tactic(auto, unfolding(crate::specs::Added::Adds, crate::specs::Rates::SupportsSame))]
+pub fn adds(alloc: Global, old: &[u8], new: &Eds<'_>) -> Result<bool, AllocError>
     ensures first { IfOk result (λ b. b ≡ true → Adds 1 old.now new.now) }
     ensures last { IfOk result (λ b. b ≡ true → Adds 127 old.now new.now) }
+    ensures rates { IfOk result (λ b. b ≡ true → SupportsSame old.now new.now) }
 {
     let Some(old) = read(alloc, old)? else {
         return Ok(true);
     };
-    let Some(new) = read(alloc, new)? else {
+    if !supports_same(&old, new) {
         return Ok(false);
-    };
+    }
     let contents = Contents::new(alloc, &old)?;
-    adds_to_both(alloc, &contents, &new)
+    adds_to_both(alloc, &contents, new)
 }

@@ -1,6 +1,6 @@
 //! What stands against a text.
 
-ghost use Rattle.std.specs.Prelude.{◌≡◌, ◌≤◌, IfOk, IfErr, IfSome};
+ghost use Rattle.std.specs.Prelude.{◌≡◌, ◌≤◌, None, Some, IfOk, IfErr, IfSome};
 ghost use Rattle.std.specs.Option.{option_map};
 ghost use Rattle.cop_dict.specs.Build.{built};
 ghost use Rattle.cop_tidy.specs.Accepted.{IsAccepted};
@@ -110,16 +110,33 @@ fn judged_eds(alloc: Global, eds: &Eds<'_>, words: &Words) -> Result<Option<Left
     judged_built(alloc, eds, &first, &last, words)
 }
 
+/// A text against which nothing stands, by the strict reading of it, or what does.
+#[tactic(auto, using(crate::proofs::AcceptedLemmas::read_as_itself, crate::proofs::StandingLemmas::stands_by, crate::proofs::StandingLemmas::refused_by))]
+pub fn settled<'a>(
+    alloc: Global,
+    text: &'a [u8],
+    words: &Words,
+) -> Result<Result<Eds<'a>, Left>, AllocError>
+    ensures same { IfOk result (λ r. IfOk r (λ eds. eds ≡ text.now)) }
+    ensures settled { IfOk result (λ r. IfOk r (λ eds. standing words.now text.now ≡ None)) }
+    ensures left { IfOk result (λ r. IfErr r (λ left. standing words.now text.now ≡ Some left)) }
+{
+    let eds = match parse(alloc, text) {
+        Ok(eds) => eds,
+        Err(EdsFault::Refused(refusal)) => return Ok(Err(left_of(refusal))),
+        Err(EdsFault::Memory) => return Err(AllocError),
+    };
+    match judged_eds(alloc, &eds, words)? {
+        Some(left) => Ok(Err(left)),
+        None => Ok(Ok(eds)),
+    }
+}
+
 /// What stands against a text, by the strict reading of it.
-#[tactic(auto, using(crate::proofs::AcceptedLemmas::read_as_itself), unfolding(crate::specs::Standing::standing))]
 fn judged_text(alloc: Global, text: &[u8], words: &Words) -> Result<Option<Left>, AllocError>
     ensures { IfOk result (λ found. found ≡ standing words.now text.now) }
 {
-    match parse(alloc, text) {
-        Ok(eds) => judged_eds(alloc, &eds, words),
-        Err(EdsFault::Refused(refusal)) => Ok(Some(left_of(refusal))),
-        Err(EdsFault::Memory) => Err(AllocError),
-    }
+    Ok(settled(alloc, text, words)?.err())
 }
 
 /// What stands against a text: the first refusal of the strict reading, or a hazard. Against one that is accepted nothing stands but

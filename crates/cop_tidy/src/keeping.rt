@@ -5,8 +5,8 @@ ghost use Rattle.std.specs.List.{list_all};
 ghost use Rattle.cop_eds.specs.Reading.{reading};
 ghost use Rattle.cop_dict.specs.Find.{Entry, entry_at};
 ghost use Rattle.cop_dict.specs.Build.{built};
-ghost use Rattle.cop_tidy.specs.Identified.{is_identifier, identified};
-ghost use Rattle.cop_tidy.specs.Kept.{is_record, is_mistyped, is_absent, is_alone, is_unidentified, IsKept, IsLike, Stays};
+ghost use Rattle.cop_tidy.specs.Identified.{identified};
+ghost use Rattle.cop_tidy.specs.Kept.{is_record, is_identifier, is_mistyped, is_absent, is_alone, is_unidentified, IsKept, IsLike, Stays};
 
 use cop_change::TidyFault;
 use cop_dict::{DataType, Description, Dictionary, Object, build};
@@ -121,12 +121,22 @@ fn is_like(dict: &Dictionary, entry: &Object) -> bool
     }
 }
 
-/// Whether an entry of a dictionary stands in another.
+/// Whether an object has an UNSIGNED32 at sub 1.
+fn has_identifier(dict: &Dictionary, index: u16) -> bool
+    ensures { result ≡ is_identifier (entry_at dict.now index 1) }
+{
+    match dict.entry(index, 1) {
+        Some(entry) => matches!(entry.description().data_type, DataType::Unsigned32),
+        None => false,
+    }
+}
+
+/// Whether an entry of a dictionary stands in another, or its record has an identifier there that it had not.
 fn is_kept(before: &Dictionary, after: &Dictionary, entry: &Object) -> bool
     ensures { result ≡ true → IsKept before.now after.now entry.now }
 {
     if is_unidentified(before, entry) {
-        return true;
+        return has_identifier(after, entry.index());
     }
     is_like(after, entry)
 }
@@ -141,16 +151,6 @@ fn are_kept(before: &Dictionary, after: &Dictionary) -> bool
         }
     }
     true
-}
-
-/// Whether an object has an UNSIGNED32 at sub 1.
-fn has_identifier(dict: &Dictionary, index: u16) -> bool
-    ensures { result ≡ is_identifier (entry_at dict.now index 1) }
-{
-    match dict.entry(index, 1) {
-        Some(entry) => matches!(entry.description().data_type, DataType::Unsigned32),
-        None => false,
-    }
 }
 
 /// Whether an entry is of no PDO's communication record, or has an identifier beside it.

@@ -8,6 +8,7 @@ mod judging;
 mod keeping;
 mod laws;
 mod meanings;
+mod rating;
 mod telling;
 mod tidying;
 mod wording;

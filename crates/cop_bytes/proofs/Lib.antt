@@ -1,0 +1,2 @@
+pub mod PaddingLemmas
+pub mod ToldLemmas

@@ -1,0 +1,9 @@
+//! What is done to the bytes of an EDS file as makers ship it before they are read as lines.
+#![tactic(auto)]
+
+mod ends;
+mod padding;
+mod preparing;
+mod utf16;
+
+pub use preparing::{Readable, prepared};

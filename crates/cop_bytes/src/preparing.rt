@@ -1,0 +1,127 @@
+//! The bytes that are read as lines.
+
+ghost use Rattle.std.specs.Prelude.{◌≡◌, ◌≤◌, ◌++◌, ◌==◌, length, None, Some, IfOk, IfErr, OnOk, vec_len};
+ghost use Rattle.std.specs.List.{list_any};
+ghost use Rattle.cop_bytes.specs.Bytes.{decoding, cutting, uncut, ended, listed, letter_changes, prepared, text_changes};
+
+use crate::ends::{ending, with_ends};
+use crate::padding::uncut_len;
+use crate::utf16::{is_marked, letters_of};
+use cop_change::TextChange;
+use std::alloc::{AllocError, Global};
+
+/// The bytes that are read as lines, and what was changed to come to them.
+#[derive(Debug, Drop)]
+pub struct Readable {
+    pub text: Vec<u8>,
+    pub changes: Vec<TextChange>,
+}
+
+/// The text without an end mark of DOS or padding behind it.
+fn uncut(text: &[u8]) -> &[u8]
+    ensures value { result.now ≡ uncut text.now }
+    ensures bound { length result.now ≤ length text.now }
+{
+    &text[..uncut_len(text)]
+}
+
+fn has_zero(text: &[u8]) -> bool
+    ensures { result ≡ list_any (λ b. b == 0) text.now }
+{
+    text.iter().any(|b| *b == 0)
+}
+
+/// The number of the line of the first 00h.
+fn line_of_zero(text: &[u8]) -> usize {
+    let end = if text.contains(&b'\n') { b'\n' } else { b'\r' };
+    let before = text.iter().take_while(|b| **b != 0);
+    before.filter(|b| **b == end).count().saturating_add(1)
+}
+
+/// The text with ends of lines that CiA 306 has, or the line of a 00h, which no text has.
+fn ended(alloc: Global, text: &[u8]) -> Result<Result<Vec<u8>, usize>, AllocError>
+    ensures ok { IfOk result (λ r. IfOk r (λ e. ended text.now ≡ Some e.items)) }
+    ensures err { IfOk result (λ r. IfErr r (λ line. ended text.now ≡ None)) }
+{
+    let kept = uncut(text);
+    if has_zero(kept) {
+        return Ok(Err(line_of_zero(kept)));
+    }
+    Ok(Ok(with_ends(alloc, kept)?))
+}
+
+/// What is told of UTF-16.
+fn decoding(text: &[u8]) -> Option<TextChange>
+    ensures { result ≡ decoding text.now }
+{
+    if is_marked(text) {
+        Some(TextChange::Decoded)
+    } else {
+        None
+    }
+}
+
+/// What is told of bytes that are cut at the end.
+fn cutting(text: &[u8]) -> Option<TextChange>
+    ensures { result ≡ cutting text.now }
+{
+    let kept = uncut(text).len();
+    if kept == text.len() {
+        None
+    } else {
+        Some(TextChange::Cut(text.len() - kept))
+    }
+}
+
+fn tell(changes: &mut Vec<TextChange>, change: Option<TextChange>) -> Result<(), AllocError>
+    ensures { OnOk result (changes.new.items ≡ changes.old.items ++ listed change) }
+{
+    if let Some(change) = change {
+        changes.push(change)?;
+    }
+    Ok(())
+}
+
+/// What is told of a text with these letters.
+fn told(alloc: Global, text: &[u8], letters: &[u8]) -> Result<Vec<TextChange>, AllocError>
+    ensures { IfOk result (λ t. t.items ≡ listed (decoding text.now) ++ letter_changes (Some letters.now)) }
+{
+    let mut changes = Vec::new(alloc);
+    tell(&mut changes, decoding(text))?;
+    tell(&mut changes, cutting(letters))?;
+    tell(&mut changes, ending(uncut(letters)))?;
+    Ok(changes)
+}
+
+/// What is read as lines, and what is told of it.
+#[tactic(auto, unfolding(crate::specs::Bytes::prepared, crate::specs::Bytes::text_changes))]
+fn made(alloc: Global, text: &[u8]) -> Result<Result<Readable, usize>, AllocError>
+    ensures text { IfOk result (λ r. IfOk r (λ p. prepared text.now ≡ Some p.text.items)) }
+    ensures changes { IfOk result (λ r. IfOk r (λ p. p.changes.items ≡ text_changes text.now)) }
+    ensures no_text { IfOk result (λ r. IfErr r (λ line. prepared text.now ≡ None)) }
+{
+    let Some(letters) = letters_of(alloc, text)? else {
+        return Ok(Err(0));
+    };
+    let changes = told(alloc, text, &letters)?;
+    match ended(alloc, &letters)? {
+        Ok(text) => Ok(Ok(Readable { text, changes })),
+        Err(line) => Ok(Err(line)),
+    }
+}
+
+/// The bytes that are read as lines: UTF-16 becomes UTF-8, an end mark of DOS or padding is cut, and the ends of lines become those
+/// of CiA 306. Where nothing is told they are as they were. Where the bytes are no text, the line at which this shows, from 1, and 0
+/// where they are no UTF-16.
+#[tactic(auto, using(crate::proofs::ToldLemmas::same_where_untold))]
+pub fn prepared(alloc: Global, text: &[u8]) -> Result<Result<Readable, usize>, AllocError>
+    ensures text { IfOk result (λ r. IfOk r (λ p. prepared text.now ≡ Some p.text.items)) }
+    ensures changes { IfOk result (λ r. IfOk r (λ p. p.changes.items ≡ text_changes text.now)) }
+    ensures same { IfOk result (λ r. IfOk r (λ p. vec_len p.changes ≡ 0 → p.text.items ≡ text.now)) }
+    ensures no_text { IfOk result (λ r. IfErr r (λ line. prepared text.now ≡ None)) }
+{
+    match made(alloc, text)? {
+        Ok(readable) => Ok(Ok(readable)),
+        Err(line) => Ok(Err(line)),
+    }
+}

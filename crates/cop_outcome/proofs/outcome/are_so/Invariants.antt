@@ -1,0 +1,13 @@
+use Rattle.std.proofs.Common.{◌≡◌, ◌≤◌, ◌+◌, length, true}
+use Rattle.cop_outcome.specs.Outcome.{are_so_from, start}
+use Rattle.cop_outcome.proofs.outcome.are_so.Given as goal
+
+abbrev pub invariant-loop-left : goal.invariant-loop-left
+invariant-loop-left l =
+    record {
+      left_is : are_so_from l.choice l.eds l.walk l.left ≡ true → are_so_from l.choice l.eds start l.changes ≡ true;
+      counted : l.walk.added + length l.left ≤ length l.changes;
+    }
+
+abbrev pub decreases-loop-left : goal.decreases-loop-left
+decreases-loop-left l = length l.left
