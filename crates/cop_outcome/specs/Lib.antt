@@ -1,2 +1,5 @@
+pub mod Compact
+pub mod Dropped
+pub mod Given
 pub mod Outcome
 pub mod Said

@@ -1,5 +1,5 @@
 -- What stands in a record of a PDO that is added, by CompactPDO and CiA 301 ("PDO communication parameter record", "PDO mapping parameter record").
-use Rattle.std.specs.Prelude.{ℕ, ◌+◌, ◌-◌, ◌*◌, ◌/◌, ◌%◌, Bool, true, false, not, ◌||◌, ◌&&◌, ◌==◌, nat_le, List, codes, if◌then◌else◌, Option, Some, None, Result, Ok, Err}
+use Rattle.std.specs.Prelude.{ℕ, ◌+◌, ◌-◌, ◌*◌, ◌/◌, ◌%◌, Bool, false, not, ◌||◌, ◌&&◌, ◌==◌, nat_le, List, codes, if◌then◌else◌, Option, Some, None, Result, Ok, Err}
 use Rattle.std.specs.Str.{bytes_eq}
 use Rattle.cop_eds.specs.declared.fault.Rule.{Rule}
 use Rattle.cop_eds.specs.declared.amount.Amount.{Amount}

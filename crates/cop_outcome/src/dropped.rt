@@ -3,7 +3,7 @@
 ghost use Rattle.std.specs.Prelude.{◌≡◌, ◌<◌};
 ghost use Rattle.cop_eds.specs.Number.{number_of};
 ghost use Rattle.cop_hazard.specs.Stated.{ok_number};
-ghost use Rattle.cop_outcome.specs.Outcome.{is_before, is_key_twice, is_read, begins_before, is_section_twice, has_pair, is_part_twice, digit, index_name, is_needed, is_absent, names_absent, is_missing, first_of, is_dropped_so};
+ghost use Rattle.cop_outcome.specs.Dropped.{is_before, is_key_twice, is_read, begins_before, is_section_twice, has_pair, is_part_twice, digit, index_name, is_needed, is_absent, names_absent, is_missing, first_of, is_dropped_so};
 
 use cop_change::Cause;
 use cop_eds::{Eds, Place, code_of, is_header, key_of, name_of, number_of, same_name, value_of};
@@ -80,7 +80,8 @@ fn is_part_twice(eds: &Eds<'_>, first: Option<usize>, number: usize, line: &[u8]
     }
 }
 
-fn digit(number: u8) -> u8
+/// A hexadecimal digit.
+pub fn digit(number: u8) -> u8
     requires { number < 16 }
     ensures { result ≡ digit number }
 {
@@ -92,7 +93,7 @@ fn digit(number: u8) -> u8
 }
 
 /// The name of the section of an index.
-fn index_name(index: u16) -> [u8; 4]
+pub fn index_name(index: u64) -> [u8; 4]
     ensures { result ≡ index_name index }
 {
     [
@@ -114,10 +115,7 @@ fn is_needed(index: u64) -> bool
 fn is_absent(eds: &Eds<'_>, number: u64) -> bool
     ensures { result ≡ is_absent eds.now number }
 {
-    match u16::try_from(number) {
-        Ok(index) => !is_needed(number) && eds.place(&index_name(index)).is_none(),
-        Err(_) => false,
-    }
+    number <= 0xFFFF && (!is_needed(number) && eds.place(&index_name(number)).is_none())
 }
 
 fn names_absent(eds: &Eds<'_>, number: Option<u64>) -> bool
@@ -129,7 +127,8 @@ fn names_absent(eds: &Eds<'_>, number: Option<u64>) -> bool
     }
 }
 
-fn ok_number(text: &[u8]) -> Option<u64>
+/// The number that a text is, where it is one.
+pub fn ok_number(text: &[u8]) -> Option<u64>
     ensures { result ≡ ok_number (number_of text.now) }
 {
     number_of(text).ok()

@@ -2,8 +2,11 @@
 //! it drops stands before, or names nothing.
 #![tactic(auto)]
 
+mod compact;
 mod dropped;
+mod given;
 mod outcome;
 mod said;
+mod sections;
 
 pub use outcome::are_so;

@@ -1,13 +1,18 @@
 //! A walk through the changes of a text, each in its section of the text that came of all.
 
 ghost use Rattle.std.specs.Prelude.{◌≡◌, ◌<◌, ◌≤◌, ◌+◌, ◌-◌, ◌^◌, ◌&&◌, length, drop, slice_get, IfOk, Some, true};
-ghost use Rattle.cop_eds.specs.Lines.{lines_of, text_of, IsInside};
-ghost use Rattle.cop_outcome.specs.Outcome.{keeps_bytes, added, number, opens, code_after, is_twice, first_after, next, is_dropped_so, is_added_so, is_line, is_at_end, is_so, are_so_from, start, AreSo};
+ghost use Rattle.cop_eds.specs.Lines.{lines_of, IsInside};
+ghost use Rattle.cop_outcome.specs.Dropped.{is_dropped_so};
+ghost use Rattle.cop_outcome.specs.Given.{gets};
+ghost use Rattle.cop_outcome.specs.Outcome.{keeps_bytes, added, number, opens, code_after, is_twice, first_after, next, is_added_so, is_line, is_at_end, is_so, are_so_from, start, AreSo};
 
+use crate::compact::is_closed_so;
 use crate::dropped::{first_of, is_dropped_so};
+use crate::given::gets;
 use crate::said::is_said;
-use cop_change::{Cause, Change, Digits};
-use cop_eds::{Eds, Line, code_of, is_header, name_of};
+use crate::sections::{Sections, text_of};
+use cop_change::{Cause, Change, Digits, Words};
+use cop_eds::{Access, Eds, Line, code_of, is_header, name_of};
 use cop_hazard::stated_or_0;
 use cop_meaning::is_of_type;
 use std::alloc::{AllocError, Global};
@@ -121,50 +126,55 @@ fn is_added_so(code: Option<u64>, change: &Change) -> bool
     }
 }
 
-/// The bytes of a line, without its end.
-fn text_of<'a>(eds: &Eds<'a>, line: &Line) -> &'a [u8]
-    requires { IsInside (length eds.now) line.now }
-    ensures { result.now ≡ text_of eds.now line.now }
+/// Whether a line in a section is set, dropped or added by its rule.
+fn is_rule_so(
+    eds: &Eds<'_>,
+    choice: Option<Access>,
+    walk: Walk,
+    line: &Line,
+    code: Option<u64>,
+    number: usize,
+    change: &Change,
+) -> bool
+    ensures { result ≡ gets eds.now choice line.now.section code change.now.cause change.now.new.items && (is_dropped_so eds.now walk.first line.now.section number change.now.cause (drop 1 change.now.new.items) && is_added_so walk.code change.now) }
 {
-    let source = eds.source();
-    &source[line.from..line.to]
-}
-
-/// Whether a line in a section is dropped or added by its rule.
-fn is_rule_so(eds: &Eds<'_>, walk: Walk, section: usize, number: usize, change: &Change) -> bool
-    ensures { result ≡ is_dropped_so eds.now walk.first section number change.now.cause (drop 1 change.now.new.items) && is_added_so walk.code change.now }
-{
-    is_dropped_so(
-        eds,
-        walk.first,
-        section,
-        number,
-        change.cause,
-        behind_first(&change.new),
-    ) && is_added_so(walk.code, change)
+    gets(eds, choice, line.section, code, change.cause, &change.new)
+        && (is_dropped_so(
+            eds,
+            walk.first,
+            line.section,
+            number,
+            change.cause,
+            behind_first(&change.new),
+        ) && is_added_so(walk.code, change))
 }
 
 /// Whether a line is what came of a change, in its section.
 fn is_line(
     alloc: Global,
-    choice: Option<Digits>,
-    eds: &Eds<'_>,
+    words: &Words,
+    sections: &Sections<'_, '_>,
     walk: Walk,
     number: usize,
     change: &Change,
     line: &Line,
 ) -> Result<bool, AllocError>
-    requires { IsInside (length eds.now) line.now }
-    ensures { IfOk result (λ b. b ≡ is_line choice eds.now walk number change.now (Some line.now)) }
+    requires { IsInside (length sections.now) line.now }
+    ensures { IfOk result (λ b. b ≡ true → is_line words.now sections.now walk number change.now (Some line.now) ≡ true) }
 {
+    let eds = sections.eds();
     if text_of(eds, line) != change.new.as_slice() {
         return Ok(false);
     }
     let data_type = stated_or_0(eds, line.section, b"DataType");
-    if !keeps_bytes(alloc, choice, data_type, change)? {
+    if !keeps_bytes(alloc, words.digits, data_type, change)? {
         return Ok(false);
     }
-    Ok(is_rule_so(eds, walk, line.section, number, change))
+    let code = sections.code(line.section);
+    if !is_closed_so(eds, code, change) {
+        return Ok(false);
+    }
+    Ok(is_rule_so(eds, words.access, walk, line, code, number, change))
 }
 
 /// Whether a section that is added stands at the end, where so many changes follow.
@@ -179,18 +189,18 @@ fn is_at_end(eds: &Eds<'_>, walk: Walk, number: usize, left: usize, change: &Cha
 /// Whether the line of this number is what came of a change.
 fn is_its_line(
     alloc: Global,
-    choice: Option<Digits>,
-    eds: &Eds<'_>,
+    words: &Words,
+    sections: &Sections<'_, '_>,
     walk: Walk,
     number: usize,
     change: &Change,
 ) -> Result<bool, AllocError>
     requires { 0 < number }
-    ensures { IfOk result (λ b. b ≡ is_line choice eds.now walk number change.now (slice_get (lines_of eds.now) (number - 1))) }
+    ensures { IfOk result (λ b. b ≡ true → is_line words.now sections.now walk number change.now (slice_get (lines_of sections.now) (number - 1)) ≡ true) }
 {
-    let lines = eds.lines();
+    let lines = sections.eds().lines();
     match lines.get(number - 1) {
-        Some(line) => is_line(alloc, choice, eds, walk, number, change, line),
+        Some(line) => is_line(alloc, words, sections, walk, number, change, line),
         None => Ok(false),
     }
 }
@@ -199,16 +209,17 @@ fn is_its_line(
 #[tactic(auto, unfolding(crate::specs::Outcome::is_so))]
 fn is_so(
     alloc: Global,
-    choice: Option<Digits>,
-    eds: &Eds<'_>,
+    words: &Words,
+    sections: &Sections<'_, '_>,
     walk: Walk,
     left: usize,
     change: &Change,
 ) -> Result<bool, AllocError>
     requires few { walk.added < 2 ^ 63 }
     requires left { left < 2 ^ 63 }
-    ensures { IfOk result (λ b. b ≡ true → is_so choice eds.now walk left change.now ≡ true) }
+    ensures { IfOk result (λ b. b ≡ true → is_so words.now sections.now walk left change.now ≡ true) }
 {
+    let eds = sections.eds();
     let added = added(walk, change);
     let lines = eds.lines().len();
     if lines < change.place {
@@ -221,18 +232,25 @@ fn is_so(
     if !is_at_end(eds, walk, number, left, change) {
         return Ok(false);
     }
-    is_its_line(alloc, choice, eds, next(eds, walk, change), number, change)
+    is_its_line(
+        alloc,
+        words,
+        sections,
+        next(eds, walk, change),
+        number,
+        change,
+    )
 }
 
-/// Whether each change is so in the text that came of all.
+/// Whether each change is so in a text that came of all, and of which the sections are at hand.
 #[tactic(auto, unfolding(crate::specs::Outcome::are_so_from))]
-pub fn are_so(
+fn are_so_in(
     alloc: Global,
-    choice: Option<Digits>,
-    eds: &Eds<'_>,
+    words: &Words,
+    sections: &Sections<'_, '_>,
     changes: &[Change],
 ) -> Result<bool, AllocError>
-    ensures { IfOk result (λ b. b ≡ true → AreSo choice eds.now changes.now) }
+    ensures { IfOk result (λ b. b ≡ true → are_so_from words.now sections.now start changes.now ≡ true) }
 {
     let mut walk = Walk {
         added: 0,
@@ -242,11 +260,24 @@ pub fn are_so(
     };
     let mut left = changes;
     while let [change, rest @ ..] = left {
-        if !is_so(alloc, choice, eds, walk, rest.len(), change)? {
+        if !is_so(alloc, words, sections, walk, rest.len(), change)? {
             return Ok(false);
         }
-        walk = next(eds, walk, change);
+        walk = next(sections.eds(), walk, change);
         left = rest;
     }
     Ok(true)
+}
+
+/// Whether each change is so in the text that came of all.
+pub fn are_so(
+    alloc: Global,
+    words: &Words,
+    eds: &Eds<'_>,
+    changes: &[Change],
+) -> Result<bool, AllocError>
+    ensures { IfOk result (λ b. b ≡ true → AreSo words.now eds.now changes.now) }
+{
+    let sections = Sections::new(alloc, eds)?;
+    are_so_in(alloc, words, &sections, changes)
 }

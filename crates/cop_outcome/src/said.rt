@@ -7,7 +7,8 @@ ghost use Rattle.cop_hazard.specs.Stated.{ok_number};
 ghost use Rattle.cop_meaning.specs.Lines.{has_key};
 ghost use Rattle.cop_outcome.specs.Said.{is_mapping, base_of, is_own, is_count, is_said_value, type_of, is_number, access_of, is_said_of, is_said};
 
-use cop_eds::{Amount, Rule, amount_of, is_pair, key_of, number_of, same_name, value_of};
+use crate::dropped::ok_number;
+use cop_eds::{Amount, Rule, amount_of, is_pair, key_of, same_name, value_of};
 
 fn is_mapping(index: u64) -> bool
     ensures { result ≡ is_mapping index }
@@ -74,9 +75,9 @@ fn type_of(sub: u64) -> u64
 fn is_number(number: u64, text: &[u8]) -> bool
     ensures { result ≡ is_number number (ok_number (number_of text.now)) }
 {
-    match number_of(text) {
-        Ok(found) => found == number,
-        Err(_) => false,
+    match ok_number(text) {
+        Some(found) => found == number,
+        None => false,
     }
 }
 
@@ -90,7 +91,8 @@ fn access_of(index: u64, sub: u64) -> &'static [u8]
     }
 }
 
-fn has_key(key: &[u8], line: &[u8]) -> bool
+/// Whether a line is a pair of this key.
+pub fn has_key(key: &[u8], line: &[u8]) -> bool
     ensures { result ≡ has_key key.now line.now }
 {
     is_pair(line) && same_name(key_of(line), key)

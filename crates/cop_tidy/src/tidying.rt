@@ -106,9 +106,9 @@ fn add(alloc: Global, old: &[u8], new: &Eds<'_>) -> Result<(), TidyFault>
 
 /// Refuses a text in which a change is not what its rule makes of it.
 fn hold(alloc: Global, new: &Eds<'_>, changes: &[Change], words: &Words) -> Result<(), TidyFault>
-    ensures { OnOk result (AreSo words.now.digits new.now changes.now) }
+    ensures { OnOk result (AreSo words.now new.now changes.now) }
 {
-    if are_so(alloc, words.digits, new, changes)? {
+    if are_so(alloc, words, new, changes)? {
         Ok(())
     } else {
         Err(refused(Question::Left(0), 0))
@@ -145,7 +145,7 @@ fn take_up(
     words: &Words,
 ) -> Result<(), TidyFault>
     ensures settled { OnOk result (standing words.now new.now ≡ None) }
-    ensures so { OnOk result (AreSo words.now.digits new.now changes.now) }
+    ensures so { OnOk result (AreSo words.now new.now changes.now) }
     ensures first { OnOk result (Stays 1 old.now new.now) }
     ensures last { OnOk result (Stays 127 old.now new.now) }
     ensures first_adds { OnOk result (Adds 1 old.now new.now) }
@@ -203,7 +203,7 @@ fn mended(alloc: Global, source: &[u8], words: &Words, left: Left) -> Result<Tid
     ensures each_told { IfOk result (λ t. are_told t.base.items t.changes.items ≡ true) }
     ensures each_by_cause { IfOk result (λ t. All (IsByCause words.now.digits) t.changes.items) }
     ensures each_chosen { IfOk result (λ t. All (IsChosen words.now) t.changes.items) }
-    ensures each_so { IfOk result (λ t. AreSo words.now.digits t.text.items t.changes.items) }
+    ensures each_so { IfOk result (λ t. AreSo words.now t.text.items t.changes.items) }
     ensures first { IfOk result (λ t. Stays 1 source.now t.text.items) }
     ensures last { IfOk result (λ t. Stays 127 source.now t.text.items) }
     ensures first_adds { IfOk result (λ t. Adds 1 source.now t.text.items) }
@@ -239,7 +239,7 @@ fn unchanged(alloc: Global, text: &[u8]) -> Result<Tidied, AllocError>
     ensures each_told { IfOk result (λ t. are_told t.base.items t.changes.items ≡ true) }
     ensures each_by_cause { (choice : Option Digits) → IfOk result (λ t. All (IsByCause choice) t.changes.items) }
     ensures each_chosen { (words : Words) → IfOk result (λ t. All (IsChosen words) t.changes.items) }
-    ensures each_so { (choice : Option Digits) → IfOk result (λ t. AreSo choice t.text.items t.changes.items) }
+    ensures each_so { (words : Words) → IfOk result (λ t. AreSo words t.text.items t.changes.items) }
     ensures base { IfOk result (λ t. t.base.items ≡ text.now) }
     ensures first { IfOk result (λ t. Stays 1 text.now t.text.items) }
     ensures last { IfOk result (λ t. Stays 127 text.now t.text.items) }
@@ -275,9 +275,9 @@ pub fn tidy(alloc: Global, text: &[u8], words: &Words) -> Result<Tidied, TidyFau
     ensures each_by_cause { IfOk result (λ t. All (IsByCause words.now.digits) t.changes.items) }
     ensures each_chosen { IfOk result (λ t. All (IsChosen words.now) t.changes.items) }
 
-    // Each change is so in the section of its line in the result: a value keeps its bytes in the type that stands there, and what is dropped stands before or
-    // names no object; sections are added at the end.
-    ensures each_so { IfOk result (λ t. AreSo words.now.digits t.text.items t.changes.items) }
+    // Each change is so in the section of its line in the result: a value keeps its bytes in the type that stands there; a section without a type or an access
+    // gets that of CiA 301, of its object, or the access that is chosen; what is dropped stands before or names no object; sections are added at the end.
+    ensures each_so { IfOk result (λ t. AreSo words.now t.text.items t.changes.items) }
 
     // The lines are those of the text, in UTF-8, without an end mark of DOS and padding, with ends that CiA 306 has; exactly this is told.
     ensures bytes { IfOk result (λ t. IsSome t.found → prepared text.now ≡ Some t.base.items) }
