@@ -10,7 +10,8 @@ use Rattle.cop_eds.specs.Names.{code_of, same_names, same_section, has_code}
 use Rattle.cop_eds.specs.Lines.{is_kind, text_of, lines_of, is_named, is_keyed, first_from, IsWithin}
 use Rattle.std.specs.Option.{option_map}
 use Rattle.cop_eds.specs.Sections.{is_coded, place_at, coded_place}
-use Rattle.cop_eds.specs.Index.{named_key, header_key, pair_key, of_kind, has_key, is_found_by, IsNext}
+use Rattle.std.proofs.lemmas.Slice.Eq.{bytes_eq-Decides}
+use Rattle.cop_eds.specs.Index.{line_key, named_key, header_key, pair_key, of_kind, has_key, is_found_by, IsNext}
 
 flipped : (m n : ℕ) → (m == n) ≡ ((m == n) && true)
 flipped m n = sym (and-true (m == n))
@@ -90,3 +91,24 @@ no_next text code h c le = coded_none text c (h c le)
 pub next_coded : (text : List ℕ) (code : ℕ) (next : ℕ × (ℕ × Line)) → IsNext text (lines_of text) code (Some next)
     → (code ≤ next.0) × (coded_place text next.0 ≡ Some (place_at next.1)) × ((c : ℕ) → code ≤ c → c < next.0 → coded_place text c ≡ None)
 next_coded text code next h = (h.0, coded_some text next.0 next.1 h.1, λ c le lt. coded_none text c (h.2 c le lt))
+
+-- a pair of this section and key is found by these
+pub passes_here : (text : List ℕ) (line : Line) (section : ℕ) (key : List ℕ) → line.kind ≡ Pair → line.section ≡ section → key_of (text_of text line) ≡ key
+    → is_found_by text (pair_key section key) line ≡ true
+passes_here text line section key kind its_section its_key =
+    let name = name_of (text_of text line) in
+    let own : line_key text line ≡ Some (pair_key section key) =
+    ap (λ k. of_kind k (header_key name) (pair_key line.section (key_of (text_of text line)))) kind
+    ∙ ap (λ s. Some (pair_key s (key_of (text_of text line)))) its_section
+    ∙ ap (λ k. Some (pair_key section k)) its_key in
+    ap (λ o. has_key o (pair_key section key)) own ∙ (bytes_eq-Decides (pair_key section key) (pair_key section key)).1 refl
+
+-- where an object's section begins, by the next that there is
+pub is_next : (text : List ℕ) (code : ℕ) (next : ℕ × (ℕ × Line)) → IsNext text (lines_of text) code (Some next) → next.0 ≡ code
+    → coded_place text code ≡ Some (place_at next.1)
+is_next text code next h same = ap (coded_place text) (sym same) ∙ (next_coded text code next h).1
+
+pub is_past : (text : List ℕ) (code : ℕ) (next : ℕ × (ℕ × Line)) → IsNext text (lines_of text) code (Some next) → (next.0 ≡ code → ⊥) → coded_place text code ≡ None
+is_past text code next h other =
+    let le : code ≤ next.0 = h.0 in
+    (next_coded text code next h).2 code (omega arith) (omega (arith, le, other))

@@ -1,4 +1,5 @@
 pub mod TextLemmas
+pub mod PlainLemmas
 pub mod ListLemmas
 pub mod NumberLemmas
 pub mod LawLemmas
@@ -11,8 +12,10 @@ pub mod OrderLemmas
 pub mod SearchLemmas
 pub mod IndexLemmas
 pub mod CodeLemmas
+pub mod MixLemmas
 pub mod TicketLemmas
 pub mod KeyLemmas
+pub mod ValueLemmas
 pub mod RefusalLemmas
 pub mod RowLemmas
 pub mod EditLemmas

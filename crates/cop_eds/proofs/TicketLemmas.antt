@@ -25,6 +25,9 @@ word_le a b e = grind (arith, nat_tests)
 line_le : (a b : Ticket) → is_ahead a b ≡ true → a.word ≡ b.word → a.line ≤ b.line
 line_le a b e same = grind (arith, nat_tests)
 
+less_ahead : (a b : Ticket) → a.word < b.word → is_ahead a b ≡ true
+less_ahead a b less = grind (arith, nat_tests)
+
 not_falling : (tickets : List Ticket) → AreOrdered tickets → IsNonDecreasingBy (λ (t : Ticket). t.word) tickets
 not_falling tickets ordered =
     IsNonDecreasingBy-from_all_adjacent (λ (t : Ticket). t.word) tickets (λ k d lt. word_le (get_or tickets k d) (get_or tickets (k + 1) d) (ordered k d lt))
@@ -33,6 +36,9 @@ not_falling tickets ordered =
 never_falls : (tickets : List Ticket) → AreRising tickets → IsNonDecreasingBy (λ (t : Ticket). t.word) tickets
 never_falls tickets rising =
     IsNonDecreasingBy-from_all_adjacent (λ (t : Ticket). t.word) tickets (λ k d lt. let less = rising k d lt in omega (arith, less))
+
+pub rising_ordered : (tickets : List Ticket) → AreRising tickets → AreOrdered tickets
+rising_ordered tickets rising k d lt = less_ahead (get_or tickets k d) (get_or tickets (k + 1) d) (rising k d lt)
 
 -- of tickets with one number, a later one has a later line
 lines_rise : (n : ℕ) (tickets : List Ticket) (i : ℕ) (d : Ticket) → AreOrdered tickets → i + n < length tickets → (get_or tickets i d).word ≡ (get_or tickets (i + n) d).word

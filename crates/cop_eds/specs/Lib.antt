@@ -14,6 +14,7 @@ pub mod Description
 pub mod Lists
 pub mod Objects
 pub mod Found
+pub mod Plain
 pub mod Reading
 pub mod Eds
 pub mod Laws

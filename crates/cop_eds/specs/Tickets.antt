@@ -1,5 +1,5 @@
 -- The lines that are found by a name, by numbers that stand for the names.
-use Rattle.std.specs.Prelude.{ℕ, Bool, true, false, ◌+◌, ◌-◌, ◌*◌, ◌/◌, ◌%◌, ◌^◌, ◌≤◌, ◌<◌, ◌≡◌, ◌==◌, if◌then◌else◌, List, [], ◌∷◌, length, get_or, nat_lt, ◌&&◌, ◌||◌, Some, IsSome, slice_get, Contains}
+use Rattle.std.specs.Prelude.{ℕ, zero, suc, take, drop, Bool, true, false, ◌+◌, ◌-◌, ◌*◌, ◌/◌, ◌%◌, ◌^◌, ◌≤◌, ◌<◌, ◌≡◌, ◌==◌, if◌then◌else◌, List, [], ◌∷◌, length, get_or, nat_lt, ◌&&◌, ◌||◌, Some, IsSome, slice_get, Contains}
 use Rattle.std.specs.List.{All, AllAdjacentBelow, AllWithin}
 use Rattle.std.specs.Option.{option_map}
 use Rattle.cop_eds.specs.declared.line.Line.{Line}
@@ -8,20 +8,33 @@ use Rattle.cop_eds.specs.Index.{line_key, is_found_by, IsIndex}
 use Rattle.cop_eds.specs.declared.entry.Entry.{Entry}
 use Rattle.cop_eds.specs.Lines.{lines_of, IsWithin}
 
--- a number of 64 bits after two more bytes are mixed into it
+-- a number of 64 bits after more is mixed into it
 abbrev pub stirred : ℕ → ℕ → ℕ
-stirred n pair = ((n + pair) % 2 ^ 64 * 11400714819323198485) % 2 ^ 64
+stirred n more = ((n + more) % 2 ^ 64 * 11400714819323198485) % 2 ^ 64
 
--- a number of 64 bits that the bytes of a name are mixed into, two at a time
-unfoldable pub mixed : ℕ → List ℕ → ℕ
-mixed n [] = n
-mixed n (a ∷ []) = stirred n a
-mixed n (a ∷ b ∷ bs) = mixed (stirred n (a + 256 * b)) bs
+-- the low five bits of each byte, which a letter has in both cases, as a number of bytes of which the first is lowest
+unfoldable pub low_bits : List ℕ → ℕ
+low_bits [] = 0
+low_bits (b ∷ bs) = b % 32 + low_bits bs * 256
+
+-- a number of 64 bits that bytes are mixed into, one at a time
+unfoldable pub mixed_each : ℕ → List ℕ → ℕ
+mixed_each n [] = n
+mixed_each n (b ∷ bs) = mixed_each (stirred n (b % 32)) bs
+
+-- a number of 64 bits that bytes are mixed into: so many times eight of them, and then the rest
+unfoldable pub mixed_by : ℕ → ℕ → List ℕ → ℕ
+mixed_by zero n bs = mixed_each n bs
+mixed_by (suc count) n bs = mixed_by count (stirred n (low_bits (take 8 bs))) (drop 8 bs)
+
+-- a number of 64 bits for a name
+abbrev pub mixed : List ℕ → ℕ
+mixed name = mixed_by (length name / 8) 0 name
 
 -- a number below 2^63 for a name; as long as the places have no more bits, the names of each place have a range of their
 -- own, above those of the places before it
 abbrev pub ranged : ℕ → ℕ → List ℕ → ℕ
-ranged bits place name = ((place * 2 ^ (64 - bits)) % 2 ^ 64 + mixed 0 name / 2 ^ bits) % 2 ^ 64 / 2
+ranged bits place name = ((place * 2 ^ (64 - bits)) % 2 ^ 64 + mixed name / 2 ^ bits) % 2 ^ 64 / 2
 
 -- the number that stands for what a line is found by: that of an object's section is its own, and the others come after
 unfoldable pub word_of : ℕ → List ℕ → ℕ

@@ -1,8 +1,9 @@
 //! What the keys of an object's section say.
 
-ghost use Rattle.std.specs.Prelude.{◌≡◌};
+ghost use Rattle.std.specs.Prelude.{◌≡◌, true};
 ghost use Rattle.std.specs.Option.{option_map};
 ghost use Rattle.cop_eds.specs.Access.{access_of};
+ghost use Rattle.cop_eds.specs.Plain.{is_plain};
 ghost use Rattle.cop_eds.specs.Sections.{entry_of};
 ghost use Rattle.cop_eds.specs.Steps.{number_at, number_or};
 ghost use Rattle.cop_eds.specs.Description.{object_type_of, holds_value, holds_subs, default_type, read_type, no_compact_form, read_data_type, read_access, described};
@@ -218,6 +219,7 @@ fn usual<'a>(
     after: usize,
     key: &[u8],
 ) -> Option<(usize, &'a [u8])>
+    requires { is_plain key.now ≡ true }
     ensures { option_map (λ p. (p.0, p.1.now)) result ≡ entry_of text.now place.section key.now }
 {
     let near = place.line.saturating_add(after);

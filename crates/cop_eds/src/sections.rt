@@ -1,10 +1,12 @@
 //! A text as sections of pairs.
 
-ghost use Rattle.std.specs.Prelude.{◌≡◌, ◌^◌, ◌<◌, ◌≤◌, ◌+◌, [], length, take, IfOk, IfSome, MatchOption, ℕ, slice_get, Some, None};
+ghost use Rattle.std.specs.Prelude.{◌≡◌, ◌^◌, ◌<◌, ◌≤◌, ◌+◌, [], length, take, true, IfOk, IfSome, MatchOption, ℕ, slice_get, Some, None};
 ghost use Rattle.std.specs.List.{All, list_any};
 ghost use Rattle.std.specs.Option.{option_map, option_and_then};
 ghost use Rattle.cop_eds.specs.declared.line.Line.{Line};
-ghost use Rattle.cop_eds.specs.Lines.{IsWithin, lines_of, first_from, is_named, is_keyed, broken, first_refusal};
+ghost use Rattle.cop_eds.specs.Plain.{is_plain};
+ghost use Rattle.cop_eds.specs.Text.{value_of};
+ghost use Rattle.cop_eds.specs.Lines.{IsWithin, text_of, lines_of, first_from, is_named, is_keyed, broken, first_refusal};
 ghost use Rattle.cop_eds.specs.Sections.{place_at, place_of, coded_place, keyed_line, key_line, some_value, entry_of};
 ghost use Rattle.cop_eds.specs.Index.{sort_key, is_found_by, IsNext};
 
@@ -12,14 +14,13 @@ use crate::entry::Entry;
 use crate::fault::{Refusal, Rule};
 use crate::hints::{Hints, section_count};
 use crate::index::{
-    are_apart, coded_entry, find_in, has_key, header_entry, index_of, line_entry, next_code,
-    pair_entry,
+    are_apart, coded_entry, find_in, header_entry, index_of, next_code, pair_entry,
 };
 use crate::line::{Kind, Line, Place};
 use crate::lines::{lines_of, text_of};
-use crate::text::{is_comment, key_of, name_of, value_of};
+use crate::text::{is_comment, key_of, name_of, value_after, value_of};
 use crate::tickets::{
-    Ticket, are_ordered, are_rising, bits_of, find_ticket, next_ticket, tickets_of,
+    Ticket, are_rising, are_searchable, bits_of, find_ticket, next_ticket, tickets_of,
 };
 use std::alloc::{AllocError, Global};
 use std::marker::Model;
@@ -98,7 +99,7 @@ impl<'a> Sections<'a> {
         let tickets = tickets_of(alloc, source, &lines, bits)?;
         let hints = Hints::of(alloc, &lines, &tickets)?;
         let is_rising = are_rising(&tickets);
-        let is_named = !are_ordered(&tickets);
+        let is_named = !are_searchable(&tickets, is_rising);
         let entries = if is_named {
             index_of(alloc, source, &lines)?
         } else {
@@ -244,11 +245,15 @@ impl<'a> Sections<'a> {
     }
 
     /// Where the object's section with this number begins.
-    #[tactic(auto, using(crate::proofs::KeyLemmas::first_coded))]
     pub fn coded(&self, code: u64) -> Option<Place>
         ensures { result ≡ coded_place self.now code }
     {
-        self.find(&coded_entry(code)).map(place_at)
+        let (next, header) = self.next_header(code)?;
+        if next == code {
+            Some(place_at(header))
+        } else {
+            None
+        }
     }
 
     /// The number of the first object's section from a number on, and its header.
@@ -279,23 +284,25 @@ impl<'a> Sections<'a> {
         self.keyed(section, key).map(|(number, _)| number)
     }
 
-    /// The line of a key in a section, and its number. The line at this place is looked at first.
-    fn keyed_near(&self, near: usize, section: usize, key: &[u8]) -> Option<(usize, Line)>
-        ensures value { result ≡ keyed_line self.now section key.now }
-        ensures within { IfSome result (λ found. IsWithin (length self.now) found.1) }
+    /// The number and the value of the line at this place, where that is the line of the key in the section, spelled alike.
+    fn value_at(&self, near: usize, section: usize, key: &[u8]) -> Option<(usize, &'a [u8])>
+        requires { is_plain key.now ≡ true }
+        ensures { IfSome result (λ found. (line : Line) × (keyed_line self.now section key.now ≡ Some (found.0, line)) × (value_of (text_of self.now line) ≡ found.1.now)) }
     {
         let lines = self.lines();
         if !self.is_rising || near >= lines.len() {
-            return self.keyed(section, key);
+            return None;
         }
         let line = lines[near];
-        let Some(entry) = line_entry(self.source, &line) else {
-            return self.keyed(section, key);
-        };
-        if has_key(&entry, &pair_entry(section, key)) {
-            Some((near + 1, line))
-        } else {
-            self.keyed(section, key)
+        if line.section != section {
+            return None;
+        }
+        match line.kind {
+            Kind::Pair => {
+                let value = value_after(text_of(self.source, &line), key)?;
+                Some((near + 1, value))
+            }
+            Kind::Header | Kind::Other => None,
         }
     }
 
@@ -321,8 +328,13 @@ impl<'a> Sections<'a> {
 
     /// The same; the line at this place is looked at first.
     pub fn entry_near(&self, near: usize, section: usize, key: &[u8]) -> Option<(usize, &'a [u8])>
+        requires { is_plain key.now ≡ true }
         ensures { option_map (λ p. (p.0, p.1.now)) result ≡ entry_of self.now section key.now }
     {
-        self.valued(self.keyed_near(near, section, key))
+        match self.value_at(near, section, key) {
+            Some(found) if found.1.is_empty() => None,
+            Some(found) => Some(found),
+            None => self.entry(section, key),
+        }
     }
 }

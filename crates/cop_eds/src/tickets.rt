@@ -9,7 +9,7 @@ ghost use Rattle.cop_eds.specs.declared.line.Line.{Line};
 ghost use Rattle.cop_eds.specs.declared.tickets.Ticket.{Ticket};
 ghost use Rattle.cop_eds.specs.Lines.{IsWithin, first_from, is_kind};
 ghost use Rattle.cop_eds.specs.Index.{line_key, sort_key, is_found_by, IsNext};
-ghost use Rattle.cop_eds.specs.Tickets.{stirred, mixed, word_of, is_ahead, IsTicket, AreTickets, AreRising, AreOrdered, Surround};
+ghost use Rattle.cop_eds.specs.Tickets.{stirred, low_bits, mixed_each, mixed, word_of, is_ahead, IsTicket, AreTickets, AreRising, AreOrdered, Surround};
 
 use crate::entry::Entry;
 use crate::index::{has_key, is_kind, line_entry};
@@ -26,30 +26,46 @@ pub struct Ticket {
     pub line: usize,
 }
 
-/// A number of 64 bits after two more bytes are mixed into it.
-fn stirred(sum: u64, pair: u64) -> u64
-    ensures { result ≡ stirred sum pair }
+/// A number of 64 bits after more is mixed into it.
+fn stirred(sum: u64, more: u64) -> u64
+    ensures { result ≡ stirred sum more }
 {
-    sum.wrapping_add(pair).wrapping_mul(0x9E37_79B9_7F4A_7C15)
+    sum.wrapping_add(more).wrapping_mul(0x9E37_79B9_7F4A_7C15)
 }
 
-#[tactic(auto, unfolding(crate::specs::Tickets::mixed))]
-/// A number that the bytes of a name, without ASCII case, are mixed into.
-fn mixed(name: &[u8]) -> u64
-    ensures { result ≡ mixed 0 (str_to_ascii_lowercase name.now) }
+/// The low five bits of each byte, which a letter has in both cases.
+fn low_bits(bytes: &[u8; 8]) -> u64
+    ensures { result ≡ low_bits (str_to_ascii_lowercase bytes.now) }
 {
-    let mut sum = 0u64;
-    let mut rest = name;
-    while let Some((first, more)) = rest.split_first() {
-        let first = u64::from(first.to_ascii_lowercase());
-        let Some((second, tail)) = more.split_first() else {
-            return stirred(sum, first);
-        };
-        let second = u64::from(second.to_ascii_lowercase());
-        sum = stirred(sum, first + 256 * second);
+    u64::from_le_bytes(*bytes) & 0x1F1F_1F1F_1F1F_1F1F
+}
+
+#[tactic(auto, unfolding(crate::specs::Tickets::mixed_each))]
+/// A number that bytes, without ASCII case, are mixed into one at a time.
+fn mixed_each(start: u64, bytes: &[u8]) -> u64
+    ensures { result ≡ mixed_each start (str_to_ascii_lowercase bytes.now) }
+{
+    let mut sum = start;
+    let mut rest = bytes;
+    while let Some((first, tail)) = rest.split_first() {
+        let low = u64::from(*first % 32);
+        sum = stirred(sum, low);
         rest = tail;
     }
     sum
+}
+
+/// A number that the bytes of a name, without ASCII case, are mixed into: eight at a time, and then the rest.
+fn mixed(name: &[u8]) -> u64
+    ensures { result ≡ mixed (str_to_ascii_lowercase name.now) }
+{
+    let mut sum = 0u64;
+    let mut rest = name;
+    while let Some((bytes, tail)) = rest.split_first_chunk::<8>() {
+        sum = stirred(sum, low_bits(bytes));
+        rest = tail;
+    }
+    mixed_each(sum, rest)
 }
 
 #[tactic(auto, unfolding(crate::specs::Tickets::word_of))]
@@ -193,7 +209,7 @@ fn is_ahead(ticket: Ticket, next: Ticket) -> bool
 }
 
 /// Whether the tickets are in order. It may be false too where too many of them share a number.
-pub fn are_ordered(tickets: &[Ticket]) -> bool
+fn are_ordered(tickets: &[Ticket]) -> bool
     ensures { result ≡ true → AreOrdered tickets.now }
 {
     for i in 1..tickets.len() {
@@ -205,6 +221,19 @@ pub fn are_ordered(tickets: &[Ticket]) -> bool
         }
     }
     true
+}
+
+/// Whether the tickets are in order, as they are where their numbers rise. It may be false too where too many of them
+/// share a number.
+#[tactic(auto, using(crate::proofs::TicketLemmas::rising_ordered))]
+pub fn are_searchable(tickets: &[Ticket], is_rising: bool) -> bool
+    requires { is_rising ≡ true → AreRising tickets.now }
+    ensures { result ≡ true → AreOrdered tickets.now }
+{
+    if is_rising {
+        return true;
+    }
+    are_ordered(tickets)
 }
 
 /// Whether all tickets before a place have numbers below this one.
