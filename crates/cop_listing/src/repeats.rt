@@ -70,6 +70,40 @@ fn keys_of(
     Ok(keys)
 }
 
+/// Whether a key that stands twice in a section has its first value again, where something reads it.
+fn is_as_first(
+    alloc: Global,
+    rows: &[Row<'_>],
+    keys: &BTreeMap<Vec<u8>, usize>,
+    part: Part,
+    at: usize,
+) -> Result<bool, AllocError> {
+    let Some(row) = rows.get(at) else {
+        return Ok(true);
+    };
+    if row.form() != Form::Pair || !is_read(part, key_of(row.body())) {
+        return Ok(true);
+    }
+    let key = lower(alloc, key_of(row.body()))?;
+    let first = keys.get(&key).copied().unwrap_or(at);
+    Ok(value_at(rows, first) == value_at(rows, at))
+}
+
+/// Whether each key that stands twice in a section does.
+fn are_as_first(
+    alloc: Global,
+    rows: &[Row<'_>],
+    keys: &BTreeMap<Vec<u8>, usize>,
+    section: Section,
+) -> Result<bool, AllocError> {
+    for at in section.header..section.end {
+        if !is_as_first(alloc, rows, keys, section.part, at)? {
+            return Ok(false);
+        }
+    }
+    Ok(true)
+}
+
 /// Whether two sections have the same keys with the same values.
 fn are_same(
     alloc: Global,
@@ -79,7 +113,7 @@ fn are_same(
 ) -> Result<bool, AllocError> {
     let left = keys_of(alloc, rows, first)?;
     let right = keys_of(alloc, rows, second)?;
-    if left.len() != right.len() {
+    if left.len() != right.len() || !are_as_first(alloc, rows, &right, second)? {
         return Ok(false);
     }
     for ((key, at), (other, place)) in left.iter().zip(right.iter()) {

@@ -1,5 +1,6 @@
 pub mod Blanks
 pub mod Causes
+pub mod Limits
 pub mod Lines
 pub mod Numerals
 pub mod Typed

@@ -5,6 +5,7 @@
 mod blanks;
 mod causes;
 mod given;
+mod limits;
 mod lines;
 mod numerals;
 mod typed;
@@ -12,7 +13,7 @@ mod values;
 mod words;
 
 pub use causes::is_by_cause;
-pub use lines::{is_entry, is_list_name};
-pub use typed::is_of_type;
+pub use lines::{entry_number, has_key, is_entry, is_list_name, old_value};
+pub use typed::{is_of_type, number_in_line};
 pub use values::{is_no, is_no_value, is_node_word, is_yes};
 pub use words::{is_access, named_access, named_data_type, named_object_type, undivided};

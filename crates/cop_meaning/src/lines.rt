@@ -200,7 +200,7 @@ pub fn old_value(old: &[u8]) -> &[u8]
 }
 
 /// The number of an entry.
-fn entry_number(line: &[u8]) -> Option<u64>
+pub fn entry_number(line: &[u8]) -> Option<u64>
     ensures { result ≡ entry_number line.now }
 {
     if is_pair(line) {

@@ -75,7 +75,7 @@ fn without_zeros(text: &[u8]) -> &[u8]
 }
 
 /// A number without its sign, letters of programs, and a point with zeros.
-fn plain(text: &[u8]) -> &[u8]
+pub fn plain(text: &[u8]) -> &[u8]
     ensures { result.now ≡ plain text.now }
 {
     let unsigned = without_sign(trim(text));
@@ -162,7 +162,7 @@ fn are_digits(digits: &[u8]) -> bool
     digits.iter().all(|byte| char::from(*byte).is_digit(10))
 }
 
-fn are_decimal(digits: &[u8]) -> bool
+pub fn are_decimal(digits: &[u8]) -> bool
     ensures { result ≡ is_numeral 10 digits.now }
 {
     !digits.is_empty() && are_digits(digits)

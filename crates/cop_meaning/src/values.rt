@@ -15,7 +15,7 @@ pub fn same_signed(a: Signed, b: Signed) -> bool
     a.number == b.number && (a.is_negative == b.is_negative || a.number == 0)
 }
 
-fn amount_number(amount: Amount) -> Option<Signed>
+pub fn amount_number(amount: Amount) -> Option<Signed>
     ensures { result ≡ amount_number amount }
 {
     match amount {
@@ -52,7 +52,7 @@ pub fn are_same(a: Option<Signed>, b: Option<Signed>) -> bool
 }
 
 /// The pattern of the low bytes of a number in a type of so many patterns.
-fn low_bytes(size: u128, a: Signed) -> u128
+pub fn low_bytes(size: u128, a: Signed) -> u128
     requires { 0 < size }
     ensures { result ≡ low_bytes size a }
 {
@@ -65,7 +65,7 @@ fn low_bytes(size: u128, a: Signed) -> u128
 }
 
 /// Whether a number is one of the signed or of the unsigned type.
-fn fits(size: u128, a: Signed) -> bool
+pub fn fits(size: u128, a: Signed) -> bool
     ensures { result ≡ fits size a }
 {
     let number = u128::from(a.number);
@@ -85,7 +85,7 @@ fn is_widened_to(size: u128, wide: u128, a: Signed) -> bool
 }
 
 /// Whether a number is the pattern that a negative one of the type has in a wider type.
-fn is_widened(size: u128, a: Signed) -> bool
+pub fn is_widened(size: u128, a: Signed) -> bool
     ensures { result ≡ is_widened size a }
 {
     is_widened_to(size, 0x1_0000, a)
@@ -110,7 +110,7 @@ fn same_pattern(a: Signed, b: Signed) -> bool
 }
 
 /// Whether all bits of a number are set.
-fn are_ones(size: u128, a: Signed) -> bool
+pub fn are_ones(size: u128, a: Signed) -> bool
     ensures { result ≡ are_ones size a }
 {
     let number = u128::from(a.number);

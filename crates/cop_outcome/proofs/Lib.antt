@@ -1,1 +1,2 @@
+pub mod FormerLemmas
 pub mod SubLemmas

@@ -1,9 +1,25 @@
--- Sub objects that have sections, one after the other.
-use Rattle.std.proofs.Common.{◌≡◌, ℕ, suc, ◌&&◌, Bool, true, List, refl, subst}
+-- Sub objects that have sections, one after the other, and what one of many lines has.
+use Rattle.std.proofs.Common.{◌≡◌, ℕ, zero, suc, ◌&&◌, ◌||◌, Bool, true, false, List, [], ◌∷◌, Option, Some, slice_get, unwrap_or, refl, subst, ap, ◌∙◌}
+use Rattle.std.specs.List.{list_any}
 use Rattle.cop_outcome.specs.Compact.{has_sub, have_subs}
 
-both : (a b : Bool) → a ≡ true → b ≡ true → (a && b) ≡ true
+pub both : (a b : Bool) → a ≡ true → b ≡ true → (a && b) ≡ true
 both a b one two = rw (one, two) refl
+
+pub one_of : (a b : Bool) → a ≡ true → (a || b) ≡ true
+one_of a b h = rw h refl
+
+pub other_of : (a b : Bool) → b ≡ true → (a || b) ≡ true
+other_of true b h = refl
+other_of false b h = h
+
+-- an element that passes the test is one
+pub any_at : {X : Type 0} (test : X → Bool) (xs : List X) (i : ℕ) (x : X) → slice_get xs i ≡ Some x → test x ≡ true → list_any test xs ≡ true
+any_at test [] i x there so = cc
+any_at test (y ∷ ys) zero x there so =
+    let same : y ≡ x = ap (λ o. unwrap_or o y) there in
+    one_of (test y) (list_any test ys) (ap test same ∙ so)
+any_at test (y ∷ ys) (suc i) x there so = other_of (test y) (list_any test ys) (any_at test ys i x there so)
 
 next_sub : (text : List ℕ) (index n : ℕ) → have_subs text index n ≡ true → has_sub text index (suc n) ≡ true → have_subs text index (suc n) ≡ true
 unfolding have_subs

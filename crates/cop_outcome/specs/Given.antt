@@ -1,13 +1,13 @@
 -- Which types and accesses a section gets that states none, by CiA 301, by its object, or by the caller's choice.
-use Rattle.std.specs.Prelude.{ℕ, ◌-◌, ◌/◌, ◌%◌, Bool, true, false, not, ◌||◌, ◌&&◌, ◌==◌, nat_le, is_some, List, [], ◌∷◌, codes, slice_get, if◌then◌else◌, Option, Some, None}
+use Rattle.std.specs.Prelude.{ℕ, ◌-◌, ◌/◌, ◌%◌, Bool, true, false, not, ◌||◌, ◌&&◌, ◌==◌, nat_le, is_some, List, [], ◌∷◌, length, take, drop, codes, slice_get, if◌then◌else◌, Option, Some, None}
 use Rattle.std.specs.Option.{option_and_then}
 use Rattle.std.specs.Str.{bytes_eq}
 use Rattle.cop_eds.specs.declared.line.Line.{Line}
 use Rattle.cop_eds.specs.declared.line.Kind.TheVariants.{Header}
 use Rattle.cop_eds.specs.declared.description.Access.{Access}
-use Rattle.cop_eds.specs.Text.{name_of, value_of}
+use Rattle.cop_eds.specs.Text.{same_name, name_of, value_of}
 use Rattle.cop_eds.specs.Names.{code_of}
-use Rattle.cop_eds.specs.Number.{number_of}
+use Rattle.cop_eds.specs.Number.{number_in, number_of}
 use Rattle.cop_eds.specs.Lines.{lines_of, text_of, is_kind}
 use Rattle.cop_eds.specs.Sections.{section_of, key_line, value_in}
 use Rattle.cop_hazard.specs.Stated.{ok_number}
@@ -28,6 +28,19 @@ codes_of text = codes_from text (lines_of text)
 
 abbrev pub code_in : List (Option ℕ) → ℕ → Option ℕ
 code_in codes section = option_and_then (λ code. code) (slice_get codes (section - 1))
+
+-- the index of the object to whose subs a section of this name gives values (CiA 306, compact storage)
+abbrev pub index_of_values : List ℕ → Option ℕ
+index_of_values name = if (length name == 9) && same_name (drop 4 name) (codes "Value") then number_in 16 (take 4 name) else None
+
+-- that of each section
+abbrev pub givers_from : List ℕ → List Line → List (Option ℕ)
+givers_from text [] = []
+givers_from text (line ∷ lines) =
+    if is_kind line.kind Header then index_of_values (name_of (text_of text line)) ∷ givers_from text lines else givers_from text lines
+
+abbrev pub givers_of : List ℕ → List (Option ℕ)
+givers_of text = givers_from text (lines_of text)
 
 -- ---- CiA 301 ("Object dictionary", communication profile area), where it leaves no choice
 
@@ -105,6 +118,14 @@ is_value None value = false
 is_value (Some same) value = bytes_eq value same
 
 -- ---- a data type
+
+-- that of the values in a section: the one which it states, or that of the object to whose subs it gives values
+abbrev pub type_beside : List ℕ → Option ℕ → Option ℕ → Option ℕ
+type_beside text stated None = stated
+type_beside text stated (Some index) = number_at (main_value text index (codes "DataType"))
+
+abbrev pub type_in : List ℕ → ℕ → Option ℕ
+type_in text section = type_beside text (number_at (value_in text section (codes "DataType"))) (code_in (givers_of text) section)
 
 -- that of CiA 301; else of a sub UNSIGNED8, where it is 0 or nothing of its object is read, or the type of the object
 abbrev pub is_type_of : List ℕ → ℕ → ℕ → Option ℕ → Bool

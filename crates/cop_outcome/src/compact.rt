@@ -1,13 +1,14 @@
 //! Compact forms that are closed.
 
-ghost use Rattle.std.specs.Prelude.{◌≡◌, ◌&&◌, not, codes, true};
+ghost use Rattle.std.specs.Prelude.{◌≡◌, ◌&&◌, not, codes, true, IfOk};
 ghost use Rattle.cop_meaning.specs.Lines.{has_key};
 ghost use Rattle.cop_outcome.specs.Compact.{short_name, long_name, has_sub, have_subs, is_written_out, is_closing, is_closed_so};
 
-use crate::dropped::{digit, index_name, ok_number};
-use crate::said::has_key;
-use cop_change::{Cause, Change};
-use cop_eds::{Eds, value_of};
+use crate::dropped::{digit, index_name};
+use cop_change::{Cause, Change, Digits};
+use cop_eds::Eds;
+use cop_meaning::{has_key, number_in_line};
+use std::alloc::{AllocError, Global};
 
 /// The name of the section of a sub, with one digit.
 fn short_name(index: u64, sub: u64) -> [u8; 8]
@@ -57,12 +58,11 @@ fn have_subs(eds: &Eds<'_>, index: u64, last: u64) -> bool
 fn is_written_out(eds: &Eds<'_>, code: Option<u64>, subs: Option<u64>) -> bool
     ensures { result ≡ true → is_written_out eds.now code subs ≡ true }
 {
-    let Some(subs) = subs else {
-        return true;
-    };
-    match code {
-        Some(code) => code % 257 == 0 && (subs <= 254 && have_subs(eds, code / 257, subs)),
-        None => false,
+    match (code, subs) {
+        (Some(code), Some(subs)) => {
+            code % 257 == 0 && (subs <= 254 && have_subs(eds, code / 257, subs))
+        }
+        _ => false,
     }
 }
 
@@ -75,11 +75,18 @@ fn is_closing(change: &Change) -> bool
 }
 
 /// Whether a form that is closed is written out.
-pub fn is_closed_so(eds: &Eds<'_>, code: Option<u64>, change: &Change) -> bool
-    ensures { result ≡ true → is_closed_so eds.now code change.now ≡ true }
+pub fn is_closed_so(
+    alloc: Global,
+    choice: Option<Digits>,
+    eds: &Eds<'_>,
+    code: Option<u64>,
+    change: &Change,
+) -> Result<bool, AllocError>
+    ensures { IfOk result (λ b. b ≡ true → is_closed_so choice eds.now code change.now ≡ true) }
 {
     if !is_closing(change) {
-        return true;
+        return Ok(true);
     }
-    is_written_out(eds, code, ok_number(value_of(&change.old)))
+    let subs = number_in_line(alloc, choice, &change.old)?;
+    Ok(is_written_out(eds, code, subs))
 }

@@ -3,9 +3,10 @@
 ghost use Rattle.std.specs.Prelude.{◌≡◌, option_copied};
 ghost use Rattle.cop_eds.specs.Number.{number_of};
 ghost use Rattle.cop_hazard.specs.Stated.{ok_number};
-ghost use Rattle.cop_outcome.specs.Given.{counted, communication, is_32, is_8, is_16, is_array, is_text, is_communication, is_pdo, standard_type, standard_access, main_value, number_at, is_kept_type, is_kept, is_same, is_value, is_type_of, is_type, sub_of, gets_type, chosen_word, is_access_of, is_access, gets_access, is_kind_of, gets_kind, gets};
+ghost use Rattle.cop_outcome.specs.Given.{counted, communication, is_32, is_8, is_16, is_array, is_text, is_communication, is_pdo, standard_type, standard_access, main_value, number_at, is_kept_type, is_kept, is_same, is_value, type_in, is_type_of, is_type, sub_of, gets_type, chosen_word, is_access_of, is_access, gets_access, is_kind_of, gets_kind, gets};
 
 use crate::dropped::{index_name, ok_number};
+use crate::sections::Sections;
 use cop_change::{Cause, word_of};
 use cop_eds::{Access, Eds, value_of};
 
@@ -108,7 +109,7 @@ fn standard_access(index: u64, sub: u64) -> Option<&'static [u8]>
 }
 
 /// The value of a key in the section of the object itself.
-fn main_value<'a>(eds: &Eds<'a>, index: u64, key: &[u8]) -> Option<&'a [u8]>
+pub fn main_value<'a>(eds: &Eds<'a>, index: u64, key: &[u8]) -> Option<&'a [u8]>
     ensures { option_copied result ≡ main_value eds.now index key.now }
 {
     match eds.section(&index_name(index)) {
@@ -117,7 +118,7 @@ fn main_value<'a>(eds: &Eds<'a>, index: u64, key: &[u8]) -> Option<&'a [u8]>
     }
 }
 
-fn number_at(value: Option<&[u8]>) -> Option<u64>
+pub fn number_at(value: Option<&[u8]>) -> Option<u64>
     ensures { result ≡ number_at (option_copied value.entry) }
 {
     match value {
@@ -136,7 +137,7 @@ fn is_kept(eds: &Eds<'_>, index: u64) -> bool
     )
 }
 
-fn is_same(a: Option<u64>, b: Option<u64>) -> bool
+pub fn is_same(a: Option<u64>, b: Option<u64>) -> bool
     ensures { result ≡ is_same a b }
 {
     match (a, b) {
@@ -145,12 +146,23 @@ fn is_same(a: Option<u64>, b: Option<u64>) -> bool
     }
 }
 
-fn is_value(same: Option<&[u8]>, value: &[u8]) -> bool
+pub fn is_value(same: Option<&[u8]>, value: &[u8]) -> bool
     ensures { result ≡ is_value (option_copied same.entry) value.now }
 {
     match same {
         Some(same) => value == same,
         None => false,
+    }
+}
+
+/// The data type of the values in a section: the one which it states, or that of the object to whose subs it gives values.
+pub fn type_in(sections: &Sections<'_, '_>, section: usize) -> Option<u64>
+    ensures { result ≡ type_in sections.now section }
+{
+    let eds = sections.eds();
+    match sections.giver(section) {
+        Some(index) => number_at(main_value(eds, index, b"DataType")),
+        None => number_at(eds.value(section, b"DataType")),
     }
 }
 

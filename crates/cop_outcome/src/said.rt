@@ -4,11 +4,11 @@ ghost use Rattle.std.specs.Prelude.{◌≡◌, ◌≤◌};
 ghost use Rattle.cop_eds.specs.Amount.{amount_of};
 ghost use Rattle.cop_eds.specs.Number.{number_of};
 ghost use Rattle.cop_hazard.specs.Stated.{ok_number};
-ghost use Rattle.cop_meaning.specs.Lines.{has_key};
 ghost use Rattle.cop_outcome.specs.Said.{is_mapping, base_of, is_own, is_count, is_said_value, type_of, is_number, access_of, is_said_of, is_said};
 
 use crate::dropped::ok_number;
-use cop_eds::{Amount, Rule, amount_of, is_pair, key_of, same_name, value_of};
+use cop_eds::{Amount, Rule, amount_of, value_of};
+use cop_meaning::has_key;
 
 fn is_mapping(index: u64) -> bool
     ensures { result ≡ is_mapping index }
@@ -89,13 +89,6 @@ fn access_of(index: u64, sub: u64) -> &'static [u8]
     } else {
         b"rw"
     }
-}
-
-/// Whether a line is a pair of this key.
-pub fn has_key(key: &[u8], line: &[u8]) -> bool
-    ensures { result ≡ has_key key.now line.now }
-{
-    is_pair(line) && same_name(key_of(line), key)
 }
 
 /// Whether a line of a sub of a PDO's record is as CiA 301 has it.
