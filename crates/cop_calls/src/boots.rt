@@ -7,6 +7,7 @@ use cop_files::{Failure, Form, print, print_document, read_network};
 use cop_orders::NetworkFiles;
 
 /// The boot of a network by its plan, by the turns that a seed draws.
+#[inline(never)]
 pub fn boot(
     rt: &HostRuntime,
     seed: u64,

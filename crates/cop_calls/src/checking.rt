@@ -29,6 +29,7 @@ fn read_for_check(
 }
 
 /// The check of a refusal file against a network.
+#[inline(never)]
 pub fn check(
     rt: &HostRuntime,
     network: NetworkFiles<'_>,

@@ -97,6 +97,7 @@ fn export_network(
 
 /// The plan of a network for other tools: a CAN database into a file, or concise DCFs into a folder. Where no rate passes,
 /// that is said, and nothing is written.
+#[inline(never)]
 pub fn export(
     rt: &HostRuntime,
     format: Format,

@@ -57,6 +57,7 @@ fn judged(
 }
 
 /// The judgement of a trace by the plan of a network.
+#[inline(never)]
 pub fn judge(
     rt: &HostRuntime,
     network: NetworkFiles<'_>,

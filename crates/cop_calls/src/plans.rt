@@ -60,6 +60,7 @@ fn give_lines(
 }
 
 /// The plan of a network: it is printed in a form, and written into a folder.
+#[inline(never)]
 pub fn plan(
     rt: &HostRuntime,
     order: PlanOrder<'_>,

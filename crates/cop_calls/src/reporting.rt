@@ -87,6 +87,7 @@ fn write_page(rt: &HostRuntime, sources: Sources<'_>, out: &str) -> Result<u8, F
 
 /// The page that shows the plan of a network, the bus over time where there is a trace, and what a log shows where there is one: it is
 /// written into a file.
+#[inline(never)]
 pub fn write_report(
     rt: &HostRuntime,
     network: NetworkFiles<'_>,

@@ -58,6 +58,7 @@ fn run_outcome(
 }
 
 /// The seeded run of a network: the trace is written, and then the run is told.
+#[inline(never)]
 pub fn run(
     rt: &HostRuntime,
     drawn: Drawn,

@@ -9,6 +9,7 @@ use cop_words::late_words;
 use std::io::Write;
 
 /// The test of the streams of a table: whether all pass. What does not pass is told in words where that is wanted.
+#[inline(never)]
 pub fn test(
     rt: &HostRuntime,
     rate: Rate,

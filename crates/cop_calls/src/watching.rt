@@ -74,6 +74,7 @@ fn tell_no_plan(rt: &HostRuntime, form: Form) -> Result<u8, Failure> {
 }
 
 /// Watches a log by the plan of a network, and says what it shows. Memory does not grow with the log.
+#[inline(never)]
 pub fn watch_bus(
     rt: &HostRuntime,
     order: WatchOrder<'_>,

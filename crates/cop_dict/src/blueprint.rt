@@ -8,7 +8,7 @@ ghost use Rattle.cop_dict.specs.Keys.{said, keys_of, AreKeys};
 
 use crate::building::entries;
 use crate::dictionary::Dictionary;
-use cop_eds::{Eds, EdsFault, Object};
+use cop_eds::{Eds, EdsFault, Object, Place};
 use std::alloc::{AllocError, Global};
 use std::marker::Model;
 
@@ -40,12 +40,12 @@ impl<'a> Model for Blueprint<'a> {
 }
 
 /// The line and the text of an object's value.
-fn value_entry<'a>(eds: &Eds<'a>, section: usize) -> Option<(usize, &'a [u8])>
-    ensures { option_map (λ e. (e.0, e.1.now)) result ≡ value_entry eds.now section }
+fn value_entry<'a>(eds: &Eds<'a>, place: Place) -> Option<(usize, &'a [u8])>
+    ensures { option_map (λ e. (e.0, e.1.now)) result ≡ value_entry eds.now place.section }
 {
-    match eds.entry(section, b"ParameterValue") {
+    match eds.entry(place.section, b"ParameterValue") {
         Some(entry) => Some(entry),
-        None => eds.entry(section, b"DefaultValue"),
+        None => eds.entry_at(place, [4, 6], b"DefaultValue"),
     }
 }
 
@@ -53,11 +53,11 @@ fn value_entry<'a>(eds: &Eds<'a>, section: usize) -> Option<(usize, &'a [u8])>
 fn keys_of<'a>(eds: &Eds<'a>, object: &Object) -> Keys<'a>
     ensures { said result ≡ keys_of eds.now object.now }
 {
-    let section = object.place.section;
+    let place = object.place;
     Keys {
-        value: value_entry(eds, section),
-        low: eds.entry(section, b"LowLimit"),
-        high: eds.entry(section, b"HighLimit"),
+        value: value_entry(eds, place),
+        low: eds.entry_at(place, [4, 3], b"LowLimit"),
+        high: eds.entry_at(place, [5, 4], b"HighLimit"),
     }
 }
 

@@ -14,6 +14,7 @@ pub mod IndexLemmas
 pub mod CodeLemmas
 pub mod MixLemmas
 pub mod TicketLemmas
+pub mod MarkLemmas
 pub mod KeyLemmas
 pub mod ValueLemmas
 pub mod RefusalLemmas

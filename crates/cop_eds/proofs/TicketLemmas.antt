@@ -12,6 +12,7 @@ use Rattle.cop_eds.specs.declared.line.Line.{Line}
 use Rattle.cop_eds.specs.declared.tickets.Ticket.{Ticket}
 use Rattle.cop_eds.specs.Lines.{first_from, broken}
 use Rattle.cop_eds.specs.Index.{line_key, has_key, is_found_by}
+use Rattle.cop_eds.specs.Marks.{mark_of, is_marked, AreMarked}
 use Rattle.cop_eds.specs.Tickets.{word_of, IsTicket, AreTickets, AreRising, is_ahead, AreOrdered, NoneBefore, Surround}
 use Rattle.cop_eds.proofs.ListLemmas.{get_or_same, all_one_by, some_is}
 use Rattle.cop_eds.proofs.IndexLemmas.{first_none, first_some, by_test, some_key, at_last, slice_get_below, none_so_far, alone_first}
@@ -243,6 +244,19 @@ none_left text lines bits tickets key word i all ordered its none above other =
         let up : (get_or tickets i t).word ≤ (get_or tickets j t).word = not_falling tickets ordered i j t le lt in
         let down : word ≤ (get_or tickets i t).word = above i t (omega arith) inside in
         other t inside (omega (arith, up, down, same))
+
+-- no line is found by a key whose number has no mark
+pub none_marked : (text : List ℕ) (lines : List Line) (bits : ℕ) (tickets : List Ticket) (marks key : List ℕ) (word : ℕ) → AreTickets text lines bits tickets → AreMarked bits marks tickets
+    → word ≡ word_of bits key → is_marked marks (mark_of bits word) ≡ false → first_from 1 (is_found_by text key) lines ≡ None
+unfolding OwnTicket
+none_marked text lines bits tickets marks key word all marked its free =
+    first_none 1 (is_found_by text key) lines (λ q y at. by_test (is_found_by text key y) (λ h.
+    let own = own_ticket text lines bits tickets key all q y at h in
+    let same : mark_of bits own.0.word ≡ mark_of bits word = ap (mark_of bits) (own.3 ∙ sym its) in
+    true_false (sym (rw same at (marked own.0 own.1)) ∙ free)))
+  where
+    true_false : true ≡ false → ⊥
+    true_false e = cc
 
 -- and else it finds the line of the first such ticket
 pub first_found : (text : List ℕ) (lines : List Line) (bits : ℕ) (tickets : List Ticket) (key : List ℕ) (i : ℕ) (d : Ticket) (line : Line) → AreTickets text lines bits tickets → AreOrdered tickets

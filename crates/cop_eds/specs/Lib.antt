@@ -4,6 +4,7 @@ pub mod Number
 pub mod Names
 pub mod Lines
 pub mod Index
+pub mod Marks
 pub mod Tickets
 pub mod Sections
 pub mod Amount

@@ -7,6 +7,7 @@ use Rattle.cop_eds.specs.declared.tickets.Ticket.{Ticket}
 use Rattle.cop_eds.specs.Index.{line_key, is_found_by, IsIndex}
 use Rattle.cop_eds.specs.declared.entry.Entry.{Entry}
 use Rattle.cop_eds.specs.Lines.{lines_of, IsWithin}
+use Rattle.cop_eds.specs.Marks.{AreMarked}
 
 -- a number of 64 bits after more is mixed into it
 abbrev pub stirred : ℕ → ℕ → ℕ
@@ -75,12 +76,13 @@ Surround word tickets low high =
     AllWithin (λ ticket. ticket.word < word) tickets 0 low × AllWithin (λ ticket. word ≤ ticket.word) tickets high (length tickets)
 
 -- the lines of a text, and their index: by numbers, or where too many lines share one by names
-pub record IsIndexed (text : List ℕ) (lines : List Line) (bits : ℕ) (tickets : List Ticket) (rising named : Bool) (entries : List Entry) : Type 0 where
+pub record IsIndexed (text : List ℕ) (lines : List Line) (bits : ℕ) (tickets : List Ticket) (marks : List ℕ) (rising named : Bool) (entries : List Entry) : Type 0 where
   pub all : lines ≡ lines_of text
   pub within : All (IsWithin (length text)) lines
   pub size : length text < 2 ^ 62
   pub fits : (0 < bits) × (bits < 64)
   pub ticketed : AreTickets text lines bits tickets
+  pub marked : AreMarked bits marks tickets
   pub by_number : rising ≡ true → AreRising tickets
   pub ordered : named ≡ false → AreOrdered tickets
   pub by_name : named ≡ true → IsIndex text lines entries

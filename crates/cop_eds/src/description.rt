@@ -3,7 +3,6 @@
 ghost use Rattle.std.specs.Prelude.{◌≡◌, true};
 ghost use Rattle.std.specs.Option.{option_map};
 ghost use Rattle.cop_eds.specs.Access.{access_of};
-ghost use Rattle.cop_eds.specs.Plain.{is_plain};
 ghost use Rattle.cop_eds.specs.Sections.{entry_of};
 ghost use Rattle.cop_eds.specs.Steps.{number_at, number_or};
 ghost use Rattle.cop_eds.specs.Description.{object_type_of, holds_value, holds_subs, default_type, read_type, no_compact_form, read_data_type, read_access, described};
@@ -210,39 +209,25 @@ fn read_access(
     Ok(access)
 }
 
-/// The line and the value of a key in an object's section. Most sections have their keys in the order ParameterName,
-/// ObjectType, DataType, AccessType, DefaultValue, PDOMapping: the key is looked for so many lines after the first
-/// of them at first.
-fn usual<'a>(
-    text: &Sections<'a>,
-    place: Place,
-    after: usize,
-    key: &[u8],
-) -> Option<(usize, &'a [u8])>
-    requires { is_plain key.now ≡ true }
-    ensures { option_map (λ p. (p.0, p.1.now)) result ≡ entry_of text.now place.section key.now }
-{
-    let near = place.line.saturating_add(after);
-    text.entry_near(near, place.section, key)
-}
-
-/// What the section that begins at this place says of its object.
+/// What the section that begins at this place says of its object. Most sections have their keys in the order
+/// ParameterName, ObjectType, DataType, AccessType, LowLimit, HighLimit, DefaultValue, PDOMapping, with or without limits,
+/// or with these before AccessType.
 #[tactic(auto, unfolding(crate::specs::Description::described))]
 pub fn described(text: &Sections<'_>, place: Place) -> Result<Description, Refusal>
     ensures { result ≡ described text.now place }
 {
     let section = place.section;
-    let object_type = read_type(usual(text, place, 1, b"ObjectType"))?;
+    let object_type = read_type(text.entry_at(place, [1, 2], b"ObjectType"))?;
     no_compact_form(text.entry(section, b"CompactSubObj"))?;
-    let data_type = usual(text, place, 2, b"DataType");
+    let data_type = text.entry_at(place, [2, 3], b"DataType");
     let data_type = read_data_type(place.line, object_type, data_type)?;
     let access = read_access(
         place.line,
         object_type,
-        usual(text, place, 3, b"AccessType"),
+        text.entry_at(place, [3, 5], b"AccessType"),
     )?;
     number_or(0, text.entry(section, b"SubNumber"))?;
-    let mapping = number_or(0, usual(text, place, 5, b"PDOMapping"))?;
+    let mapping = number_or(0, text.entry_at(place, [5, 7], b"PDOMapping"))?;
     Ok(Description {
         object_type,
         data_type,

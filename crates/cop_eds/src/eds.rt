@@ -4,6 +4,7 @@ ghost use Rattle.std.specs.Prelude.{◌≡◌, ◌↔◌, Ok, true, length, take
 ghost use Rattle.std.specs.List.{All, Contains};
 ghost use Rattle.std.specs.Option.{option_map};
 ghost use Rattle.cop_frame.specs.declared.rates.Rate.{Rate};
+ghost use Rattle.cop_eds.specs.Plain.{is_plain};
 ghost use Rattle.cop_eds.specs.Lines.{Gives, IsInside, is_keyed, lines_of};
 ghost use Rattle.cop_eds.specs.Reading.{reading};
 ghost use Rattle.cop_eds.specs.Text.{mark_len};
@@ -155,6 +156,14 @@ impl<'a> Eds<'a> {
         ensures { option_map (λ p. (p.0, p.1.now)) result ≡ entry_of self.now section key.now }
     {
         self.sections.entry(section, key)
+    }
+
+    /// The same, in the section that begins at this place; the lines so many after its first one are looked at first.
+    pub fn entry_at(&self, place: Place, after: [usize; 2], key: &[u8]) -> Option<(usize, &'a [u8])>
+        requires { is_plain key.now ≡ true }
+        ensures { option_map (λ p. (p.0, p.1.now)) result ≡ entry_of self.now place.section key.now }
+    {
+        self.sections.entry_at(place, after, key)
     }
 
     /// The value of a key in a section, where it is not empty: a slice of the source.

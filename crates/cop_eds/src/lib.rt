@@ -13,6 +13,7 @@ mod laws;
 mod line;
 mod lines;
 mod lists;
+mod marks;
 mod names;
 mod number;
 mod objects;

@@ -18,6 +18,7 @@ use crate::index::{
 };
 use crate::line::{Kind, Line, Place};
 use crate::lines::{lines_of, text_of};
+use crate::marks::marks_of;
 use crate::text::{is_comment, key_of, name_of, value_after, value_of};
 use crate::tickets::{
     Ticket, are_rising, are_searchable, bits_of, find_ticket, next_ticket, tickets_of,
@@ -33,6 +34,7 @@ pub struct Sections<'a> {
     lines: Vec<Line>,
     bits: u32,
     tickets: Vec<Ticket>,
+    marks: Vec<u64>,
     hints: Hints,
     is_rising: bool,
     is_named: bool,
@@ -47,7 +49,7 @@ impl<'a> Model for Sections<'a> {
 
     ghost view = { λ s. s.source.now };
 
-    ghost invariant = { λ s. IsIndexed s.source.now s.lines.items s.bits s.tickets.items s.is_rising s.is_named s.entries.items };
+    ghost invariant = { λ s. IsIndexed s.source.now s.lines.items s.bits s.tickets.items s.marks.items s.is_rising s.is_named s.entries.items };
 }
 
 fn place_at(found: (usize, Line)) -> Place
@@ -97,6 +99,7 @@ impl<'a> Sections<'a> {
         let lines = lines_of(alloc, source)?;
         let bits = bits_of(section_count(&lines));
         let tickets = tickets_of(alloc, source, &lines, bits)?;
+        let marks = marks_of(alloc, &tickets, bits)?;
         let hints = Hints::of(alloc, &lines, &tickets)?;
         let is_rising = are_rising(&tickets);
         let is_named = !are_searchable(&tickets, is_rising);
@@ -110,6 +113,7 @@ impl<'a> Sections<'a> {
             lines,
             bits,
             tickets,
+            marks,
             hints,
             is_rising,
             is_named,
@@ -144,6 +148,7 @@ impl<'a> Sections<'a> {
                 &self.lines,
                 self.bits,
                 &self.tickets,
+                &self.marks,
                 near,
                 key,
             )
@@ -335,6 +340,19 @@ impl<'a> Sections<'a> {
             Some(found) if found.1.is_empty() => None,
             Some(found) => Some(found),
             None => self.entry(section, key),
+        }
+    }
+
+    /// The same, in the section that begins at this place; the lines so many after its first one are looked at first.
+    pub fn entry_at(&self, place: Place, after: [usize; 2], key: &[u8]) -> Option<(usize, &'a [u8])>
+        requires { is_plain key.now ≡ true }
+        ensures { option_map (λ p. (p.0, p.1.now)) result ≡ entry_of self.now place.section key.now }
+    {
+        let [first, second] = after;
+        match self.value_at(place.line.saturating_add(first), place.section, key) {
+            Some(found) if found.1.is_empty() => None,
+            Some(found) => Some(found),
+            None => self.entry_near(place.line.saturating_add(second), place.section, key),
         }
     }
 }

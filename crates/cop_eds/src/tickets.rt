@@ -9,11 +9,13 @@ ghost use Rattle.cop_eds.specs.declared.line.Line.{Line};
 ghost use Rattle.cop_eds.specs.declared.tickets.Ticket.{Ticket};
 ghost use Rattle.cop_eds.specs.Lines.{IsWithin, first_from, is_kind};
 ghost use Rattle.cop_eds.specs.Index.{line_key, sort_key, is_found_by, IsNext};
+ghost use Rattle.cop_eds.specs.Marks.{AreMarked};
 ghost use Rattle.cop_eds.specs.Tickets.{stirred, low_bits, mixed_each, mixed, word_of, is_ahead, IsTicket, AreTickets, AreRising, AreOrdered, Surround};
 
 use crate::entry::Entry;
 use crate::index::{has_key, is_kind, line_entry};
 use crate::line::{Kind, Line};
+use crate::marks::{is_marked, mark_of};
 use std::alloc::{AllocError, Global};
 
 /// The least number of a name that is none of an object's section.
@@ -318,6 +320,7 @@ pub fn find_ticket(
     lines: &[Line],
     bits: u32,
     tickets: &[Ticket],
+    marks: &[u64],
     near: (usize, usize),
     key: &Entry<'_>,
 ) -> Option<(usize, Line)>
@@ -325,9 +328,13 @@ pub fn find_ticket(
     requires fits { (0 < bits) × (bits < 64) }
     requires tickets { AreTickets source.now lines.now bits tickets.now }
     requires ordered { AreOrdered tickets.now }
+    requires marked { AreMarked bits marks.now tickets.now }
     ensures { result ≡ first_from 1 (is_found_by source.now (sort_key key.now)) lines.now }
 {
     let word = word_of(bits, key);
+    if !is_marked(marks, mark_of(bits, word)) {
+        return None;
+    }
     let mut place = count_below(tickets, near, word);
     while place < tickets.len() && tickets[place].word == word {
         if let Some(found) = own_line(source, lines, tickets[place].line, key) {

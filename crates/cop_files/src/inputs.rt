@@ -23,9 +23,18 @@ pub fn is_regular(file: &File) -> bool {
     matches!(file.metadata(), Ok(found) if found.is_file())
 }
 
+/// How many bytes a file has by its metadata, 0 where these tell nothing of them.
+fn length_of(file: &File) -> u64 {
+    match file.metadata() {
+        Ok(found) => found.len(),
+        Err(_) => 0,
+    }
+}
+
 /// The bytes of an open file of at most 64 MiB.
 pub fn read_opened(rt: &HostRuntime, name: &str, file: File) -> Result<Vec<u8>, Failure> {
-    match read_all(rt.alloc(), file) {
+    let expected = length_of(&file);
+    match read_all(rt.alloc(), file, expected) {
         Ok(bytes) => Ok(bytes),
         Err(error) => Err(file_failure(rt, name, Use::Read, &error)),
     }
@@ -42,7 +51,7 @@ pub fn read_input(rt: &HostRuntime, name: &str) -> Result<Vec<u8>, Failure> {
     if name != "-" {
         return read_file(rt, name);
     }
-    match read_all(rt.alloc(), rt.stdin()) {
+    match read_all(rt.alloc(), rt.stdin(), 0) {
         Ok(bytes) => Ok(bytes),
         Err(error) => Err(file_failure(rt, name, Use::Read, &error)),
     }

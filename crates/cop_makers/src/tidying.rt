@@ -71,6 +71,7 @@ fn tidy_file(rt: &HostRuntime, order: TidyOrder<'_>, inputs: &mut Inputs) -> Res
 }
 
 /// Makes of an EDS file, or of all of a folder, what plan reads.
+#[inline(never)]
 pub fn carry_tidy(
     rt: &HostRuntime,
     order: TidyOrder<'_>,

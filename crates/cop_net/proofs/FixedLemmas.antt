@@ -1,75 +1,61 @@
 -- The streams of the fixed identifiers.
-use Rattle.std.proofs.Common.{◌≡◌, ◌≢◌, ◌<◌, ◌≤◌, ◌==◌, ◌-◌, ◌+◌, ℕ, suc, Bool, true, false, List, [], ◌∷◌, ◌++◌, length, take, get_or, set, replicate, find, is_some, Option, Some, None, arith, refl, sym, ap, ◌∙◌, ⊎_elim, append_assoc, All, IfSome, cond, Result, Ok}
-use Rattle.std.specs.Option.{option_or}
-use Rattle.std.proofs.lemmas.Bool.{cases_eq, eq-eqb, ne_eqb}
-use Rattle.std.proofs.lemmas.List.{length-set, get_or-set_same, get_or-set_other, get_or-replicate, append-nil}
-use Rattle.std.proofs.lemmas.List.Folds.{find-append}
+use Rattle.std.proofs.Common.{◌≡◌, ◌≢◌, ◌<◌, ◌≤◌, ◌==◌, ◌-◌, ◌+◌, ℕ, suc, Bool, true, false, List, [], ◌∷◌, ◌++◌, length, take, drop, get_or, set, replicate, find, min, Option, Some, arith, refl, sym, ap, ◌∙◌, ⊎_elim, append_assoc, All, IfSome, cond, Result, Ok}
+use Rattle.std.proofs.lemmas.Bool.{cases_eq, cases_lt, eq-eqb, ne_eqb}
+use Rattle.std.proofs.lemmas.List.{length-set, get_or-set_same, get_or-set_other, get_or-replicate, append-nil, drop_all, drop_more}
 use Rattle.cop_rows.specs.declared.node_table.FrameRow.{FrameRow}
 use Rattle.cop_rta.specs.Entries.{Entry}
-use Rattle.std.proofs.lemmas.List.{take_more}
-use Rattle.std.proofs.lemmas.List.Elements.{All-head, All-tail}
+use Rattle.std.proofs.lemmas.List.Elements.{All-head, All-tail, All-drop, All-take}
 use Rattle.cop_net.specs.Fixed.{IsTimed, key_of, sent, streams_from, KnowsFrames}
 
--- no row is known at first
-pub knows_none : (places : List (Option FrameRow)) → places ≡ replicate 768 None → KnowsFrames places []
-knows_none places e = record {
-  size = rw e refl;
-  each = λ key h. rw e (get_or-replicate 768 key None None h);
+-- the search from a place's number on, where it is not before these rows, finds what it finds in them from this one on
+pub record KnowsFrom (places : List ℕ) (frames : List FrameRow) (i : ℕ) : Type 0 where
+  pub size : length places ≡ 768
+  pub each : (key : ℕ) → key < 768 → i ≤ get_or places key 0 → find (λ row. key_of row == key) (drop (get_or places key 0) frames) ≡ find (λ row. key_of row == key) (drop i frames)
+
+-- behind all rows nothing is found
+pub knows_none : (frames : List FrameRow) → KnowsFrom (replicate 768 65535) frames (length frames)
+knows_none frames = record {
+  size = refl;
+  each = λ key h le.
+      let last : ◌≡◌ {A = ℕ} (get_or (replicate 768 65535) key 0) 65535 = get_or-replicate 768 key 65535 0 h in
+      rw last (ap (find (λ row. key_of row == key)) (drop_all 65535 frames (rw last at le) ∙ sym (drop_all (length frames) frames (omega arith))));
 }
 
-first_of : (frames : List FrameRow) (row : FrameRow) (key : ℕ) → find (λ r. key_of r == key) (frames ++ row ∷ []) ≡ option_or (find (λ r. key_of r == key) frames) (find (λ r. key_of r == key) (row ∷ []))
-first_of frames row key = find-append (λ r. key_of r == key) frames (row ∷ [])
+-- a row that has another place is passed over
+passed : (frames : List FrameRow) (i key : ℕ) (d : FrameRow) → i < length frames → key_of (get_or frames i d) ≢ key
+    → find (λ row. key_of row == key) (drop i frames) ≡ find (λ row. key_of row == key) (drop (i + 1) frames)
+passed frames i key d lt other = rw (drop_more frames i d lt, ne_eqb (key_of (get_or frames i d)) key other) refl
 
-none_before : (o : Option FrameRow) → is_some o ≡ false → o ≡ None
-none_before None h = refl
-none_before (Some x) h = cc
+-- of a place that stays as it was
+stays : (places : List ℕ) (frames : List FrameRow) (i key : ℕ) (d : FrameRow) → KnowsFrom places frames (i + 1) → i < length frames → key < 768
+    → key_of (get_or frames i d) ≢ key → i ≤ get_or places key 0
+    → find (λ row. key_of row == key) (drop (get_or places key 0) frames) ≡ find (λ row. key_of row == key) (drop i frames)
+stays places frames i key d knows lt h other le = ⊎_elim
+    (λ (e : i ≡ get_or places key 0). ap (λ n. find (λ row. key_of row == key) (drop n frames)) (sym e))
+    (λ (more : i ≢ get_or places key 0). knows.each key h (omega (arith, le, more)) ∙ sym (passed frames i key d lt other))
+    (cases_eq i (get_or places key 0))
 
-some_before : (o p : Option FrameRow) → is_some o ≡ true → option_or o p ≡ o
-some_before None p h = cc
-some_before (Some x) p h = refl
-
-or_none : (o : Option FrameRow) → option_or o None ≡ o
-or_none None = refl
-or_none (Some x) = refl
-
--- a row at a place that was free
-new_at : (places : List (Option FrameRow)) (frames : List FrameRow) (row : FrameRow) (key : ℕ) → KnowsFrames places frames → key_of row < 768 → key < 768
-    → is_some (get_or places (key_of row) None) ≡ false
-    → get_or (set places (key_of row) (Some row)) key None ≡ find (λ r. key_of r == key) (frames ++ row ∷ [])
-new_at places frames row key knows inside h free = ⊎_elim
-    (λ (e : key_of row ≡ key).
-    let none : find (λ r. key_of r == key) frames ≡ None = none_before _ (rw (← knows.each key h) (rw (← e) free)) in
-    let here : get_or (set places (key_of row) (Some row)) key None ≡ Some row = rw (← e) (get_or-set_same places (key_of row) (Some row) None (omega (arith, knows.size))) in
-    here ∙ sym (first_of frames row key ∙ rw (none, eq-eqb (key_of row) key e) refl))
-    (λ (other : key_of row ≢ key).
-    get_or-set_other places (key_of row) key (Some row) None (λ e. other (sym e)) ∙ knows.each key h
-    ∙ sym (first_of frames row key ∙ rw (ne_eqb (key_of row) key other) (or_none _)))
-    (cases_eq (key_of row) key)
-
-pub knows_new : (places : List (Option FrameRow)) (frames : List FrameRow) (row : FrameRow) → KnowsFrames places frames → key_of row < 768
-    → is_some (get_or places (key_of row) None) ≡ false → KnowsFrames (set places (key_of row) (Some row)) (frames ++ row ∷ [])
-knows_new places frames row knows inside free = record {
-  size = length-set places (key_of row) (Some row) ∙ knows.size;
-  each = λ key h. new_at places frames row key knows inside h free;
+-- one row more, from the last on: its place has its number, or a smaller one
+pub knows_more : (places new : List ℕ) (frames : List FrameRow) (i key n : ℕ) (d : FrameRow) → i < length frames → key ≡ key_of (get_or frames i d) → key < 768
+    → n ≤ i → new ≡ set places key n → KnowsFrom places frames (i + 1) → KnowsFrom new frames i
+knows_more places new frames i key n d lt here inside low written knows = rw written record {
+  size = length-set places key n ∙ knows.size;
+  each = λ other h. ⊎_elim
+      (λ (e : key ≡ other). λ le.
+      let now : get_or (set places key n) other 0 ≡ n = rw (← e) (get_or-set_same places key n 0 (omega (arith, inside, knows.size))) in
+      let same : n ≡ i = omega (arith, rw now at le, low) in
+      ap (λ m. find (λ row. key_of row == other) (drop m frames)) (now ∙ same))
+      (λ (apart : key ≢ other). λ le.
+      let now : get_or (set places key n) other 0 ≡ get_or places other 0 = get_or-set_other places key other n 0 (λ e. apart (sym e)) in
+      rw now (stays places frames i other d knows lt h (λ e. apart (here ∙ e)) (rw now at le)))
+      (cases_eq key other);
 }
 
--- a row at a place that was taken changes nothing
-old_at : (places : List (Option FrameRow)) (frames : List FrameRow) (row : FrameRow) (key : ℕ) → KnowsFrames places frames → key_of row < 768 → key < 768
-    → is_some (get_or places (key_of row) None) ≡ true
-    → get_or places key None ≡ find (λ r. key_of r == key) (frames ++ row ∷ [])
-old_at places frames row key knows inside h taken = ⊎_elim
-    (λ (e : key_of row ≡ key).
-    let some : is_some (find (λ r. key_of r == key) frames) ≡ true = rw (← knows.each key h) (rw (← e) taken) in
-    knows.each key h ∙ sym (first_of frames row key ∙ some_before _ _ some))
-    (λ (other : key_of row ≢ key).
-    knows.each key h ∙ sym (first_of frames row key ∙ rw (ne_eqb (key_of row) key other) (or_none _)))
-    (cases_eq (key_of row) key)
-
-pub knows_old : (places : List (Option FrameRow)) (frames : List FrameRow) (row : FrameRow) → KnowsFrames places frames → key_of row < 768
-    → is_some (get_or places (key_of row) None) ≡ true → KnowsFrames places (frames ++ row ∷ [])
-knows_old places frames row knows inside taken = record {
+-- from the first row on
+pub knows_all : (places : List ℕ) (frames : List FrameRow) → KnowsFrom places frames 0 → KnowsFrames places frames
+knows_all places frames knows = record {
   size = knows.size;
-  each = λ key h. old_at places frames row key knows inside h taken;
+  each = λ key h. knows.each key h (omega arith);
 }
 
 -- the streams from a place on are that place's and those from the next on
@@ -90,17 +76,6 @@ no_more frames before i total le so_far =
     let k : 768 - i ≡ 0 = omega arith in
     let none : before ++ streams_from frames i (768 - i) ≡ before = rw k (append-nil before) in
     sym none ∙ so_far
-
--- the rows up to one more of them
-pub step_new : (places new : List (Option FrameRow)) (frames : List FrameRow) (i key : ℕ) (d : FrameRow) → i < length frames → key ≡ key_of (get_or frames i d) → key < 768
-    → is_some (get_or places key None) ≡ false → new ≡ set places key (Some (get_or frames i d)) → KnowsFrames places (take i frames) → KnowsFrames new (take (i + 1) frames)
-step_new places new frames i key d lt here inside free written knows =
-    rw (take_more frames i d lt, written, here) (knows_new places (take i frames) (get_or frames i d) knows (rw here at inside) (rw here at free))
-
-pub step_old : (places new : List (Option FrameRow)) (frames : List FrameRow) (i key : ℕ) (d : FrameRow) → i < length frames → key ≡ key_of (get_or frames i d) → key < 768
-    → is_some (get_or places key None) ≡ true → new ≡ places → KnowsFrames places (take i frames) → KnowsFrames new (take (i + 1) frames)
-step_old places new frames i key d lt here inside taken written knows =
-    rw (take_more frames i d lt, written) (knows_old places (take i frames) (get_or frames i d) knows (rw here at inside) (rw here at taken))
 
 -- what is found is one of them
 pub found_all : {A : Type 0} (P : A → Type 0) (test : A → Bool) (xs : List A) → All P xs → IfSome (find test xs) P
@@ -123,5 +98,20 @@ found_at (f ∷ frames) key h = ⊎_elim
     (λ (other : key_of f ≢ key). rw (ne_eqb (key_of f) key other) (found_at frames key (All-tail IsTimed f frames h)))
     (cases_eq (key_of f) key)
 
-pub row_timed : (places : List (Option FrameRow)) (frames : List FrameRow) (i : ℕ) → i < 768 → KnowsFrames places frames → All IsTimed frames → IfSome (get_or places i None) IsTimed
-row_timed places frames i lt knows timed = rw (knows.each i lt) (found_all IsTimed (λ row. key_of row == i) frames timed)
+-- what is found in the rows from a place's number on is what is found at the place
+pub found_from : (places : List ℕ) (frames : List FrameRow) (place before : ℕ) → KnowsFrames places frames → place < 768 → before ≡ min (get_or places place 0) (length frames)
+    → find (λ row. key_of row == place) (drop before frames) ≡ find (λ row. key_of row == place) frames
+found_from places frames place before knows h e = ap (find (λ row. key_of row == place)) (rw e (drop_least (get_or places place 0) frames)) ∙ knows.each place h
+  where
+    drop_least : (n : ℕ) (rows : List FrameRow) → drop (min n (length rows)) rows ≡ drop n rows
+    drop_least n rows = ⊎_elim
+        (λ (lt : n < length rows). ap (λ m. drop m rows) (omega arith))
+        (λ (more : length rows ≤ n).
+        let all : min n (length rows) ≡ length rows = omega arith in
+        ap (λ m. drop m rows) all ∙ drop_all (length rows) rows (omega arith) ∙ sym (drop_all n rows more))
+        (cases_lt n (length rows))
+
+-- what is found in a part of the rows is in range
+pub part_timed : (frames : List FrameRow) (before count place : ℕ) → All IsTimed frames → IfSome (find (λ row. key_of row == place) (take count (drop before frames))) IsTimed
+part_timed frames before count place timed =
+    found_all IsTimed (λ row. key_of row == place) (take count (drop before frames)) (All-take IsTimed count (drop before frames) (All-drop IsTimed before frames timed))

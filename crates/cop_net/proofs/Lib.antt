@@ -5,7 +5,6 @@ pub mod RateLemmas
 pub mod TextLemmas
 pub mod FoldLemmas
 pub mod SettingLemmas
-pub mod UseLemmas
 pub mod PdoLemmas
 pub mod SetLemmas
 pub mod ApartLemmas

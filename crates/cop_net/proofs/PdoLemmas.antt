@@ -28,9 +28,6 @@ pub starts : (devices : List (Option Device)) (signals : Signals) (rows : List P
 unfolding pdos_of
 starts devices signals rows found none unused = rw (none, unused) refl
 
-pub none_yet : (used : List Used) → ◌≡◌ {A = Result (List Used) Refusal} (Ok []) (Ok used) → used ≡ []
-none_yet used e = cc
-
 no_fault : {A : Type 0} (place : ℕ) (fault : Option SyncFault) (x y : A) → unless_fault place fault x ≡ Ok y → (fault ≡ None) × (x ≡ y)
 no_fault place None x y h = (refl, cc)
 no_fault place (Some fault) x y h = cc

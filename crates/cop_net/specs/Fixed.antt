@@ -1,5 +1,5 @@
 -- The frames of fixed identifiers (CiA 301, "Pre-defined connection set").
-use Rattle.std.specs.Prelude.{ℕ, zero, suc, ◌≡◌, ◌≤◌, ◌<◌, ◌⊎◌, ◌+◌, ◌*◌, get_or, length, List, [], ◌∷◌, ◌++◌, find, ◌==◌, if◌then◌else◌, option_map, Option, Some, None, IfSome}
+use Rattle.std.specs.Prelude.{ℕ, zero, suc, ◌≡◌, ◌≤◌, ◌<◌, ◌⊎◌, ◌+◌, ◌*◌, drop, get_or, length, List, [], ◌∷◌, ◌++◌, find, ◌==◌, if◌then◌else◌, option_map, Option, Some, None, IfSome}
 use Rattle.cop_rows.specs.declared.node_table.FrameKind.{FrameKind}
 use Rattle.cop_rows.specs.declared.node_table.FrameKind.TheVariants as kinds
 use Rattle.cop_rows.specs.declared.node_table.FrameRow.{FrameRow}
@@ -82,7 +82,7 @@ pub record IsTimed (row : FrameRow) : Type 0 where
   pub jitter : row.jitter ≤ 60000000
   pub deadline : IfSome row.deadline (IsFrameDeadline row.kind row.period)
 
--- a table of the rows, by their places
-pub record KnowsFrames (places : List (Option FrameRow)) (frames : List FrameRow) : Type 0 where
+-- where the search for the row of a place may begin: it finds what it finds from the front
+pub record KnowsFrames (places : List ℕ) (frames : List FrameRow) : Type 0 where
   pub size : length places ≡ 768
-  pub each : (key : ℕ) → key < 768 → get_or places key None ≡ find (λ row. key_of row == key) frames
+  pub each : (key : ℕ) → key < 768 → find (λ row. key_of row == key) (drop (get_or places key 0) frames) ≡ find (λ row. key_of row == key) frames

@@ -30,26 +30,34 @@ fn rank(kind: FrameKind) -> usize
 
 /// The place of a row in the order of the frames: by rising node, and of one node by kind.
 fn key(row: FrameRow) -> usize
-    requires { row.node ≤ 127 }
     ensures value { result ≡ key_of row }
-    ensures most { result < 768 }
+    ensures most { row.node ≤ 127 → result < 768 }
 {
     6 * usize::from(row.node) + rank(row.kind)
 }
 
-/// The rows by their places in the order of the frames.
-fn by_place(frames: &[FrameRow]) -> [Option<FrameRow>; PLACES]
+/// The number of the first row at each place in the order of the frames.
+fn by_place(frames: &[FrameRow]) -> [u16; PLACES]
     requires { All IsTimed frames.now }
     ensures { KnowsFrames result frames.now }
 {
-    let mut places = [None; PLACES];
-    for row in frames {
-        let key = key(*row);
-        if places[key].is_none() {
-            places[key] = Some(*row);
-        }
+    let mut places = [u16::MAX; PLACES];
+    for number in (0..frames.len()).rev() {
+        places[key(frames[number])] = u16::try_from(number).unwrap_or(u16::MAX);
     }
     places
+}
+
+/// The first row at a place.
+fn first_at(frames: &[FrameRow], place: usize) -> Option<FrameRow>
+    ensures { result ≡ find (λ row. key_of row == place) frames.now }
+{
+    for row in frames {
+        if key(*row) == place {
+            return Some(*row);
+        }
+    }
+    None
 }
 
 /// The time of a row in ms, 0 where there is none.
@@ -67,7 +75,8 @@ fn time_in(row: Option<FrameRow>) -> u16
 #[derive(Drop)]
 pub struct Frames<'a> {
     rows: &'a [FrameRow],
-    places: [Option<FrameRow>; PLACES],
+    // No row before the one of this number is at the place; behind all where none is.
+    places: [u16; PLACES],
 }
 
 impl<'a> Model for Frames<'a> {
@@ -100,7 +109,8 @@ impl<'a> Frames<'a> {
         ensures timed { IfSome result IsTimed }
     {
         if place < PLACES {
-            self.places[place]
+            let before = usize::from(self.places[place]).min(self.rows.len());
+            first_at(&self.rows[before..], place)
         } else {
             None
         }

@@ -346,7 +346,7 @@ pub fn find_pdos(
 {
     let mut found = Found {
         set: StreamSet::new(alloc),
-        used: Uses::new(alloc)?,
+        used: Uses::new(alloc),
     };
     for row in rows {
         found.add(devices, signals, row)?;

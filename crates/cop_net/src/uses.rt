@@ -1,12 +1,12 @@
 //! The communication records that the PDOs of a network use.
 
-ghost use Rattle.std.specs.Prelude.{◌≡◌, ◌<◌, ◌≤◌, ◌++◌, [], ◌∷◌, Ok};
+ghost use Rattle.std.specs.Prelude.{ℕ, ◌≡◌, ◌<◌, ◌≤◌, ◌++◌, ◌+◌, ◌*◌, ◌-◌, false, length, get_or, [], ◌∷◌, Ok, IfOk};
 ghost use Rattle.cop_table.specs.Reading.{Gives};
 ghost use Rattle.cop_net.specs.Faults.{refusal};
 ghost use Rattle.cop_net.specs.Uses.{is_used};
 
 use crate::faults::PlanFault;
-use std::alloc::Global;
+use std::alloc::{AllocError, Global};
 use std::marker::Model;
 
 /// The communication record of a PDO in use, at an index of a node.
@@ -22,11 +22,31 @@ const FIRST: u16 = 0x1400;
 /// How many indexes there are from the first communication record to the last.
 const INDEXES: usize = 0x600;
 
+/// The place of the flag of a record.
+fn place_of(node: u8, index: u16) -> usize
+    requires { 0x1400 ≤ index }
+    ensures { result ≡ 1536 * node + (index - 0x1400) }
+{
+    INDEXES * usize::from(node) + usize::from(index - FIRST)
+}
+
+/// Makes flags for the records of a node and of those below it.
+fn make_room(flags: &mut Vec<bool>, node: u8) -> Result<(), AllocError>
+    ensures same { (i : ℕ) → get_or flags.new.items i false ≡ get_or flags.old.items i false }
+    ensures room { IfOk result (λ _. 1536 * node + 1536 ≤ length flags.new.items) }
+{
+    let length = INDEXES * usize::from(node) + INDEXES;
+    if flags.len() < length {
+        flags.resize(length, false)?;
+    }
+    Ok(())
+}
+
 /// The communication records in use, in the order in which they were added.
 #[derive(Drop)]
 pub struct Uses {
     records: Vec<Used>,
-    // Whether the record of each node and index is one of them.
+    // Whether the record of each node and index is one of them, up to the greatest node of them.
     flags: Vec<bool>,
 }
 
@@ -44,14 +64,13 @@ impl Model for Uses {
 
 impl Uses {
     /// No record.
-    pub fn new(alloc: Global) -> Result<Uses, PlanFault>
-        ensures { Gives (λ u. u) refusal result (Ok []) }
+    pub fn new(alloc: Global) -> Uses
+        ensures { result ≡ [] }
     {
-        let flags = vec![in alloc; false; 128 * INDEXES]?;
-        Ok(Uses {
+        Uses {
             records: Vec::new(alloc),
-            flags,
-        })
+            flags: Vec::new(alloc),
+        }
     }
 
     /// Whether a record is in use.
@@ -61,7 +80,8 @@ impl Uses {
         requires high { index < 0x1A00 }
         ensures { result ≡ is_used self.now node index }
     {
-        self.flags[INDEXES * usize::from(node) + usize::from(index - FIRST)]
+        let place = place_of(node, index);
+        self.flags.get(place).copied().unwrap_or(false)
     }
 
     /// Adds a record.
@@ -71,8 +91,9 @@ impl Uses {
         requires high { used.index < 0x1A00 }
         ensures { Gives (λ _. self.new) refusal result (Ok (self.old ++ used ∷ [])) }
     {
+        make_room(&mut self.flags, used.node)?;
         self.records.push(used)?;
-        self.flags[INDEXES * usize::from(used.node) + usize::from(used.index - FIRST)] = true;
+        self.flags[place_of(used.node, used.index)] = true;
         Ok(())
     }
 }

@@ -1,11 +1,12 @@
 //! The rows of PDOs while their table is read.
 
-ghost use Rattle.std.specs.Prelude.{◌≡◌, ◌≤◌, ◌<◌, [], IfOk};
+ghost use Rattle.std.specs.Prelude.{◌≡◌, ◌≤◌, ◌+◌, ◌*◌, false, List, length, get_or, [], IfOk};
 ghost use Rattle.cop_table.specs.Reading.{Gives};
 ghost use Rattle.cop_rows.specs.Pdos.{IsPdoRow};
 ghost use Rattle.cop_rows.specs.PdoReading.{pushed};
 ghost use Rattle.cop_rows.specs.Refusals.{broken};
-ghost use Rattle.cop_rows.specs.Named.{flag_of};
+ghost use Rattle.cop_rows.specs.Named.{flag_of, KnowsNamed};
+ghost use Rattle.cop_rows.specs.declared.pdo_table.PdoRow.{PdoRow};
 
 use crate::pdo_table::{PdoRow, PdoTable};
 use crate::refusals::{RecordFault, Rule};
@@ -16,7 +17,7 @@ use std::marker::Model;
 #[derive(Drop)]
 pub(crate) struct PdoRows {
     rows: Vec<PdoRow>,
-    // Whether a row names the PDO of each number.
+    // Whether a row names the PDO of each number, up to the greatest node of the rows.
     flags: Vec<bool>,
 }
 
@@ -33,32 +34,50 @@ impl Model for PdoRows {
     ghost invariant = { λ p. IsPdoTable p.rows.items × KnowsNamed p.flags.items p.rows.items };
 }
 
+/// How many PDOs a node has at most.
+const PDOS: usize = 512;
+
 /// The place of a PDO's flag.
 fn flag_of(node: u8, tpdo: u16) -> usize
     requires node { node ≤ 127 }
     requires least { 1 ≤ tpdo }
     requires most { tpdo ≤ 512 }
-    ensures place { result ≡ flag_of node tpdo }
-    ensures within { result < 65536 }
+    ensures { result ≡ flag_of node tpdo }
 {
-    usize::from(node) * 512 + (usize::from(tpdo) - 1)
+    usize::from(node) * PDOS + (usize::from(tpdo) - 1)
+}
+
+/// Whether the flag at a place is made and set.
+fn is_set(flags: &[bool], place: usize) -> bool
+    ensures { result ≡ get_or flags.now place false }
+{
+    flags.get(place).copied().unwrap_or(false)
+}
+
+/// Makes flags for the PDOs of a node and of those below it.
+fn make_room(flags: &mut Vec<bool>, node: u8) -> Result<(), AllocError>
+    ensures same { (rows : List PdoRow) → KnowsNamed flags.old.items rows → KnowsNamed flags.new.items rows }
+    ensures room { IfOk result (λ _. 512 * node + 512 ≤ length flags.new.items) }
+{
+    let length = usize::from(node) * PDOS + PDOS;
+    if flags.len() < length {
+        flags.resize(length, false)?;
+    }
+    Ok(())
 }
 
 impl PdoRows {
     /// How many rows a table holds at most.
     const MOST: usize = 512;
 
-    /// How many PDOs there are: 512 of each of the nodes below 128.
-    const FLAGS: usize = 65_536;
-
     /// No row.
-    pub(crate) fn new(alloc: Global) -> Result<PdoRows, AllocError>
-        ensures { IfOk result (λ rows. rows ≡ []) }
+    pub(crate) fn new(alloc: Global) -> PdoRows
+        ensures { result ≡ [] }
     {
-        Ok(PdoRows {
+        PdoRows {
             rows: Vec::new(alloc),
-            flags: vec![in alloc; false; PdoRows::FLAGS]?,
-        })
+            flags: Vec::new(alloc),
+        }
     }
 
     /// Puts a row at the end.
@@ -67,11 +86,14 @@ impl PdoRows {
         ensures { Gives (λ _. self.new) broken result (pushed self.old row) }
     {
         let flag = flag_of(row.node, row.tpdo);
-        if self.flags[flag] {
+        if is_set(&self.flags, flag) {
             return Err(RecordFault::Broken(Rule::PdoRepeated));
         }
         if self.rows.len() == PdoRows::MOST {
             return Err(RecordFault::Broken(Rule::Full));
+        }
+        if make_room(&mut self.flags, row.node).is_err() {
+            return Err(RecordFault::Memory);
         }
         match self.rows.push(row) {
             Ok(()) => {

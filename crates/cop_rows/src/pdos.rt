@@ -169,7 +169,7 @@ fn pdos_under(alloc: Global, rows: &mut Records<'_>, row: &mut Record) -> Result
     requires { length rows.old < 2 ^ 64 }
     ensures { Gives (λ table. table) refusal result (rows_from added 1 [] rows.old) }
 {
-    let mut pdos = PdoRows::new(alloc)?;
+    let mut pdos = PdoRows::new(alloc);
     let mut place = 0;
     'rows: while rows.read(row)? {
         place += 1;

@@ -1,17 +1,10 @@
 -- Where streams stand, one more.
-use Rattle.std.proofs.Common.{◌<◌, ◌≡◌, ◌≢◌, ◌==◌, ◌≤◌, ℕ, suc, Bool, true, false, List, [], ◌∷◌, ◌++◌, length, ◌||◌, Option, Some, None, IfSome, if◌then◌else◌, arith, refl, sym, ap, ◌∙◌, option_map, ⊎_elim, set, replicate, is_some, true≢false}
+use Rattle.std.proofs.Common.{◌<◌, ◌≡◌, ◌≢◌, ◌==◌, ◌≤◌, ℕ, suc, Bool, true, false, List, [], ◌∷◌, ◌++◌, length, ◌||◌, Option, Some, None, IfSome, if◌then◌else◌, arith, refl, sym, ap, ◌∙◌, option_map, ⊎_elim, set, get_or, is_some, true≢false}
 use Rattle.std.proofs.lemmas.Bool.{cases_eq, eq-eqb, ne_eqb}
-use Rattle.std.proofs.lemmas.List.{length-set, get_or-set_same, get_or-set_other, get_or-replicate}
+use Rattle.std.proofs.lemmas.List.{get_or-set_same, get_or-set_other, get_or_past}
 use Rattle.cop_rta.specs.declared.streams.Stream.{Stream}
 use Rattle.cop_rta.specs.Streams.{place_of_id, has_id}
 use Rattle.cop_rta.specs.Places.{KnowsPlaces}
-
--- no stream has an identifier of more than 11 bits
-pub place_past : (ss : List Stream) (id : ℕ) → 2048 ≤ id → place_of_id ss id ≡ None
-place_past [] id h = refl
-place_past (s ∷ ss) id h =
-    let other : s.id ≢ id = λ e. omega (arith, s.id_in_range, e) in
-    rw (ne_eqb s.id id other, place_past ss id h) refl
 
 some_after : (b : Bool) (o : Option ℕ) (c : Bool) → is_some o ≡ c → is_some (if b then Some 0 else option_map (λ k. suc k) o) ≡ (b || c)
 some_after true o c e = refl
@@ -49,22 +42,18 @@ place_new [] x h = rw (eq-eqb x.id x.id refl) refl
 place_new (s ∷ ss) x h =
     rw (not_first (s.id == x.id) (has_id ss x.id) h, place_new ss x (not_rest (s.id == x.id) (has_id ss x.id) h)) refl
 
-pub knows_none : (places : List (Option ℕ)) → places ≡ replicate 2048 None → KnowsPlaces places []
-knows_none places e = record {
-  size = rw e refl;
-  each = λ id h. rw e (get_or-replicate 2048 id None None h);
-}
+pub knows_none : KnowsPlaces [] []
+knows_none = record { each = λ id. refl }
 
-pub knows_more : (places : List (Option ℕ)) (ss : List Stream) (x : Stream) → KnowsPlaces places ss → has_id ss x.id ≡ false
+pub knows_more : (places : List (Option ℕ)) (ss : List Stream) (x : Stream) → KnowsPlaces places ss → x.id < length places → has_id ss x.id ≡ false
     → KnowsPlaces (set places x.id (Some (length ss))) (ss ++ x ∷ [])
-knows_more places ss x knows new = record {
-  size = length-set places x.id (Some (length ss)) ∙ knows.size;
-  each = λ id h. ⊎_elim
-      (λ (e : x.id ≡ id). rw (← e) (get_or-set_same places x.id (Some (length ss)) None (omega (arith, knows.size, x.id_in_range)) ∙ sym (place_new ss x new)))
-      (λ (other : x.id ≢ id). get_or-set_other places x.id id (Some (length ss)) None (λ e. other (sym e)) ∙ knows.each id h ∙ sym (place_other ss x id other))
+knows_more places ss x knows room new = record {
+  each = λ id. ⊎_elim
+      (λ (e : x.id ≡ id). rw (← e) (get_or-set_same places x.id (Some (length ss)) None room ∙ sym (place_new ss x new)))
+      (λ (other : x.id ≢ id). get_or-set_other places x.id id (Some (length ss)) None (λ e. other (sym e)) ∙ knows.each id ∙ sym (place_other ss x id other))
       (cases_eq x.id id);
 }
 
 -- an identifier past the table is that of no stream
 pub known_past : (places : List (Option ℕ)) (ss : List Stream) (id : ℕ) → KnowsPlaces places ss → length places ≤ id → place_of_id ss id ≡ None
-known_past places ss id knows past = place_past ss id (omega (arith, knows.size, past))
+known_past places ss id knows past = sym (knows.each id) ∙ get_or_past places id None past

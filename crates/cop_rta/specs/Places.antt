@@ -1,8 +1,7 @@
--- A table of where the streams stand, by identifier.
-use Rattle.std.specs.Prelude.{ℕ, ◌≡◌, ◌<◌, List, length, get_or, Option, None}
+-- A table of where the streams stand, by identifier; past its end stands none.
+use Rattle.std.specs.Prelude.{ℕ, ◌≡◌, List, get_or, Option, None}
 use Rattle.cop_rta.specs.declared.streams.Stream.{Stream}
 use Rattle.cop_rta.specs.Streams.{place_of_id}
 
 pub record KnowsPlaces (places : List (Option ℕ)) (streams : List Stream) : Type 0 where
-  pub size : length places ≡ 2048
-  pub each : (id : ℕ) → id < 2048 → get_or places id None ≡ place_of_id streams id
+  pub each : (id : ℕ) → get_or places id None ≡ place_of_id streams id

@@ -139,6 +139,7 @@ fn approach_of(order: MachineOrder<'_>) -> Approach {
 }
 
 /// The boot of the devices at a port by the plan of their network.
+#[inline(never)]
 pub fn boot_machine(
     rt: &HostRuntime,
     order: MachineOrder<'_>,

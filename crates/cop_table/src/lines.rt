@@ -53,6 +53,10 @@ pub(crate) fn cut_line(text: &[u8], ends: &mut Vec<usize>) -> Result<usize, Allo
 {
     ends.clear();
     for (i, byte) in text.iter().enumerate() {
+        // Most bytes of a table are digits and letters, which come after the comma.
+        if *byte > b',' {
+            continue;
+        }
         match *byte {
             b',' => ends.push(i)?,
             b'\r' | b'\n' => {

@@ -128,7 +128,7 @@ fn every_prefix_returns(rt: HostRuntime) -> Result<(), Fail> {
 
 #[test]
 fn large_inputs_are_file_faults(rt: HostRuntime) {
-    match read_all(rt.alloc(), io::repeat(b'0')) {
+    match read_all(rt.alloc(), io::repeat(b'0'), 0) {
         Ok(_) => assert!(rt; false),
         Err(error) => assert!(rt; error.kind() == io::ErrorKind::FileTooLarge),
     }
@@ -137,7 +137,9 @@ fn large_inputs_are_file_faults(rt: HostRuntime) {
 #[test]
 fn inputs_are_read_whole(rt: HostRuntime) -> Result<(), Fail> {
     let table = b"id,bytes,period,jitter,deadline\n".as_slice();
-    assert!(rt; read_all(rt.alloc(), table)?.as_slice() == table);
+    for expected in [0, 10, table.len() as u64, u64::MAX] {
+        assert!(rt; read_all(rt.alloc(), table, expected)?.as_slice() == table);
+    }
     Ok(())
 }
 

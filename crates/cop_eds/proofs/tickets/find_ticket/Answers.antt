@@ -1,9 +1,16 @@
-use Rattle.std.proofs.Common.{Some, arith, sym, ap, ◌∙◌}
+use Rattle.std.proofs.Common.{Some, ◌≡◌, false, arith, rules, sym, ap, ◌∙◌}
 use Rattle.cop_eds.specs.declared.tickets.Ticket.{Ticket}
 use Rattle.cop_eds.specs.Index.{sort_key}
+use Rattle.cop_eds.specs.Marks.{mark_of, is_marked}
 use Rattle.cop_eds.proofs.ListLemmas.{get_or_same}
-use Rattle.cop_eds.proofs.TicketLemmas.{none_below, none_more, none_left, first_found, all_within}
+use Rattle.cop_eds.proofs.TicketLemmas.{none_below, none_more, none_left, none_marked, first_found, all_within}
 use Rattle.cop_eds.proofs.tickets.find_ticket.Goals as goal
+
+pub returns-then-not-is_marked : goal.returns-then-not-is_marked
+returns-then-not-is_marked c =
+    let free : is_marked c.args.marks.now (mark_of c.args.bits c.word_of-word.result) ≡ false = search rules in
+    sym (none_marked c.args.source.now c.args.lines.now c.args.bits c.args.tickets.now c.args.marks.now (sort_key c.args.key.now) c.word_of-word.result
+    c.requires.tickets c.requires.marked c.word_of-word.ensures free)
 
 pub loop-place-init : goal.loop-place-init
 loop-place-init c = record {

@@ -1,6 +1,5 @@
-use Rattle.std.proofs.Common.{take}
-use Rattle.cop_net.specs.Fixed.{KnowsFrames}
+use Rattle.cop_net.proofs.FixedLemmas.{KnowsFrom}
 use Rattle.cop_net.proofs.frames.by_place.Given as goal
 
-abbrev pub invariant-loop-row : goal.invariant-loop-row
-invariant-loop-row l = KnowsFrames l.places (take l.row-index l.frames)
+abbrev pub invariant-loop-number : goal.invariant-loop-number
+invariant-loop-number l = KnowsFrom l.places l.fn.frames l.number

@@ -4,19 +4,19 @@ use Rattle.cop_rta.specs.Entries.{entry_of}
 use Rattle.cop_net.specs.Faults.{refusal}
 use Rattle.cop_net.specs.Pdos.{pdo_added}
 use Rattle.cop_net.proofs.FoldLemmas.{goes_on_at, fails_at, ends}
-use Rattle.cop_net.proofs.PdoLemmas.{starts, none_yet, one_more, no_pdos, pdos_after}
+use Rattle.cop_net.proofs.PdoLemmas.{starts, one_more, no_pdos, pdos_after}
 use Rattle.cop_net.proofs.pdos.find_pdos.Goals as goal
 
 pub loop-row-init : goal.loop-row-init
 loop-row-init c = record {
   pdos = no_pdos _ (ap (map entry_of) c.new.ensures);
   count = ap (λ s. length (map entry_of s)) c.new.ensures;
-  same = starts c.args.devices.now.devices c.args.signals c.args.rows.now _ (ap (map entry_of) c.new.ensures) (none_yet _ c.in_ok-new.ensures);
+  same = starts c.args.devices.now.devices c.args.signals c.args.rows.now _ (ap (map entry_of) c.new.ensures) c.new-2.ensures;
 }
 
 pub returns-in_err-add : goal.returns-in_err-add
 returns-in_err-add c =
-    let p = err_from_is_err_and c.from_residual-in_err-add.result c.from_residual-in_err-add.ensures.1 in
+    let p = err_from_is_err_and c.from_residual.result c.from_residual.ensures.1 in
     rw (p.1, p.2)
     (fails_at (pdo_added c.args.devices.now.devices c.args.signals) c.args.rows.now c.loop-row.row-index c.row-item.result c.loop-row.found (refusal c.in_err-add.field-0.0) _
     c.loop-row-test.true c.row-item.is c.loop-row.invariant.same c.in_err-add.ensures.exact)

@@ -5,7 +5,7 @@ use Rattle.cop_rta.proofs.sets.StreamSet.place_of.Goals as goal
 
 pub returns-in_err-place-clause-place : goal.returns-in_err-place-clause-place
 returns-in_err-place-clause-place c =
-    c.from_residual.ensures ∙ sym (rw (← c.self.view_is) (known_past c.self.inside.places c.self.inside.streams.items c.args.id c.self.invariant.2 (rw c.from.ensures at c.in_err-place.ensures.lookup).3))
+    c.from_residual.ensures ∙ sym (rw (← c.self.view_is) (known_past c.self.inside.places.items c.self.inside.streams.items c.args.id c.self.invariant.2 (rw c.deref.ensures.value at (rw c.from.ensures at c.in_err-place.ensures.lookup).3)))
 
 pub returns-clause-within : goal.returns-clause-within
 returns-clause-within c =
