@@ -7,33 +7,11 @@ use Rattle.std.proofs.lemmas.Fmt.{decimal_is_IsNumeral}
 use Rattle.std.proofs.Math.ListN.{get_or-eq_default}
 use Rattle.std.proofs.lemmas.List.Folds.{list_any_at}
 use Rattle.csv.specs.Writing.{needs_byte, needs_quotes, default_writer, escaped, fields_text, is_blank, comma}
+use Rattle.cop_table.proofs.QuoteLemmas.{IsPlain, both_no, decimal_is_plain}
 use Rattle.csv.specs.Machine.{line_feed}
 use Rattle.hex.specs.Hex.{upper_digits, encode_with, encode_upper}
 use Rattle.cop_bus.specs.Format.{header, line, bytes_of, short, queue_fields}
 use Rattle.cop_bus.specs.declared.steps.Content.{Content}
-
-abbrev pub IsPlain : List ℕ → Type 0
-IsPlain field = needs_quotes default_writer field ≡ false
-
-both_no : (a b : Bool) → a ≡ false → b ≡ false → (a || b) ≡ false
-both_no a b h k = rw (h, k) refl
-
--- ---- decimal digits
-
-digit_is_plain : (d : ℕ) → digit_value d < 10 → needs_byte default_writer d ≡ false
-digit_is_plain d h =
-    let comma_no : (d == 44) ≡ false = ne_eqb d 44 (λ e. (let f : digit_value 44 < 10 = subst (λ x. digit_value x < 10) e h in absurd (omega (arith, f)))) in
-    let quote_no : (d == 34) ≡ false = ne_eqb d 34 (λ e. (let f : digit_value 34 < 10 = subst (λ x. digit_value x < 10) e h in absurd (omega (arith, f)))) in
-    let return_no : (d == 13) ≡ false = ne_eqb d 13 (λ e. (let f : digit_value 13 < 10 = subst (λ x. digit_value x < 10) e h in absurd (omega (arith, f)))) in
-    let feed_no : (d == 10) ≡ false = ne_eqb d 10 (λ e. (let f : digit_value 10 < 10 = subst (λ x. digit_value x < 10) e h in absurd (omega (arith, f)))) in
-    rw (comma_no, quote_no, return_no, feed_no) refl
-
-digits_are_plain : (ds : List ℕ) → AllDigits 10 ds → IsPlain ds
-digits_are_plain [] h = refl
-digits_are_plain (d ∷ ds) h = both_no (needs_byte default_writer d) (needs_quotes default_writer ds) (digit_is_plain d h.0) (digits_are_plain ds h.1)
-
-decimal_is_plain : (n : ℕ) → n < 2 ^ 64 → IsPlain (decimal n)
-decimal_is_plain n h = digits_are_plain (decimal n) (decimal_is_IsNumeral n h).0.1
 
 -- ---- hexadecimal digits
 
@@ -56,11 +34,14 @@ bytes_are_plain (b ∷ bytes) =
 
 -- ---- lines
 
+plain_number : (n : ℕ) → n < 2 ^ 64 → IsPlain (decimal n)
+plain_number n h = decimal_is_plain n (omega (arith, h))
+
 pub short_is_line : (kind : List ℕ) (at id : ℕ) → at < 2 ^ 64 → id < 2 ^ 64 → IsPlain kind
     → (((kind ++ comma ∷ decimal at) ++ comma ∷ decimal id) ++ codes ",,,") ++ line_feed ∷ [] ≡ line (short kind at id)
 unfolding line fields_text is_blank
 short_is_line kind at id h k plain =
-    rw (plain, decimal_is_plain at h, decimal_is_plain id k) (simp append_assoc refl)
+    rw (plain, plain_number at h, plain_number id k) (simp append_assoc refl)
 
 -- a part more behind a comma
 behind : (before part rest : List ℕ) → (before ++ comma ∷ part) ++ rest ≡ before ++ comma ∷ (part ++ rest)
@@ -81,7 +62,7 @@ pub queue_is_line : (at id event : ℕ) (frame : Content) → at < 2 ^ 64 → id
     → ((((((codes "queue" ++ comma ∷ decimal at) ++ comma ∷ decimal id) ++ comma ∷ decimal event) ++ comma ∷ decimal frame.bits) ++ comma ∷ []) ++ encode_upper (bytes_of frame)) ++ line_feed ∷ [] ≡ line (queue_fields at id event frame)
 unfolding line fields_text is_blank
 queue_is_line at id event frame h k m n =
-    rw (decimal_is_plain at h, decimal_is_plain id k, decimal_is_plain event m, decimal_is_plain frame.bits n, bytes_are_plain (bytes_of frame)) (joined (codes "queue") (decimal at) (decimal id) (decimal event) (decimal frame.bits) (encode_upper (bytes_of frame)))
+    rw (plain_number at h, plain_number id k, plain_number event m, plain_number frame.bits n, bytes_are_plain (bytes_of frame)) (joined (codes "queue") (decimal at) (decimal id) (decimal event) (decimal frame.bits) (encode_upper (bytes_of frame)))
 
 -- the names of the fields
 pub header_is_line : codes "kind,moment,id,event,bits,data" ++ line_feed ∷ [] ≡ line header

@@ -1,4 +1,5 @@
 pub mod WriterLemmas
+pub mod LineLemmas
 pub mod ReadingLemmas
 pub mod RowLemmas
 pub mod CsvLemmas

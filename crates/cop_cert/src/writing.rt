@@ -1,90 +1,87 @@
 //! Writing refusals as a table.
 
-ghost use Rattle.std.specs.Prelude.{◌≡◌, ◌∷◌, [], ◌+◌, OnOk, IfOk, map, get_or, List};
+ghost use Rattle.std.specs.Prelude.{◌≡◌, ◌∷◌, ◌<◌, [], ◌++◌, ◌+◌, ◌^◌, OnOk, IfOk, decimal, false, map, get_or, ℕ};
 ghost use Rattle.std.specs.List.{flat_map};
-ghost use Rattle.cop_cert.specs.Format.{fields_of, evidence_rows, long_word, late_word, member_rows, frame_rows, is_by_places, refusal_rows, version, version_of, text_of};
-ghost use Rattle.cop_cert.specs.Writer.{IsBetween, Adds};
+ghost use Rattle.csv.specs.Machine.{line_feed};
+ghost use Rattle.csv.specs.Writing.{needs_quotes, default_writer};
+ghost use Rattle.cop_cert.specs.Format.{Fields, fields_of, evidence_rows, line, long_word, late_word, member_rows, frame_rows, is_by_places, refusal_rows, version, version_of, text_of};
+ghost use Rattle.cop_cert.specs.Writer.{Adds};
 
 use crate::entries::Side;
 use crate::refusals::{Cause, Evidence, Member, Refusal};
 use cop_frame::Rate;
-use csv::{Writer, WriterBuilder};
 use itoa::Buffer;
 use std::alloc::{AllocError, Global};
 
-/// A writer of records into memory.
-type TextWriter = Writer<Vec<u8>>;
-
-// A writer into memory fails for want of memory alone.
-fn write_fields(writer: &mut TextWriter, fields: &[&[u8]]) -> Result<(), AllocError>
-    requires { IsBetween writer.old }
-    ensures { OnOk result (Adds writer.old writer.new (map (λ f. f.now) fields.now ∷ [])) }
+#[tactic(auto, using(crate::proofs::LineLemmas::head_is_line))]
+/// What stands before the number in a record, for a word that needs no quotes.
+fn head_of(alloc: Global, rate: Rate, number: u128, what: &[u8]) -> Result<Vec<u8>, AllocError>
+    requires fits { number < 10 ^ 20 }
+    requires plain { needs_quotes default_writer what.now ≡ false }
+    ensures { IfOk result (λ head. (value : ℕ) → value < 2 ^ 64 → (head.items ++ decimal value) ++ line_feed ∷ [] ≡ line (fields_of rate number what.now value)) }
 {
-    if let Ok(()) = writer.write_fields(fields) {
-        return Ok(());
-    }
-    Err(AllocError)
+    let mut digits = Buffer::new();
+    let mut head = Vec::from_slice(alloc, digits.format(rate.kbits()).as_bytes())?;
+    head.push(b',')?;
+    head.extend_from_slice(digits.format(number).as_bytes())?;
+    head.push(b',')?;
+    head.extend_from_slice(what)?;
+    head.push(b',')?;
+    Ok(head)
 }
 
-fn write_texts<'t>(
-    writer: &mut TextWriter,
-    rate: &'t [u8],
-    pdo: &'t [u8],
-    what: &'t [u8],
-    value: &'t [u8],
-) -> Result<(), AllocError>
-    requires { IsBetween writer.old }
-    ensures { OnOk result (Adds writer.old writer.new ((rate.now ∷ pdo.now ∷ what.now ∷ value.now ∷ []) ∷ [])) }
+// Adds a number with what stands before it, and the end of the line.
+fn write_line(text: &mut Vec<u8>, head: &[u8], value: u64) -> Result<(), AllocError>
+    ensures { OnOk result ((row : Fields) → (head.now ++ decimal value) ++ line_feed ∷ [] ≡ line row → Adds text.old.items text.new.items (row ∷ [])) }
 {
-    write_fields(writer, &[rate, pdo, what, value])
+    let mut digits = Buffer::new();
+    text.extend_from_slice(head)?;
+    text.extend_from_slice(digits.format(value).as_bytes())?;
+    text.push(b'\n')?;
+    Ok(())
 }
 
 fn write_record(
-    writer: &mut TextWriter,
+    alloc: Global,
+    text: &mut Vec<u8>,
     rate: Rate,
     number: u128,
     what: &[u8],
     value: u64,
 ) -> Result<(), AllocError>
-    requires { IsBetween writer.old }
-    ensures { OnOk result (Adds writer.old writer.new (fields_of rate number what.now value ∷ [])) }
+    requires fits { number < 10 ^ 20 }
+    requires plain { needs_quotes default_writer what.now ≡ false }
+    ensures { OnOk result (Adds text.old.items text.new.items (fields_of rate number what.now value ∷ [])) }
 {
-    let mut rate_text = Buffer::new();
-    let mut number_text = Buffer::new();
-    let rate_text = rate_text.format(rate.kbits()).as_bytes();
-    let number_text = number_text.format(number).as_bytes();
-    let mut value_text = Buffer::new();
-    let value_text = value_text.format(value).as_bytes();
-    write_texts(writer, rate_text, number_text, what, value_text)
+    let head = head_of(alloc, rate, number, what)?;
+    write_line(text, &head, value)
 }
 
 #[tactic(auto, using(crate::proofs::WriterLemmas::adds_mapped, crate::proofs::WriterLemmas::all_mapped, crate::proofs::WriterLemmas::adds_none))]
 /// A record for each number of a list.
 fn write_numbers(
-    writer: &mut TextWriter,
+    alloc: Global,
+    text: &mut Vec<u8>,
     rate: Rate,
     number: u128,
     what: &[u8],
     numbers: &[u64],
 ) -> Result<(), AllocError>
-    requires { IsBetween writer.old }
-    ensures { OnOk result (Adds writer.old writer.new (map (fields_of rate number what.now) numbers.now)) }
+    requires fits { number < 10 ^ 20 }
+    requires plain { needs_quotes default_writer what.now ≡ false }
+    ensures { OnOk result (Adds text.old.items text.new.items (map (fields_of rate number what.now) numbers.now)) }
 {
-    let mut rate_text = Buffer::new();
-    let mut number_text = Buffer::new();
-    let rate_text = rate_text.format(rate.kbits()).as_bytes();
-    let number_text = number_text.format(number).as_bytes();
-    for number in numbers {
-        let mut value_text = Buffer::new();
-        let value_text = value_text.format(*number).as_bytes();
-        write_texts(writer, rate_text, number_text, what, value_text)?;
+    let head = head_of(alloc, rate, number, what)?;
+    for value in numbers {
+        write_line(text, &head, *value)?;
     }
     Ok(())
 }
 
 /// The words of evidence, by which members it is of.
 fn long_word(side: Side) -> &'static [u8]
-    ensures { result.now ≡ long_word side }
+    ensures word { result.now ≡ long_word side }
+    ensures plain { needs_quotes default_writer result.now ≡ false }
 {
     match side {
         Side::Place => b"long",
@@ -93,7 +90,8 @@ fn long_word(side: Side) -> &'static [u8]
 }
 
 fn late_word(side: Side) -> &'static [u8]
-    ensures { result.now ≡ late_word side }
+    ensures word { result.now ≡ late_word side }
+    ensures plain { needs_quotes default_writer result.now ≡ false }
 {
     match side {
         Side::Place => b"late",
@@ -103,74 +101,80 @@ fn late_word(side: Side) -> &'static [u8]
 
 #[tactic(auto, using(crate::proofs::WriterLemmas::adds_more))]
 fn write_evidence(
-    writer: &mut TextWriter,
+    alloc: Global,
+    text: &mut Vec<u8>,
     rate: Rate,
     number: u128,
     side: Side,
     evidence: &Evidence,
 ) -> Result<(), AllocError>
-    requires { IsBetween writer.old }
-    ensures { OnOk result (Adds writer.old writer.new (evidence_rows rate number (long_word side) (late_word side) evidence.now)) }
+    requires { number < 10 ^ 20 }
+    ensures { OnOk result (Adds text.old.items text.new.items (evidence_rows rate number (long_word side) (late_word side) evidence.now)) }
 {
     match evidence {
         Evidence::Long { busy } => {
-            write_record(writer, rate, number, long_word(side), 0)?;
-            write_numbers(writer, rate, number, b"busy", busy.as_slice())
+            write_record(alloc, text, rate, number, long_word(side), 0)?;
+            write_numbers(alloc, text, rate, number, b"busy", busy.as_slice())
         }
         Evidence::Late { q, busy, queue } => {
-            write_record(writer, rate, number, late_word(side), *q)?;
-            write_numbers(writer, rate, number, b"busy", busy.as_slice())?;
-            write_numbers(writer, rate, number, b"queue", queue.as_slice())
+            write_record(alloc, text, rate, number, late_word(side), *q)?;
+            write_numbers(alloc, text, rate, number, b"busy", busy.as_slice())?;
+            write_numbers(alloc, text, rate, number, b"queue", queue.as_slice())
         }
     }
 }
 
 #[tactic(auto, using(crate::proofs::WriterLemmas::adds_each, crate::proofs::WriterLemmas::all_each, crate::proofs::WriterLemmas::adds_none))]
 fn write_members(
-    writer: &mut TextWriter,
+    alloc: Global,
+    text: &mut Vec<u8>,
     rate: Rate,
     side: Side,
     members: &[Member],
 ) -> Result<(), AllocError>
-    requires { IsBetween writer.old }
-    ensures { OnOk result (Adds writer.old writer.new (flat_map (member_rows side rate) members.now)) }
+    ensures { OnOk result (Adds text.old.items text.new.items (flat_map (member_rows side rate) members.now)) }
 {
     for member in members {
         let number = member.pdo as u128 + 1;
-        write_evidence(writer, rate, number, side, &member.evidence)?;
+        write_evidence(alloc, text, rate, number, side, &member.evidence)?;
     }
     Ok(())
 }
 
 #[tactic(auto, using(crate::proofs::WriterLemmas::adds_more))]
 fn write_frame(
-    writer: &mut TextWriter,
+    alloc: Global,
+    text: &mut Vec<u8>,
     rate: Rate,
     id: u16,
     evidence: &Evidence,
 ) -> Result<(), AllocError>
-    requires { IsBetween writer.old }
-    ensures { OnOk result (Adds writer.old writer.new (frame_rows rate id evidence.now)) }
+    ensures { OnOk result (Adds text.old.items text.new.items (frame_rows rate id evidence.now)) }
 {
-    write_record(writer, rate, 0, b"sdo", u64::from(id))?;
-    write_evidence(writer, rate, 0, Side::Place, evidence)
+    write_record(alloc, text, rate, 0, b"sdo", u64::from(id))?;
+    write_evidence(alloc, text, rate, 0, Side::Place, evidence)
 }
 
 #[tactic(auto, using(crate::proofs::WriterLemmas::adds_more))]
-fn write_refusal(writer: &mut TextWriter, refusal: &Refusal) -> Result<(), AllocError>
-    requires { IsBetween writer.old }
-    ensures { OnOk result (Adds writer.old writer.new (refusal_rows refusal.now)) }
+fn write_refusal(alloc: Global, text: &mut Vec<u8>, refusal: &Refusal) -> Result<(), AllocError>
+    ensures { OnOk result (Adds text.old.items text.new.items (refusal_rows refusal.now)) }
 {
     let rate = refusal.rate;
     match &refusal.cause {
-        Cause::Places { members } => write_members(writer, rate, Side::Place, members.as_slice()),
+        Cause::Places { members } => write_members(
+            alloc,
+            text,
+            rate,
+            Side::Place,
+            members.as_slice(),
+        ),
         Cause::Sync { busy } => {
-            write_record(writer, rate, 0, b"sync", 0)?;
-            write_numbers(writer, rate, 0, b"busy", busy.as_slice())
+            write_record(alloc, text, rate, 0, b"sync", 0)?;
+            write_numbers(alloc, text, rate, 0, b"busy", busy.as_slice())
         }
         Cause::Sdo { up, id, evidence } => {
-            write_members(writer, rate, Side::Up, up.as_slice())?;
-            write_frame(writer, rate, *id, evidence)
+            write_members(alloc, text, rate, Side::Up, up.as_slice())?;
+            write_frame(alloc, text, rate, *id, evidence)
         }
     }
 }
@@ -199,28 +203,22 @@ fn version_number(refusals: &[Refusal]) -> &'static [u8]
 }
 
 #[tactic(auto, using(crate::proofs::WriterLemmas::adds_each, crate::proofs::WriterLemmas::all_each, crate::proofs::WriterLemmas::adds_none))]
-fn write_refusals(writer: &mut TextWriter, refusals: &[Refusal]) -> Result<(), AllocError>
-    requires { IsBetween writer.old }
-    ensures { OnOk result (Adds writer.old writer.new (flat_map refusal_rows refusals.now)) }
+fn write_refusals(alloc: Global, text: &mut Vec<u8>, refusals: &[Refusal]) -> Result<(), AllocError>
+    ensures { OnOk result (Adds text.old.items text.new.items (flat_map refusal_rows refusals.now)) }
 {
     for refusal in refusals {
-        write_refusal(writer, refusal)?;
+        write_refusal(alloc, text, refusal)?;
     }
     Ok(())
 }
 
-#[tactic(auto, using(crate::proofs::WriterLemmas::adds_more), unfolding(crate::specs::Format::text_of))]
 /// The text of a refusal file. `Err` is want of memory.
 pub fn write(alloc: Global, refusals: &[Refusal]) -> Result<Vec<u8>, AllocError>
     ensures { IfOk result (λ text. text.items ≡ text_of refusals.now) }
 {
-    let mut writer = WriterBuilder::new().from_writer(Vec::new(alloc));
-    write_fields(&mut writer, &[b"rate", b"pdo", b"what", b"value"])?;
-    let number = version_number(refusals);
-    write_fields(&mut writer, &[b"0", b"0", b"version", number])?;
-    write_refusals(&mut writer, refusals)?;
-    if let Ok(text) = writer.into_inner() {
-        return Ok(text);
-    }
-    Err(AllocError)
+    let mut text = Vec::from_slice(alloc, b"rate,pdo,what,value\n0,0,version,")?;
+    text.extend_from_slice(version_number(refusals))?;
+    text.push(b'\n')?;
+    write_refusals(alloc, &mut text, refusals)?;
+    Ok(text)
 }

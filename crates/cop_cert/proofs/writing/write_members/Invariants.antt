@@ -5,4 +5,4 @@ use Rattle.cop_cert.specs.Writer.{Adds}
 use Rattle.cop_cert.proofs.writing.write_members.Given as goal
 
 abbrev pub invariant-loop-member : goal.invariant-loop-member
-invariant-loop-member l = Adds l.fn.writer l.writer (flat_map (member_rows l.side l.rate) (take l.member-index l.members))
+invariant-loop-member l = Adds l.fn.text.items l.text.items (flat_map (member_rows l.side l.rate) (take l.member-index l.members))

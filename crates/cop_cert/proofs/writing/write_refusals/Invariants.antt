@@ -5,4 +5,4 @@ use Rattle.cop_cert.specs.Writer.{Adds}
 use Rattle.cop_cert.proofs.writing.write_refusals.Given as goal
 
 abbrev pub invariant-loop-refusal : goal.invariant-loop-refusal
-invariant-loop-refusal l = Adds l.fn.writer l.writer (flat_map refusal_rows (take l.refusal-index l.refusals))
+invariant-loop-refusal l = Adds l.fn.text.items l.text.items (flat_map refusal_rows (take l.refusal-index l.refusals))

@@ -1,7 +1,0 @@
-use Rattle.cop_cert.proofs.WriterLemmas.{one_written}
-use Rattle.cop_cert.proofs.writing.write_fields.Goals as goal
-
-pub returns-in-Ok : goal.returns-in-Ok
-returns-in-Ok c =
-    let e = c.in-Ok.ensures in
-    one_written _ _ _ c.requires e.ended e.clean e.setup e.bytes
