@@ -59,8 +59,8 @@ fn bits_in(field: &[u8]) -> Result<u32, EntryFault>
     }
 }
 
-// A frame's data: at most 8 bytes, as pairs of hexadecimal digits.
-fn content_in(bits: u32, field: &[u8]) -> Result<Content, EntryFault>
+/// What a frame of so many bits holds by the field of its data: at most 8 bytes, as pairs of hexadecimal digits.
+pub fn content_in(bits: u32, field: &[u8]) -> Result<Content, EntryFault>
     ensures { result ≡ content_in bits field.now }
 {
     if field.len() > 16 {

@@ -25,7 +25,7 @@ mod writing;
 
 pub use anchors::Anchor;
 pub use bus::{Bus, Instance, Started};
-pub use entries::{Entry, EntryFault, entry_in};
+pub use entries::{Entry, EntryFault, content_in, entry_in};
 pub use faults::BusFault;
 pub use judging::judge;
 pub use lateness::first_late;
