@@ -1,9 +1,6 @@
 -- Records whose fields need no quotes, as lines.
-use Rattle.std.proofs.Common.{◌≡◌, ℕ, ◌<◌, ◌^◌, ◌/◌, ◌%◌, ◌==◌, ◌||◌, Bool, true, false, subst, List, [], ◌∷◌, ◌++◌, refl, sym, ◌∙◌, ap, arith, append_assoc, append-nil, slice_index, codes, decimal, inl, inr}
-use Rattle.std.specs.Char.{digit_value}
-use Rattle.std.specs.Str.Parse.{AllDigits}
-use Rattle.std.proofs.lemmas.Bool.{cases_lt, ne_eqb, false_from_ne_true}
-use Rattle.std.proofs.lemmas.Fmt.{decimal_is_IsNumeral}
+use Rattle.std.proofs.Common.{◌≡◌, ℕ, ◌<◌, ◌^◌, ◌/◌, ◌%◌, ◌||◌, true, false, List, [], ◌∷◌, ◌++◌, refl, sym, ◌∙◌, ap, arith, append_assoc, append-nil, slice_index, codes, decimal, inl, inr}
+use Rattle.std.proofs.lemmas.Bool.{cases_lt, false_from_ne_true}
 use Rattle.std.proofs.Math.ListN.{get_or-eq_default}
 use Rattle.std.proofs.lemmas.List.Folds.{list_any_at}
 use Rattle.csv.specs.Writing.{needs_byte, needs_quotes, default_writer, escaped, fields_text, is_blank, comma}
@@ -38,7 +35,7 @@ plain_number : (n : ℕ) → n < 2 ^ 64 → IsPlain (decimal n)
 plain_number n h = decimal_is_plain n (omega (arith, h))
 
 pub short_is_line : (kind : List ℕ) (at id : ℕ) → at < 2 ^ 64 → id < 2 ^ 64 → IsPlain kind
-    → (((kind ++ comma ∷ decimal at) ++ comma ∷ decimal id) ++ codes ",,,") ++ line_feed ∷ [] ≡ line (short kind at id)
+    → ((kind ++ comma ∷ decimal at) ++ comma ∷ decimal id) ++ codes ",,,\n" ≡ line (short kind at id)
 unfolding line fields_text is_blank
 short_is_line kind at id h k plain =
     rw (plain, plain_number at h, plain_number id k) (simp append_assoc refl)
@@ -65,6 +62,6 @@ queue_is_line at id event frame h k m n =
     rw (plain_number at h, plain_number id k, plain_number event m, plain_number frame.bits n, bytes_are_plain (bytes_of frame)) (joined (codes "queue") (decimal at) (decimal id) (decimal event) (decimal frame.bits) (encode_upper (bytes_of frame)))
 
 -- the names of the fields
-pub header_is_line : codes "kind,moment,id,event,bits,data" ++ line_feed ∷ [] ≡ line header
+pub header_is_line : codes "kind,moment,id,event,bits,data\n" ≡ line header
 unfolding line fields_text is_blank escaped
 header_is_line = refl

@@ -1,15 +1,10 @@
 -- Records that a writer has written, one after another.
-use Rattle.std.proofs.Common.{◌≡◌, ◌≢◌, false, ℕ, ◌+◌, ◌<◌, ◌≤◌, List, [], ◌∷◌, ◌++◌, length, map, take, get_or, sym, refl, arith, ◌∙◌, append_assoc, append-nil, subst, Option, Some, None}
-use Rattle.std.specs.Io.KnownBytes.{Appends}
-use Rattle.std.proofs.lemmas.Bool.{ne_eqb}
+use Rattle.std.proofs.Common.{◌≡◌, ℕ, ◌+◌, ◌<◌, ◌≤◌, List, [], ◌∷◌, ◌++◌, length, map, take, get_or, sym, ◌∙◌, append_assoc, append-nil, subst, Option, Some, None}
+use Rattle.std.specs.Io.KnownBytes.{Appends, Keeps}
 use Rattle.std.proofs.lemmas.Grind.{flat_map-append}
 use Rattle.std.proofs.lemmas.List.{map_more, take_all}
-use Rattle.csv.specs.Machine.{line_feed}
-use Rattle.csv.specs.Writing.{row_text, is_blank, fields_text, text_written, writer_setup, fields_written, has_written}
-use Rattle.csv.specs.declared.writer.Writer.{Writer}
-use Rattle.csv.specs.declared.writer.QuoteStyle.TheVariants as style
 use Rattle.cop_bus.specs.Format.{Fields, line, lines}
-use Rattle.cop_bus.specs.Writer.{IsBetween, Adds, plain_writer}
+use Rattle.cop_bus.specs.Writer.{Adds}
 
 -- ---- known bytes that grow
 
@@ -26,42 +21,33 @@ appends_more (Some ws) (Some bs) (Some cs) xs ys h k = k ∙ rw h (append_assoc 
 pub appends_as : (a b : Option (List ℕ)) (xs ys : List ℕ) → xs ≡ ys → Appends a b xs → Appends a b ys
 appends_as a b xs ys e h = subst (λ (zs : List ℕ). Appends a b zs) e h
 
--- a text that is some, as a writer that quotes nothing writes it
-plain_line : (text : List ℕ) → 0 < length text → row_text plain_writer (text ∷ []) ≡ text ++ line_feed ∷ []
-unfolding is_blank fields_text
-plain_line text h = rw (ne_eqb (length text) 0 (λ e. absurd (omega (arith, e, h))), append-nil text) refl
+pub appends_kept : (a b c : Option (List ℕ)) (xs : List ℕ) → Appends a b xs → Keeps b c → Appends a c xs
+appends_kept None b c xs h k = tt
+appends_kept (Some ws) None c xs h k = absurd h
+appends_kept (Some ws) (Some bs) None xs h k = absurd k
+appends_kept (Some ws) (Some bs) (Some cs) xs h k = k ∙ h
 
 -- ---- records
 
 module _ {W : Type 0} (contents : W → Option (List ℕ)) where
-  -- one line, as the writer's crate says it
-  pub line_written : (old new : Writer W) (text : List ℕ) → IsBetween old → 0 < length text → fields_written new ≡ 0 → has_written new ≡ false → writer_setup new ≡ writer_setup old
-      → ((fields_written old ≡ 0) → (has_written old ≡ false) → ((writer_setup old).style ≢ style.NonNumeric) → Appends (text_written contents old) (text_written contents new) (row_text (writer_setup old) (text ∷ [])))
-      → (row : Fields) → text ++ line_feed ∷ [] ≡ line row → Adds contents old new (row ∷ [])
-  line_written old new text h some none clean same bytes row is =
-      let written = bytes h.fields h.wrote (rw h.setup (λ e. cc e)) in
-      let plain : Appends (text_written contents old) (text_written contents new) (row_text plain_writer (text ∷ [])) = rw h.setup at written in
-      record {
-        between = record { setup = same ∙ h.setup; fields = none; wrote = clean };
-        text = appends_as (text_written contents old) (text_written contents new) (row_text plain_writer (text ∷ [])) (line row ++ []) (plain_line text some ∙ is ∙ sym (append-nil (line row))) plain;
-      }
+  pub line_written : (old new : W) (text : List ℕ) → Appends (contents old) (contents new) text → (row : Fields) → text ≡ line row → Adds contents old new (row ∷ [])
+  line_written old new text written row is = record { text = appends_as (contents old) (contents new) text (line row ++ []) (is ∙ sym (append-nil (line row))) written }
 
-  pub adds_none : (w : Writer W) → IsBetween w → Adds contents w w []
-  adds_none w h = record { between = h; text = appends_none (text_written contents w) }
+  pub adds_none : (w : W) → Adds contents w w []
+  adds_none w = record { text = appends_none (contents w) }
 
-  pub adds_more : (a b c : Writer W) (rows more : List Fields) → Adds contents a b rows → Adds contents b c more → Adds contents a c (rows ++ more)
+  pub adds_more : (a b c : W) (rows more : List Fields) → Adds contents a b rows → Adds contents b c more → Adds contents a c (rows ++ more)
   adds_more a b c rows more h k = record {
-    between = k.between;
-    text = appends_as (text_written contents a) (text_written contents c) (lines rows ++ lines more) (lines (rows ++ more)) (sym (flat_map-append line rows more))
-        (appends_more (text_written contents a) (text_written contents b) (text_written contents c) (lines rows) (lines more) h.text k.text);
+    text = appends_as (contents a) (contents c) (lines rows ++ lines more) (lines (rows ++ more)) (sym (flat_map-append line rows more))
+        (appends_more (contents a) (contents b) (contents c) (lines rows) (lines more) h.text k.text);
   }
 
-module _ {W X : Type 0} (contents : W → Option (List ℕ)) (a b c : Writer W) (xs : List X) (i : ℕ) (x : X) where
+module _ {W X : Type 0} (contents : W → Option (List ℕ)) (a b c : W) (xs : List X) (i : ℕ) (x : X) where
   -- one value more, of values with a record each
   pub adds_mapped : (f : X → Fields) → i < length xs → x ≡ get_or xs i x → Adds contents a b (map f (take i xs)) → Adds contents b c (f x ∷ []) → Adds contents a c (map f (take (i + 1) xs))
   adds_mapped f lt e h k =
       let more : Adds contents b c (f (get_or xs i x) ∷ []) = rw (← e) k in
       rw (map_more f xs i x lt) (adds_more contents a b c (map f (take i xs)) (f (get_or xs i x) ∷ []) h more)
 
-pub all_mapped : {W X : Type 0} (contents : W → Option (List ℕ)) (a b : Writer W) (xs : List X) (i : ℕ) (f : X → Fields) → length xs ≤ i → Adds contents a b (map f (take i xs)) → Adds contents a b (map f xs)
+pub all_mapped : {W X : Type 0} (contents : W → Option (List ℕ)) (a b : W) (xs : List X) (i : ℕ) (f : X → Fields) → length xs ≤ i → Adds contents a b (map f (take i xs)) → Adds contents a b (map f xs)
 all_mapped contents a b xs i f le h = rw (take_all i xs le) at h

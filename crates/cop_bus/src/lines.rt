@@ -1,8 +1,7 @@
 //! The records of a trace as lines.
 
-ghost use Rattle.std.specs.Prelude.{◌≡◌, ◌+◌, ◌≤◌, ◌<◌, ◌∷◌, ◌++◌, ◌^◌, [], decimal, false, length, slice_index, take};
+ghost use Rattle.std.specs.Prelude.{◌≡◌, ◌+◌, ◌≤◌, ◌<◌, ◌∷◌, ◌++◌, ◌^◌, decimal, false, length, slice_index, take};
 ghost use Rattle.csv.specs.Writing.{needs_quotes, default_writer, comma};
-ghost use Rattle.csv.specs.Machine.{line_feed};
 ghost use Rattle.hex.specs.Hex.{upper_digits, encode_upper};
 ghost use Rattle.cop_bus.specs.Format.{bytes_of, short, queue_fields, line};
 
@@ -12,7 +11,7 @@ use itoa::Buffer;
 
 const DIGITS: [u8; 16] = *b"0123456789ABCDEF";
 
-/// A record without the end of its line. It has room for a kind, four numbers of 20 digits, 16 digits of data and five commas.
+/// A record. It has room for a kind, four numbers of 20 digits, 16 digits of data, five commas and a line feed.
 pub(crate) type Line = ArrayVec<u8, 112>;
 
 // Adds a text.
@@ -39,14 +38,13 @@ fn put_number(line: &mut Line, number: u64)
 /// The line of a record that queues nothing, of a kind that needs no quotes.
 pub(crate) fn short_line(kind: &[u8], at: u64, id: u16) -> Line
     requires { length kind.now ≤ 5 }
-    ensures some { 0 < length result.items }
-    ensures line { needs_quotes default_writer kind.now ≡ false → result.items ++ line_feed ∷ [] ≡ line (short kind.now at id) }
+    ensures { needs_quotes default_writer kind.now ≡ false → result.items ≡ line (short kind.now at id) }
 {
     let mut line = Line::new();
     put(&mut line, kind);
     put_number(&mut line, at);
     put_number(&mut line, u64::from(id));
-    put(&mut line, b",,,");
+    put(&mut line, b",,,\n");
     line
 }
 
@@ -85,8 +83,7 @@ fn digits_of(bytes: &[u8]) -> [u8; 16]
 
 /// The line of a queue step's record.
 pub(crate) fn queue_line(at: u64, id: u16, event: u64, frame: &Content) -> Line
-    ensures some { 0 < length result.items }
-    ensures line { result.items ++ line_feed ∷ [] ≡ line (queue_fields at id event frame.now) }
+    ensures { result.items ≡ line (queue_fields at id event frame.now) }
 {
     let bytes = bytes_of(frame);
     let digits = digits_of(bytes);
@@ -98,5 +95,6 @@ pub(crate) fn queue_line(at: u64, id: u16, event: u64, frame: &Content) -> Line
     put_number(&mut line, u64::from(frame.bits));
     line.push(b',');
     put(&mut line, &digits[..bytes.len() + bytes.len()]);
+    line.push(b'\n');
     line
 }

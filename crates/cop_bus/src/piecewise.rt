@@ -1,20 +1,18 @@
 //! Writing a trace step by step.
 
 ghost use Rattle.std.specs.Prelude.{◌≡◌, true, false, IfSome};
-ghost use Rattle.cop_bus.specs.Writer.{IsBetween};
 
 use crate::steps::Step;
-use crate::writing::{lines_into, write_end, write_header, write_step};
-use csv::Writer;
+use crate::writing::{write_end, write_header, write_step};
 use std::io::Write;
 
-/// A writer of a trace's table: the record of each step as it comes, and at last the end's. It takes no memory, and so
-/// fails where the writer underneath does alone. Once it has failed, it writes no more.
+/// A writer of a trace's table: the record of each step as it comes, and at last the end's. Each is handed to the writer
+/// underneath by itself, which is to have a buffer where that costs. It takes no memory, and so fails where the writer
+/// underneath does alone. Once it has failed, it writes no more.
 #[derive(Drop)]
 pub struct TraceWriter<W: Write + Drop> {
-    writer: Writer<W>,
+    writer: W,
     failed: bool,
-    ghost between: { failed ≡ false → IsBetween writer },
 }
 
 impl<W: Write + Drop> TraceWriter<W> {
@@ -24,7 +22,7 @@ impl<W: Write + Drop> TraceWriter<W> {
     pub fn new(writer: W) -> TraceWriter<W>
         ensures { has_failed result ≡ false → Begins W.contents writer result }
     {
-        let mut writer = lines_into(writer);
+        let mut writer = writer;
         let failed = write_header(&mut writer).is_err();
         TraceWriter { writer, failed }
     }
@@ -60,8 +58,8 @@ impl<W: Write + Drop> TraceWriter<W> {
         if write_end(&mut writer, until).is_err() {
             return None;
         }
-        match writer.into_inner() {
-            Ok(inner) => Some(inner),
+        match writer.flush() {
+            Ok(()) => Some(writer),
             Err(_) => None,
         }
     }

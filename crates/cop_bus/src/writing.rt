@@ -1,15 +1,12 @@
 //! Writing a trace as a table.
 
-ghost use Rattle.std.specs.Prelude.{◌≡◌, ◌<◌, ◌∷◌, ◌++◌, [], OnOk, IfOk, codes, length, map};
-ghost use Rattle.csv.specs.Machine.{line_feed};
-ghost use Rattle.csv.specs.Writing.{writer_under, writer_pending};
+ghost use Rattle.std.specs.Prelude.{◌≡◌, ◌∷◌, [], OnOk, IfOk, codes, map};
 ghost use Rattle.cop_bus.specs.Format.{Fields, header, short, fields_of, line, text_of};
-ghost use Rattle.cop_bus.specs.Writer.{IsBetween, Adds};
+ghost use Rattle.cop_bus.specs.Writer.{Adds};
 
 use crate::lines::{queue_line, short_line};
 use crate::runs::Trace;
 use crate::steps::Step;
-use csv::{QuoteStyle, Writer, WriterBuilder};
 use std::alloc::{AllocError, Global};
 use std::io::Write;
 
@@ -23,24 +20,11 @@ impl From<NotWritten> for AllocError {
     }
 }
 
-/// A writer of lines, which quotes nothing.
-pub(crate) fn lines_into<W: Write + Drop>(writer: W) -> Writer<W>
-    ensures between { IsBetween result }
-    ensures under { writer_under result ≡ writer }
-    ensures pending { writer_pending result ≡ [] }
+// Writes a line.
+fn write_line<W: Write>(writer: &mut W, text: &[u8]) -> Result<(), NotWritten>
+    ensures { OnOk result ((row : Fields) → text.now ≡ line row → Adds W.contents writer.old writer.new (row ∷ [])) }
 {
-    WriterBuilder::new()
-        .quote_style(QuoteStyle::Never)
-        .from_writer(writer)
-}
-
-// Writes a line, which has to be a record's, and its end.
-fn write_line<W: Write + Drop>(writer: &mut Writer<W>, text: &[u8]) -> Result<(), NotWritten>
-    requires between { IsBetween writer.old }
-    requires some { 0 < length text.now }
-    ensures { OnOk result ((row : Fields) → text.now ++ line_feed ∷ [] ≡ line row → Adds W.contents writer.old writer.new (row ∷ [])) }
-{
-    if let Ok(()) = writer.write_fields(&[text]) {
+    if let Ok(()) = writer.write_all(text) {
         return Ok(());
     }
     Err(NotWritten {})
@@ -48,30 +32,21 @@ fn write_line<W: Write + Drop>(writer: &mut Writer<W>, text: &[u8]) -> Result<()
 
 #[tactic(auto, using(crate::proofs::LineLemmas::header_is_line))]
 /// The names of the fields.
-pub(crate) fn write_header<W: Write + Drop>(writer: &mut Writer<W>) -> Result<(), NotWritten>
-    requires { IsBetween writer.old }
+pub(crate) fn write_header<W: Write>(writer: &mut W) -> Result<(), NotWritten>
     ensures { OnOk result (Adds W.contents writer.old writer.new (header ∷ [])) }
 {
-    write_line(writer, b"kind,moment,id,event,bits,data")
+    write_line(writer, b"kind,moment,id,event,bits,data\n")
 }
 
 /// The last record, which tells the end.
-pub(crate) fn write_end<W: Write + Drop>(
-    writer: &mut Writer<W>,
-    until: u64,
-) -> Result<(), NotWritten>
-    requires { IsBetween writer.old }
+pub(crate) fn write_end<W: Write>(writer: &mut W, until: u64) -> Result<(), NotWritten>
     ensures { OnOk result (Adds W.contents writer.old writer.new (short (codes "until") until 0 ∷ [])) }
 {
     write_line(writer, &short_line(b"until", until, 0))
 }
 
 /// The record of a step.
-pub(crate) fn write_step<W: Write + Drop>(
-    writer: &mut Writer<W>,
-    step: &Step,
-) -> Result<(), NotWritten>
-    requires { IsBetween writer.old }
+pub(crate) fn write_step<W: Write>(writer: &mut W, step: &Step) -> Result<(), NotWritten>
     ensures { OnOk result (Adds W.contents writer.old writer.new (fields_of step.now ∷ [])) }
 {
     match step {
@@ -87,8 +62,7 @@ pub(crate) fn write_step<W: Write + Drop>(
 }
 
 #[tactic(auto, using(crate::proofs::WriterLemmas::adds_mapped, crate::proofs::WriterLemmas::all_mapped, crate::proofs::WriterLemmas::adds_none))]
-fn write_steps<W: Write + Drop>(writer: &mut Writer<W>, steps: &[Step]) -> Result<(), NotWritten>
-    requires { IsBetween writer.old }
+fn write_steps<W: Write>(writer: &mut W, steps: &[Step]) -> Result<(), NotWritten>
     ensures { OnOk result (Adds W.contents writer.old writer.new (map fields_of steps.now)) }
 {
     for step in steps {
@@ -102,12 +76,9 @@ fn write_steps<W: Write + Drop>(writer: &mut Writer<W>, steps: &[Step]) -> Resul
 pub fn write_trace(alloc: Global, trace: &Trace) -> Result<Vec<u8>, AllocError>
     ensures { IfOk result (λ text. text.items ≡ text_of trace.now.until trace.now.steps.items) }
 {
-    let mut writer = lines_into(Vec::new(alloc));
-    write_header(&mut writer)?;
-    write_steps(&mut writer, &trace.steps)?;
-    write_end(&mut writer, trace.until)?;
-    if let Ok(text) = writer.into_inner() {
-        return Ok(text);
-    }
-    Err(AllocError)
+    let mut text = Vec::new(alloc);
+    write_header(&mut text)?;
+    write_steps(&mut text, &trace.steps)?;
+    write_end(&mut text, trace.until)?;
+    Ok(text)
 }

@@ -1,6 +1,5 @@
 -- The seeded run of a plan, from what the simulator gives.
 use Rattle.std.proofs.Common.{◌≡◌, ℕ, ◌+◌, ◌-◌, ◌<◌, ◌^◌, inl, inr, min, List, [], ◌∷◌, length, map, slice_get, Option, None, Result, Ok, Err, MatchResult, Bool, cond, refl, sym, ap, ◌∙◌, subst, arith}
-use Rattle.std.specs.declared.io.traits.Write.{Ghosts}
 use Rattle.std.proofs.lemmas.Option.{slice_get-map}
 use Rattle.cop_frame.specs.Rate.{ticks_of}
 use Rattle.cop_rta.specs.declared.streams.Stream.{Stream}
@@ -89,8 +88,8 @@ module _ (plan : PlanValue) (seed until : ℕ) where
   writing_explains runs.Trace h = tt
   writing_explains runs.Memory h = tt
 
-  module _ {W : Type 0} {bound : Ghosts W} (contents : W → Option (List ℕ)) where
-    pub run_is : (items : List Seeded) (w w' : W) (s t : Recorder W bound) (text : List ℕ) → items ≡ map (fresh seed) plan.streams → Begins contents w s.trace → s.transfers ≡ 0
+  module _ {W : Type 0} (contents : W → Option (List ℕ)) where
+    pub run_is : (items : List Seeded) (w w' : W) (s t : Recorder W) (text : List ℕ) → items ≡ map (fresh seed) plan.streams → Begins contents w s.trace → s.transfers ≡ 0
         → ((steps : List Step) × IsPlay (ticks_of plan.rate) (actors_of offer_of (λ s z u. joins_of s z) plan.streams items) (ticks until) steps × Took (λ a x b. Records contents a x b) s steps t × (length steps < 2 ^ 64))
         → IsFinished contents t (ticks until) text w' → IsRun plan seed until text (contents w) (contents w')
     unfolding text_of

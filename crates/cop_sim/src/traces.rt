@@ -32,6 +32,6 @@ impl<W: Write + Drop> Sink for TraceWriter<W> {
 /// A trace that is written step by step is the text of the trace ([`write_trace`](cop_bus::write_trace)): from the writer
 /// as it was at first, by takes of the steps, to the writer that is given back.
 pub fn traces_are_written<W: Write + Drop>()
-    ensures { (w w' : W) (s t : TraceWriter W ⟦<W as Write>⟧) (steps : List Step) (until : ℕ) → Begins W.contents w s → Took (λ a x b. Writes W.contents a x b) s steps t → Finishes W.contents t until w'
+    ensures { (w w' : W) (s t : TraceWriter W) (steps : List Step) (until : ℕ) → Begins W.contents w s → Took (λ a x b. Writes W.contents a x b) s steps t → Finishes W.contents t until w'
         → Appends (W.contents w) (W.contents w') (text_of until steps) }
 {}

@@ -4,4 +4,5 @@ pub mod HangLemmas
 pub mod Taken
 pub mod Finished
 pub mod TextLemmas
+pub mod LineLemmas
 pub mod PieceLemmas

@@ -4,4 +4,5 @@ pub mod Syncs
 pub mod Knowing
 pub mod Watching
 pub mod Reading
+pub mod Lines
 pub mod Pieces

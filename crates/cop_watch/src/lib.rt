@@ -2,6 +2,7 @@
 #![tactic(auto)]
 
 mod bus;
+mod lines;
 mod pieces;
 mod reading;
 mod rings;

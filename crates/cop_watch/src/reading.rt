@@ -6,8 +6,10 @@ ghost use Rattle.cop_rta.specs.declared.streams.Stream.{Stream};
 ghost use Rattle.cop_table.specs.Plain.{is_comma, is_line_end, pieces};
 ghost use Rattle.cop_table.specs.Lines.{first_line};
 ghost use Rattle.cop_bus.specs.Format.{Fields};
+ghost use Rattle.cop_watch.specs.declared.reading.Stage.TheVariants.{Steps};
 ghost use Rattle.cop_watch.specs.Reading.{IsAt, IsRead, HasRead, IsLawful, TakesLine, is_mark_byte};
 
+use crate::lines::step_line;
 use crate::watching::Watch;
 use cop_bus::{Entry, entry_in, is_header};
 use cop_frame::Rate;
@@ -112,8 +114,34 @@ impl<'a> TraceWatch<'a> {
         true
     }
 
+    // Whether the text so far ends between two lines of which the next may be a step's.
+    fn is_at_step(&self) -> bool
+        ensures line { result ≡ true → self.now.line.items ≡ [] }
+        ensures stage { result ≡ true → self.now.stage ≡ Steps }
+    {
+        matches!(self.stage, Stage::Steps) && self.line.is_empty()
+    }
+
     // Reads a line, or the part of it that is there, and tells what comes after it.
     fn feed_line<'b>(&mut self, rest: &'b [u8]) -> Option<&'b [u8]>
+        requires { 0 < length rest.now }
+        ensures { IfSome result (λ left. TakesLine rest.now left.now
+            self.old.watch self.old.line.items self.old.stage self.new.watch self.new.line.items self.new.stage) }
+    {
+        if self.is_at_step() {
+            if let Some((step, left)) = step_line(rest) {
+                return if self.watch.take(&step) {
+                    Some(left)
+                } else {
+                    None
+                };
+            }
+        }
+        self.feed_fields(rest)
+    }
+
+    // The same by the fields of the line.
+    fn feed_fields<'b>(&mut self, rest: &'b [u8]) -> Option<&'b [u8]>
         requires { 0 < length rest.now }
         ensures { IfSome result (λ left. TakesLine rest.now left.now
             self.old.watch self.old.line.items self.old.stage self.new.watch self.new.line.items self.new.stage) }

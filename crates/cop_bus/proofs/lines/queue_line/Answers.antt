@@ -17,8 +17,8 @@ put-requires-2 c =
     let none = ap length c.new-line.ensures in
     rw c.digits_of-digits.ensures (omega (arith, twice, c.bytes_of-bytes.ensures.short, kind, at, id, event, bits, comma, none))
 
-pub returns-clause-line : goal.returns-clause-line
-returns-clause-line c =
+pub returns : goal.returns
+returns c =
     let kind = c.put.ensures.items in
     let at = c.put_number.ensures.items in
     let id = c.put_number-2.ensures.items in
@@ -27,4 +27,4 @@ returns-clause-line c =
     let comma = c.push.ensures.items in
     let bytes = c.put-2.ensures.items in
     let fits : c.args.frame.now.bits < 2 ^ 64 = rw (← c.from-2.ensures) c.put_number-4.ensures.fits in
-    rw (bytes, comma, bits, event, id, at, kind, c.new-line.ensures, c.from.ensures, c.from-2.ensures, c.digits_of-digits.ensures, c.bytes_of-bytes.ensures.value) (queue_is_line c.args.at c.args.id c.args.event c.args.frame.now c.ranges.at.fits (omega (arith, c.ranges.id.fits)) c.ranges.event.fits fits)
+    rw (c.push-2.ensures.items, bytes, comma, bits, event, id, at, kind, c.new-line.ensures, c.from.ensures, c.from-2.ensures, c.digits_of-digits.ensures, c.bytes_of-bytes.ensures.value) (queue_is_line c.args.at c.args.id c.args.event c.args.frame.now c.ranges.at.fits (omega (arith, c.ranges.id.fits)) c.ranges.event.fits fits)

@@ -2,8 +2,8 @@ use Rattle.std.proofs.Common.{arith}
 use Rattle.cop_bus.proofs.LineLemmas.{short_is_line}
 use Rattle.cop_bus.proofs.lines.short_line.Goals as goal
 
-pub returns-clause-line : goal.returns-clause-line
-returns-clause-line c plain =
+pub returns : goal.returns
+returns c plain =
     let kind = c.put.ensures.items in
     let at = c.put_number.ensures.items in
     let id = c.put_number-2.ensures.items in
