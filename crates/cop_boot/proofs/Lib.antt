@@ -10,6 +10,7 @@ pub mod StartLemmas
 pub mod MemberLemmas
 pub mod HearingLemmas
 pub mod LoopLemmas
+pub mod DueLemmas
 pub mod PlanLemmas
 pub mod SentLemmas
 pub mod BusLemmas
@@ -19,3 +20,4 @@ pub mod PlanInTurn
 pub mod NetworkAdmits
 pub mod PlannedLemmas
 pub mod PdoLemmas
+pub mod UnderWayLemmas

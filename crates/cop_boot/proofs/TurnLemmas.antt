@@ -1,5 +1,5 @@
 -- One turn of a boot whose channels are kept as a log.
-use Rattle.std.proofs.Common.{◌≡◌, ◌==◌, ℕ, zero, suc, ◌+◌, ◌<◌, ◌≤◌, Bool, true, false, cond, List, [], ◌∷◌, ◌++◌, map, max, length, drop, get_or, refl, ap, sym, subst, ◌∙◌, arith, drop-cons, drop_of_length-le, add-one, replicate, Option, Some, None}
+use Rattle.std.proofs.Common.{◌≡◌, ◌==◌, ℕ, zero, suc, ◌+◌, ◌≤◌, Bool, true, false, cond, List, [], ◌∷◌, ◌++◌, map, max, length, drop, get_or, refl, ap, sym, subst, ◌∙◌, arith, replicate, Option, Some, None}
 use Rattle.std.proofs.lemmas.Bool.{eqb-true}
 use Rattle.std.specs.Prelude.{filter, find, option_map, option_to_list, is_some, IsSome, if◌then◌else◌}
 use Rattle.std.proofs.lemmas.List.{drop-append-le, length-map}
@@ -16,7 +16,7 @@ use Rattle.cop_boot.specs.Node.{Node, awaited}
 use Rattle.cop_boot.specs.Manager.{Managing, Managed, heard_by, heard, passed, node_of, moved, at_least, sent_by, behind, begun_at, waiting_from, reset_all}
 use Rattle.cop_boot.specs.Device.{Attached}
 use Rattle.cop_boot.specs.Booted.{device_of, CanBoot}
-use Rattle.cop_boot.specs.Schedule.{Line, World, line_of, is_for, takes, with_line, DeliveredBy, Delivers, DeliversTo, heard_on, heard_from, Takes, TakesAll, begins, line_with}
+use Rattle.cop_boot.specs.Schedule.{Line, World, line_of, is_for, takes, with_line, DeliveredBy, Delivers, DeliversTo, heard_on, heard_from, Takes, begins, line_with}
 use Rattle.cop_boot.specs.Bus.{IsBus, Runs, Made, to_of, from_of, line_at}
 use Rattle.cop_boot.proofs.DriveLemmas.{heard_begun, passed_begun, starting_so}
 use Rattle.cop_boot.proofs.BootLemmas.{boots_so}
@@ -315,16 +315,6 @@ line_there at same nodes n line h = by_found (node_of nodes n) (sym (line_found 
     by_found : (o : Option Node) → option_map (λ node. at n) o ≡ Some line → line ≡ at n
     by_found None h = cc
     by_found (Some node) h = cc
-
--- the runs of the rest, behind one turn
-pub one_turn : (turns : List Turn) (d : Turn) (i : ℕ) (w next last : World) → i < length turns → Takes w (get_or turns i d) next
-    → TakesAll next (drop (i + 1) turns) last → TakesAll w (drop i turns) last
-one_turn turns d i w next last inside takes later =
-    subst (λ l. TakesAll w l last) (sym (drop-cons turns i d inside))
-    (next, takes, subst (λ j. TakesAll next (drop j turns) last) (add-one i) later)
-
-pub no_turn : (turns : List Turn) (i : ℕ) (w : World) → length turns ≤ i → TakesAll w (drop i turns) w
-no_turn turns i w past = subst (λ l. TakesAll w l w) (sym (drop_of_length-le turns past)) refl
 
 -- what a boot by turns made of devices
 pub made_so : (m : Managing) (devices : List Attached) (turns : List Turn) (later : Managing) (after : List Attached) (built : ℕ → List Entry)

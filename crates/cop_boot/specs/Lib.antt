@@ -8,6 +8,7 @@ pub mod Schedule
 pub mod Booted
 pub mod Member
 pub mod Bus
+pub mod UnderWay
 pub mod Accepts
 pub mod PlanSettings
 pub mod PlannedPdos

@@ -1,5 +1,5 @@
 -- What contracts see of a member, and when its client is where its phase says.
-use Rattle.std.specs.Prelude.{◌≡◌, ◌≤◌, ℕ, Bool, true, ◌&&◌, nat_le, All, List, [], slice_get, Option, Some, option_map}
+use Rattle.std.specs.Prelude.{◌≡◌, ◌≤◌, ◌+◌, ℕ, Bool, true, ◌&&◌, nat_le, All, List, [], ◌∷◌, slice_get, Option, Some, option_map}
 use Rattle.std.specs.Global.{Vec}
 use Rattle.std.specs.List.{list_all}
 use Rattle.cop_frame.specs.declared.frames.Frame.{Frame}
@@ -45,3 +45,18 @@ pub record IsMember (m : Member) : Type 0 where
 -- a call moved the node so, and gave this frame
 abbrev pub Moves : Option Frame → Member → Moved → Type 0
 Moves frame m moved = (let out : Moved = record { node = seen m; frame = option_map message_of frame } in out) ≡ moved
+
+-- the limit of a phase is not over before a moment
+abbrev pub LastsTo : ℕ → Phase → Type 0
+LastsTo due (Waiting since) = due ≤ since + 20000000
+LastsTo due (Sending done since) = due ≤ since + 4000000
+LastsTo due (Over e) = Unit {0}
+
+abbrev pub AllLast : ℕ → List Node → Type 0
+AllLast due [] = Unit {0}
+AllLast due (node ∷ nodes) = LastsTo due node.phase × AllLast due nodes
+
+-- no limit of a node is over before a moment, nor one of what is sent from now on
+pub record IsDueFrom (due clock : ℕ) (nodes : List Node) : Type 0 where
+  pub soon : due ≤ clock + 4000000
+  pub last : AllLast due nodes

@@ -23,5 +23,5 @@ pub use laws::{
     switched_off_then_on,
 };
 pub use manager::{Manager, can_manage};
-pub use schedule::run_schedule;
+pub use schedule::{Boot, run_schedule};
 pub use turn::Turn;

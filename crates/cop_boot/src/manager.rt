@@ -1,15 +1,15 @@
 //! The manager of a boot.
 
-ghost use Rattle.std.specs.Prelude.{◌≡◌, ◌<◌, ◌^◌, ◌↔◌, ◌&&◌, nat_le, IsTrue, true, false, IfOk, max, ◌∷◌, [], All, map, option_map, option_to_list, length, is_some};
+ghost use Rattle.std.specs.Prelude.{◌≡◌, ◌+◌, ◌<◌, ◌≤◌, ◌^◌, ◌↔◌, ◌&&◌, nat_le, IsTrue, true, false, IfOk, max, ◌∷◌, [], All, map, min, option_map, option_to_list, length, is_some};
 ghost use Rattle.cop_sdo.specs.Message.{message_of};
 ghost use Rattle.std.specs.List.{position};
 ghost use Rattle.cop_boot.specs.Manager.{begun_at, node_of, comes_from, all_ready, heard, heard_by, reached, first_silent, sent_by, waiting_from, is_ready, end_at};
 ghost use Rattle.cop_boot.specs.Booted.{Apart};
-ghost use Rattle.cop_boot.specs.Member.{seen, unheard, is_managed, CanManage, IsMember};
+ghost use Rattle.cop_boot.specs.Member.{seen, unheard, is_managed, CanManage, IsMember, AllLast};
 ghost use Rattle.cop_boot.specs.Settings.{is_short_value};
 
 use crate::end::{End, Phase};
-use crate::member::Member;
+use crate::member::{ANSWER_LIMIT, Member};
 use cop_dcf::Setting;
 use cop_frame::Frame;
 use cop_frame::identifiers::{HEARTBEAT, SDO_RESPONSE};
@@ -23,6 +23,8 @@ use std::marker::Model;
 pub struct Manager {
     begun: bool,
     clock: u64,
+    // No node is silent before this moment, so that earlier ones look at none of them.
+    due: u64,
     started: bool,
     members: Vec<Member>,
 }
@@ -34,11 +36,11 @@ impl Model for Manager {
     ghost Value = { Managing };
 
     ghost use Rattle.cop_boot.specs.Booted.{Apart};
-    ghost use Rattle.cop_boot.specs.Member.{seen, IsMember};
+    ghost use Rattle.cop_boot.specs.Member.{seen, IsMember, IsDueFrom};
 
     ghost view = { λ m. record { begun = m.begun; clock = m.clock; started = m.started; nodes = map seen m.members.items } };
 
-    ghost invariant = { λ m. All IsMember m.members.items × Apart (map seen m.members.items) };
+    ghost invariant = { λ m. All IsMember m.members.items × Apart (map seen m.members.items) × IsDueFrom m.due m.clock (map seen m.members.items) };
 }
 
 // Whether a node is ready.
@@ -72,6 +74,26 @@ fn wait_first(members: &mut Vec<Member>, now: u64) -> Option<Frame>
         }
     }
     sent
+}
+
+// The earlier of two moments.
+fn earlier(a: u64, b: u64) -> u64
+    ensures { result ≡ min a b }
+{
+    if b < a { b } else { a }
+}
+
+// A moment before which no member is silent, as long as nothing comes. It is at most so far ahead as the limit of what can be sent
+// until then.
+fn due_after(members: &[Member], now: u64) -> u64
+    ensures soon { result ≤ now + 4000000 }
+    ensures last { AllLast result (map seen members.now) }
+{
+    let mut due = now.saturating_add(ANSWER_LIMIT);
+    for member in members {
+        due = earlier(due, member.lasts_to());
+    }
+    due
 }
 
 // Whether a frame has the identifier of a node's boot-up, or of its answers.
@@ -160,6 +182,7 @@ impl Manager {
         Ok(Manager {
             begun: false,
             clock: 0,
+            due: 0,
             started: false,
             members,
         })
@@ -226,6 +249,7 @@ impl Manager {
         ensures { record { manager = self.new; frames = message_of result ∷ [] } ≡ begun_at self.old now }
     {
         begin_all(&mut self.members, now);
+        self.due = due_after(&self.members, now);
         self.begun = true;
         self.clock = now;
         self.started = false;
@@ -241,7 +265,12 @@ impl Manager {
         }
         let clock = self.latest(now);
         self.clock = clock;
-        wait_first(&mut self.members, clock)
+        if clock < self.due {
+            return None;
+        }
+        let sent = wait_first(&mut self.members, clock);
+        self.due = due_after(&self.members, clock);
+        sent
     }
 
     /// Hears a frame.

@@ -8,7 +8,7 @@ ghost use Rattle.cop_boot.specs.Node.{goes_on, booted, answered, awaited, is_fin
 ghost use Rattle.cop_boot.specs.Manager.{is_boot_up, heard_by, waiting_from};
 ghost use Rattle.cop_sdo.specs.Reply.{is_answer};
 ghost use Rattle.cop_boot.specs.declared.«end».Phase.TheVariants.{Over};
-ghost use Rattle.cop_boot.specs.Member.{seen, unheard, IsMember, Moves};
+ghost use Rattle.cop_boot.specs.Member.{seen, unheard, IsMember, LastsTo, Moves};
 
 use crate::end::{End, Phase};
 use cop_dcf::Setting;
@@ -21,7 +21,7 @@ use std::alloc::Global;
 const BOOT_LIMIT: u64 = 20_000_000;
 
 /// An answer is awaited for so many ticks, 1 s.
-const ANSWER_LIMIT: u64 = 4_000_000;
+pub const ANSWER_LIMIT: u64 = 4_000_000;
 
 /// A node, and how far its boot is.
 #[derive(Drop)]
@@ -193,6 +193,17 @@ impl Member {
                 }
             }
             Phase::Over { .. } => None,
+        }
+    }
+
+    /// A moment before which the node is not silent, as long as nothing comes from it.
+    pub fn lasts_to(&self) -> u64
+        ensures { LastsTo result self.now.phase }
+    {
+        match self.phase {
+            Phase::Waiting { since } => since.saturating_add(BOOT_LIMIT),
+            Phase::Sending { since, .. } => since.saturating_add(ANSWER_LIMIT),
+            Phase::Over { .. } => u64::MAX,
         }
     }
 

@@ -1,14 +1,17 @@
 //! Boots by turns.
 
-ghost use Rattle.std.specs.Prelude.{◌≡◌, ◌+◌, ◌≤◌, false, ℕ, List, map, is_some, vec_len, vec_capacity, OnOk, OnErr};
+ghost use Rattle.std.specs.Prelude.{◌≡◌, ◌+◌, ◌<◌, ◌≤◌, ◌^◌, ◌++◌, ◌∷◌, [], false, ℕ, List, map, is_some, vec_len, vec_capacity, IfOk, OnOk, OnErr};
 ghost use Rattle.cop_dict.specs.Find.{Entry};
-ghost use Rattle.cop_boot.specs.Manager.{node_of, open_nodes};
+ghost use Rattle.cop_boot.specs.Manager.{Managing, node_of, open_nodes};
+ghost use Rattle.cop_boot.specs.Device.{Attached};
+ghost use Rattle.cop_boot.specs.declared.turn.Turn.{Turn};
 ghost use Rattle.cop_boot.specs.Booted.{CanBoot, ReadyInTime};
 ghost use Rattle.cop_net.specs.Network.{Net};
 ghost use Rattle.cop_boot.specs.NetworkBoot.{IsPlanOf, HavePlannedPdos};
 ghost use Rattle.cop_boot.specs.Schedule.{Takes};
 ghost use Rattle.cop_boot.specs.Node.{Node};
 ghost use Rattle.cop_boot.specs.Bus.{IsBus, KeepsOthers, KnowsNodes, Runs, Made, world_at};
+ghost use Rattle.cop_boot.specs.UnderWay.{IsUnderWay, HasRoomFor};
 
 use crate::bus::{Bus, deliver, hear};
 use crate::device::Device;
@@ -84,6 +87,42 @@ fn take_turn(
     }
 }
 
+/// A boot by turns under way: the frames that were sent, and which numbers are nodes.
+#[derive(Drop)]
+pub struct Boot {
+    bus: Bus,
+    numbers: Numbers,
+}
+
+impl Boot {
+    /// Begins a boot of so many turns at most: the manager begins at 0. All room is made here: after an `Err` nothing has
+    /// changed. Of turns that are made one by one no list is kept.
+    pub fn begin(alloc: Global, manager: &mut Manager, turns: usize) -> Result<Boot, AllocError>
+        requires begun { manager.old.begun ≡ false }
+        requires few { turns < 2 ^ 63 }
+        ensures under_way { IfOk result (λ boot. (devices : List Attached) → IsUnderWay manager.old devices [] manager.new devices boot) }
+        ensures room { IfOk result (λ boot. HasRoomFor turns manager.new boot) }
+        ensures err { OnErr result (manager.new ≡ manager.old) }
+    {
+        let mut bus = Bus::new(alloc, 1 + turns + manager.count(), turns)?;
+        bus.sent.push(manager.begin(0)).unwrap();
+        let numbers = Numbers::of(manager);
+        Ok(Boot { bus, numbers })
+    }
+
+    /// Takes one turn more, for which there is room: the front frame of one channel is delivered, to a node or from it, or a
+    /// moment is reached.
+    pub fn take(&mut self, manager: &mut Manager, devices: &mut [Device], turn: Turn)
+        requires under_way { (m : Managing) × (before : List Attached) × (turns : List Turn) × IsUnderWay m before turns manager.old devices.old self.old }
+        requires room { HasRoomFor 1 manager.old self.old }
+        ensures under_way { (m : Managing) (before : List Attached) (turns : List Turn) → IsUnderWay m before turns manager.old devices.old self.old
+            → IsUnderWay m before (turns ++ turn ∷ []) manager.new devices.new self.new }
+        ensures room { (turns : ℕ) → HasRoomFor (turns + 1) manager.old self.old → HasRoomFor turns manager.new self.new }
+    {
+        take_turn(&mut self.bus, manager, &self.numbers, devices, turn);
+    }
+}
+
 /// Boots the devices by turns: the manager begins at 0, and each turn delivers the front frame of one channel, to a
 /// node or from it, or hands in a moment. All room is made before the first turn: after an `Err` nothing has changed.
 pub fn run_schedule(
@@ -110,11 +149,9 @@ pub fn run_schedule(
 
     ensures err { OnErr result ((manager.new ≡ manager.old) × (devices.new ≡ devices.old)) }
 {
-    let mut bus = Bus::new(alloc, 1 + turns.len() + manager.count(), turns.len())?;
-    bus.sent.push(manager.begin(0)).unwrap();
-    let numbers = Numbers::of(manager);
+    let mut boot = Boot::begin(alloc, manager, turns.len())?;
     for turn in turns {
-        take_turn(&mut bus, manager, &numbers, devices, *turn);
+        boot.take(manager, devices, *turn);
     }
     Ok(())
 }

@@ -37,6 +37,7 @@ pub mod Grows
 pub mod Appended
 pub mod HexLemmas
 pub mod RankLemmas
+pub mod IdSetLemmas
 pub mod QueueLemmas
 pub mod AtPlace
 pub mod PlacedLemmas

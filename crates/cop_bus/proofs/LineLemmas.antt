@@ -61,6 +61,25 @@ unfolding line fields_text is_blank
 queue_is_line at id event frame h k m n =
     rw (plain_number at h, plain_number id k, plain_number event m, plain_number frame.bits n, bytes_are_plain (bytes_of frame)) (joined (codes "queue") (decimal at) (decimal id) (decimal event) (decimal frame.bits) (encode_upper (bytes_of frame)))
 
+-- ---- the same behind what was there before
+
+pub short_behind : (before kind : List ℕ) (at id : ℕ) → at < 2 ^ 64 → id < 2 ^ 64 → IsPlain kind
+    → (((before ++ kind) ++ comma ∷ decimal at) ++ comma ∷ decimal id) ++ codes ",,,\n" ≡ before ++ line (short kind at id)
+short_behind before kind at id h k plain =
+    ap (λ text. (text ++ comma ∷ decimal id) ++ codes ",,,\n") (append_assoc before kind (comma ∷ decimal at))
+    ∙ ap (λ text. text ++ codes ",,,\n") (append_assoc before (kind ++ comma ∷ decimal at) (comma ∷ decimal id))
+    ∙ append_assoc before ((kind ++ comma ∷ decimal at) ++ comma ∷ decimal id) (codes ",,,\n")
+    ∙ ap (λ text. before ++ text) (short_is_line kind at id h k plain)
+
+pub queue_behind : (before : List ℕ) (at id event : ℕ) (frame : Content) → at < 2 ^ 64 → id < 2 ^ 64 → event < 2 ^ 64 → frame.bits < 2 ^ 64
+    → (((((((before ++ codes "queue") ++ comma ∷ decimal at) ++ comma ∷ decimal id) ++ comma ∷ decimal event) ++ comma ∷ decimal frame.bits) ++ comma ∷ []) ++ encode_upper (bytes_of frame)) ++ line_feed ∷ [] ≡ before ++ line (queue_fields at id event frame)
+queue_behind before at id event frame h k m n =
+    seven before (codes "queue") (comma ∷ decimal at) (comma ∷ decimal id) (comma ∷ decimal event) (comma ∷ decimal frame.bits) (comma ∷ []) (encode_upper (bytes_of frame)) (line_feed ∷ [])
+    ∙ ap (λ text. before ++ text) (queue_is_line at id event frame h k m n)
+  where
+    seven : (before a b c d e f g h : List ℕ) → (((((((before ++ a) ++ b) ++ c) ++ d) ++ e) ++ f) ++ g) ++ h ≡ before ++ (((((((a ++ b) ++ c) ++ d) ++ e) ++ f) ++ g) ++ h)
+    seven before a b c d e f g h = simp append_assoc refl
+
 -- the names of the fields
 pub header_is_line : codes "kind,moment,id,event,bits,data\n" ≡ line header
 unfolding line fields_text is_blank escaped

@@ -15,5 +15,6 @@ pub mod Rings
 pub mod Piecewise
 pub mod Growing
 pub mod Ranks
+pub mod IdSets
 pub mod Queues
 pub mod Transfers

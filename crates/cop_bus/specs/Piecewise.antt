@@ -1,13 +1,13 @@
 -- A trace that is written step by step.
 use Rattle.std.specs.Prelude.{ℕ, Bool, List, [], ◌∷◌, Option, codes}
-use Rattle.std.specs.Io.KnownBytes.{Appends}
+use Rattle.std.specs.Io.KnownBytes.{Appends, append_known}
 use Rattle.cop_bus.specs.declared.steps.Step.{Step}
 use Rattle.cop_bus.specs.declared.piecewise.TraceWriter.{TraceWriter}
 use Rattle.cop_bus.specs.Format.{header, fields_of, short, lines}
 
--- what has been written, where the writer underneath tells the bytes that it holds
+-- what has been written, where the writer underneath tells the bytes that it holds: those, and what is to be handed to it
 abbrev pub told : {W : Type 0} → (W → Option (List ℕ)) → TraceWriter W → Option (List ℕ)
-told contents t = contents t.writer
+told contents t = append_known (contents t.writer) t.pending.items
 
 abbrev pub has_failed : {W : Type 0} → TraceWriter W → Bool
 has_failed t = t.failed

@@ -9,7 +9,7 @@ ghost use Rattle.cop_bus.specs.Queues.{IsLowest};
 ghost use Rattle.cop_bus.specs.Rings.{RingValue, rings_of};
 
 use crate::queues::{First, Queues};
-use crate::rings::{Full, Ring, rings_of};
+use crate::rings::{Full, Ring};
 use crate::steps::Content;
 use cop_frame::Rate;
 use cop_rta::{Stream, StreamSet};
@@ -75,11 +75,10 @@ impl Bus {
         ensures bus { IfOk result (λ bus. bus ≡ record { rate = rate; rings = rings_of streams.now; running = None }) }
         ensures queued { IfOk result (λ bus. (now : ℕ) → AreQueuedBy bus.rings now) }
     {
-        let streams = streams.streams();
         Ok(Bus {
             rate,
-            places: places_of(alloc, streams)?,
-            queues: Queues::new(alloc, rings_of(alloc, streams)?)?,
+            places: places_of(alloc, streams.streams())?,
+            queues: Queues::new(alloc, streams)?,
             running: None,
         })
     }

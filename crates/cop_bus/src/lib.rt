@@ -6,6 +6,7 @@ mod bus;
 mod ends;
 mod entries;
 mod faults;
+mod id_sets;
 mod judging;
 mod lateness;
 mod laws;

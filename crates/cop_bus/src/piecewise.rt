@@ -1,30 +1,40 @@
 //! Writing a trace step by step.
 
-ghost use Rattle.std.specs.Prelude.{◌≡◌, true, false, IfSome};
+ghost use Rattle.std.specs.Prelude.{◌≡◌, ◌+◌, ◌≤◌, true, false, IfSome, length};
+ghost use Rattle.std.specs.Io.KnownBytes.{Keeps};
 
+use crate::lines::{Text, put_header, put_short, put_step};
 use crate::steps::Step;
-use crate::writing::{write_end, write_header, write_step};
 use std::io::Write;
 
-/// A writer of a trace's table: the record of each step as it comes, and at last the end's. Each is handed to the writer
-/// underneath by itself, which is to have a buffer where that costs. It takes no memory, and so fails where the writer
-/// underneath does alone. Once it has failed, it writes no more.
+/// A writer of a trace's table: the record of each step as it comes, and at last the end's. They are handed to the writer
+/// underneath in pieces of some 4 KiB. It takes no memory, and so fails where the writer underneath does alone. Once it has
+/// failed, it writes no more.
 #[derive(Drop)]
 pub struct TraceWriter<W: Write + Drop> {
     writer: W,
+    // The records that the writer has not got yet.
+    pending: Text,
     failed: bool,
 }
 
+/// From how many bytes on there may be no room for another record.
+const FULL: usize = 4096 - 112;
+
 impl<W: Write + Drop> TraceWriter<W> {
-    ghost use Rattle.cop_bus.specs.Piecewise.{has_failed, Begins, Writes, Finishes};
+    ghost use Rattle.cop_bus.specs.Piecewise.{has_failed, told, Begins, Writes, Finishes};
 
     /// A writer that has written the names of the fields, or has failed.
     pub fn new(writer: W) -> TraceWriter<W>
         ensures { has_failed result ≡ false → Begins W.contents writer result }
     {
-        let mut writer = writer;
-        let failed = write_header(&mut writer).is_err();
-        TraceWriter { writer, failed }
+        let mut pending = Text::new();
+        put_header(&mut pending);
+        TraceWriter {
+            writer,
+            pending,
+            failed: false,
+        }
     }
 
     /// Whether it has failed.
@@ -34,6 +44,19 @@ impl<W: Write + Drop> TraceWriter<W> {
         self.failed
     }
 
+    // Makes room for a record: where there is none, what is pending is handed over. `false` where that fails.
+    fn make_room(&mut self) -> bool
+        ensures room { result ≡ true → length self.new.pending.items + 112 ≤ 4096 }
+        ensures same { result ≡ true → Keeps (told W.contents self.old) (told W.contents self.new) }
+    {
+        if self.pending.len() <= FULL {
+            return true;
+        }
+        let is_written = self.writer.write_all(&self.pending).is_ok();
+        self.pending.clear();
+        is_written
+    }
+
     /// Writes the record of a step; `false` where it fails.
     pub fn write(&mut self, step: &Step) -> bool
         requires { has_failed self.old ≡ false }
@@ -41,9 +64,12 @@ impl<W: Write + Drop> TraceWriter<W> {
         ensures works { result ≡ true → has_failed self.new ≡ false }
         ensures fails { result ≡ false → has_failed self.new ≡ true }
     {
-        let is_written = write_step(&mut self.writer, step).is_ok();
-        self.failed = !is_written;
-        is_written
+        let has_room = self.make_room();
+        self.failed = !has_room;
+        if has_room {
+            put_step(&mut self.pending, step);
+        }
+        has_room
     }
 
     /// Writes the last record, which tells the end, and gives the writer back. `None` where it has failed or fails here:
@@ -51,11 +77,17 @@ impl<W: Write + Drop> TraceWriter<W> {
     pub fn finish(self, until: u64) -> Option<W>
         ensures { IfSome result (λ w. Finishes W.contents self until w) }
     {
-        if self.failed {
+        let mut last = self;
+        if last.failed || !last.make_room() {
             return None;
         }
-        let TraceWriter { mut writer, .. } = self;
-        if write_end(&mut writer, until).is_err() {
+        put_short(&mut last.pending, b"until", until, 0);
+        let TraceWriter {
+            mut writer,
+            pending,
+            ..
+        } = last;
+        if writer.write_all(&pending).is_err() {
             return None;
         }
         match writer.flush() {

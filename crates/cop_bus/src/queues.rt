@@ -1,12 +1,14 @@
 //! The instances that wait, and the first of their streams.
 
-ghost use Rattle.std.specs.Prelude.{◌≡◌, ℕ, ◌<◌, ◌∷◌, ◌++◌, [], ◌↔◌, IfOk, OnOk, OnErr, IsOk, Some, drop, length, slice_get, slice_set};
-ghost use Rattle.cop_bus.specs.Rings.{any_in, RingValue};
-ghost use Rattle.cop_bus.specs.Queues.{ring_rank, IsLowestOf};
+ghost use Rattle.std.specs.Prelude.{◌≡◌, ◌≢◌, ℕ, ◌≤◌, ◌<◌, ◌∷◌, ◌++◌, [], ◌↔◌, IfOk, OnOk, OnErr, IsOk, Some, drop, length, slice_get, slice_set};
+ghost use Rattle.cop_rta.specs.Streams.{AreDistinct};
+ghost use Rattle.cop_bus.specs.Rings.{any_in, rings_of, RingValue};
+ghost use Rattle.cop_bus.specs.Queues.{AreListed, IsLowestOf};
 
 use crate::bus::Instance;
-use crate::ranking::{Rank, Ranking};
-use crate::rings::{Full, Ring};
+use crate::id_sets::IdSet;
+use crate::rings::{Full, Ring, rings_of};
+use cop_rta::{Stream, StreamSet};
 use std::alloc::{AllocError, Global};
 use std::marker::Model;
 
@@ -17,11 +19,13 @@ pub struct First {
     pub id: u16,
 }
 
-/// The ring of each stream, by place, and the ranks of those in which an instance waits.
+/// The ring of each stream, by place, and the identifiers of those in which an instance waits.
 #[derive(Drop)]
 pub struct Queues {
     rings: Vec<Ring>,
-    ranking: Ranking,
+    // Where the ring of each identifier stands, up to the greatest of them.
+    places: Vec<usize>,
+    waiting: IdSet,
 }
 
 impl Model for Queues {
@@ -33,32 +37,48 @@ impl Model for Queues {
 
     ghost view = { λ q. q.rings.items };
 
-    ghost invariant = { λ q. AreQueued q.rings.items q.ranking };
+    ghost invariant = { λ q. AreQueued q.rings.items q.places.items q.waiting };
 }
 
-// The rank of the ring at a place: all that wait do so now.
-fn rank_of(ring: &Ring, place: usize) -> Option<Rank>
-    ensures { result ≡ ring_rank place (Some ring.now) }
+// Puts a place down for an identifier.
+fn put_place(places: &mut Vec<usize>, id: u16, place: usize) -> Result<(), AllocError>
+    ensures here { OnOk result (slice_get places.new.items id ≡ Some place) }
+    ensures others { OnOk result ((k i : ℕ) → k ≢ id → slice_get places.old.items k ≡ Some i → slice_get places.new.items k ≡ Some i) }
+    ensures few { OnOk result (length places.old.items ≤ 65536 → length places.new.items ≤ 65536) }
 {
-    if 0 < ring.len() {
-        Some(Rank {
-            at: 0,
-            id: ring.id(),
-            place,
-        })
-    } else {
-        None
+    let id = usize::from(id);
+    if places.len() <= id {
+        places.resize(id + 1, 0)?;
     }
+    places[id] = place;
+    Ok(())
+}
+
+// Where the stream of each identifier stands.
+fn places_of(alloc: Global, streams: &[Stream]) -> Result<Vec<usize>, AllocError>
+    requires { AreDistinct streams.now }
+    ensures listed { IfOk result (λ places. AreListed streams.now (length streams.now) places.items) }
+    ensures few { IfOk result (λ places. length places.items ≤ 65536) }
+{
+    let mut places = Vec::new(alloc);
+    for i in 0..streams.len() {
+        put_place(&mut places, streams[i].id, i)?;
+    }
+    Ok(places)
 }
 
 impl Queues {
-    /// Rings in which nothing waits.
-    pub fn new(alloc: Global, rings: Vec<Ring>) -> Result<Queues, AllocError>
-        requires { (i : ℕ) (r : RingValue) → slice_get rings.items i ≡ Some r → r.waiting ≡ [] }
-        ensures { IfOk result (λ q. q ≡ rings.items) }
+    /// The rings of streams, in which nothing waits, with as many places as [`most_of`](crate::most_of) says.
+    pub fn new(alloc: Global, streams: &StreamSet) -> Result<Queues, AllocError>
+        ensures { IfOk result (λ q. q ≡ rings_of streams.now) }
     {
-        let ranking = Ranking::new(alloc, rings.len())?;
-        Ok(Queues { rings, ranking })
+        let streams = streams.streams();
+        let places = places_of(alloc, streams)?;
+        Ok(Queues {
+            rings: rings_of(alloc, streams)?,
+            waiting: IdSet::with_room(alloc, places.len())?,
+            places,
+        })
     }
 
     /// The rings, by place.
@@ -72,17 +92,17 @@ impl Queues {
     pub fn any_waits(&self) -> bool
         ensures { result ≡ any_in self.now }
     {
-        self.ranking.first().is_some()
+        self.waiting.lowest().is_some()
     }
 
     /// The stream with the lowest identifier of which an instance waits.
     pub fn lowest(&self) -> Option<First>
         ensures { IsLowestOf self.now result }
     {
-        let rank = self.ranking.first()?;
+        let id = self.waiting.lowest()?;
         Some(First {
-            place: rank.place,
-            id: rank.id,
+            place: self.places[id],
+            id: id as u16,
         })
     }
 
@@ -94,7 +114,7 @@ impl Queues {
         ensures err { OnErr result (self.new ≡ self.old) }
     {
         self.rings[place].queue(instance)?;
-        self.ranking.set(place, rank_of(&self.rings[place], place));
+        self.waiting.insert(self.rings[place].id());
         Ok(())
     }
 
@@ -106,7 +126,9 @@ impl Queues {
         ensures count { length self.new ≡ length self.old }
     {
         let first = self.rings[place].take();
-        self.ranking.set(place, rank_of(&self.rings[place], place));
+        if self.rings[place].len() == 0 {
+            self.waiting.remove(self.rings[place].id());
+        }
         first
     }
 }

@@ -4,7 +4,7 @@ ghost use Rattle.std.specs.Prelude.{◌≡◌, ◌∷◌, [], OnOk, IfOk, codes,
 ghost use Rattle.cop_bus.specs.Format.{Fields, header, short, fields_of, line, text_of};
 ghost use Rattle.cop_bus.specs.Writer.{Adds};
 
-use crate::lines::{queue_line, short_line};
+use crate::lines::{Text, put_header, put_short, put_step};
 use crate::runs::Trace;
 use crate::steps::Step;
 use std::alloc::{AllocError, Global};
@@ -30,43 +30,40 @@ fn write_line<W: Write>(writer: &mut W, text: &[u8]) -> Result<(), NotWritten>
     Err(NotWritten {})
 }
 
-#[tactic(auto, using(crate::proofs::LineLemmas::header_is_line))]
-/// The names of the fields.
-pub(crate) fn write_header<W: Write>(writer: &mut W) -> Result<(), NotWritten>
+// The names of the fields.
+fn write_header<W: Write>(writer: &mut W) -> Result<(), NotWritten>
     ensures { OnOk result (Adds W.contents writer.old writer.new (header ∷ [])) }
 {
-    write_line(writer, b"kind,moment,id,event,bits,data\n")
+    let mut record = Text::new();
+    put_header(&mut record);
+    write_line(writer, &record)
 }
 
-/// The last record, which tells the end.
-pub(crate) fn write_end<W: Write>(writer: &mut W, until: u64) -> Result<(), NotWritten>
+// The last record, which tells the end.
+fn write_end<W: Write>(writer: &mut W, until: u64) -> Result<(), NotWritten>
     ensures { OnOk result (Adds W.contents writer.old writer.new (short (codes "until") until 0 ∷ [])) }
 {
-    write_line(writer, &short_line(b"until", until, 0))
+    let mut record = Text::new();
+    put_short(&mut record, b"until", until, 0);
+    write_line(writer, &record)
 }
 
-/// The record of a step.
-pub(crate) fn write_step<W: Write>(writer: &mut W, step: &Step) -> Result<(), NotWritten>
+// The record of a step, which is made in a place that is kept from one to the next.
+fn write_step<W: Write>(writer: &mut W, record: &mut Text, step: &Step) -> Result<(), NotWritten>
     ensures { OnOk result (Adds W.contents writer.old writer.new (fields_of step.now ∷ [])) }
 {
-    match step {
-        Step::Queue {
-            at,
-            id,
-            event,
-            frame,
-        } => write_line(writer, &queue_line(*at, *id, *event, frame)),
-        Step::Start { at, id } => write_line(writer, &short_line(b"start", *at, *id)),
-        Step::End { at, id } => write_line(writer, &short_line(b"end", *at, *id)),
-    }
+    record.clear();
+    put_step(record, step);
+    write_line(writer, record)
 }
 
 #[tactic(auto, using(crate::proofs::WriterLemmas::adds_mapped, crate::proofs::WriterLemmas::all_mapped, crate::proofs::WriterLemmas::adds_none))]
 fn write_steps<W: Write>(writer: &mut W, steps: &[Step]) -> Result<(), NotWritten>
     ensures { OnOk result (Adds W.contents writer.old writer.new (map fields_of steps.now)) }
 {
+    let mut record = Text::new();
     for step in steps {
-        write_step(writer, step)?;
+        write_step(writer, &mut record, step)?;
     }
     Ok(())
 }

@@ -8,7 +8,7 @@ use cop_plan::{Outcome, Plan};
 use std::fs::File;
 use std::io::BufWriter;
 
-/// How many bytes of a trace are handed to the system at once. Its records come in pieces of 8 KiB.
+/// How many bytes of a trace are handed to the system at once. Its records come in pieces of some 4 KiB.
 const TRACE_BUFFER: usize = 256 * 1024;
 
 /// A new file for a trace.

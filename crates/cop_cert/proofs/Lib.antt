@@ -21,3 +21,7 @@ pub mod ReadableLemmas
 pub mod RangeLemmas
 pub mod LongSync
 pub mod CauseLemmas
+pub mod BlockLemmas
+pub mod PlainLemmas
+pub mod HeadLemmas
+pub mod StartLemmas

@@ -14,10 +14,6 @@ use Rattle.cop_cert.specs.declared.refusals.Refusal.{Refusal}
 use Rattle.cop_cert.specs.declared.entries.Version.{Version}
 use Rattle.cop_cert.specs.declared.entries.Version.TheVariants.{First, Second}
 
--- a part more behind a comma
-behind : (before part rest : List ℕ) → (before ++ comma ∷ part) ++ rest ≡ before ++ comma ∷ (part ++ rest)
-behind before part rest = append_assoc before (comma ∷ part) rest
-
 -- a record of four fields that need no quotes
 four_are_line : (a b c d : List ℕ) → IsPlain a → IsPlain b → IsPlain c → IsPlain d
     → (((((((a ++ comma ∷ []) ++ b) ++ comma ∷ []) ++ c) ++ comma ∷ []) ++ d) ++ line_feed ∷ []) ≡ line (a ∷ b ∷ c ∷ d ∷ [])

@@ -11,6 +11,7 @@ use Rattle.cop_cert.specs.Assignments.{IsSdo}
 use Rattle.cop_cert.specs.Format.{Fields, fields_of, numbers_rows, evidence_rows, long_word, late_word, member_rows, frame_rows, cause_rows, refusal_rows, is_by_places, version, version_of, text_of}
 use Rattle.cop_cert.specs.Entries.{least_number, word_of, is_sdo, is_number_of}
 use Rattle.cop_cert.specs.Reading.{taken, next, longer, with_number, with_more, is_of_number, is_same_side, begun, begin, cause_of, refused_at, closed, is_complete, finished, ended, after_version, refusals_of}
+use Rattle.cop_cert.specs.Plain.{list_word}
 use Rattle.cop_cert.specs.Writable.{IsWritableList, IsWritableEvidence, AreWritableMembers, IsWritableCause, IsWritableRefusal, AreWritable}
 use Rattle.cop_cert.specs.declared.drafts.Draft.{Draft}
 use Rattle.cop_cert.specs.declared.drafts.Part.{Part}
@@ -64,12 +65,7 @@ module _ (v : Version) where
 
 -- ---- the numbers of a list
 
-pub list_word : Listed → List ℕ
-list_word lists.Busy = codes "busy"
-list_word lists.Queue = codes "queue"
-
-list_known : (v : Version) (list : Listed) → word_of v (list_word list) ≡ Some (words.Number list)
-unfolding list_word
+pub list_known : (v : Version) (list : Listed) → word_of v (list_word list) ≡ Some (words.Number list)
 list_known First lists.Busy = refl
 list_known First lists.Queue = refl
 list_known Second lists.Busy = refl
@@ -124,7 +120,6 @@ module _ (v : Version) (done : List Refusal) (rate : Rate) (members : List Membe
         go (Err rule) = refl
 
     pub evidence_leads : (evidence : Evidence) → IsWritableEvidence evidence → Leads v a (evidence_rows rate number long late evidence) (at (g evidence))
-    unfolding list_word
     evidence_leads (Long busy) h =
         leads_cons v a (at (g (Long []))) (at (g (Long busy))) _ _ long_begins
         (all_numbers lists.Busy (λ xs. g (Long xs)) (λ xs. its (Long xs)) (λ xs x. through lists.Busy Long xs x refl) [] busy (omega (arith, h.count)) h.fit)
@@ -264,7 +259,6 @@ module _ (a : Option Draft) (done : List Refusal) (rate : Rate) (begins : (part 
   sync_begins place = rw (entry_is Second rate 0 0 (codes "sync") words.Sync (omega arith) (omega arith) (omega arith) refl refl refl, begins (parts.Sync [])) refl
 
   sync_ends : (busy : List ℕ) → IsWritableList busy → Ends Second a (cause_rows rate (Sync busy)) done rate (Sync busy)
-  unfolding list_word
   sync_ends busy h = record {
     members = [];
     part = parts.Sync busy;

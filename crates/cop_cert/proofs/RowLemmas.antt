@@ -15,7 +15,7 @@ use Rattle.cop_cert.specs.declared.entries.Version.{Version}
 use Rattle.cop_cert.specs.declared.entries.Version.TheVariants.{First, Second}
 use Rattle.cop_cert.specs.declared.entries.Word.{Word}
 
-all_digits : (ds : List ℕ) → AllDigits 10 ds → list_all (λ c. is_digit c 10) ds ≡ true
+pub all_digits : (ds : List ℕ) → AllDigits 10 ds → list_all (λ c. is_digit c 10) ds ≡ true
 all_digits [] h = refl
 all_digits (d ∷ ds) h = let one : is_digit d 10 ≡ true = lt-ltb (digit_value d) 10 h.0 in rw (one, all_digits ds h.1) refl
 
@@ -38,7 +38,7 @@ rate_known Kbit500 = refl
 rate_known Kbit800 = refl
 rate_known Kbit1000 = refl
 
-rate_small : (rate : Rate) → kbits_of rate < 2 ^ 64
+pub rate_small : (rate : Rate) → kbits_of rate < 2 ^ 64
 rate_small Kbit10 = lit< tt
 rate_small Kbit20 = lit< tt
 rate_small Kbit50 = lit< tt

@@ -1,8 +1,8 @@
 -- Records added to a text, one after another.
-use Rattle.std.proofs.Common.{◌≡◌, ℕ, ◌+◌, ◌<◌, ◌≤◌, List, [], ◌∷◌, ◌++◌, length, map, take, get_or, sym, ◌∙◌, append_assoc, append-nil}
+use Rattle.std.proofs.Common.{◌≡◌, ℕ, ◌+◌, ◌<◌, ◌≤◌, List, [], ◌∷◌, ◌++◌, length, take, get_or, sym, ◌∙◌, append_assoc, append-nil}
 use Rattle.std.specs.List.{flat_map}
 use Rattle.std.proofs.lemmas.Grind.{flat_map-append}
-use Rattle.std.proofs.lemmas.List.{take_more, map_more, take_all}
+use Rattle.std.proofs.lemmas.List.{take_more, take_all}
 use Rattle.cop_cert.specs.Format.{Fields, line, lines}
 use Rattle.cop_cert.specs.Writer.{Adds}
 
@@ -15,21 +15,12 @@ adds_more a b c rows more h k = record {
 }
 
 module _ {X : Type 0} (a b c : List ℕ) (xs : List X) (i : ℕ) (x : X) where
-  -- one value more, of values with a record each
-  pub adds_mapped : (f : X → Fields) → i < length xs → x ≡ get_or xs i x → Adds a b (map f (take i xs)) → Adds b c (f x ∷ []) → Adds a c (map f (take (i + 1) xs))
-  adds_mapped f lt e h k =
-      let more : Adds b c (f (get_or xs i x) ∷ []) = rw (← e) k in
-      rw (map_more f xs i x lt) (adds_more a b c (map f (take i xs)) (f (get_or xs i x) ∷ []) h more)
-
-  -- the same, of values with some records each
+  -- one value more, of values with some records each
   pub adds_each : (f : X → List Fields) → i < length xs → x ≡ get_or xs i x → Adds a b (flat_map f (take i xs)) → Adds b c (f x) → Adds a c (flat_map f (take (i + 1) xs))
   adds_each f lt e h k =
       let more : Adds b c (f (get_or xs i x) ++ []) = rw (append-nil (f (get_or xs i x)), ← e) k in
       rw (take_more xs i x lt, flat_map-append f (take i xs) (get_or xs i x ∷ []))
       (adds_more a b c (flat_map f (take i xs)) (f (get_or xs i x) ++ []) h more)
-
-pub all_mapped : {X : Type 0} (a b : List ℕ) (xs : List X) (i : ℕ) (f : X → Fields) → length xs ≤ i → Adds a b (map f (take i xs)) → Adds a b (map f xs)
-all_mapped a b xs i f le h = rw (take_all i xs le) at h
 
 pub all_each : {X : Type 0} (a b : List ℕ) (xs : List X) (i : ℕ) (f : X → List Fields) → length xs ≤ i → Adds a b (flat_map f (take i xs)) → Adds a b (flat_map f xs)
 all_each a b xs i f le h = rw (take_all i xs le) at h

@@ -11,3 +11,4 @@ pub mod Evidence
 pub mod Rising
 pub mod Chains
 pub mod Causes
+pub mod Plain

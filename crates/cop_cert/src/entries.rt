@@ -76,7 +76,7 @@ fn rate_in(field: &[u8]) -> Result<Rate, Rule>
 }
 
 /// The least number that a record of the version may be of.
-fn least_number(version: Version) -> u64
+pub(crate) fn least_number(version: Version) -> u64
     ensures { result ≡ least_number version }
 {
     match version {

@@ -7,9 +7,12 @@ mod entries;
 mod faults;
 mod items;
 mod laws;
+mod lines;
 mod making;
+mod plain;
 mod reading;
 mod refusals;
+mod steps;
 mod trials;
 mod writing;
 

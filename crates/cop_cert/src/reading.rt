@@ -6,28 +6,19 @@ ghost use Rattle.cop_cert.specs.Format.{text_of};
 ghost use Rattle.cop_cert.specs.Writable.{AreWritable};
 ghost use Rattle.cop_table.specs.Reading.{Gives};
 ghost use Rattle.cop_cert.specs.Faults.{breach_of};
-ghost use Rattle.cop_cert.specs.Steps.{fault_at};
 ghost use Rattle.cop_cert.specs.Reading.{taken, rows_in, after_version, refusals_in, refusals_of};
 
-use crate::drafts::{self, Draft, StepFault};
-use crate::entries::{Version, entry_in, version_in};
+use crate::drafts;
+use crate::entries::{Version, version_in};
 use crate::faults::{Breach, CertFault, Rule};
+use crate::plain::{refusals_in_text, start_of};
 use crate::refusals::Refusal;
+use crate::steps::{at, take};
 use cop_table::{Record, Records, TableError, under_header};
 use std::alloc::Global;
 
 /// The fields of the header.
 const HEADER: [&[u8]; 4] = [b"rate", b"pdo", b"what", b"value"];
-
-/// The fault of a step at a record.
-fn at(place: u64, fault: StepFault) -> CertFault
-    ensures { result ≡ fault_at place fault }
-{
-    match fault {
-        StepFault::Broken(rule) => CertFault::Refused(Breach { rule, place }),
-        StepFault::OutOfMemory => CertFault::Memory,
-    }
-}
 
 /// The records under the header.
 fn rows_in<'a>(alloc: Global, bytes: &'a [u8], row: &mut Record) -> Result<Records<'a>, CertFault>
@@ -72,26 +63,6 @@ fn read_version(rows: &mut Records<'_>, row: &mut Record) -> Result<Version, Cer
     }
 }
 
-/// Takes a record into the draft of those before it. After an `Err` the draft is not to be used.
-fn take(
-    alloc: Global,
-    version: Version,
-    draft: &mut Option<Draft>,
-    place: u64,
-    row: &Record,
-) -> Result<(), CertFault>
-    ensures { Gives (λ _. draft.new) breach_of result (taken version place draft.old row.now) }
-{
-    let entry = match entry_in(version, row) {
-        Ok(entry) => entry,
-        Err(rule) => return Err(CertFault::Refused(Breach { rule, place })),
-    };
-    match drafts::take(alloc, draft, entry) {
-        Ok(()) => Ok(()),
-        Err(fault) => Err(at(place, fault)),
-    }
-}
-
 /// The refusals of the records after that of the version.
 #[tactic(auto, using(cop_table::proofs::RowsLemmas::goes_on, cop_table::proofs::RowsLemmas::stops, cop_table::proofs::RowsLemmas::ends))]
 fn refusals_in(
@@ -116,13 +87,23 @@ fn refusals_in(
 }
 
 #[tactic(auto, unfolding(crate::specs::Reading::refusals_of))]
-fn refusals_of(alloc: Global, bytes: &[u8]) -> Result<Vec<Refusal>, CertFault>
+/// The refusals of a text, however it is written.
+fn refusals_of_records(alloc: Global, bytes: &[u8]) -> Result<Vec<Refusal>, CertFault>
     ensures { Gives (λ refusals. refusals.items) breach_of result (refusals_of bytes.now) }
 {
     let mut row = Record::new(alloc);
     let mut rows = rows_in(alloc, bytes, &mut row)?;
     let version = read_version(&mut rows, &mut row)?;
     refusals_in(alloc, version, &mut rows, &mut row)
+}
+
+fn refusals_of(alloc: Global, bytes: &[u8]) -> Result<Vec<Refusal>, CertFault>
+    ensures { Gives (λ refusals. refusals.items) breach_of result (refusals_of bytes.now) }
+{
+    match start_of(bytes) {
+        Some((version, text)) => refusals_in_text(alloc, version, text),
+        None => refusals_of_records(alloc, bytes),
+    }
 }
 
 /// The refusals of a text. Of its records the first that breaks a rule counts, and of its rules the least.

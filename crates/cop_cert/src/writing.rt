@@ -1,13 +1,14 @@
 //! Writing refusals as a table.
 
-ghost use Rattle.std.specs.Prelude.{◌≡◌, ◌∷◌, ◌<◌, [], ◌++◌, ◌+◌, ◌^◌, OnOk, IfOk, decimal, false, map, get_or, ℕ};
+ghost use Rattle.std.specs.Prelude.{◌≡◌, ◌∷◌, ◌<◌, ◌≤◌, [], ◌+◌, ◌^◌, OnOk, IfOk, false, length, map, get_or};
 ghost use Rattle.std.specs.List.{flat_map};
-ghost use Rattle.csv.specs.Machine.{line_feed};
 ghost use Rattle.csv.specs.Writing.{needs_quotes, default_writer};
-ghost use Rattle.cop_cert.specs.Format.{Fields, fields_of, evidence_rows, line, long_word, late_word, member_rows, frame_rows, is_by_places, refusal_rows, version, version_of, text_of};
-ghost use Rattle.cop_cert.specs.Writer.{Adds};
+ghost use Rattle.cop_cert.specs.Format.{fields_of, evidence_rows, long_word, late_word, member_rows, frame_rows, is_by_places, refusal_rows, version, version_of, text_of};
+ghost use Rattle.cop_cert.specs.Plain.{head_text};
+ghost use Rattle.cop_cert.specs.Writer.{Adds, IsHead};
 
 use crate::entries::Side;
+use crate::lines::{LINES, NO_LINES, add_lines};
 use crate::refusals::{Cause, Evidence, Member, Refusal};
 use cop_frame::Rate;
 use itoa::Buffer;
@@ -15,10 +16,18 @@ use std::alloc::{AllocError, Global};
 
 #[tactic(auto, using(crate::proofs::LineLemmas::head_is_line))]
 /// What stands before the number in a record, for a word that needs no quotes.
-fn head_of(alloc: Global, rate: Rate, number: u128, what: &[u8]) -> Result<Vec<u8>, AllocError>
+pub(crate) fn head_of(
+    alloc: Global,
+    rate: Rate,
+    number: u128,
+    what: &[u8],
+) -> Result<Vec<u8>, AllocError>
     requires fits { number < 10 ^ 20 }
     requires plain { needs_quotes default_writer what.now ≡ false }
-    ensures { IfOk result (λ head. (value : ℕ) → value < 2 ^ 64 → (head.items ++ decimal value) ++ line_feed ∷ [] ≡ line (fields_of rate number what.now value)) }
+    requires word { length what.now ≤ 8 }
+    ensures head { IfOk result (λ head. IsHead head.items (fields_of rate number what.now)) }
+    ensures text { IfOk result (λ head. head.items ≡ head_text rate number what.now) }
+    ensures short { IfOk result (λ head. length head.items ≤ 91) }
 {
     let mut digits = Buffer::new();
     let mut head = Vec::from_slice(alloc, digits.format(rate.kbits()).as_bytes())?;
@@ -30,14 +39,28 @@ fn head_of(alloc: Global, rate: Rate, number: u128, what: &[u8]) -> Result<Vec<u
     Ok(head)
 }
 
-// Adds a number with what stands before it, and the end of the line.
-fn write_line(text: &mut Vec<u8>, head: &[u8], value: u64) -> Result<(), AllocError>
-    ensures { OnOk result ((row : Fields) → (head.now ++ decimal value) ++ line_feed ∷ [] ≡ line row → Adds text.old.items text.new.items (row ∷ [])) }
+/// A record for each number of a list.
+fn write_numbers(
+    alloc: Global,
+    text: &mut Vec<u8>,
+    rate: Rate,
+    number: u128,
+    what: &[u8],
+    numbers: &[u64],
+) -> Result<(), AllocError>
+    requires fits { number < 10 ^ 20 }
+    requires plain { needs_quotes default_writer what.now ≡ false }
+    requires word { length what.now ≤ 8 }
+    ensures { OnOk result (Adds text.old.items text.new.items (map (fields_of rate number what.now) numbers.now)) }
 {
-    let mut digits = Buffer::new();
-    text.extend_from_slice(head)?;
-    text.extend_from_slice(digits.format(value).as_bytes())?;
-    text.push(b'\n')?;
+    let head = head_of(alloc, rate, number, what)?;
+    let mut block = NO_LINES;
+    let mut rest = numbers;
+    while !rest.is_empty() {
+        let (next, left) = rest.split_at(rest.len().min(LINES));
+        add_lines(text, &mut block, &head, next)?;
+        rest = left;
+    }
     Ok(())
 }
 
@@ -51,36 +74,16 @@ fn write_record(
 ) -> Result<(), AllocError>
     requires fits { number < 10 ^ 20 }
     requires plain { needs_quotes default_writer what.now ≡ false }
+    requires word { length what.now ≤ 8 }
     ensures { OnOk result (Adds text.old.items text.new.items (fields_of rate number what.now value ∷ [])) }
 {
-    let head = head_of(alloc, rate, number, what)?;
-    write_line(text, &head, value)
-}
-
-#[tactic(auto, using(crate::proofs::WriterLemmas::adds_mapped, crate::proofs::WriterLemmas::all_mapped, crate::proofs::WriterLemmas::adds_none))]
-/// A record for each number of a list.
-fn write_numbers(
-    alloc: Global,
-    text: &mut Vec<u8>,
-    rate: Rate,
-    number: u128,
-    what: &[u8],
-    numbers: &[u64],
-) -> Result<(), AllocError>
-    requires fits { number < 10 ^ 20 }
-    requires plain { needs_quotes default_writer what.now ≡ false }
-    ensures { OnOk result (Adds text.old.items text.new.items (map (fields_of rate number what.now) numbers.now)) }
-{
-    let head = head_of(alloc, rate, number, what)?;
-    for value in numbers {
-        write_line(text, &head, *value)?;
-    }
-    Ok(())
+    write_numbers(alloc, text, rate, number, what, &[value])
 }
 
 /// The words of evidence, by which members it is of.
 fn long_word(side: Side) -> &'static [u8]
     ensures word { result.now ≡ long_word side }
+    ensures short { length result.now ≤ 8 }
     ensures plain { needs_quotes default_writer result.now ≡ false }
 {
     match side {
@@ -91,6 +94,7 @@ fn long_word(side: Side) -> &'static [u8]
 
 fn late_word(side: Side) -> &'static [u8]
     ensures word { result.now ≡ late_word side }
+    ensures short { length result.now ≤ 8 }
     ensures plain { needs_quotes default_writer result.now ≡ false }
 {
     match side {

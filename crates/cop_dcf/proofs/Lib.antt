@@ -2,6 +2,7 @@ pub mod IdentifierLemmas
 pub mod SettingsLemmas
 pub mod TableLemmas
 pub mod PieceLemmas
+pub mod RunLemmas
 pub mod SectionLemmas
 pub mod DigitLemmas
 pub mod DcfLemmas

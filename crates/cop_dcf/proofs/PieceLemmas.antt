@@ -133,7 +133,7 @@ pub put_so : (text name more : List ℕ) → section_of text name ≡ None → c
 put_so text name more e = ap (λ b. cond b [] more) (sym (has_section_is text name) ∙ ap is_some e)
 
 -- the bytes of a line and of its end are those from its begin on
-slices_join : (text : List ℕ) (from to next : ℕ) → from ≤ to → to ≤ next → to ≤ length text → slice_range text from to ++ slice_range text to next ≡ slice_range text from next
+pub slices_join : (text : List ℕ) (from to next : ℕ) → from ≤ to → to ≤ next → to ≤ length text → slice_range text from to ++ slice_range text to next ≡ slice_range text from next
 slices_join text from to next ft tn tl =
     let size : length (slice_range text from to) ≡ to - from = length-take-le (to - from) (drop from text) (simp length-drop (omega arith)) in
     let sum : next - from ≡ length (slice_range text from to) + (next - to) = omega (arith, size) in

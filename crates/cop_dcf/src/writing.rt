@@ -1,6 +1,6 @@
 //! The DCF text of a node.
 
-ghost use Rattle.std.specs.Prelude.{◌≡◌, ◌++◌, ◌||◌, ◌==◌, not, [], length, take, get_or, if◌then◌else◌, IfOk, OnOk};
+ghost use Rattle.std.specs.Prelude.{◌≡◌, ◌<◌, true, ℕ, List, ◌++◌, ◌||◌, ◌==◌, not, [], length, take, get_or, if◌then◌else◌, IfOk, OnOk};
 ghost use Rattle.std.specs.List.{list_any};
 ghost use Rattle.std.specs.Option.{option_copied};
 ghost use Rattle.cop_eds.specs.Lines.{IsInside, lines_of};
@@ -8,6 +8,7 @@ ghost use Rattle.cop_eds.specs.Rows.{row_of, rows_of};
 ghost use Rattle.cop_eds.specs.Text.{mark_len};
 ghost use Rattle.cop_eds.specs.Edits.{change_of, changed, newline_of};
 ghost use Rattle.cop_dcf.specs.Dcf.{dcf_of};
+ghost use Rattle.cop_dcf.specs.Runs.{IsRun, run_of, IsBehind, Extends};
 ghost use Rattle.cop_dcf.specs.Pieces.{pair_follows, ends_entries, is_wanting, new_lines, whole_line, has_section, is_extended, adds_keys, piece_of, pieces_of, section_of};
 
 use crate::key_line::{KeyLine, SectionKeys};
@@ -177,8 +178,7 @@ fn is_followed(eds: &Eds<'_>, adds: bool, later: &[Line]) -> bool
     (adds || !later.is_empty()) || is_extended(eds)
 }
 
-/// Adds what a line becomes, and the new keys behind it. Where no key of its section is set, a line with an end stands as
-/// it is.
+/// Adds what a line becomes, and the new keys behind it.
 fn put_line(
     text: &mut Vec<u8>,
     eds: &Eds<'_>,
@@ -189,10 +189,6 @@ fn put_line(
     requires { IsInside (length eds.now) line.now }
     ensures { OnOk result (text.new.items ≡ text.old.items ++ piece_of eds.now (newline_of (rows_of eds.now)) keys.now line.now later.now) }
 {
-    if keys.is_empty() && line.to < line.next {
-        text.extend_from_slice(&eds.source()[line.from..line.next])?;
-        return Ok(());
-    }
     let newline = newline(eds);
     let adds = adds_keys(eds, keys, line, later);
     let body = body_of(eds, line, keys);
@@ -215,16 +211,83 @@ fn keys_in(table: &[SectionKeys], section: usize) -> &[KeyLine]
     }
 }
 
-/// Adds what the lines become.
+/// Whether a line stands in the DCF as it is: no key of its section is set, and it has an end.
+fn is_kept(keys: &[KeyLine], line: &Line) -> bool
+    ensures none { result ≡ true → (length keys.now == 0) ≡ true }
+    ensures ended { result ≡ true → line.now.to < line.now.next }
+{
+    keys.is_empty() && line.to < line.next
+}
+
+/// Lines that stand as they are, one behind the other: the bytes from one place to another.
+#[derive(Clone, Copy)]
+struct Run {
+    from: usize,
+    to: usize,
+}
+
+/// No line.
+const NO_RUN: Run = Run { from: 0, to: 0 };
+
+/// A run with the line behind it.
+fn with_line(run: Run, line: &Line) -> Run
+    ensures { (text : List ℕ) → IsRun text run → IsInside (length text) line.now → IsBehind run line.now → Extends text run line.now result }
+{
+    let from = if run.from == run.to {
+        line.from
+    } else {
+        run.from
+    };
+    Run {
+        from,
+        to: line.next,
+    }
+}
+
+/// Adds the lines of a run.
+fn put_run(text: &mut Vec<u8>, eds: &Eds<'_>, run: Run) -> Result<(), AllocError>
+    requires { IsRun eds.now run }
+    ensures { OnOk result (text.new.items ≡ text.old.items ++ run_of eds.now run) }
+{
+    text.extend_from_slice(&eds.source()[run.from..run.to])
+}
+
+/// Adds what a line becomes behind a run, or takes it into the run, which is added later.
+fn put_behind(
+    text: &mut Vec<u8>,
+    eds: &Eds<'_>,
+    keys: &[KeyLine],
+    line: &Line,
+    later: &[Line],
+    run: Run,
+) -> Result<Run, AllocError>
+    requires run { IsRun eds.now run }
+    requires behind { IsBehind run line.now }
+    requires inside { IsInside (length eds.now) line.now }
+    ensures run { IfOk result (IsRun eds.now) }
+    ensures to { IfOk result (λ left. left.from < left.to → left.to ≡ line.now.next) }
+    ensures put { IfOk result (λ left. text.new.items ++ run_of eds.now left
+        ≡ (text.old.items ++ run_of eds.now run) ++ piece_of eds.now (newline_of (rows_of eds.now)) keys.now line.now later.now) }
+{
+    if is_kept(keys, line) {
+        return Ok(with_line(run, line));
+    }
+    put_run(text, eds, run)?;
+    put_line(text, eds, keys, line, later)?;
+    Ok(NO_RUN)
+}
+
+/// Adds what the lines become. Those that stand as they are, one behind the other, are added in one piece.
 fn put_lines(text: &mut Vec<u8>, eds: &Eds<'_>, table: &[SectionKeys]) -> Result<(), AllocError>
     ensures { OnOk result (text.new.items ≡ text.old.items ++ pieces_of eds.now (newline_of (rows_of eds.now)) table.now (lines_of eds.now)) }
 {
     let lines = eds.lines();
+    let mut run = NO_RUN;
     for (at, line) in lines.iter().enumerate() {
         let keys = keys_in(table, line.section);
-        put_line(text, eds, keys, line, &lines[at + 1..])?;
+        run = put_behind(text, eds, keys, line, &lines[at + 1..], run)?;
     }
-    Ok(())
+    put_run(text, eds, run)
 }
 
 /// Adds a section of this name with the keys that are set in it.

@@ -1,17 +1,10 @@
 -- The objects at the indexes that were looked at so far.
-use Rattle.std.proofs.Common.{◌≡◌, ℕ, zero, suc, ◌-◌, ◌<◌, ◌≤◌, ◌==◌, Bool, true, false, cond, nat_lt, List, [], ◌∷◌, ◌++◌, length, take, drop, get_or, fold, codes, Contains, Ok, refl, sym, ap, subst, ◌∙◌, arith}
+use Rattle.std.proofs.Common.{◌≡◌, ℕ, zero, suc, ◌-◌, ◌<◌, ◌≤◌, List, [], ◌∷◌, ◌++◌, length, take, drop, get_or, fold, codes, Contains, Ok, refl, sym, ap, subst, ◌∙◌, arith}
 use Rattle.std.specs.List.{AllByRecursion, flat_map}
-use Rattle.std.specs.List.Sorted.{IsStrictlySortedBy}
-use Rattle.std.specs.Ordering.{nat_cmp, match_ordering}
-use Rattle.std.specs.declared.cmp.Ordering.{Ordering}
-use Rattle.std.specs.declared.cmp.Ordering.TheVariants.{Less, Equal, Greater}
+use Rattle.std.specs.Ordering.{nat_cmp}
 use Rattle.std.specs.Map.{keys_of, values_of}
-use Rattle.std.specs.BTreeMap.{insert_entry}
 use Rattle.std.specs.BTreeSet.{insert_key}
-use Rattle.std.proofs.lemmas.Cmp.{tied_itself, nat_cmp_total}
-use Rattle.std.proofs.lemmas.Map.Keys.{below_from_sorted, sorted_tail}
 use Rattle.std.proofs.lemmas.List.{length-drop, drop-append-le, take-append-le, drop_at, length-append, take_all}
-use Rattle.std.proofs.lemmas.Bool.Decides.{nat_tests}
 use Rattle.cop_eds.specs.declared.fault.EdsFault.{EdsFault}
 use Rattle.cop_eds.specs.declared.fault.EdsFault.TheVariants.{Refused, Memory}
 use Rattle.cop_eds.specs.declared.description.Object.{Object}
@@ -44,53 +37,19 @@ spanned_last objects more =
     let rest : drop (length objects) (objects ++ more) ≡ more = drop_at objects more (length objects) refl in
     rw (rest, size) (take_all (length more) more (omega arith))
 
-all_insert : (P : ℕ × Span → Type 0) (parts : List (ℕ × Span)) (k : ℕ) (v : Span) → AllByRecursion P parts → P (k, v) → AllByRecursion P (insert_entry nat_cmp parts k v)
-all_insert P [] k v all h = (h, tt)
-all_insert P (part ∷ parts) k v all h = by_test (nat_lt k part.0) refl (k == part.0) refl (all_insert P parts k v all.1 h)
-  where
-    by_test : (a : Bool) → nat_lt k part.0 ≡ a → (b : Bool) → (k == part.0) ≡ b → AllByRecursion P (insert_entry nat_cmp parts k v)
-        → AllByRecursion P (match_ordering (cond a Less (cond b Equal Greater)) ((k, v) ∷ part ∷ parts) ((part.0, v) ∷ parts) (part ∷ insert_entry nat_cmp parts k v))
-    by_test true less b same later = (h, all)
-    by_test false less true same later = let here : k ≡ part.0 = grind (arith, nat_tests) in (subst (λ q. P (q, v)) here h, all.1)
-    by_test false less false same later = (all.0, later)
-
-pub keys_insert : (parts : List (ℕ × Span)) (k : ℕ) (v : Span) → keys_of (insert_entry nat_cmp parts k v) ≡ insert_key nat_cmp (keys_of parts) k
-keys_insert [] k v = refl
-keys_insert (part ∷ parts) k v = by_order (nat_cmp k part.0) (keys_insert parts k v)
-  where
-    by_order : (o : Ordering) → keys_of (insert_entry nat_cmp parts k v) ≡ insert_key nat_cmp (keys_of parts) k
-        → keys_of (match_ordering o ((k, v) ∷ part ∷ parts) ((part.0, v) ∷ parts) (part ∷ insert_entry nat_cmp parts k v))
-        ≡ match_ordering o (k ∷ part.0 ∷ keys_of parts) (part.0 ∷ keys_of parts) (part.0 ∷ insert_key nat_cmp (keys_of parts) k)
-    by_order Less later = refl
-    by_order Equal later = refl
-    by_order Greater later = ap (λ ks. part.0 ∷ ks) later
+all_last : (P : ℕ × Span → Type 0) (parts : List (ℕ × Span)) (part : ℕ × Span) → AllByRecursion P parts → P part → AllByRecursion P (parts ++ part ∷ [])
+all_last P [] part all h = (h, tt)
+all_last P (first ∷ parts) part all h = (all.0, all_last P parts part all.1 h)
 
 -- one more index, with the objects that come last
 pub parts_new : (text : List ℕ) (objects all : List Object) (parts : List (ℕ × Span)) (k from to : ℕ) → all ≡ objects ++ objects_at text k
     → from ≡ length objects → to ≡ length all → IsSound text k → AllByRecursion (IsPart text objects) parts
-    → AllByRecursion (IsPart text all) (insert_entry nat_cmp parts k (record { from = from; to = to }))
+    → AllByRecursion (IsPart text all) (parts ++ (k, record { from = from; to = to }) ∷ [])
 parts_new text objects all parts k from to e start end sound h =
     let new : IsPart text (objects ++ objects_at text k) (k, record { from = length objects; to = length (objects ++ objects_at text k) }) =
     (sound, (omega (arith, length-append objects (objects_at text k)), omega arith), spanned_last objects (objects_at text k)) in
     let there : to ≡ length (objects ++ objects_at text k) = end ∙ ap length e in
-    rw (e, start, there) (all_insert (IsPart text (objects ++ objects_at text k)) parts k _ (parts_more text objects (objects_at text k) parts h) new)
-
--- an index that is there is not added again
-pub insert_there : (ks : List ℕ) (k i : ℕ) → IsStrictlySortedBy nat_cmp ks → i < length ks → get_or ks i k ≡ k → insert_key nat_cmp ks k ≡ ks
-insert_there [] k i sorted lt e = absurd (omega arith)
-insert_there (x ∷ ks) k zero sorted lt e =
-    let equal : nat_cmp k x ≡ Equal = ap (nat_cmp k) e ∙ tied_itself nat_cmp_total k in
-    rw equal refl
-insert_there (x ∷ ks) k (suc i) sorted lt e = by_test (nat_lt k x) refl (k == x) refl (insert_there ks k i (sorted_tail nat_cmp x ks sorted) (omega arith) e)
-  where
-    below : x < k
-    below = let less = below_from_sorted (x ∷ ks) 0 (suc i) k sorted (omega arith) lt in omega (arith, less, e)
-
-    by_test : (a : Bool) → nat_lt k x ≡ a → (b : Bool) → (k == x) ≡ b → insert_key nat_cmp ks k ≡ ks
-        → match_ordering (cond a Less (cond b Equal Greater)) (k ∷ x ∷ ks) (x ∷ ks) (x ∷ insert_key nat_cmp ks k) ≡ x ∷ ks
-    by_test true less b same later = let lt : k < x = grind (arith, nat_tests) in absurd (omega (arith, below))
-    by_test false less true same later = refl
-    by_test false less false same later = ap (λ ys. x ∷ ys) later
+    rw (e, start, there) (all_last (IsPart text (objects ++ objects_at text k)) parts _ (parts_more text objects (objects_at text k) parts h) new)
 
 sound_at : (text : List ℕ) (objects : List Object) (parts : List (ℕ × Span)) (i d : ℕ) → AllByRecursion (IsPart text objects) parts → i < length (keys_of parts)
     → IsSound text (get_or (keys_of parts) i d)

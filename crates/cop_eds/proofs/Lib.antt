@@ -9,12 +9,14 @@ pub mod SoundLemmas
 pub mod FoundLemmas
 pub mod RateLemmas
 pub mod OrderLemmas
+pub mod MetLemmas
 pub mod SearchLemmas
 pub mod IndexLemmas
 pub mod CodeLemmas
 pub mod MixLemmas
 pub mod TicketLemmas
 pub mod MarkLemmas
+pub mod BitLemmas
 pub mod KeyLemmas
 pub mod ValueLemmas
 pub mod RefusalLemmas

@@ -90,7 +90,7 @@ objects_at_rise text index ys h = by_bound (nat_lt 65535 index)
     by_bound false = by_place (coded_place text (object_code index))
 
 -- numbers that rise from one on
-Increases : ℕ → List ℕ → Type 0
+unfoldable pub Increases : ℕ → List ℕ → Type 0
 Increases low [] = Unit {0}
 Increases low (x ∷ xs) = (low ≤ x) × Increases (x + 1) xs
 
@@ -105,7 +105,7 @@ insert_increases low k (x ∷ xs) le h = by_test (nat_lt k x) refl (k == x) refl
     by_test false less true same later = h
     by_test false less false same later = (h.0, later (grind (arith, nat_tests)))
 
-fold_increases : (found xs : List ℕ) → Increases 0 found → Increases 0 (fold (insert_key nat_cmp) found xs)
+pub fold_increases : (found xs : List ℕ) → Increases 0 found → Increases 0 (fold (insert_key nat_cmp) found xs)
 fold_increases found [] h = h
 fold_increases found (x ∷ xs) h = fold_increases (insert_key nat_cmp found x) xs (insert_increases 0 x found (omega arith) h)
 

@@ -315,14 +315,14 @@ alone_ticket text lines bits tickets p x all rising at = alone_first text lines 
 
 -- the tickets of the lines so far
 
-pub sound_push : (text : List ℕ) (lines : List Line) (bits : ℕ) (tickets : List Ticket) (i word : ℕ) (d : Line) (key : List ℕ) → i < length lines
-    → line_key text (get_or lines i d) ≡ Some key → word ≡ word_of bits key
+pub sound_push : (text : List ℕ) (lines : List Line) (bits : ℕ) (tickets : List Ticket) (i word : ℕ) (d : Line) → i < length lines
+    → option_map (word_of bits) (line_key text (get_or lines i d)) ≡ Some word
     → All (IsTicket text lines bits) tickets → All (IsTicket text lines bits) (tickets ++ record { word = word; line = i + 1 } ∷ [])
-sound_push text lines bits tickets i word d key lt its_key its_word so_far =
+sound_push text lines bits tickets i word d lt its_word so_far =
     let t : Ticket = record { word = word; line = i + 1 } in
     let place : i ≡ t.line - 1 = omega arith in
     let at : slice_get lines (t.line - 1) ≡ Some (get_or lines i d) = ap (slice_get lines) (sym place) ∙ slice_get-get_or lines i d lt in
-    let own : IsTicket text lines bits t = (omega arith, (get_or lines i d, at, ap (option_map (word_of bits)) its_key ∙ ap (λ w. Some w) (sym its_word))) in
+    let own : IsTicket text lines bits t = (omega arith, (get_or lines i d, at, its_word)) in
     All-append (IsTicket text lines bits) tickets (t ∷ []) so_far (all_one_by (IsTicket text lines bits) t own)
 
 pub all_tickets : (text : List ℕ) (lines : List Line) (bits : ℕ) (tickets sorted : List Ticket) → IsPermutation tickets sorted → All (IsTicket text lines bits) tickets

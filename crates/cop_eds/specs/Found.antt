@@ -1,7 +1,6 @@
 -- The objects at the indexes that were looked at so far.
-use Rattle.std.specs.Prelude.{ℕ, ◌≡◌, ◌≤◌, List, length, fold, slice_range, Result, Ok, Err}
+use Rattle.std.specs.Prelude.{ℕ, ◌≡◌, ◌≤◌, true, List, length, fold, slice_range, Contains, Result, Ok, Err}
 use Rattle.std.specs.List.{AllByRecursion}
-use Rattle.std.specs.List.Sorted.{IsStrictlySortedBy}
 use Rattle.std.specs.Ordering.{nat_cmp}
 use Rattle.std.specs.BTreeSet.{insert_key}
 use Rattle.std.specs.Map.{keys_of}
@@ -9,6 +8,8 @@ use Rattle.cop_eds.specs.declared.fault.EdsFault.{EdsFault}
 use Rattle.cop_eds.specs.declared.fault.Refusal.{Refusal}
 use Rattle.cop_eds.specs.declared.description.Object.{Object}
 use Rattle.cop_eds.specs.declared.found.Span.{Span}
+use Rattle.cop_eds.specs.declared.bits.Bits.{Bits}
+use Rattle.cop_eds.specs.Bits.{has}
 use Rattle.cop_eds.specs.Lines.{Fails}
 use Rattle.cop_eds.specs.Lists.{IsSound}
 use Rattle.cop_eds.specs.Objects.{objects_at}
@@ -25,10 +26,10 @@ spanned objects span = slice_range objects span.from span.to
 abbrev pub IsPart : List ℕ → List Object → ℕ × Span → Type 0
 IsPart text objects part = IsSound text part.0 × IsInside (length objects) part.1 × (spanned objects part.1 ≡ objects_at text part.0)
 
--- indexes in rising order, each with the span of its objects
-pub record AreFound (text : List ℕ) (objects : List Object) (parts : List (ℕ × Span)) : Type 0 where
-  pub ordered : IsStrictlySortedBy nat_cmp (keys_of parts)
+-- indexes, each beside the span of its objects; what is seen is one of them
+pub record AreFound (text : List ℕ) (objects : List Object) (parts : List (ℕ × Span)) (seen : Bits) : Type 0 where
   pub parted : AllByRecursion (IsPart text objects) parts
+  pub there : (index : ℕ) → has seen.words.items index ≡ true → Contains (keys_of parts) index
 
 -- the indexes that a reading gives come to those before, or it is refused
 abbrev pub Adds : Result (List ℕ) Refusal → List ℕ → List ℕ → Result (Unit {0}) EdsFault → Type 0

@@ -5,6 +5,7 @@ pub mod Names
 pub mod Lines
 pub mod Index
 pub mod Marks
+pub mod Bits
 pub mod Tickets
 pub mod Sections
 pub mod Amount

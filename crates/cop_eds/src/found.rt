@@ -2,13 +2,16 @@
 
 ghost use Rattle.std.specs.Prelude.{◌≡◌, IfOk, OnOk, length};
 ghost use Rattle.std.specs.List.{AllByRecursion, flat_map};
+ghost use Rattle.std.specs.Map.{keys_of};
 ghost use Rattle.std.specs.Ordering.{nat_cmp};
-ghost use Rattle.std.specs.BTreeMap.{keys, values};
+ghost use Rattle.std.specs.BTreeMap.{IsFromIterResult, values};
 ghost use Rattle.std.specs.BTreeSet.{insert_key};
 ghost use Rattle.cop_eds.specs.Lines.{Gives};
 ghost use Rattle.cop_eds.specs.Lists.{checked_object};
+ghost use Rattle.cop_eds.specs.Objects.{rising};
 ghost use Rattle.cop_eds.specs.Found.{IsInside, spanned, AreFound};
 
+use crate::bits::Bits;
 use crate::description::Object;
 use crate::fault::EdsFault;
 use crate::objects::read_object;
@@ -23,11 +26,13 @@ pub struct Span {
     pub to: usize,
 }
 
-/// The objects at the indexes that were looked at, in the order in which these were met.
+/// The objects at the indexes that were looked at, in the order in which these were met: each index beside the places of
+/// its objects.
 #[derive(Drop)]
 pub struct Found {
     pub objects: Vec<Object>,
-    pub spans: BTreeMap<u64, Span>,
+    pub parts: Vec<(u64, Span)>,
+    pub seen: Bits,
 }
 
 /// Adds the objects at the index that an entry at this line names. Each index is looked at once.
@@ -37,29 +42,41 @@ pub fn find_object(
     line: usize,
     index: u64,
 ) -> Result<(), EdsFault>
-    requires { AreFound text.now found.old.objects.items found.old.spans.entries }
+    requires { AreFound text.now found.old.objects.items found.old.parts.items found.old.seen }
     ensures value { Gives (λ done. done) result (checked_object text.now line index) }
-    ensures sound { OnOk result (AreFound text.now found.new.objects.items found.new.spans.entries) }
-    ensures keys { OnOk result (keys found.new.spans ≡ insert_key nat_cmp (keys found.old.spans) index) }
+    ensures sound { OnOk result (AreFound text.now found.new.objects.items found.new.parts.items found.new.seen) }
+    ensures keys { OnOk result (rising (keys_of found.new.parts.items) ≡ insert_key nat_cmp (rising (keys_of found.old.parts.items)) index) }
 {
-    if found.spans.contains_key(&index) {
+    if found.seen.contains(index) {
         return Ok(());
     }
     let from = found.objects.len();
     read_object(&mut found.objects, text, line, index)?;
     let to = found.objects.len();
-    found.spans.insert(index, Span { from, to })?;
+    found.parts.push((index, Span { from, to }))?;
+    found.seen.insert(index)?;
     Ok(())
 }
 
-/// The objects by rising index.
-pub fn in_order(alloc: Global, found: &Found) -> Result<Vec<Object>, AllocError>
-    requires { AllByRecursion (IsInside (length found.now.objects.items)) (values found.now.spans) }
-    ensures { IfOk result (λ objects. objects.items ≡ flat_map (spanned found.now.objects.items) (values found.now.spans)) }
+/// The parts by rising index.
+pub fn spans_of(alloc: Global, parts: &[(u64, Span)]) -> Result<BTreeMap<u64, Span>, AllocError>
+    ensures { IfOk result (λ spans. IsFromIterResult nat_cmp parts.now spans) }
 {
-    let mut objects = Vec::with_capacity(alloc, found.objects.len())?;
-    for span in found.spans.values() {
-        objects.extend_from_slice(&found.objects[span.from..span.to])?;
+    parts.iter().copied().collect(alloc)
+}
+
+/// The objects by rising index.
+pub fn in_order(
+    alloc: Global,
+    all: &[Object],
+    spans: &BTreeMap<u64, Span>,
+) -> Result<Vec<Object>, AllocError>
+    requires { AllByRecursion (IsInside (length all.now)) (values spans.now) }
+    ensures { IfOk result (λ objects. objects.items ≡ flat_map (spanned all.now) (values spans.now)) }
+{
+    let mut objects = Vec::with_capacity(alloc, all.len())?;
+    for span in spans.values() {
+        objects.extend_from_slice(&all[span.from..span.to])?;
     }
     Ok(objects)
 }

@@ -2,6 +2,7 @@
 #![tactic(auto)]
 
 mod amount;
+mod bits;
 mod description;
 mod eds;
 mod entry;

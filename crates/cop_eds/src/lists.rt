@@ -3,23 +3,23 @@
 ghost use Rattle.std.specs.Prelude.{◌≡◌, ℕ, List, [], IfOk, OnOk, MatchResult, Ok};
 ghost use Rattle.std.specs.Option.{option_map};
 ghost use Rattle.std.specs.Ordering.{nat_cmp};
-ghost use Rattle.std.specs.BTreeMap.{keys};
+ghost use Rattle.std.specs.Map.{keys_of};
 ghost use Rattle.std.specs.BTreeSet.{insert_key};
 ghost use Rattle.cop_eds.specs.Lines.{Gives, Fails, Sees};
 ghost use Rattle.cop_eds.specs.Sections.{place_of};
 ghost use Rattle.cop_eds.specs.Steps.{needed};
 ghost use Rattle.cop_eds.specs.Lists.{listed_at, listed_from, listed_in, listed};
-ghost use Rattle.cop_eds.specs.Objects.{objects_of};
+ghost use Rattle.cop_eds.specs.Objects.{objects_of, rising};
 ghost use Rattle.cop_eds.specs.Found.{AreFound, Adds};
 
+use crate::bits::Bits;
 use crate::description::{Object, number_at};
 use crate::fault::{EdsFault, Refusal, missing};
-use crate::found::{Found, find_object, in_order};
+use crate::found::{Found, find_object, in_order, spans_of};
 use crate::line::Place;
 use crate::sections::Sections;
 use itoa::Buffer;
 use std::alloc::Global;
-use std::collections::BTreeMap;
 
 fn needed<'a>(line: usize, entry: Option<(usize, &'a [u8])>) -> Result<(usize, &'a [u8]), Refusal>
     ensures { Sees {Y = ℕ × List ℕ} (λ e. (e.0, e.1.now)) result (needed line (option_map (λ e. (e.0, e.1.now)) entry.entry)) }
@@ -35,10 +35,10 @@ fn listed_at(
     list: Place,
     place: u64,
 ) -> Result<u64, EdsFault>
-    requires { AreFound text.now found.old.objects.items found.old.spans.entries }
+    requires { AreFound text.now found.old.objects.items found.old.parts.items found.old.seen }
     ensures value { Gives (λ index. index) result (listed_at text.now list place) }
-    ensures sound { OnOk result (AreFound text.now found.new.objects.items found.new.spans.entries) }
-    ensures keys { IfOk result (λ index. keys found.new.spans ≡ insert_key nat_cmp (keys found.old.spans) index) }
+    ensures sound { OnOk result (AreFound text.now found.new.objects.items found.new.parts.items found.new.seen) }
+    ensures keys { IfOk result (λ index. rising (keys_of found.new.parts.items) ≡ insert_key nat_cmp (rising (keys_of found.old.parts.items)) index) }
 {
     let mut buffer = Buffer::new();
     let key = buffer.format(place).as_bytes();
@@ -57,9 +57,9 @@ fn listed_from(
     list: Place,
     count: u64,
 ) -> Result<(), EdsFault>
-    requires { AreFound text.now found.old.objects.items found.old.spans.entries }
-    ensures sound { OnOk result (AreFound text.now found.new.objects.items found.new.spans.entries) }
-    ensures added { Adds (listed_from text.now list [] count) (keys found.old.spans) (keys found.new.spans) result }
+    requires { AreFound text.now found.old.objects.items found.old.parts.items found.old.seen }
+    ensures sound { OnOk result (AreFound text.now found.new.objects.items found.new.parts.items found.new.seen) }
+    ensures added { Adds (listed_from text.now list [] count) (rising (keys_of found.old.parts.items)) (rising (keys_of found.new.parts.items)) result }
 {
     for place in 0..count {
         listed_at(found, text, list, place + 1)?;
@@ -70,9 +70,9 @@ fn listed_from(
 /// Looks at what the list in the section of this name names.
 #[tactic(auto, unfolding(crate::specs::Lists::listed_in))]
 fn listed_in(found: &mut Found, text: &Sections<'_>, name: &[u8]) -> Result<(), EdsFault>
-    requires { AreFound text.now found.old.objects.items found.old.spans.entries }
-    ensures sound { OnOk result (AreFound text.now found.new.objects.items found.new.spans.entries) }
-    ensures added { Adds (listed_in text.now (place_of text.now name.now)) (keys found.old.spans) (keys found.new.spans) result }
+    requires { AreFound text.now found.old.objects.items found.old.parts.items found.old.seen }
+    ensures sound { OnOk result (AreFound text.now found.new.objects.items found.new.parts.items found.new.seen) }
+    ensures added { Adds (listed_in text.now (place_of text.now name.now)) (rising (keys_of found.old.parts.items)) (rising (keys_of found.new.parts.items)) result }
 {
     let Some(list) = text.named(name) else {
         return Ok(());
@@ -90,10 +90,12 @@ pub fn objects(alloc: Global, text: &Sections<'_>) -> Result<Vec<Object>, EdsFau
 {
     let mut found = Found {
         objects: Vec::new(alloc),
-        spans: BTreeMap::new(alloc),
+        parts: Vec::new(alloc),
+        seen: Bits::new(alloc),
     };
     listed_in(&mut found, text, b"MandatoryObjects")?;
     listed_in(&mut found, text, b"OptionalObjects")?;
     listed_in(&mut found, text, b"ManufacturerObjects")?;
-    Ok(in_order(alloc, &found)?)
+    let spans = spans_of(alloc, &found.parts)?;
+    Ok(in_order(alloc, &found.objects, &spans)?)
 }

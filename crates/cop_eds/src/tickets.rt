@@ -1,9 +1,10 @@
 //! Tickets: the lines that are found by a name, by numbers that stand for the names. Where no two lines have one number,
 //! a line is found with no look at other lines' names.
 
-ghost use Rattle.std.specs.Prelude.{◌≡◌, ◌↔◌, ◌<◌, ◌≤◌, ◌-◌, ◌+◌, ◌&&◌, ℕ, List, length, true, false, IfOk, OnOk, MatchOption, Some, is_some, slice_get, Contains};
+ghost use Rattle.std.specs.Prelude.{◌≡◌, ◌↔◌, ◌<◌, ◌≤◌, ◌-◌, ◌+◌, ◌&&◌, ℕ, List, length, true, false, IfOk, OnOk, MatchOption, Some, None, is_some, slice_get, Contains};
 ghost use Rattle.std.specs.List.{All, AllWithin};
 ghost use Rattle.std.specs.List.Sorted.{IsPermutation};
+ghost use Rattle.std.specs.Option.{option_map};
 ghost use Rattle.std.specs.Str.{str_to_ascii_lowercase};
 ghost use Rattle.cop_eds.specs.declared.line.Line.{Line};
 ghost use Rattle.cop_eds.specs.declared.tickets.Ticket.{Ticket};
@@ -13,9 +14,11 @@ ghost use Rattle.cop_eds.specs.Marks.{AreMarked};
 ghost use Rattle.cop_eds.specs.Tickets.{stirred, low_bits, mixed_each, mixed, word_of, is_ahead, IsTicket, AreTickets, AreRising, AreOrdered, Surround};
 
 use crate::entry::Entry;
-use crate::index::{has_key, is_kind, line_entry};
+use crate::index::{has_key, header_entry, is_kind, line_entry, pair_entry};
 use crate::line::{Kind, Line};
+use crate::lines::text_of;
 use crate::marks::{is_marked, mark_of};
+use crate::text::{key_of, name_of};
 use std::alloc::{AllocError, Global};
 
 /// The least number of a name that is none of an object's section.
@@ -139,6 +142,20 @@ fn sort_tickets(tickets: &mut Vec<Ticket>, bits: u32)
     }
 }
 
+/// The number that stands for what a line is found by, where it is a header or a pair.
+fn word_at(source: &[u8], line: &Line, bits: u32) -> Option<u64>
+    requires within { IsWithin (length source.now) line.now }
+    requires fits { (0 < bits) × (bits < 64) }
+    ensures { MatchOption result (line_key source.now line.now ≡ None) (λ word. option_map (word_of bits) (line_key source.now line.now) ≡ Some word) }
+{
+    let text = text_of(source, line);
+    match line.kind {
+        Kind::Other => None,
+        Kind::Header => Some(word_of(bits, &header_entry(name_of(text)))),
+        Kind::Pair => Some(word_of(bits, &pair_entry(line.section, key_of(text)))),
+    }
+}
+
 /// Adds the tickets of the lines of a kind that are found by a name, in their order.
 fn push_tickets(
     tickets: &mut Vec<Ticket>,
@@ -160,11 +177,11 @@ fn push_tickets(
         if !is_kind(line.kind, kind) {
             continue;
         }
-        let Some(entry) = line_entry(source, line) else {
+        let Some(word) = word_at(source, line, bits) else {
             continue;
         };
         tickets.push(Ticket {
-            word: word_of(bits, &entry),
+            word,
             line: place + 1,
         })?;
     }

@@ -1,9 +1,13 @@
 -- One turn more.
-use Rattle.std.proofs.Common.{◌≡◌, ℕ, suc, ◌+◌, ◌-◌, ◌*◌, ◌%◌, ◌<◌, ◌≤◌, ◌==◌, Bool, true, false, cond, List, [], ◌∷◌, ◌++◌, sym, ap, ◌∙◌, arith, append_assoc, append-nil}
+use Rattle.std.proofs.Common.{◌≡◌, ℕ, suc, ◌+◌, ◌-◌, ◌*◌, ◌%◌, ◌<◌, ◌≤◌, ◌==◌, Bool, true, false, cond, List, [], ◌∷◌, ◌++◌, sym, ap, subst, ◌∙◌, arith, append_assoc, append-nil}
 use Rattle.rand_core.specs.Steps.{first_words}
 use Rattle.rand_pcg.specs.Lcg.{Lcg}
 use Rattle.rand_pcg.specs.Pcg.{pcg32}
+use Rattle.cop_boot.specs.declared.schedule.Boot.{Boot}
 use Rattle.cop_boot.specs.declared.turn.Turn.{Turn}
+use Rattle.cop_boot.specs.Manager.{Managing}
+use Rattle.cop_boot.specs.Device.{Attached}
+use Rattle.cop_boot.specs.UnderWay.{IsUnderWay, HasRoomFor}
 use Rattle.cop_engine.specs.Turns.{kinds, turn_of, passed_by, turns_of}
 
 -- the turns so far and those of the words that are left are all turns
@@ -34,3 +38,16 @@ pub none_left : (nodes : List ℕ) (all turns : List Turn) (now left : ℕ) (gen
 unfolding first_words turns_of
 none_left nodes all turns now left generator none so_far =
     sym (so_far ∙ ap (λ left. turns ++ turns_of nodes now (first_words pcg32 left generator)) none ∙ append-nil turns)
+
+-- some of the turns that were drawn are taken, and there is room for the others
+pub record IsBooting (m : Managing) (devices : List Attached) (nodes : List ℕ) (all : List Turn) (now left : ℕ) (generator : Lcg) (later : Managing) (after : List Attached) (boot : Boot) : Type 0 where
+  pub turns : List Turn
+  pub drawn : IsDrawn nodes all turns now left generator
+  pub under_way : IsUnderWay m devices turns later after boot
+  pub room : HasRoomFor left later boot
+
+-- at last all are taken
+pub all_taken : (m : Managing) (devices : List Attached) (nodes : List ℕ) (all : List Turn) (now left : ℕ) (generator : Lcg) (later : Managing) (after : List Attached) (boot : Boot) → left ≡ 0
+    → IsBooting m devices nodes all now left generator later after boot → IsUnderWay m devices all later after boot
+all_taken m devices nodes all now left generator later after boot none booting =
+    subst (λ ts. IsUnderWay m devices ts later after boot) (none_left nodes all booting.turns now left generator none booting.drawn) booting.under_way

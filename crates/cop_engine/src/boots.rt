@@ -14,8 +14,8 @@ ghost use Rattle.cop_engine.specs.Boots.{device_nodes, managed, manager_of, devi
 
 use crate::faults::Fault;
 use crate::judgements::none_passes;
-use crate::turns::turns_drawn;
-use cop_boot::{Device, End, Manager, run_schedule};
+use crate::turns::boot_by_drawn;
+use cop_boot::{Device, End, Manager};
 use cop_dcf::{Setting, settings};
 use cop_dict::{Dictionary, Object};
 use cop_net::{Network, network, read_nodes, read_pdos};
@@ -170,8 +170,7 @@ fn booted(
     let nodes = device_nodes(alloc, network)?;
     let mut manager = manager_of(alloc, plan, network, &nodes)?;
     let mut devices = devices_of(alloc, network, &nodes)?;
-    let turns = turns_drawn(alloc, seed, &nodes)?;
-    run_schedule(alloc, &mut manager, &mut devices, &turns)?;
+    boot_by_drawn(alloc, seed, &nodes, &mut manager, &mut devices)?;
     boot_text(alloc, &manager, &nodes)
 }
 

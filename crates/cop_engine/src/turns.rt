@@ -1,9 +1,14 @@
 //! The turns of a boot, as a seed draws them.
 
-ghost use Rattle.std.specs.Prelude.{◌≡◌, ◌≤◌, ◌<◌, ◌^◌, length, IfOk};
+ghost use Rattle.std.specs.Prelude.{◌≡◌, ◌≤◌, ◌<◌, ◌^◌, ℕ, false, List, length, OnOk};
+ghost use Rattle.cop_dict.specs.Find.{Entry};
+ghost use Rattle.cop_net.specs.Network.{Net};
+ghost use Rattle.cop_boot.specs.Booted.{CanBoot, ReadyInTime};
+ghost use Rattle.cop_boot.specs.Bus.{Runs, Made};
+ghost use Rattle.cop_boot.specs.NetworkBoot.{IsPlanOf, HavePlannedPdos};
 ghost use Rattle.cop_engine.specs.Turns.{kinds, turn_of, passed_by, turns_drawn};
 
-use cop_boot::Turn;
+use cop_boot::{Boot, Device, Manager, Turn};
 use rand_core::utils::NextWord;
 use rand_pcg::Lcg64Xsh32;
 use std::alloc::{AllocError, Global};
@@ -37,19 +42,32 @@ fn passed_by(now: u64, kind: u32) -> u64
     if kind == 0 { now + STEP } else { now }
 }
 
-/// The turns that a seed draws for the devices of some nodes, 4,000 of each kind on average.
-pub fn turns_drawn(alloc: Global, seed: u64, nodes: &[u8]) -> Result<Vec<Turn>, AllocError>
-    requires { length nodes.now ≤ 127 }
-    ensures { IfOk result (λ turns. turns.items ≡ turns_drawn seed nodes.now) }
+/// Boots devices by the turns that a seed draws for some nodes, 4,000 of each kind on average: each is drawn when it is taken.
+/// After an `Err` nothing has changed.
+pub fn boot_by_drawn(
+    alloc: Global,
+    seed: u64,
+    nodes: &[u8],
+    manager: &mut Manager,
+    devices: &mut [Device],
+) -> Result<(), AllocError>
+    requires nodes { length nodes.now ≤ 127 }
+    requires begun { manager.old.begun ≡ false }
+    ensures runs { OnOk result (Runs manager.old devices.old (turns_drawn seed nodes.now) manager.new devices.new) }
+    ensures configures { OnOk result ((built : ℕ → List Entry) → CanBoot manager.old devices.old built → Made manager.old built manager.new devices.new) }
+    ensures in_time { OnOk result ((built : ℕ → List Entry) → CanBoot manager.old devices.old built → ReadyInTime manager.old devices.old (turns_drawn seed nodes.now) manager.new) }
+    ensures exist { OnOk result ((net : Net) (ids : List ℕ) (built : ℕ → List Entry) → CanBoot manager.old devices.old built
+        → IsPlanOf net ids manager.old built → HavePlannedPdos net ids manager.new devices.new) }
 {
     let kinds = 2 * nodes.len() as u32 + 1;
+    let turns = TURNS_OF_A_KIND * kinds;
+    let mut boot = Boot::begin(alloc, manager, turns as usize)?;
     let mut generator = Lcg64Xsh32::new(seed, 0);
     let mut now = 0;
-    let mut turns = Vec::new(alloc);
-    for _turn in 0..TURNS_OF_A_KIND * kinds {
+    for _turn in 0..turns {
         let kind = generator.next_word() % kinds;
         now = passed_by(now, kind);
-        turns.push(turn_of(nodes, now, kind))?;
+        boot.take(manager, devices, turn_of(nodes, now, kind));
     }
-    Ok(turns)
+    Ok(())
 }

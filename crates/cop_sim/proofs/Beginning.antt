@@ -88,11 +88,6 @@ abbrev pub ids_of : List Stream → List ℕ
 ids_of ks = map (λ k. k.id) ks
 
 -- nothing waits in the rings at first
-pub none-waits : (ks : List Stream) (i : ℕ) (r : RingValue) → slice_get (rings_of ks) i ≡ Some r → r.waiting ≡ []
-none-waits [] i r f = absurd (cc)
-none-waits (l ∷ ks) zero r f = (let q : record { id = l.id; waiting = []; most = most_of l } ≡ r = cc in ap (λ (v : RingValue). v.waiting) (sym q))
-none-waits (l ∷ ks) (suc i) r f = none-waits ks i r f
-
 ring-at : (ks : List Stream) (i : ℕ) (k : Stream) (r : RingValue) → slice_get ks i ≡ Some k → slice_get (rings_of ks) i ≡ Some r → (r.id ≡ k.id) × (r.waiting ≡ []) × (r.most ≡ most_of k)
 ring-at [] i k r e f = absurd (cc)
 ring-at (l ∷ ks) zero k r e f = (let p : l ≡ k = cc in let q : record { id = l.id; waiting = []; most = most_of l } ≡ r = cc in

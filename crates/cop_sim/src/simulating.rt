@@ -60,12 +60,13 @@ pub fn simulate_over<B: Behaviour, S: Sink>(
         × IsPartialPlay (ticks_of plan.now.rate) (actors_of B.offer B.agrees plan.now.streams behaviours.items) until steps
         × LeftOff S.takes sink.old steps sink.new fault) }
 {
-    let streams = plan.streams().streams();
+    let set = plan.streams();
+    let streams = set.streams();
     if behaviours.len() != streams.len() {
         return Err(SimFault::Count);
     }
     let mut behaviours = behaviours;
-    let mut stage = first_stage(alloc, streams, &mut behaviours, until)?;
+    let mut stage = first_stage(alloc, set, &mut behaviours, until)?;
     for _turn in 0..u64::MAX {
         let goes_on = turn(plan, until, &mut behaviours, &mut stage, sink)?;
         if !goes_on {

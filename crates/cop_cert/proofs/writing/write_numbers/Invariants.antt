@@ -1,7 +1,9 @@
-use Rattle.std.proofs.Common.{map, take}
-use Rattle.cop_cert.specs.Format.{fields_of}
-use Rattle.cop_cert.specs.Writer.{Adds}
+use Rattle.std.proofs.Common.{◌≡◌, ◌++◌, length, map}
+use Rattle.cop_cert.specs.Format.{fields_of, lines}
 use Rattle.cop_cert.proofs.writing.write_numbers.Given as goal
 
-abbrev pub invariant-loop-value : goal.invariant-loop-value
-invariant-loop-value l = Adds l.fn.text.items l.text.items (map (fields_of l.fn.rate l.number l.what) (take l.value-index l.numbers))
+abbrev pub invariant-loop-rest : goal.invariant-loop-rest
+invariant-loop-rest l = l.text.items ++ lines (map (fields_of l.fn.rate l.number l.what) l.rest) ≡ l.fn.text.items ++ lines (map (fields_of l.fn.rate l.number l.what) l.numbers)
+
+abbrev pub decreases-loop-rest : goal.decreases-loop-rest
+decreases-loop-rest l = length l.rest

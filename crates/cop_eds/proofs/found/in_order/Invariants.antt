@@ -6,6 +6,6 @@ use Rattle.cop_eds.proofs.found.in_order.Given as goal
 
 abbrev pub invariant-loop-span : goal.invariant-loop-span
 invariant-loop-span l = record {
-  collected : l.objects.items ++ flat_map (spanned l.found.objects.items) l.span-iterator ≡ flat_map (spanned l.found.objects.items) (values l.found.spans);
-  inside : AllByRecursion (IsInside (length l.found.objects.items)) l.span-iterator;
+  collected : l.objects.items ++ flat_map (spanned l.all) l.span-iterator ≡ flat_map (spanned l.all) (values l.spans);
+  inside : AllByRecursion (IsInside (length l.all)) l.span-iterator;
 }

@@ -15,12 +15,12 @@ returns-then-len-streams-clause-left g c = ([], nothing-yet (ticks_of c.args.pla
 pub returns-in_err-stage-clause-cause : goal.returns-in_err-stage-clause-cause
 returns-in_err-stage-clause-cause g c =
     err-if c.from_residual.result _ c.in_err-stage.field-0.0 c.from_residual.ensures.1
-    (first-cause g.B.Behaviour.offer g.B.Behaviour.agrees c.args.plan.now c.args.until c.args.behaviours.items c.args.behaviours.items [] [] c.streams-streams.result.now _ _ c.in_err-stage.field-0.0 (c.streams-streams.ensures.items ∙ c.streams.ensures.items) (let l = c.if-len-streams.false in let n = c.len.ensures in let m = ap (λ (s : List Stream). length s) (c.streams-streams.ensures.items ∙ c.streams.ensures.items) in omega (arith, l, n, m)) c.in_err-stage.ensures.fault)
+    (first-cause g.B.Behaviour.offer g.B.Behaviour.agrees c.args.plan.now c.args.until c.args.behaviours.items c.args.behaviours.items [] [] c.streams-set.result.now _ _ c.in_err-stage.field-0.0 c.streams-set.ensures.items (let l = c.if-len-streams.false in let n = c.len.ensures in let m = ap (λ (s : List Stream). length s) (c.streams-streams.ensures.items ∙ c.streams-set.ensures.items) in omega (arith, l, n, m)) c.in_err-stage.ensures.fault)
 
 pub returns-in_err-stage-clause-left : goal.returns-in_err-stage-clause-left
 returns-in_err-stage-clause-left g c =
     err-if c.from_residual.result _ c.in_err-stage.field-0.0 c.from_residual.ensures.1
-    (first-left g.B.Behaviour.offer g.B.Behaviour.agrees c.args.plan.now c.args.until c.args.behaviours.items c.args.behaviours.items [] [] g.S.Sink.takes c.streams-streams.result.now c.args.sink.now c.in_err-stage.field-0.0 c.in_err-stage.ensures.fault)
+    (first-left g.B.Behaviour.offer g.B.Behaviour.agrees c.args.plan.now c.args.until c.args.behaviours.items c.args.behaviours.items [] [] g.S.Sink.takes c.streams-set.result.now c.args.sink.now c.in_err-stage.field-0.0 c.in_err-stage.ensures.fault)
 
 pub turn-requires-clause-early : goal.turn-requires-clause-early
 turn-requires-clause-early g c =

@@ -1,7 +1,8 @@
-use Rattle.std.proofs.Common.{◌≡◌, ◌≤◌, true, All, refl, sym, subst}
+use Rattle.std.proofs.Common.{◌≡◌, ◌≤◌, true, All, map, refl, sym, subst, arith}
 use Rattle.std.proofs.lemmas.List.Elements.{All-push, All-rest, All-head, All-same, All-nil}
-use Rattle.cop_boot.specs.Member.{IsMember}
+use Rattle.cop_boot.specs.Member.{seen, IsMember}
 use Rattle.cop_boot.specs.Settings.{is_short_value}
+use Rattle.cop_boot.proofs.DueLemmas.{all_last_from_zero}
 use Rattle.cop_boot.proofs.PlanLemmas.{one_more, made_apart, plan_nodes, plan_short}
 use Rattle.cop_boot.proofs.manager.Manager.new.Goals as goal
 
@@ -35,5 +36,8 @@ loop-node-preserved c =
     }
 
 pub invariant_of-result : goal.invariant_of-result
-invariant_of-result c =
-    (c.loop-node.invariant.members, made_apart c.args.plan.entries c.loop-node.members.items c.loop-node.node-iterator c.len.ensures.ordered c.loop-node.invariant.whole c.in-None.ensures.steps.0)
+invariant_of-result c = (
+  c.loop-node.invariant.members,
+  made_apart c.args.plan.entries c.loop-node.members.items c.loop-node.node-iterator c.len.ensures.ordered c.loop-node.invariant.whole c.in-None.ensures.steps.0,
+  record { soon = omega arith; last = all_last_from_zero (map seen c.loop-node.members.items) },
+)

@@ -1,10 +1,12 @@
-use Rattle.std.proofs.Common.{◌≡◌, ◌∙◌, ap, sym, subst, length, replicate, arith}
-use Rattle.std.specs.Prelude.{None}
+use Rattle.std.proofs.Common.{rules, ◌≡◌, ◌<◌, ◌/◌, length, List, subst, sym, ap, ap₂, ◌∙◌, arith}
+use Rattle.cop_rta.specs.declared.streams.Stream.{Stream}
+use Rattle.cop_bus.specs.Rings.{rings_of}
 use Rattle.cop_bus.specs.Queues.{AreQueued}
 use Rattle.cop_bus.proofs.QueueLemmas.{none-queued}
 use Rattle.cop_bus.proofs.queues.Queues.new.Goals as goal
 
 pub invariant_of-result : goal.invariant_of-result
 invariant_of-result c =
-    let n : c.len.result ≡ length c.args.rings.items = omega (arith, c.len.ensures) in
-    subst (AreQueued c.args.rings.items) (sym (c.in_ok-ranking.ensures ∙ ap (λ n. replicate n None) n)) (none-queued c.args.rings.items c.requires)
+    let len = c.len.ensures in
+    let room = c.in_ok-with_room.ensures.room in
+    rw (c.in_ok-rings_of.ensures) (none-queued c.streams-streams.result.now c.in_ok-places.places.items c.in_ok-with_room.field-0 c.in_ok-places.ensures.listed c.in_ok-places.ensures.few (omega (arith, len, room)) c.in_ok-with_room.ensures.none)
