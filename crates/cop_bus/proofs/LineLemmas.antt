@@ -1,6 +1,7 @@
 -- Records whose fields need no quotes, as lines.
-use Rattle.std.proofs.Common.{◌≡◌, ℕ, ◌<◌, ◌^◌, ◌/◌, ◌%◌, ◌||◌, true, false, List, [], ◌∷◌, ◌++◌, refl, sym, ◌∙◌, ap, arith, append_assoc, append-nil, slice_index, codes, decimal, inl, inr}
+use Rattle.std.proofs.Common.{◌≡◌, ℕ, ◌<◌, ◌≤◌, length, ◌^◌, ◌/◌, ◌%◌, ◌||◌, true, false, List, [], ◌∷◌, ◌++◌, refl, sym, ◌∙◌, ap, arith, append_assoc, append-nil, slice_index, codes, decimal, inl, inr}
 use Rattle.std.proofs.lemmas.Bool.{cases_lt, false_from_ne_true}
+use Rattle.std.proofs.lemmas.Fmt.{length-decimal-le}
 use Rattle.std.proofs.Math.ListN.{get_or-eq_default}
 use Rattle.std.proofs.lemmas.List.Folds.{list_any_at}
 use Rattle.csv.specs.Writing.{needs_byte, needs_quotes, default_writer, escaped, fields_text, is_blank, comma}
@@ -61,24 +62,30 @@ unfolding line fields_text is_blank
 queue_is_line at id event frame h k m n =
     rw (plain_number at h, plain_number id k, plain_number event m, plain_number frame.bits n, bytes_are_plain (bytes_of frame)) (joined (codes "queue") (decimal at) (decimal id) (decimal event) (decimal frame.bits) (encode_upper (bytes_of frame)))
 
--- ---- the same behind what was there before
+-- ---- the same, made from the last part to the first
 
-pub short_behind : (before kind : List ℕ) (at id : ℕ) → at < 2 ^ 64 → id < 2 ^ 64 → IsPlain kind
-    → (((before ++ kind) ++ comma ∷ decimal at) ++ comma ∷ decimal id) ++ codes ",,,\n" ≡ before ++ line (short kind at id)
-short_behind before kind at id h k plain =
-    ap (λ text. (text ++ comma ∷ decimal id) ++ codes ",,,\n") (append_assoc before kind (comma ∷ decimal at))
-    ∙ ap (λ text. text ++ codes ",,,\n") (append_assoc before (kind ++ comma ∷ decimal at) (comma ∷ decimal id))
-    ∙ append_assoc before ((kind ++ comma ∷ decimal at) ++ comma ∷ decimal id) (codes ",,,\n")
-    ∙ ap (λ text. before ++ text) (short_is_line kind at id h k plain)
-
-pub queue_behind : (before : List ℕ) (at id event : ℕ) (frame : Content) → at < 2 ^ 64 → id < 2 ^ 64 → event < 2 ^ 64 → frame.bits < 2 ^ 64
-    → (((((((before ++ codes "queue") ++ comma ∷ decimal at) ++ comma ∷ decimal id) ++ comma ∷ decimal event) ++ comma ∷ decimal frame.bits) ++ comma ∷ []) ++ encode_upper (bytes_of frame)) ++ line_feed ∷ [] ≡ before ++ line (queue_fields at id event frame)
-queue_behind before at id event frame h k m n =
-    seven before (codes "queue") (comma ∷ decimal at) (comma ∷ decimal id) (comma ∷ decimal event) (comma ∷ decimal frame.bits) (comma ∷ []) (encode_upper (bytes_of frame)) (line_feed ∷ [])
-    ∙ ap (λ text. before ++ text) (queue_is_line at id event frame h k m n)
+pub short_made : (kind : List ℕ) (at id : ℕ) (rest : List ℕ) → at < 2 ^ 64 → id < 2 ^ 64 → IsPlain kind → rest ≡ []
+    → kind ++ ((comma ∷ decimal at) ++ ((comma ∷ decimal id) ++ (codes ",,,\n" ++ rest))) ≡ line (short kind at id)
+short_made kind at id rest h k plain none =
+    ap (λ text. kind ++ ((comma ∷ decimal at) ++ ((comma ∷ decimal id) ++ (codes ",,,\n" ++ text)))) none
+    ∙ four kind (comma ∷ decimal at) (comma ∷ decimal id) (codes ",,,\n")
+    ∙ short_is_line kind at id h k plain
   where
-    seven : (before a b c d e f g h : List ℕ) → (((((((before ++ a) ++ b) ++ c) ++ d) ++ e) ++ f) ++ g) ++ h ≡ before ++ (((((((a ++ b) ++ c) ++ d) ++ e) ++ f) ++ g) ++ h)
-    seven before a b c d e f g h = simp append_assoc refl
+    four : (a b c d : List ℕ) → a ++ (b ++ (c ++ (d ++ []))) ≡ ((a ++ b) ++ c) ++ d
+    four a b c d = simp (append_assoc, append-nil) refl
+
+pub queue_made : (at id event : ℕ) (frame : Content) (rest : List ℕ) → at < 2 ^ 64 → id < 2 ^ 64 → event < 2 ^ 64 → frame.bits < 2 ^ 64 → rest ≡ []
+    → codes "queue" ++ ((comma ∷ decimal at) ++ ((comma ∷ decimal id) ++ ((comma ∷ decimal event) ++ ((comma ∷ decimal frame.bits) ++ ((comma ∷ []) ++ (encode_upper (bytes_of frame) ++ (line_feed ∷ [] ++ rest))))))) ≡ line (queue_fields at id event frame)
+queue_made at id event frame rest h k m n none =
+    ap (λ text. codes "queue" ++ ((comma ∷ decimal at) ++ ((comma ∷ decimal id) ++ ((comma ∷ decimal event) ++ ((comma ∷ decimal frame.bits) ++ ((comma ∷ []) ++ (encode_upper (bytes_of frame) ++ (line_feed ∷ [] ++ text)))))))) none
+    ∙ eight (codes "queue") (comma ∷ decimal at) (comma ∷ decimal id) (comma ∷ decimal event) (comma ∷ decimal frame.bits) (comma ∷ []) (encode_upper (bytes_of frame)) (line_feed ∷ [])
+    ∙ queue_is_line at id event frame h k m n
+  where
+    eight : (a b c d e f g h : List ℕ) → a ++ (b ++ (c ++ (d ++ (e ++ (f ++ (g ++ (h ++ []))))))) ≡ ((((((a ++ b) ++ c) ++ d) ++ e) ++ f) ++ g) ++ h
+    eight a b c d e f g h = simp (append_assoc, append-nil) refl
+
+pub digits_are_few : (n : ℕ) → n < 2 ^ 64 → length (decimal n) ≤ 20
+digits_are_few n h = length-decimal-le 20 n (omega arith) (omega arith) (omega (arith, h))
 
 -- the names of the fields
 pub header_is_line : codes "kind,moment,id,event,bits,data\n" ≡ line header

@@ -1,63 +1,62 @@
 //! The records of a trace as lines.
 
-ghost use Rattle.std.specs.Prelude.{◌≡◌, ◌+◌, ◌≤◌, ◌<◌, ◌∷◌, ◌++◌, ◌^◌, decimal, false, length, slice_index, take};
+ghost use Rattle.std.specs.Prelude.{◌≡◌, ◌+◌, ◌≤◌, ◌<◌, ◌∷◌, ◌++◌, ◌^◌, decimal, drop, false, length, slice_index, take};
 ghost use Rattle.csv.specs.Writing.{needs_quotes, default_writer, comma};
 ghost use Rattle.hex.specs.Hex.{upper_digits, encode_upper};
 ghost use Rattle.cop_bus.specs.Format.{bytes_of, header, short, queue_fields, fields_of, line};
 
 use crate::steps::{Content, Step};
-use arrayvec::ArrayVec;
-use itoa::Buffer;
+use itoa::write_digits;
 
 const DIGITS: [u8; 16] = *b"0123456789ABCDEF";
 
-/// Records, one behind another. A record needs room for a kind, four numbers of 20 digits, 16 digits of data, five commas
-/// and a line feed at most.
-pub(crate) type Text = ArrayVec<u8, 4096>;
+/// Room for a record, which is made from its last byte to its first: a kind, four numbers of 20 digits, 16 digits of data, five
+/// commas and a line feed at most.
+pub(crate) type Block = [u8; 112];
 
-// Adds a part.
-#[inline(always)]
-fn put(text: &mut Text, part: &[u8])
-    requires { length text.old.items + length part.now ≤ 4096 }
-    ensures items { text.new.items ≡ text.old.items ++ part.now }
-    ensures length { length text.new.items ≡ length text.old.items + length part.now }
+// Puts a part before what begins at `end`, and tells where it begins.
+fn put(block: &mut Block, end: usize, part: &[u8]) -> usize
+    requires room { length part.now ≤ end }
+    requires within { end ≤ 112 }
+    ensures part { drop result block.new ≡ part.now ++ drop end block.old }
+    ensures start { result + length part.now ≡ end }
 {
-    let _fits = text.try_extend_from_slice(part);
+    let start = end - part.len();
+    block[start..end].copy_from_slice(part);
+    start
 }
 
-// Adds a comma and a number.
-#[inline(always)]
-fn put_number(text: &mut Text, number: u64)
-    requires { length text.old.items + 21 ≤ 4096 }
-    ensures items { text.new.items ≡ text.old.items ++ comma ∷ decimal number }
-    ensures length { length text.new.items ≤ length text.old.items + 21 }
+// Puts a comma and a number before what begins at `end`, and tells where they begin.
+fn put_number(block: &mut Block, end: usize, number: u64) -> usize
+    requires room { 21 ≤ end }
+    requires within { end ≤ 112 }
+    ensures part { drop result block.new ≡ (comma ∷ decimal number) ++ drop end block.old }
+    ensures start { (result ≤ end) × (end ≤ result + 21) }
     ensures fits { number < 2 ^ 64 }
 {
-    let mut digits = Buffer::new();
-    text.push(b',');
-    put(text, digits.format(number).as_bytes());
+    let digits = write_digits(number, block, end);
+    put(block, digits, b",")
 }
 
 #[tactic(auto, using(crate::proofs::LineLemmas::header_is_line))]
-/// Adds the names of the fields.
-pub(crate) fn put_header(text: &mut Text)
-    requires { length text.old.items + 112 ≤ 4096 }
-    ensures { text.new.items ≡ text.old.items ++ line header }
+/// The names of the fields.
+pub(crate) fn header() -> &'static [u8]
+    ensures line { result.now ≡ line header }
+    ensures short { length result.now ≤ 112 }
 {
-    put(text, b"kind,moment,id,event,bits,data\n");
+    b"kind,moment,id,event,bits,data\n"
 }
 
-/// Adds the line of a record that queues nothing, of a kind that needs no quotes.
-#[inline(always)]
-pub(crate) fn put_short(text: &mut Text, kind: &[u8], at: u64, id: u16)
-    requires short { length kind.now ≤ 5 }
-    requires room { length text.old.items + 112 ≤ 4096 }
-    ensures { needs_quotes default_writer kind.now ≡ false → text.new.items ≡ text.old.items ++ line (short kind.now at id) }
+/// Makes the line of a record that queues nothing, of a kind that needs no quotes, and tells where it begins.
+pub(crate) fn make_short(block: &mut Block, kind: &[u8], at: u64, id: u16) -> usize
+    requires { length kind.now ≤ 5 }
+    ensures line { needs_quotes default_writer kind.now ≡ false → drop result block.new ≡ line (short kind.now at id) }
+    ensures within { result ≤ 112 }
 {
-    put(text, kind);
-    put_number(text, at);
-    put_number(text, u64::from(id));
-    put(text, b",,,\n");
+    let empty = put(block, 112, b",,,\n");
+    let id = put_number(block, empty, u64::from(id));
+    let at = put_number(block, id, at);
+    put(block, at, kind)
 }
 
 // A frame's data bytes.
@@ -93,27 +92,27 @@ fn digits_of(bytes: &[u8]) -> [u8; 16]
     digits
 }
 
-/// Adds the line of a queue step's record.
-pub(crate) fn put_queue(text: &mut Text, at: u64, id: u16, event: u64, frame: &Content)
-    requires { length text.old.items + 112 ≤ 4096 }
-    ensures { text.new.items ≡ text.old.items ++ line (queue_fields at id event frame.now) }
+/// Makes the line of a queue step's record, and tells where it begins.
+pub(crate) fn make_queue(block: &mut Block, at: u64, id: u16, event: u64, frame: &Content) -> usize
+    ensures line { drop result block.new ≡ line (queue_fields at id event frame.now) }
+    ensures within { result ≤ 112 }
 {
     let bytes = bytes_of(frame);
     let digits = digits_of(bytes);
-    put(text, b"queue");
-    put_number(text, at);
-    put_number(text, u64::from(id));
-    put_number(text, event);
-    put_number(text, u64::from(frame.bits));
-    text.push(b',');
-    put(text, &digits[..bytes.len() + bytes.len()]);
-    text.push(b'\n');
+    let end = put(block, 112, b"\n");
+    let data = put(block, end, &digits[..bytes.len() + bytes.len()]);
+    let comma = put(block, data, b",");
+    let bits = put_number(block, comma, u64::from(frame.bits));
+    let event = put_number(block, bits, event);
+    let id = put_number(block, event, u64::from(id));
+    let at = put_number(block, id, at);
+    put(block, at, b"queue")
 }
 
-/// Adds the line of a step.
-pub(crate) fn put_step(text: &mut Text, step: &Step)
-    requires { length text.old.items + 112 ≤ 4096 }
-    ensures { text.new.items ≡ text.old.items ++ line (fields_of step.now) }
+/// Makes the line of a step, and tells where it begins.
+pub(crate) fn make_step(block: &mut Block, step: &Step) -> usize
+    ensures line { drop result block.new ≡ line (fields_of step.now) }
+    ensures within { result ≤ 112 }
 {
     match step {
         Step::Queue {
@@ -121,8 +120,8 @@ pub(crate) fn put_step(text: &mut Text, step: &Step)
             id,
             event,
             frame,
-        } => put_queue(text, *at, *id, *event, frame),
-        Step::Start { at, id } => put_short(text, b"start", *at, *id),
-        Step::End { at, id } => put_short(text, b"end", *at, *id),
+        } => make_queue(block, *at, *id, *event, frame),
+        Step::Start { at, id } => make_short(block, b"start", *at, *id),
+        Step::End { at, id } => make_short(block, b"end", *at, *id),
     }
 }

@@ -4,7 +4,7 @@ ghost use Rattle.std.specs.Prelude.{◌≡◌, ◌∷◌, [], OnOk, IfOk, codes,
 ghost use Rattle.cop_bus.specs.Format.{Fields, header, short, fields_of, line, text_of};
 ghost use Rattle.cop_bus.specs.Writer.{Adds};
 
-use crate::lines::{Text, put_header, put_short, put_step};
+use crate::lines::{Block, header, make_short, make_step};
 use crate::runs::Trace;
 use crate::steps::Step;
 use std::alloc::{AllocError, Global};
@@ -34,34 +34,31 @@ fn write_line<W: Write>(writer: &mut W, text: &[u8]) -> Result<(), NotWritten>
 fn write_header<W: Write>(writer: &mut W) -> Result<(), NotWritten>
     ensures { OnOk result (Adds W.contents writer.old writer.new (header ∷ [])) }
 {
-    let mut record = Text::new();
-    put_header(&mut record);
-    write_line(writer, &record)
+    write_line(writer, header())
 }
 
 // The last record, which tells the end.
 fn write_end<W: Write>(writer: &mut W, until: u64) -> Result<(), NotWritten>
     ensures { OnOk result (Adds W.contents writer.old writer.new (short (codes "until") until 0 ∷ [])) }
 {
-    let mut record = Text::new();
-    put_short(&mut record, b"until", until, 0);
-    write_line(writer, &record)
+    let mut record = [0; 112];
+    let start = make_short(&mut record, b"until", until, 0);
+    write_line(writer, &record[start..])
 }
 
 // The record of a step, which is made in a place that is kept from one to the next.
-fn write_step<W: Write>(writer: &mut W, record: &mut Text, step: &Step) -> Result<(), NotWritten>
+fn write_step<W: Write>(writer: &mut W, record: &mut Block, step: &Step) -> Result<(), NotWritten>
     ensures { OnOk result (Adds W.contents writer.old writer.new (fields_of step.now ∷ [])) }
 {
-    record.clear();
-    put_step(record, step);
-    write_line(writer, record)
+    let start = make_step(record, step);
+    write_line(writer, &record[start..])
 }
 
 #[tactic(auto, using(crate::proofs::WriterLemmas::adds_mapped, crate::proofs::WriterLemmas::all_mapped, crate::proofs::WriterLemmas::adds_none))]
 fn write_steps<W: Write>(writer: &mut W, steps: &[Step]) -> Result<(), NotWritten>
     ensures { OnOk result (Adds W.contents writer.old writer.new (map fields_of steps.now)) }
 {
-    let mut record = Text::new();
+    let mut record = [0; 112];
     for step in steps {
         write_step(writer, &mut record, step)?;
     }

@@ -1,10 +1,11 @@
 -- A name's bytes, without ASCII case, are mixed into a number eight at a time.
-use Rattle.std.proofs.Common.{◌≡◌, ℕ, zero, suc, ◌+◌, ◌*◌, ◌/◌, ◌%◌, ◌^◌, ◌<◌, Bool, true, false, cond, nat_lt, List, [], ◌∷◌, length, take, drop, slice_index, bit_and, refl, sym, ap, ◌∙◌, arith}
+use Rattle.std.proofs.Common.{◌≡◌, ℕ, zero, suc, ◌+◌, ◌*◌, ◌/◌, ◌%◌, ◌^◌, ◌<◌, ◌≤◌, ◌-◌, Bool, true, false, cond, nat_lt, List, [], ◌∷◌, length, take, drop, slice_index, bit_and, refl, sym, ap, ◌∙◌, arith}
 use Rattle.std.specs.Char.{to_ascii_lowercase}
 use Rattle.std.specs.Str.{str_to_ascii_lowercase}
 use Rattle.std.specs.Int.{w64, from_le_bytes}
 use Rattle.std.specs.Int.Bits.{and_zero_l}
 use Rattle.std.proofs.lemmas.List.{take-map, drop-map, length-map}
+use Rattle.std.proofs.lemmas.Bool.Decides.{nat_tests}
 use Rattle.std.proofs.lemmas.Nat.{and_mask, and_mod, and_shr}
 use Rattle.cop_eds.specs.Tickets.{stirred, low_bits, mixed_each, mixed_by, mixed}
 
@@ -74,10 +75,7 @@ low_bits_is bs word size small is =
     let mask : 2242545357980376863 ≡ masks (length bs) = sym (ap masks size) in
     ap (λ w. bit_and w 2242545357980376863) (is ∙ word_is bs size) ∙ ap (bit_and (folded bs)) mask ∙ low_each bs small
 
--- eight bytes at a time, and then the rest
-
-pub at_first : (name : List ℕ) → mixed_by (length name / 8) 0 (str_to_ascii_lowercase name) ≡ mixed (str_to_ascii_lowercase name)
-at_first name = ap (λ n. mixed_by (n / 8) 0 (str_to_ascii_lowercase name)) (sym (length-map name to_ascii_lowercase))
+-- eight bytes at a time, and then the last eight
 
 pub eight_more : (n more sum total : ℕ) (rest bytes tail : List ℕ) → bytes ≡ take 8 rest → tail ≡ drop 8 rest → length tail + 8 ≡ length rest
     → more ≡ low_bits (str_to_ascii_lowercase bytes) → sum ≡ stirred n more → mixed_by (length rest / 8) n (str_to_ascii_lowercase rest) ≡ total
@@ -93,6 +91,35 @@ eight_more n more sum total rest bytes tail first second size low stir so_far =
     ap (λ s. mixed_by (length tail / 8) s (str_to_ascii_lowercase tail)) step
     ∙ ap (mixed_by (length tail / 8) (stirred n (low_bits (take 8 lower)))) (sym back) ∙ whole
 
-pub at_end : (n : ℕ) (rest : List ℕ) → length rest < 8 → mixed_by (length rest / 8) n (str_to_ascii_lowercase rest) ≡ mixed_each n (str_to_ascii_lowercase rest)
+pub at_end : (n : ℕ) (rest : List ℕ) → length rest < 8 → mixed_by (length rest / 8) n (str_to_ascii_lowercase rest) ≡ n
 unfolding mixed_by
 at_end n rest short = let none : length rest / 8 ≡ 0 = omega (arith, short) in ap (λ k. mixed_by k n (str_to_ascii_lowercase rest)) none
+
+below_eight : (n : ℕ) → n < 8 → nat_lt n 8 ≡ true
+below_eight n lt = grind (arith, nat_tests)
+
+not_below_eight : (n : ℕ) → 8 ≤ n → nat_lt n 8 ≡ false
+not_below_eight n le = grind (arith, nat_tests)
+
+by_length : List ℕ → Bool → ℕ
+by_length name short = cond short (mixed_each 0 name) (stirred (mixed_by (length name / 8) 0 name) (low_bits (drop (length name - 8) name)))
+
+pub short_mixed : (name : List ℕ) (sum : ℕ) → length name < 8 → sum ≡ mixed_each 0 (str_to_ascii_lowercase name) → sum ≡ mixed (str_to_ascii_lowercase name)
+unfolding by_length
+short_mixed name sum short is =
+    let lower = str_to_ascii_lowercase name in
+    let size : length lower ≡ length name = length-map name to_ascii_lowercase in
+    is ∙ sym (ap (by_length lower) (below_eight (length lower) (omega (arith, size, short))))
+
+pub long_mixed : (name last : List ℕ) (eights more sum : ℕ) → last ≡ drop (length name - 8) name → 8 ≤ length name
+    → eights ≡ mixed_by (length name / 8) 0 (str_to_ascii_lowercase name) → more ≡ low_bits (str_to_ascii_lowercase last) → sum ≡ stirred eights more
+    → sum ≡ mixed (str_to_ascii_lowercase name)
+unfolding by_length
+long_mixed name last eights more sum at_last long its_eights its_more is =
+    let lower = str_to_ascii_lowercase name in
+    let size : length lower ≡ length name = length-map name to_ascii_lowercase in
+    let back : drop (length lower - 8) lower ≡ str_to_ascii_lowercase last =
+    ap (λ n. drop (n - 8) lower) size ∙ drop-map to_ascii_lowercase (length name - 8) name ∙ ap str_to_ascii_lowercase (sym at_last) in
+    let front : mixed_by (length lower / 8) 0 lower ≡ eights = ap (λ n. mixed_by (n / 8) 0 lower) size ∙ sym its_eights in
+    is ∙ ap (λ n. stirred n more) (sym front) ∙ ap (stirred (mixed_by (length lower / 8) 0 lower)) (its_more ∙ ap low_bits (sym back))
+    ∙ sym (ap (by_length lower) (not_below_eight (length lower) (omega (arith, size, long))))

@@ -23,14 +23,16 @@ unfoldable pub mixed_each : ℕ → List ℕ → ℕ
 mixed_each n [] = n
 mixed_each n (b ∷ bs) = mixed_each (stirred n (b % 32)) bs
 
--- a number of 64 bits that bytes are mixed into: so many times eight of them, and then the rest
+-- a number of 64 bits that bytes are mixed into, so many times eight of them
 unfoldable pub mixed_by : ℕ → ℕ → List ℕ → ℕ
-mixed_by zero n bs = mixed_each n bs
+mixed_by zero n bs = n
 mixed_by (suc count) n bs = mixed_by count (stirred n (low_bits (take 8 bs))) (drop 8 bs)
 
--- a number of 64 bits for a name
+-- a number of 64 bits for a name: all its eights of bytes, and then its last eight, are mixed into it
 abbrev pub mixed : List ℕ → ℕ
-mixed name = mixed_by (length name / 8) 0 name
+mixed name =
+    if nat_lt (length name) 8 then mixed_each 0 name
+    else stirred (mixed_by (length name / 8) 0 name) (low_bits (drop (length name - 8) name))
 
 -- a number below 2^63 for a name; as long as the places have no more bits, the names of each place have a range of their
 -- own, above those of the places before it

@@ -1,7 +1,7 @@
 //! Tickets: the lines that are found by a name, by numbers that stand for the names. Where no two lines have one number,
 //! a line is found with no look at other lines' names.
 
-ghost use Rattle.std.specs.Prelude.{◌≡◌, ◌↔◌, ◌<◌, ◌≤◌, ◌-◌, ◌+◌, ◌&&◌, ℕ, List, length, true, false, IfOk, OnOk, MatchOption, Some, None, is_some, slice_get, Contains};
+ghost use Rattle.std.specs.Prelude.{◌≡◌, ◌↔◌, ◌<◌, ◌≤◌, ◌-◌, ◌+◌, ◌/◌, ◌&&◌, ℕ, List, length, true, false, IfOk, OnOk, MatchOption, Some, None, is_some, slice_get, Contains};
 ghost use Rattle.std.specs.List.{All, AllWithin};
 ghost use Rattle.std.specs.List.Sorted.{IsPermutation};
 ghost use Rattle.std.specs.Option.{option_map};
@@ -11,7 +11,7 @@ ghost use Rattle.cop_eds.specs.declared.tickets.Ticket.{Ticket};
 ghost use Rattle.cop_eds.specs.Lines.{IsWithin, first_from, is_kind};
 ghost use Rattle.cop_eds.specs.Index.{line_key, sort_key, is_found_by, IsNext};
 ghost use Rattle.cop_eds.specs.Marks.{AreMarked};
-ghost use Rattle.cop_eds.specs.Tickets.{stirred, low_bits, mixed_each, mixed, word_of, is_ahead, IsTicket, AreTickets, AreRising, AreOrdered, Surround};
+ghost use Rattle.cop_eds.specs.Tickets.{stirred, low_bits, mixed_each, mixed_by, mixed, word_of, is_ahead, IsTicket, AreTickets, AreRising, AreOrdered, Surround};
 
 use crate::entry::Entry;
 use crate::index::{has_key, header_entry, is_kind, line_entry, pair_entry};
@@ -60,9 +60,9 @@ fn mixed_each(start: u64, bytes: &[u8]) -> u64
     sum
 }
 
-/// A number that the bytes of a name, without ASCII case, are mixed into: eight at a time, and then the rest.
-fn mixed(name: &[u8]) -> u64
-    ensures { result ≡ mixed (str_to_ascii_lowercase name.now) }
+/// A number that the bytes of a name, without ASCII case, are mixed into eight at a time, but for the rest.
+fn in_eights(name: &[u8]) -> u64
+    ensures { result ≡ mixed_by (length name.now / 8) 0 (str_to_ascii_lowercase name.now) }
 {
     let mut sum = 0u64;
     let mut rest = name;
@@ -70,7 +70,17 @@ fn mixed(name: &[u8]) -> u64
         sum = stirred(sum, low_bits(bytes));
         rest = tail;
     }
-    mixed_each(sum, rest)
+    sum
+}
+
+/// A number that the bytes of a name, without ASCII case, are mixed into: eight at a time, and then the last eight.
+fn mixed(name: &[u8]) -> u64
+    ensures { result ≡ mixed (str_to_ascii_lowercase name.now) }
+{
+    match name.split_last_chunk::<8>() {
+        Some((_, last)) => stirred(in_eights(name), low_bits(last)),
+        None => mixed_each(0, name),
+    }
 }
 
 #[tactic(auto, unfolding(crate::specs::Tickets::word_of))]

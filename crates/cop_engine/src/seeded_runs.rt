@@ -131,6 +131,10 @@ pub fn run_plan<W: Write + Drop>(
     seeded_obeys();
     match simulate_over(alloc, plan, behaviours, until * 4, &mut sink) {
         Ok(()) => finish(alloc, sink, until * 4),
-        Err(fault) => Err(fault_of(fault)),
+        Err(fault) => {
+            // The steps so far stay in the trace of a run that is given up.
+            let _handed = sink.trace.hand_over();
+            Err(fault_of(fault))
+        }
     }
 }

@@ -1,14 +1,11 @@
-use Rattle.std.proofs.Common.{sym, ◌∙◌}
-use Rattle.cop_eds.proofs.MixLemmas.{at_first, eight_more, at_end}
+use Rattle.std.proofs.Common.{arith}
+use Rattle.cop_eds.proofs.MixLemmas.{short_mixed, long_mixed}
 use Rattle.cop_eds.proofs.tickets.mixed.Goals as goal
 
-pub loop-bytes-init : goal.loop-bytes-init
-loop-bytes-init c = at_first c.args.name.now
-
-pub loop-bytes-preserved : goal.loop-bytes-preserved
-loop-bytes-preserved c =
+pub returns-in-Some : goal.returns-in-Some
+returns-in-Some c =
     let parts = c.in-Some.ensures.cases in
-    eight_more c.loop-bytes.sum _ _ _ _ _ _ parts.0 parts.1 parts.2 c.low_bits.ensures c.stirred-sum.ensures c.loop-bytes.invariant
+    long_mixed c.args.name.now _ c.in_eights.result c.low_bits.result _ parts.1 (omega (arith, parts.2)) c.in_eights.ensures c.low_bits.ensures c.stirred.ensures
 
-pub returns : goal.returns
-returns c = c.mixed_each.ensures ∙ sym (at_end c.loop-bytes.sum _ c.in_default.ensures.cases) ∙ c.loop-bytes.invariant
+pub returns-in-None : goal.returns-in-None
+returns-in-None c = short_mixed c.args.name.now c.mixed_each.result c.in-None.ensures.cases c.mixed_each.ensures
