@@ -1,6 +1,6 @@
 -- Records that a writer has written, one after another.
-use Rattle.std.proofs.Common.{◌≡◌, ℕ, ◌+◌, ◌<◌, ◌≤◌, List, [], ◌∷◌, ◌++◌, length, map, take, get_or, sym, ◌∙◌, append_assoc, append-nil, subst, Option, Some, None}
-use Rattle.std.specs.Io.KnownBytes.{Appends, Keeps}
+use Rattle.std.proofs.Common.{◌≡◌, ℕ, ◌+◌, ◌<◌, ◌≤◌, List, [], ◌∷◌, ◌++◌, length, map, take, get_or, sym, ap, ◌∙◌, append_assoc, append-nil, subst, Option, Some, None}
+use Rattle.std.specs.Io.KnownBytes.{Appends, Keeps, append_known}
 use Rattle.std.proofs.lemmas.Grind.{flat_map-append}
 use Rattle.std.proofs.lemmas.List.{map_more, take_all}
 use Rattle.cop_bus.specs.Format.{Fields, line, lines}
@@ -26,6 +26,15 @@ appends_kept None b c xs h k = tt
 appends_kept (Some ws) None c xs h k = absurd h
 appends_kept (Some ws) (Some bs) None xs h k = absurd k
 appends_kept (Some ws) (Some bs) (Some cs) xs h k = k ∙ h
+
+-- what is kept in two steps, the second of which leaves nothing to be handed over
+pub all_handed : (a b c : Option (List ℕ)) (pending last : List ℕ) → pending ≡ [] → last ≡ [] → Keeps a b → Keeps b (append_known c (pending ++ last)) → Keeps a c
+all_handed None b c pending last none done h k = tt
+all_handed (Some ws) None c pending last none done h k = absurd h
+all_handed (Some ws) (Some bs) None pending last none done h k = absurd k
+all_handed (Some ws) (Some bs) (Some cs) pending last none done h k =
+    let nothing : pending ++ last ≡ [] = ap (λ xs. xs ++ last) none ∙ done in
+    sym (append-nil cs) ∙ ap (λ xs. cs ++ xs) (sym nothing) ∙ k ∙ h
 
 -- ---- records
 

@@ -12,6 +12,7 @@ pub mod Entries
 pub mod Reading
 pub mod Bus
 pub mod Rings
+pub mod LastLine
 pub mod Piecewise
 pub mod Growing
 pub mod Ranks

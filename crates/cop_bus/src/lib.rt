@@ -8,6 +8,7 @@ mod entries;
 mod faults;
 mod id_sets;
 mod judging;
+mod last_line;
 mod lateness;
 mod laws;
 mod lines;

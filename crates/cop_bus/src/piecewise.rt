@@ -1,10 +1,10 @@
 //! Writing a trace step by step.
 
-ghost use Rattle.std.specs.Prelude.{◌≡◌, ◌+◌, ◌≤◌, ◌++◌, [], true, false, IfSome, codes, length};
-ghost use Rattle.cop_bus.specs.Format.{fields_of, line, short};
+ghost use Rattle.std.specs.Prelude.{◌≡◌, ◌+◌, ◌≤◌, ◌++◌, [], true, false, IfSome, length};
 ghost use Rattle.std.specs.Io.KnownBytes.{Keeps};
 
-use crate::lines::{Block, header, make_short, make_step};
+use crate::last_line::LastLine;
+use crate::lines::header;
 use crate::steps::Step;
 use arrayvec::ArrayVec;
 use std::io::Write;
@@ -15,22 +15,12 @@ type Piece = ArrayVec<u8, 4096>;
 /// From how many bytes on a piece may have no room for another record.
 const FULL: usize = 4096 - 112;
 
-// Adds the record of a step, which is made in a place of its own.
-fn add_step(piece: &mut Piece, record: &mut Block, step: &Step)
-    requires { length piece.old.items + 112 ≤ 4096 }
-    ensures { piece.new.items ≡ piece.old.items ++ line (fields_of step.now) }
+// Adds a record's line.
+fn add(piece: &mut Piece, line: &[u8])
+    requires { length piece.old.items + length line.now ≤ 4096 }
+    ensures { piece.new.items ≡ piece.old.items ++ line.now }
 {
-    let start = make_step(record, step);
-    let _fits = piece.try_extend_from_slice(&record[start..]);
-}
-
-// Adds the record that tells the end.
-fn add_end(piece: &mut Piece, record: &mut Block, until: u64)
-    requires { length piece.old.items + 112 ≤ 4096 }
-    ensures { piece.new.items ≡ piece.old.items ++ line (short (codes "until") until 0) }
-{
-    let start = make_short(record, b"until", until, 0);
-    let _fits = piece.try_extend_from_slice(&record[start..]);
+    let _fits = piece.try_extend_from_slice(line);
 }
 
 /// A writer of a trace's table: the record of each step as it comes, and at last the end's. They are handed to the writer
@@ -39,25 +29,27 @@ fn add_end(piece: &mut Piece, record: &mut Block, until: u64)
 #[derive(Drop)]
 pub struct TraceWriter<W: Write + Drop> {
     writer: W,
-    // The records that the writer has not got yet, and the one that was made last.
+    // The records that the writer has not got yet, but for the one that was made last. That is added when the next comes: a line
+    // is copied faster some time after its digits were put down.
     pending: Piece,
-    record: Block,
+    last: LastLine,
     failed: bool,
 }
 
 impl<W: Write + Drop> TraceWriter<W> {
-    ghost use Rattle.cop_bus.specs.Piecewise.{has_failed, told, Begins, Writes, Finishes};
+    ghost use Rattle.cop_bus.specs.LastLine.{text_of};
+    ghost use Rattle.cop_bus.specs.Piecewise.{has_failed, told, Begins, Writes, Finishes, HandsOver};
 
     /// A writer that has written the names of the fields, or has failed.
     pub fn new(writer: W) -> TraceWriter<W>
         ensures { has_failed result ≡ false → Begins W.contents writer result }
     {
         let mut pending = Piece::new();
-        let _fits = pending.try_extend_from_slice(header());
+        add(&mut pending, header());
         TraceWriter {
             writer,
             pending,
-            record: [0; 112],
+            last: LastLine::none(),
             failed: false,
         }
     }
@@ -69,9 +61,10 @@ impl<W: Write + Drop> TraceWriter<W> {
         self.failed
     }
 
-    /// Hands what was written so far to the writer underneath, as where a run is given up; `false` where that fails.
-    pub fn hand_over(&mut self) -> bool
+    // Hands what is pending to the writer underneath; `false` where that fails.
+    fn hand_piece(&mut self) -> bool
         ensures none { self.new.pending.items ≡ [] }
+        ensures last { text_of self.new.last ≡ text_of self.old.last }
         ensures same { result ≡ true → Keeps (told W.contents self.old) (told W.contents self.new) }
     {
         let is_written = self.writer.write_all(&self.pending).is_ok();
@@ -79,12 +72,26 @@ impl<W: Write + Drop> TraceWriter<W> {
         is_written
     }
 
-    // Makes room for a record: where there is none, what is pending is handed over. `false` where that fails.
-    fn make_room(&mut self) -> bool
-        ensures room { result ≡ true → length self.new.pending.items + 112 ≤ 4096 }
+    // Adds the record that was made last to what is pending, which is handed over first where there may be no room; `false`
+    // where that fails.
+    fn keep_last(&mut self) -> bool
+        ensures none { result ≡ true → text_of self.new.last ≡ [] }
         ensures same { result ≡ true → Keeps (told W.contents self.old) (told W.contents self.new) }
     {
-        self.pending.len() <= FULL || self.hand_over()
+        let has_room = self.pending.len() <= FULL || self.hand_piece();
+        if has_room {
+            add(&mut self.pending, self.last.text());
+            self.last.clear();
+        }
+        has_room
+    }
+
+    #[tactic(auto, using(crate::proofs::WriterLemmas::all_handed))]
+    /// Hands what was written so far to the writer underneath, as where a run is given up; `false` where that fails.
+    pub fn hand_over(&mut self) -> bool
+        ensures { result ≡ true → HandsOver W.contents self.old self.new }
+    {
+        self.keep_last() && self.hand_piece()
     }
 
     /// Writes the record of a step; `false` where it fails.
@@ -94,12 +101,12 @@ impl<W: Write + Drop> TraceWriter<W> {
         ensures works { result ≡ true → has_failed self.new ≡ false }
         ensures fails { result ≡ false → has_failed self.new ≡ true }
     {
-        let has_room = self.make_room();
-        self.failed = !has_room;
-        if has_room {
-            add_step(&mut self.pending, &mut self.record, step);
+        let is_kept = self.keep_last();
+        self.failed = !is_kept;
+        if is_kept {
+            self.last.set_step(step);
         }
-        has_room
+        is_kept
     }
 
     /// Writes the last record, which tells the end, and gives the writer back. `None` where it has failed or fails here:
@@ -107,19 +114,15 @@ impl<W: Write + Drop> TraceWriter<W> {
     pub fn finish(self, until: u64) -> Option<W>
         ensures { IfSome result (λ w. Finishes W.contents self until w) }
     {
-        let mut last = self;
-        if last.failed || !last.make_room() {
+        let mut trace = self;
+        if trace.failed || !trace.keep_last() {
             return None;
         }
-        add_end(&mut last.pending, &mut last.record, until);
-        let TraceWriter {
-            mut writer,
-            pending,
-            ..
-        } = last;
-        if writer.write_all(&pending).is_err() {
+        trace.last.set_end(until);
+        if !trace.hand_over() {
             return None;
         }
+        let TraceWriter { mut writer, .. } = trace;
         match writer.flush() {
             Ok(()) => Some(writer),
             Err(_) => None,

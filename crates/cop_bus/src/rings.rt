@@ -59,7 +59,14 @@ impl Ring {
         ensures ok { OnOk result (self.new ≡ record self.old { waiting = self.old.waiting ++ instance ∷ [] }) }
         ensures err { OnErr result (self.new ≡ self.old) }
     {
-        match self.waiting.try_push_back(instance) {
+        // In a ring in which none waits the place before is taken: it is the one that was freed last, so that instances which
+        // come one by one go through one place, and not through all of a long ring.
+        let put = if self.waiting.is_empty() {
+            self.waiting.try_push_front(instance)
+        } else {
+            self.waiting.try_push_back(instance)
+        };
+        match put {
             Ok(()) => Ok(()),
             Err(_) => Err(Full {}),
         }

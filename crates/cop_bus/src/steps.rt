@@ -3,8 +3,8 @@
 /// What an instance's frame is: its length in bits, and its data bytes, of which the first `len` count.
 #[derive(Clone, Copy, PartialEq, Eq, Debug)]
 pub struct Content {
-    pub bits: u32,
     pub body: [u8; 8],
+    pub bits: u32,
     pub len: u8,
 }
 

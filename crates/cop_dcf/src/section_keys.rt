@@ -20,7 +20,7 @@ fn section_count(eds: &Eds<'_>) -> usize
     ensures most { result < 2 ^ 63 }
 {
     match eds.lines().last() {
-        Some(line) => line.section,
+        Some(line) => line.section as usize,
         None => 0,
     }
 }

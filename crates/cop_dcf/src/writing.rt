@@ -52,7 +52,7 @@ fn newline<'a>(eds: &Eds<'a>) -> &'a [u8]
     if first.to == first.next {
         return b"\n";
     }
-    &eds.source()[first.to..first.next]
+    &eds.source()[first.to as usize..first.next as usize]
 }
 
 /// Whether a pair comes before the next header.
@@ -100,7 +100,7 @@ fn body_of<'b>(eds: &Eds<'b>, line: &Line, keys: &'b [KeyLine]) -> &'b [u8]
 {
     match set_key(eds, line, keys) {
         Some(key) => key.line(),
-        None => &eds.source()[line.from..line.to],
+        None => &eds.source()[line.from as usize..line.to as usize],
     }
 }
 
@@ -192,7 +192,7 @@ fn put_line(
     let newline = newline(eds);
     let adds = adds_keys(eds, keys, line, later);
     let body = body_of(eds, line, keys);
-    let ending = &eds.source()[line.to..line.next];
+    let ending = &eds.source()[line.to as usize..line.next as usize];
     let is_followed = is_followed(eds, adds, later);
     put_whole(text, newline, body, ending, is_followed)?;
     if adds {
@@ -234,13 +234,13 @@ fn with_line(run: Run, line: &Line) -> Run
     ensures { (text : List ℕ) → IsRun text run → IsInside (length text) line.now → IsBehind run line.now → Extends text run line.now result }
 {
     let from = if run.from == run.to {
-        line.from
+        line.from as usize
     } else {
         run.from
     };
     Run {
         from,
-        to: line.next,
+        to: line.next as usize,
     }
 }
 
@@ -284,7 +284,7 @@ fn put_lines(text: &mut Vec<u8>, eds: &Eds<'_>, table: &[SectionKeys]) -> Result
     let lines = eds.lines();
     let mut run = NO_RUN;
     for (at, line) in lines.iter().enumerate() {
-        let keys = keys_in(table, line.section);
+        let keys = keys_in(table, line.section as usize);
         run = put_behind(text, eds, keys, line, &lines[at + 1..], run)?;
     }
     put_run(text, eds, run)

@@ -1,6 +1,6 @@
 //! A dictionary.
 
-ghost use Rattle.std.specs.Prelude.{◌≡◌, [], ◌∷◌, ◌++◌, true, All, OnOk, OnErr, IfErr};
+ghost use Rattle.std.specs.Prelude.{◌≡◌, [], ◌∷◌, ◌++◌, true, All, IfOk, OnOk, OnErr, IfErr};
 ghost use Rattle.std.specs.Option.{option_copied};
 ghost use Rattle.cop_dict.specs.declared.abort.Abort.TheVariants.{NoMemory};
 ghost use Rattle.cop_dict.specs.Find.{Entry, is_before, entry_at, IsSorted};
@@ -41,6 +41,15 @@ impl Dictionary {
         Dictionary {
             objects: Vec::new(alloc),
         }
+    }
+
+    /// A dictionary with no entries, and room for so many. Otherwise want of memory.
+    pub fn with_room(alloc: Global, entries: usize) -> Result<Dictionary, AllocError>
+        ensures { IfOk result (λ dict. dict ≡ []) }
+    {
+        Ok(Dictionary {
+            objects: Vec::with_capacity(alloc, entries)?,
+        })
     }
 
     /// The dictionary of entries that rise by index and sub.

@@ -81,7 +81,7 @@ Surround word tickets low high =
 pub record IsIndexed (text : List ℕ) (lines : List Line) (bits : ℕ) (tickets : List Ticket) (marks : List ℕ) (rising named : Bool) (entries : List Entry) : Type 0 where
   pub all : lines ≡ lines_of text
   pub within : All (IsWithin (length text)) lines
-  pub size : length text < 2 ^ 62
+  pub size : length text < 2 ^ 31
   pub fits : (0 < bits) × (bits < 64)
   pub ticketed : AreTickets text lines bits tickets
   pub marked : AreMarked bits marks tickets

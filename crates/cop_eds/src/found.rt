@@ -27,12 +27,13 @@ pub struct Span {
 }
 
 /// The objects at the indexes that were looked at, in the order in which these were met: each index beside the places of
-/// its objects.
+/// its objects. `met` is the section of an object that was met last.
 #[derive(Drop)]
 pub struct Found {
     pub objects: Vec<Object>,
     pub parts: Vec<(u64, Span)>,
     pub seen: Bits,
+    pub met: usize,
 }
 
 /// Adds the objects at the index that an entry at this line names. Each index is looked at once.
@@ -51,7 +52,7 @@ pub fn find_object(
         return Ok(());
     }
     let from = found.objects.len();
-    read_object(&mut found.objects, text, line, index)?;
+    read_object(&mut found.objects, &mut found.met, text, line, index)?;
     let to = found.objects.len();
     found.parts.push((index, Span { from, to }))?;
     found.seen.insert(index)?;

@@ -10,8 +10,10 @@ const RANGE: usize = 8;
 
 /// The places of the tickets. Those of objects' sections come first, by their numbers, of which each `span` has a
 /// range of its own; then those of the other headers; then those of each section's keys, in the order of the sections.
+/// `first` is the section of the object with the least number.
 #[derive(Drop)]
 pub struct Hints {
+    first: usize,
     span: u64,
     codes: Vec<usize>,
     keys: Vec<usize>,
@@ -20,7 +22,7 @@ pub struct Hints {
 /// How many sections the lines begin.
 pub fn section_count(lines: &[Line]) -> usize {
     match lines.last() {
-        Some(line) => line.section,
+        Some(line) => line.section as usize,
         None => 0,
     }
 }
@@ -60,6 +62,17 @@ fn span_of(tickets: &[Ticket]) -> u64 {
     }
 }
 
+/// The section of the object with the least number.
+fn first_of(lines: &[Line], tickets: &[Ticket]) -> usize {
+    match tickets.first() {
+        Some(ticket) => match lines.get(ticket.line.saturating_sub(1)) {
+            Some(line) => line.section as usize,
+            None => 0,
+        },
+        None => 0,
+    }
+}
+
 /// Two neighbours of a list.
 fn neighbours(places: &[usize], first: usize) -> (usize, usize) {
     match (places.get(first), places.get(first.saturating_add(1))) {
@@ -74,10 +87,20 @@ impl Hints {
         let objects = &tickets[..tickets.partition_point(|ticket| ticket.word < OTHERS)];
         let span = span_of(objects);
         Ok(Hints {
+            first: first_of(lines, objects),
             span,
             codes: codes_of(alloc, objects, span)?,
             keys: keys_of(alloc, lines)?,
         })
+    }
+
+    /// The place of the ticket behind that of an object's section, where such sections stand in the order of their numbers;
+    /// the first place where none was met before.
+    pub fn behind(&self, section: usize) -> usize {
+        match section.checked_sub(self.first) {
+            Some(more) => more.saturating_add(1),
+            None => 0,
+        }
     }
 
     /// The places that a key's ticket stands between.

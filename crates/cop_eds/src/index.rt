@@ -69,7 +69,7 @@ pub fn line_entry<'a>(source: &'a [u8], line: &Line) -> Option<Entry<'a>>
     match line.kind {
         Kind::Other => None,
         Kind::Header => Some(header_entry(name_of(text))),
-        Kind::Pair => Some(pair_entry(line.section, key_of(text))),
+        Kind::Pair => Some(pair_entry(line.section as usize, key_of(text))),
     }
 }
 

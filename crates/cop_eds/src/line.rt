@@ -18,14 +18,14 @@ pub enum Kind {
 }
 
 /// A line: its bytes are those of the source at `from..to`, and the next line begins at `next`. `section` is
-/// how many sections have begun by its end.
+/// how many sections have begun by its end. A text has at most 4 MiB, so that 32 bits have room for each.
 #[derive(Clone, Copy, Debug, PartialEq, Eq)]
 pub struct Line {
-    pub from: usize,
-    pub to: usize,
-    pub next: usize,
+    pub from: u32,
+    pub to: u32,
+    pub next: u32,
+    pub section: u32,
     pub kind: Kind,
-    pub section: usize,
 }
 
 /// Where a section begins: the number of its header's line, from 1, and its own number.
@@ -50,7 +50,7 @@ fn kind_of(line: &[u8]) -> Kind
 }
 
 /// How many sections a line of this kind begins.
-fn header_count(kind: Kind) -> usize
+fn header_count(kind: Kind) -> u32
     ensures value { result ≡ header_count kind }
     ensures bound { result ≤ 1 }
 {
@@ -72,8 +72,8 @@ pub fn raw_at(source: &[u8], at: usize) -> &[u8]
 }
 
 /// The line that these bytes are.
-pub fn line_of(raw: &[u8], at: usize, before: usize) -> Line
-    requires place { at + length raw.now < 2 ^ 63 }
+pub fn line_of(raw: &[u8], at: usize, before: u32) -> Line
+    requires place { at + length raw.now < 2 ^ 31 }
     requires counted { before ≤ at }
     ensures value { result ≡ line_of at before raw.now }
     ensures counts { 0 < length raw.now → result.section ≤ at + length raw.now }
@@ -82,10 +82,10 @@ pub fn line_of(raw: &[u8], at: usize, before: usize) -> Line
     let len = raw.len() - end_len(raw);
     let kind = kind_of(&raw[..len]);
     Line {
-        from: at,
-        to: at + len,
-        next: at + raw.len(),
-        kind,
+        from: at as u32,
+        to: (at + len) as u32,
+        next: (at + raw.len()) as u32,
         section: before + header_count(kind),
+        kind,
     }
 }

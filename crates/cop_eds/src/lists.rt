@@ -92,6 +92,7 @@ pub fn objects(alloc: Global, text: &Sections<'_>) -> Result<Vec<Object>, EdsFau
         objects: Vec::new(alloc),
         parts: Vec::new(alloc),
         seen: Bits::new(alloc),
+        met: 0,
     };
     listed_in(&mut found, text, b"MandatoryObjects")?;
     listed_in(&mut found, text, b"OptionalObjects")?;

@@ -42,9 +42,11 @@ fn push_object(
     Ok(())
 }
 
-/// The sub sections of an index keep their rules. Their objects are added where the index holds them.
+/// The sub sections of an index keep their rules. Their objects are added where the index holds them. The section that was
+/// met last is noted.
 fn read_subs(
     objects: &mut Vec<Object>,
+    met: &mut usize,
     text: &Sections<'_>,
     index: u64,
     holds_subs: bool,
@@ -54,7 +56,8 @@ fn read_subs(
     ensures added { OnOk result (objects.new.items ≡ objects.old.items ++ held_subs text.now index holds_subs (subs_of text.now index)) }
 {
     let mut from = 0;
-    while let Some((sub, place)) = next_sub(text, index, from) {
+    while let Some((sub, place)) = next_sub(text, *met, index, from) {
+        *met = place.section;
         let description = described(text, place)?;
         if holds_subs {
             push_object(objects, index, sub, place, description)?;
@@ -66,9 +69,10 @@ fn read_subs(
 
 #[tactic(auto, unfolding(crate::specs::Lists::checked_object, crate::specs::Objects::objects_at))]
 /// The object that an entry at this line names has a section; its keys and those of its sub sections keep their rules.
-/// The objects at the index are added.
+/// The objects at the index are added. The section that was met last is noted.
 pub fn read_object(
     objects: &mut Vec<Object>,
+    met: &mut usize,
     text: &Sections<'_>,
     line: usize,
     index: u64,
@@ -76,13 +80,14 @@ pub fn read_object(
     ensures value { Gives (λ done. done) result (checked_object text.now line index) }
     ensures added { OnOk result (objects.new.items ≡ objects.old.items ++ objects_at text.now index) }
 {
-    let place = own_place(text, index).ok_or(missing(line))?;
+    let place = own_place(text, *met, index).ok_or(missing(line))?;
+    *met = place.section;
     let description = described(text, place)?;
     let holds_subs = description.object_type.holds_subs();
     if !holds_subs {
         push_object(objects, index, 0, place, description)?;
     }
-    read_subs(objects, text, index, holds_subs)
+    read_subs(objects, met, text, index, holds_subs)
 }
 
 fn is_at(object: &Object, index: u16, sub: u8) -> bool

@@ -21,7 +21,7 @@ use crate::lines::{lines_of, text_of};
 use crate::marks::marks_of;
 use crate::text::{is_comment, key_of, name_of, value_after, value_of};
 use crate::tickets::{
-    Ticket, are_rising, are_searchable, bits_of, find_ticket, next_ticket, tickets_of,
+    Ticket, are_rising, are_searchable, bits_of, find_ticket, next_ticket, stands_at, tickets_of,
 };
 use std::alloc::{AllocError, Global};
 use std::marker::Model;
@@ -57,7 +57,7 @@ fn place_at(found: (usize, Line)) -> Place
 {
     Place {
         line: found.0,
-        section: found.1.section,
+        section: found.1.section as usize,
     }
 }
 
@@ -93,7 +93,7 @@ fn first_alone(source: &[u8], lines: &[Line]) -> Option<Refusal>
 
 impl<'a> Sections<'a> {
     pub fn read(alloc: Global, source: &'a [u8]) -> Result<Sections<'a>, AllocError>
-        requires { length source.now < 2 ^ 62 }
+        requires { length source.now < 2 ^ 31 }
         ensures { IfOk result (λ s. s ≡ source.now) }
     {
         let lines = lines_of(alloc, source)?;
@@ -206,7 +206,7 @@ impl<'a> Sections<'a> {
             Kind::Header if self.has_header(count, name_of(text)) => Some(Rule::SectionRepeated),
             Kind::Header => None,
             Kind::Pair if line.section == 0 => Some(Rule::Line),
-            Kind::Pair if self.has_key(count, line.section, key_of(text)) => Some(
+            Kind::Pair if self.has_key(count, line.section as usize, key_of(text)) => Some(
                 Rule::KeyRepeated,
             ),
             Kind::Pair => None,
@@ -249,11 +249,11 @@ impl<'a> Sections<'a> {
         self.header(name).map(place_at)
     }
 
-    /// Where the object's section with this number begins.
-    pub fn coded(&self, code: u64) -> Option<Place>
+    /// Where the object's section with this number begins. It is looked for behind that of the object that was met last first.
+    pub fn coded(&self, met: usize, code: u64) -> Option<Place>
         ensures { result ≡ coded_place self.now code }
     {
-        let (next, header) = self.next_header(code)?;
+        let (next, header) = self.next_header(met, code)?;
         if next == code {
             Some(place_at(header))
         } else {
@@ -261,24 +261,35 @@ impl<'a> Sections<'a> {
         }
     }
 
+    /// The places that the ticket of an object's section stands between: right behind the section that was met last, in most
+    /// texts.
+    fn near(&self, met: usize, code: u64) -> (usize, usize) {
+        let place = self.hints.behind(met);
+        if stands_at(&self.tickets, place, code) {
+            (place, place)
+        } else {
+            self.hints.places(&coded_entry(code))
+        }
+    }
+
     /// The number of the first object's section from a number on, and its header.
-    fn next_header(&self, code: u64) -> Option<(u64, (usize, Line))>
+    fn next_header(&self, met: usize, code: u64) -> Option<(u64, (usize, Line))>
         ensures { IsNext self.now (lines_of self.now) code result }
     {
         if self.is_named {
             next_code(&self.lines, &self.entries, code)
         } else {
-            let near = self.hints.places(&coded_entry(code));
-            next_ticket(&self.lines, &self.tickets, near, code)
+            next_ticket(&self.lines, &self.tickets, self.near(met, code), code)
         }
     }
 
-    /// The number of the first object's section from a number on, and where it begins.
-    pub fn next_code(&self, code: u64) -> Option<(u64, Place)>
+    /// The number of the first object's section from a number on, and where it begins. It is looked for behind that of the
+    /// object that was met last first.
+    pub fn next_code(&self, met: usize, code: u64) -> Option<(u64, Place)>
         ensures { MatchOption result ((c : ℕ) → code ≤ c → coded_place self.now c ≡ None)
             (λ next. (code ≤ next.0) × (coded_place self.now next.0 ≡ Some next.1) × ((c : ℕ) → code ≤ c → c < next.0 → coded_place self.now c ≡ None)) }
     {
-        let (next, header) = self.next_header(code)?;
+        let (next, header) = self.next_header(met, code)?;
         Some((next, place_at(header)))
     }
 
@@ -299,7 +310,7 @@ impl<'a> Sections<'a> {
             return None;
         }
         let line = lines[near];
-        if line.section != section {
+        if line.section as usize != section {
             return None;
         }
         match line.kind {

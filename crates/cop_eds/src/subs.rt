@@ -7,8 +7,8 @@ use crate::line::Place;
 use crate::names::{object_code, sub_code};
 use crate::sections::Sections;
 
-/// The first sub section of an index from a sub on.
-pub fn next_sub(text: &Sections<'_>, index: u64, from: u64) -> Option<(u64, Place)>
+/// The first sub section of an index from a sub on. It is looked for behind the section that was met last first.
+pub fn next_sub(text: &Sections<'_>, met: usize, index: u64, from: u64) -> Option<(u64, Place)>
     requires index { index ≤ 65535 }
     requires from { from ≤ 256 }
     ensures { MatchOption result (subs_from text.now index from (256 - from) ≡ [])
@@ -18,20 +18,20 @@ pub fn next_sub(text: &Sections<'_>, index: u64, from: u64) -> Option<(u64, Plac
         return None;
     }
     let first = sub_code(index, from);
-    let (code, place) = text.next_code(first)?;
+    let (code, place) = text.next_code(met, first)?;
     if code - first > 255 - from {
         return None;
     }
     Some((from + (code - first), place))
 }
 
-/// Where the own section of the object at an index begins.
-pub fn own_place(text: &Sections<'_>, index: u64) -> Option<Place>
+/// Where the own section of the object at an index begins. It is looked for behind the section that was met last first.
+pub fn own_place(text: &Sections<'_>, met: usize, index: u64) -> Option<Place>
     ensures value { result ≡ own_place text.now index }
     ensures bound { IfSome result (λ place. index ≤ 65535) }
 {
     if index > 0xFFFF {
         return None;
     }
-    text.coded(object_code(index))
+    text.coded(met, object_code(index))
 }

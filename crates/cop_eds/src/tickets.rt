@@ -162,7 +162,7 @@ fn word_at(source: &[u8], line: &Line, bits: u32) -> Option<u64>
     match line.kind {
         Kind::Other => None,
         Kind::Header => Some(word_of(bits, &header_entry(name_of(text)))),
-        Kind::Pair => Some(word_of(bits, &pair_entry(line.section, key_of(text)))),
+        Kind::Pair => Some(word_of(bits, &pair_entry(line.section as usize, key_of(text)))),
     }
 }
 
@@ -321,6 +321,16 @@ fn count_below(tickets: &[Ticket], near: (usize, usize), word: u64) -> usize
     } else {
         count_between(tickets, 0, tickets.len(), word)
     }
+}
+
+/// Whether the first ticket from a number on stands at a place, by those beside it.
+pub fn stands_at(tickets: &[Ticket], place: usize, word: u64) -> bool {
+    if let Some(before) = place.checked_sub(1) {
+        if !matches!(tickets.get(before), Some(ticket) if ticket.word < word) {
+            return false;
+        }
+    }
+    matches!(tickets.get(place), Some(ticket) if ticket.word >= word)
 }
 
 /// The line with this number, where the key finds it.

@@ -47,7 +47,7 @@ pub fn device_nodes(alloc: Global, network: &Network<'_>) -> Result<Vec<u8>, All
 fn initial(alloc: Global, dict: &Dictionary) -> Result<Dictionary, AllocError>
     ensures { IfOk result (λ copy. copy ≡ initial dict.now) }
 {
-    let mut copy = Dictionary::new(alloc);
+    let mut copy = Dictionary::with_room(alloc, dict.entries().len())?;
     for object in dict.entries() {
         copy.push(Object::new(
             alloc,

@@ -72,7 +72,7 @@ fn is_beyond(eds: &Eds<'_>, section: usize, count: u64, line: &Line) -> bool
     requires { IsInside (length eds.now) line.now }
     ensures { result ≡ is_beyond eds.now section count line.now }
 {
-    if !matches!(line.kind, Kind::Pair) || line.section != section {
+    if !matches!(line.kind, Kind::Pair) || line.section as usize != section {
         return false;
     }
     let text = text_of(eds, line);

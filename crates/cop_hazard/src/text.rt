@@ -42,5 +42,5 @@ pub fn text_of<'a>(eds: &Eds<'a>, line: &Line) -> &'a [u8]
     ensures { result.now ≡ text_of eds.now line.now }
 {
     let source = eds.source();
-    &source[line.from..line.to]
+    &source[line.from as usize..line.to as usize]
 }

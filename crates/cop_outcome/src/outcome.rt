@@ -217,7 +217,7 @@ fn is_line(
     ensures { IfOk result (λ b. b ≡ true → is_line words.now sections.now walk number change.now line.now ≡ true) }
 {
     let eds = sections.eds();
-    let section = line.section;
+    let section = line.section as usize;
     if text_of(eds, line) != change.new.as_slice() {
         return Ok(false);
     }
@@ -261,7 +261,7 @@ fn is_its_line(
         sections,
         former,
         walk.first,
-        line.section,
+        line.section as usize,
         change.cause,
         dropped,
     ) {

@@ -60,7 +60,8 @@ fn gives_value(eds: &Eds<'_>, section: usize, sub: u64, value: &[u8], line: &Lin
     ensures { result ≡ gives_value eds.now section sub value.now line.now }
 {
     let text = text_of(eds, line);
-    line.section == section && (is_same(entry_number(text), Some(sub)) && value == value_of(text))
+    line.section as usize == section
+        && (is_same(entry_number(text), Some(sub)) && value == value_of(text))
 }
 
 /// Whether the line at this place gives a sub this value.
@@ -80,7 +81,7 @@ fn is_given_in(eds: &Eds<'_>, section: usize, begin: usize, sub: u64, value: &[u
 {
     let lines = eds.lines();
     let mut at = begin;
-    while at < lines.len() && lines[at].section == section {
+    while at < lines.len() && lines[at].section as usize == section {
         if is_given_at(eds, section, at, sub, value) {
             return true;
         }

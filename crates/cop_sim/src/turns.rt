@@ -25,6 +25,8 @@ use cop_plan::Plan;
 use cop_rta::Stream;
 
 // Asks the behaviour at a place for the answer after those that are queued, if what it waits for has come.
+// Inlined as `ask` is.
+#[inline(always)]
 fn ask_at<B: Behaviour>(
     stream: &Stream,
     until: u64,

@@ -11,7 +11,7 @@ use std::collections::{BTreeSet, VecDeque};
 use std::marker::Model;
 
 /// How many instances of a stream may wait.
-const MOST: usize = 64;
+const MOST: usize = 1024;
 
 /// The lengths of a stream's instances that wait, in bits, first come first.
 #[derive(Drop)]

@@ -26,7 +26,7 @@ use std::collections::BTreeSet;
 const IDS: usize = 2048;
 
 /// What is known of the steps of a trace that were taken so far. It keeps none of them: its memory grows with what waits alone, of which
-/// it has at most 64 instances of each stream.
+/// it has at most 1,024 instances of each stream.
 #[derive(Drop)]
 pub struct Watch<'a> {
     streams: &'a StreamSet,

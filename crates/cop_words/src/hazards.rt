@@ -24,7 +24,10 @@ fn line_of<'a>(eds: &Eds<'a>, number: usize) -> &'a [u8] {
         return b"";
     };
     match eds.lines().get(place) {
-        Some(line) => eds.source().get(line.from..line.to).unwrap_or(b""),
+        Some(line) => eds
+            .source()
+            .get(line.from as usize..line.to as usize)
+            .unwrap_or(b""),
         None => b"",
     }
 }

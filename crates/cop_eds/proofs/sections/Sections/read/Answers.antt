@@ -10,6 +10,6 @@ invariant_of-result c = record {
   ticketed = search rules;
   marked = rw c.deref-3.ensures.value at c.in_ok-marks.ensures;
   by_number = search rules;
-  ordered = search rules;
+  ordered = search (rules, c.are_searchable-is_named.ensures);
   by_name = search rules;
 }
