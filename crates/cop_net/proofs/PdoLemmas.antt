@@ -16,7 +16,6 @@ use Rattle.cop_net.specs.declared.faults.SyncFault.{SyncFault}
 use Rattle.cop_net.specs.declared.faults.SyncFault.TheVariants as faults
 use Rattle.cop_net.specs.declared.pdos.Sent.{Sent}
 use Rattle.cop_net.specs.declared.devices.Device.{Device}
-use Rattle.cop_net.specs.declared.uses.Used.{Used}
 use Rattle.cop_net.specs.declared.signals.Signals.{Signals}
 use Rattle.cop_net.specs.Steps.{folded}
 use Rattle.cop_net.specs.Fixed.{ticks}

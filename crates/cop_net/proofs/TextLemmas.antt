@@ -14,7 +14,7 @@ use Rattle.cop_eds.specs.Rates.{checked_rates}
 use Rattle.cop_eds.specs.Lists.{listed}
 use Rattle.cop_eds.proofs.ReadingLemmas.{bind_ok}
 use Rattle.cop_net.specs.Devices.{File, text_of}
-use Rattle.cop_net.specs.Texts.{named, KnowsReadings}
+use Rattle.cop_net.specs.Texts.{named, KnowsReadings, KnowsTexts, AreReadings}
 
 -- one file more
 text_more : (files : List File) (f : File) (name : List ℕ) → text_of (files ++ f ∷ []) name ≡ option_or (text_of files name) (if bytes_eq f.name name then Some f.text else None)
@@ -34,12 +34,20 @@ kept (Some x) b text h = refl
 same_text : (files : List File) (name query : List ℕ) → bytes_eq name query ≡ true → is_some (text_of files name) ≡ true → is_some (text_of files query) ≡ true
 same_text files name query e h = rw (← (bytes_eq-Decides name query).0 e) h
 
+text_stays : (files : List File) (f : File) (name : List ℕ) → is_some (text_of files f.name) ≡ true → text_of files name ≡ text_of (files ++ f ∷ []) name
+text_stays files f name some = kept (text_of files name) (bytes_eq f.name name) f.text (λ e. same_text files f.name name e some) ∙ sym (text_more files f name)
+
 pub readings_kept : (m : BTreeMap (Bor (List ℕ)) (Result (List ℕ) eds.Refusal)) (files : List File) (f : File) → KnowsReadings files m → is_some (named m f.name) ≡ true → KnowsReadings (files ++ f ∷ []) m
-readings_kept m files f knows there name =
-    let some : is_some (text_of files f.name) ≡ true = told (text_of files f.name) (rw (knows f.name) at there) in
-    knows name ∙ ap (option_map reading) (kept (text_of files name) (bytes_eq f.name name) f.text (λ e. same_text files f.name name e some) ∙ sym (text_more files f name))
+readings_kept m files f knows there name = knows name ∙ ap (option_map reading) (text_stays files f name (told (text_of files f.name) (rw (knows f.name) at there)))
   where
     told : (o : Option (List ℕ)) → is_some (option_map reading o) ≡ true → is_some o ≡ true
+    told None h = h
+    told (Some x) h = refl
+
+pub texts_kept : (m : BTreeMap (Bor (List ℕ)) (Bor (List ℕ))) (files : List File) (f : File) → KnowsTexts files m → is_some (named m f.name) ≡ true → KnowsTexts (files ++ f ∷ []) m
+texts_kept m files f knows there name = knows name ∙ text_stays files f name (rw (knows f.name) at (told (named m f.name) there))
+  where
+    told : (o : Option (Bor (List ℕ))) → is_some o ≡ true → is_some (option_map (λ t. t.now) o) ≡ true
     told None h = h
     told (Some x) h = refl
 
@@ -49,12 +57,14 @@ new_text o true text h = rw (h refl) refl
 new_text None false text h = refl
 new_text (Some x) false text h = refl
 
+text_joins : (files : List File) (f : File) (name : List ℕ) → text_of files f.name ≡ None → cond (bytes_eq f.name name) (Some f.text) (text_of files name) ≡ text_of (files ++ f ∷ []) name
+text_joins files f name none = new_text (text_of files name) (bytes_eq f.name name) f.text (λ e. rw (← (bytes_eq-Decides f.name name).0 e) none) ∙ sym (text_more files f name)
+
 pub readings_more : (m new : BTreeMap (Bor (List ℕ)) (Result (List ℕ) eds.Refusal)) (files : List File) (f : File) (r : Result (List ℕ) eds.Refusal) → KnowsReadings files m
     → is_some (named m f.name) ≡ false → r ≡ reading f.text → ((name : List ℕ) → named new name ≡ update bytes_eq (λ n. named m n) f.name (Some r) name) → KnowsReadings (files ++ f ∷ []) new
 readings_more m new files f r knows absent same updates name =
     let none : text_of files f.name ≡ None = told (text_of files f.name) (rw (knows f.name) at absent) in
-    updates name ∙ by_test (bytes_eq f.name name)
-    ∙ ap (option_map reading) (new_text (text_of files name) (bytes_eq f.name name) f.text (λ e. rw (← (bytes_eq-Decides f.name name).0 e) none) ∙ sym (text_more files f name))
+    updates name ∙ by_test (bytes_eq f.name name) ∙ ap (option_map reading) (text_joins files f name none)
   where
     told : (o : Option (List ℕ)) → is_some (option_map reading o) ≡ false → o ≡ None
     told None h = refl
@@ -63,6 +73,43 @@ readings_more m new files f r knows absent same updates name =
     by_test : (b : Bool) → cond b (Some r) (named m name) ≡ option_map reading (cond b (Some f.text) (text_of files name))
     by_test true = ap Some same
     by_test false = knows name
+
+pub texts_more : (m new : BTreeMap (Bor (List ℕ)) (Bor (List ℕ))) (files : List File) (f : File) (t : Bor (List ℕ)) → KnowsTexts files m
+    → is_some (named m f.name) ≡ false → t.now ≡ f.text → ((name : List ℕ) → named new name ≡ update bytes_eq (λ n. named m n) f.name (Some t) name) → KnowsTexts (files ++ f ∷ []) new
+texts_more m new files f t knows absent same updates name =
+    let none : text_of files f.name ≡ None = sym (knows f.name) ∙ told (named m f.name) absent in
+    ap (option_map (λ t. t.now)) (updates name) ∙ by_test (bytes_eq f.name name) ∙ text_joins files f name none
+  where
+    told : (o : Option (Bor (List ℕ))) → is_some o ≡ false → option_map (λ t. t.now) o ≡ None
+    told None h = refl
+    told (Some x) h = cc
+
+    by_test : (b : Bool) → option_map (λ t. t.now) (cond b (Some t) (named m name)) ≡ cond b (Some f.text) (text_of files name)
+    by_test true = ap Some same
+    by_test false = knows name
+
+-- one reading less
+pub reading_taken : (m new : BTreeMap (Bor (List ℕ)) (List ℕ)) (files : List File) (name : List ℕ) → AreReadings files m
+    → ((query : List ℕ) → named new query ≡ update bytes_eq (λ n. named m n) name None query) → AreReadings files new
+reading_taken m new files name are updates query x h = by_test (bytes_eq name query) (sym (updates query) ∙ h)
+  where
+    by_test : (b : Bool) → cond b None (named m query) ≡ Some x → option_map reading (text_of files query) ≡ Some (Ok x)
+    by_test true h = cc
+    by_test false h = are query x h
+
+-- one reading more
+pub reading_kept : (m new : BTreeMap (Bor (List ℕ)) (List ℕ)) (files : List File) (name text : List ℕ) → AreReadings files m → option_map reading (text_of files name) ≡ Some (Ok text)
+    → ((query : List ℕ) → named new query ≡ update bytes_eq (λ n. named m n) name (Some text) query) → AreReadings files new
+reading_kept m new files name text are read updates query x h = by_test (bytes_eq name query) refl (sym (updates query) ∙ h)
+  where
+    by_test : (b : Bool) → bytes_eq name query ≡ b → cond b (Some text) (named m query) ≡ Some x → option_map reading (text_of files query) ≡ Some (Ok x)
+    by_test true e h =
+        let same : text ≡ x = cc in
+        rw (← (bytes_eq-Decides name query).0 e, ← same) read
+    by_test false e h = are query x h
+
+pub readings_unchanged : (m new : BTreeMap (Bor (List ℕ)) (List ℕ)) (files : List File) → AreReadings files m → new.entries ≡ m.entries → AreReadings files new
+readings_unchanged m new files are same query x h = are query x (rw same at h)
 
 -- a text that is accepted is read as itself
 pub read_as_itself : (text x : List ℕ) → reading text ≡ Ok x → x ≡ text

@@ -4,6 +4,7 @@ use Rattle.std.specs.List.{list_any}
 use Rattle.std.specs.Option.{option_map_or}
 use Rattle.cop_frame.specs.declared.rates.Rate.{Rate}
 use Rattle.cop_dict.specs.Find as dictionary
+use Rattle.cop_rows.specs.declared.node_table.DeviceRow.{DeviceRow}
 use Rattle.cop_rows.specs.declared.node_table.FrameRow.{FrameRow}
 use Rattle.cop_rows.specs.declared.pdo_table.PdoRow.{PdoRow}
 use Rattle.cop_rows.specs.Nodes.{NodeLists, IsNodeTable}
@@ -67,12 +68,23 @@ pub record Accepted : Type 0 where
   pub equipment : Equipment
   pub streams : List Entry
 
+-- the devices with the streams of the tables
+abbrev pub with_streams : NodeLists → List PdoRow → Equipment → Result Accepted Refusal
+with_streams nodes rows equipment = do
+  streams ← streams_of nodes.frames rows equipment
+  Ok (record { equipment = equipment; streams = streams })
+
 -- the network whose plan may have the rates that are wanted, or the first rule that it breaks
 unfoldable pub network_of : List Rate → NodeLists → List PdoRow → List File → Result Accepted Refusal
 network_of wanted nodes rows files = do
   equipment ← devices_of wanted files nodes.devices
-  streams ← streams_of nodes.frames rows equipment
-  Ok (record { equipment = equipment; streams = streams })
+  with_streams nodes rows equipment
+
+-- devices that some files describe, where some rates are wanted
+pub record AreDescribed (rows : List DeviceRow) (equipment : Equipment) : Type 0 where
+  pub wanted : List Rate
+  pub files : List File
+  pub made : devices_of wanted files rows ≡ Ok equipment
 
 -- a network with its tables
 pub record Net : Type 0 where

@@ -35,7 +35,7 @@ impl<'a> Model for EdsFiles<'a> {
 }
 
 /// Reads a text: what it says, or why it is refused.
-fn read_text<'a>(
+pub fn read_text<'a>(
     alloc: Global,
     text: &'a [u8],
 ) -> Result<Result<Blueprint<'a>, Refusal>, AllocError>

@@ -13,6 +13,7 @@ mod networks;
 mod pdos;
 mod rates;
 mod settings;
+mod shelf;
 mod signals;
 mod strays;
 mod tables;

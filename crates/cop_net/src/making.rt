@@ -9,11 +9,11 @@ ghost use Rattle.cop_net.specs.Devices.{handed_in};
 ghost use Rattle.cop_net.specs.Faults.{refusal};
 ghost use Rattle.cop_net.specs.Sets.{AreOneSet};
 ghost use Rattle.cop_net.specs.Fixed.{IsTimed};
-ghost use Rattle.cop_net.specs.Network.{accepted, streams_of, network_of};
+ghost use Rattle.cop_net.specs.Network.{AreDescribed, accepted, streams_of, with_streams, network_of};
 
 use crate::devices::Devices;
 use crate::eds_files::EdsFiles;
-use crate::equipping::equip;
+use crate::equipping::{equip, supply};
 use crate::faults::{PlanFault, Rule};
 use crate::fixed::put_fixed;
 use crate::frames::Frames;
@@ -67,24 +67,21 @@ fn streams_of(
     Ok(set)
 }
 
-#[tactic(auto, using(crate::proofs::NetworkLemmas::accepted_one_set), unfolding(crate::specs::Network::network_of))]
-/// The network of the tables, by the rows that are in them.
+/// The network of the tables, by the rows that are in them, and of their devices.
 fn network_of_rows<'a>(
     alloc: Global,
-    wanted: &RateSet,
     nodes: &'a NodeTable,
     pdos: &'a PdoTable,
     frames: &'a [FrameRow],
     rows: &[PdoRow],
-    files: &EdsFiles<'_>,
+    devices: Devices,
 ) -> Result<Network<'a>, PlanFault>
     requires frames { (frames.now ≡ nodes.now.frames) × IsNodeTable nodes.now × All IsTimed frames.now }
     requires rows { (rows.now ≡ pdos.now) × IsPdoTable pdos.now }
-    ensures exact { Gives accepted refusal result (network_of wanted.now nodes.now pdos.now files.now) }
-    ensures one_set { IfOk (network_of wanted.now nodes.now pdos.now files.now) (λ made. AreOneSet made.streams) }
+    requires devices { AreDescribed nodes.now.devices devices }
+    ensures exact { Gives accepted refusal result (with_streams nodes.now pdos.now devices) }
     ensures tables { IfOk result (λ n. (n.nodes ≡ nodes.now) × (n.rows ≡ pdos.now)) }
 {
-    let devices = equip(alloc, wanted, device_rows(nodes), files)?;
     let frames = Frames::new(frames);
     let set = streams_of(alloc, &frames, rows, &devices)?;
     Ok(Network {
@@ -100,6 +97,7 @@ fn network_of_rows<'a>(
 /// first rule that is broken: of the devices by record (43); then of the PDOs by record (45, the TPDO's 46, 47, 53, and of
 /// each consumer in turn 48 and 46); then of the devices by node (51, 50); then 52. The streams of a network that breaks no rule are apart and few enough for one set,
 /// which so refuses none of them.
+#[tactic(auto, using(crate::proofs::NetworkLemmas::accepted_one_set), unfolding(crate::specs::Network::network_of))]
 pub fn network_of_files<'a>(
     alloc: Global,
     wanted: &RateSet,
@@ -111,18 +109,12 @@ pub fn network_of_files<'a>(
     ensures one_set { IfOk (network_of wanted.now nodes.now pdos.now files.now) (λ made. AreOneSet made.streams) }
     ensures tables { IfOk result (λ n. (n.nodes ≡ nodes.now) × (n.rows ≡ pdos.now)) }
 {
-    network_of_rows(
-        alloc,
-        wanted,
-        nodes,
-        pdos,
-        frame_rows(nodes),
-        pdos.rows(),
-        files,
-    )
+    let (frames, rows) = (frame_rows(nodes), pdos.rows());
+    let devices = equip(alloc, wanted, device_rows(nodes), files)?;
+    network_of_rows(alloc, nodes, pdos, frames, rows, devices)
 }
 
-#[tactic(auto, using(crate::proofs::NetworkLemmas::accepted_one_set))]
+#[tactic(auto, using(crate::proofs::NetworkLemmas::accepted_one_set), unfolding(crate::specs::Network::network_of))]
 /// The network of the tables and of the EDS files, which have names and texts, whose plan may have the rates that are
 /// wanted; of two files with one name the first counts. It is [`network_of_files`] of those that are read.
 pub fn network<'a>(
@@ -137,6 +129,6 @@ pub fn network<'a>(
     ensures tables { IfOk result (λ n. (n.nodes ≡ nodes.now) × (n.rows ≡ pdos.now)) }
 {
     let (frames, rows) = (frame_rows(nodes), pdos.rows());
-    let files = EdsFiles::new(alloc, files)?;
-    network_of_rows(alloc, wanted, nodes, pdos, frames, rows, &files)
+    let devices = supply(alloc, wanted, device_rows(nodes), files)?;
+    network_of_rows(alloc, nodes, pdos, frames, rows, devices)
 }

@@ -1,5 +1,4 @@
-use Rattle.std.proofs.Common.{refl}
-use Rattle.cop_net.proofs.FixedLemmas.{knows_none, knows_more, knows_all}
+use Rattle.cop_net.proofs.FixedLemmas.{knows_none}
 use Rattle.cop_net.proofs.frames.by_place.Goals as goal
 
 pub loop-number-init : goal.loop-number-init

@@ -6,14 +6,14 @@ pub invariant_of-result : goal.invariant_of-result
 invariant_of-result c =
     let frames = c.requires.frames in
     let rows = c.requires.rows in
+    let devices = c.requires.devices in
     let made_of = rw c.new-frames.ensures at c.in_ok-set.ensures in
-    let s = network_streams c.args.frames.now c.args.rows.now c.in_ok-devices.devices c.in_ok-set.set frames.2 (rw rows.0 (rows.1.count)) made_of in
-    let devices = rw c.device_rows.ensures.rows at c.in_ok-devices.ensures in
+    let s = network_streams c.args.frames.now c.args.rows.now c.args.devices c.in_ok-set.set frames.2 (rw rows.0 (rows.1.count)) made_of in
     let streams = rw (frames.0, rows.0) at made_of in (
       record {
-        wanted = c.args.wanted.now;
-        files = _;
-        made = made c.args.wanted.now c.args.nodes.now c.args.pdos.now _ c.in_ok-devices.devices c.in_ok-set.set devices streams;
+        wanted = devices.wanted;
+        files = devices.files;
+        made = made devices.wanted c.args.nodes.now c.args.pdos.now devices.files c.args.devices c.in_ok-set.set devices.made streams;
         nodes = frames.1;
         rows = rows.1;
         streams = rw rows.0 at s.0;
