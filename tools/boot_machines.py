@@ -43,10 +43,9 @@ CASES = {
     "second boot-up among others": ("crane", "--reboot 13:3 22:1", {}),
     "another rate": ("valve", "--rate 250", {5: "silent"}),
     "lines cut": ("valve", "--noise 1", {5: "silent"}),
-    "runs already": ("valve", "--running 5", {}, 3, []),
     "runs already, taken over": ("valve", "--running 5", {}, 0, ["--take-over"]),
     "node numbers swapped": ("crane", "--swap 21:31", {21: "other 1000 00 00020194", 31: "other 1000 00 00020196"}),
-    "swapped, not asked": ("crane", "--swap 31:43", {31: "aborted 1017 00 06020000"}, 3, ["--no-identity"]),
+    "swapped, not asked": ("crane", "--swap 31:43", {31: "aborted 1017 00 06020000", 43: "differs 1A00 01 91300120"}, 3, ["--no-identity"]),
     "another product": ("conveyor", "--identity 13:1018:2:191", {13: "other 1018 02 00000191"}),
     "another product, taken over, byte by byte": ("conveyor", "--identity 13:1018:2:191 --chunk 1", {13: "other 1018 02 00000191"}, 3, ["--take-over"]),
     "another product, not asked": ("conveyor", "--identity 13:1018:2:191", {}, 0, ["--no-identity"]),
@@ -65,8 +64,43 @@ CASES = {
     "boots up while it is read back": ("valve", "--reboot-at-read 5:1", {5: "restarting"}),
     "boots up once it was read back in part": ("crane", "--reboot-at-read 13:2", {13: "restarting"}),
     "does not tell what it has": ("crane", "--unread 12:1017:0:08000022", {12: "aborted 1017 00 08000022"}),
-    "pulled out": ("valve", "--gone 2", {}, 5, []),
+    "lines with CR LF, stamps of eight digits": ("valve", "--line-feeds --long-stamps", {}),
+    "flags that tell of no errors": ("valve", "--flags 5B", {}),
+    "an adapter that cannot listen only": ("valve", "--refuse L", {}),
+    "an adapter that cannot listen only and answers nothing": ("valve", "--refuse L --answers none", {}),
+    "has stored another identifier": ("valve", "--has 5:1800:1:40000191", {}),
+    "has stored another identifier, and does not tell it": (
+        "valve", "--has 5:1800:1:40000191 --unread 5:1800:1:08000022", {5: "aborted 1800 01 08000022"}),
+    "has stored other identifiers, also of a PDO that is not used": ("crane", "--has 12:1801:1:4000028D 12:1800:1:4000019F", {}),
 }
+
+# What keeps a boot back before a frame is sent: the example, the words of the rig and of the program, what is said, and the commands that the adapter is given.
+HEARD = ["C", "S6", "L", "C"]
+
+LEFT_ALONE = {
+    "runs, by a heartbeat": ("valve", "--running 5", [], "refused 100 5", HEARD),
+    "runs, by SYNC": ("valve", "--sends 080", [], "refused 100 0", HEARD),
+    "runs, by a PDO of the plan": ("valve", "--sends 181", [], "refused 100 5", HEARD),
+    "runs, by a PDO of another identifier": ("valve", "--sends 1C3", [], "refused 100 0", HEARD),
+    "runs, by lines with CR LF": ("valve", "--running 5 --line-feeds", [], "refused 100 5", HEARD),
+    "runs, by lines with stamps of eight digits": ("valve", "--running 5 --long-stamps", [], "refused 100 5", HEARD),
+    "runs, and the adapter cannot listen only": ("valve", "--running 5 --refuse L", [], "refused 100 5", ["C", "S6", "L", "O", "C"]),
+    "runs, and the adapter cannot listen only and answers nothing": (
+        "valve", "--running 5 --refuse L --answers none", [], "refused 100 5", ["C", "S6", "L", "F", "C", "S6", "O", "C"]),
+    "lines that are no frames": ("valve", "--running 5 --garbled", [], "refused 103 ", HEARD),
+    "lines that are no frames, of PDOs": ("valve", "--sends 1C3 --garbled --chunk 5", [], "refused 103 ", HEARD),
+    "errors on the bus": ("valve", "--flags 80", [], "refused 102 0", ["C", "S6", "L", "F", "C"]),
+    "errors on the bus, and the adapter cannot listen only": ("valve", "--flags A4 --refuse L --chunk 1", [], "refused 102 0", ["C", "S6", "L", "O", "F", "C"]),
+    "runs, and has had errors": ("valve", "--running 5 --flags A4", [], "refused 100 5", HEARD),
+    "the rate is refused": ("valve", "--refuse S", [], "refused 104 0", ["C", "S6", "C"]),
+    "the rate is refused, taken over": ("valve", "--refuse S", ["--take-over"], "refused 104 0", ["C", "S6", "C"]),
+    "to be opened is refused": ("valve", "--refuse O", [], "refused 104 0", ["C", "S6", "L", "F", "C", "S6", "O", "C"]),
+    "to be opened is refused, taken over": ("valve", "--refuse O", ["--take-over"], "refused 104 0", ["C", "S6", "O", "C"]),
+    "to listen and to be opened is refused": ("valve", "--refuse LO", [], "refused 104 0", ["C", "S6", "L", "O", "C"]),
+}
+
+# The communication is reset before the devices are asked which COB-IDs they have, and again by the manager.
+RESET = ["8200", "8200"]
 
 # How far a boot reaches: the example, the words of the rig and of the program, the lines, the status, the NMT commands, and the devices that
 # have then what their DCF files say.
@@ -80,41 +114,57 @@ def lines(form, nodes):
 READY = lines("node {} ready\n", CONVEYOR)
 
 REACHES = {
-    "one node alone": ("crane", "--running 13", ["--only", "12"], "node 12 ready\nstarted\n", 0, ["820c", "010c"], [12]),
+    "one node alone": ("crane", "--running 13", ["--only", "12"], "node 12 ready\nstarted\n", 0, ["820c", "820c", "010c"], [12]),
     "one node alone that runs": ("crane", "--running 12", ["--only", "12"], "", 3, [], []),
     "one node alone that no row has": ("valve", "--until 3", ["--only", "9"], "", 3, [], []),
-    "one node alone, not started": ("conveyor", "", ["--only", "11", "--no-start"], "node 11 ready\nnot started\n", 0, ["820b"], [11]),
-    "not started": ("conveyor", "", ["--no-start"], READY + "not started\n", 0, ["8200"], CONVEYOR),
-    "not started, since one is silent": ("valve", "--silent 5", ["--no-start"], "node 5 silent\nnot started\n", 3, ["8200"], []),
-    "watched": ("conveyor", "", ["--watch", "2"], READY + "started\n" + lines("node {} operational\n", CONVEYOR), 0, ["8200", "0100"], CONVEYOR),
+    "one node alone, not started": ("conveyor", "", ["--only", "11", "--no-start"], "node 11 ready\nnot started\n", 0, ["820b", "820b"], [11]),
+    "not started": ("conveyor", "", ["--no-start"], READY + "not started\n", 0, RESET, CONVEYOR),
+    "not started, since one is silent": ("valve", "--silent 5", ["--no-start"], "node 5 silent\nnot started\n", 3, RESET, []),
+    "watched": ("conveyor", "", ["--watch", "2"], READY + "started\n" + lines("node {} operational\n", CONVEYOR), 0, RESET + ["0100"], CONVEYOR),
     "watched, and one says nothing": (
         "conveyor", "--quiet 13", ["--watch", "2"],
-        READY + "started\n" + lines("node {} operational\n", [1, 11, 12]) + "node 13 late\nnode 14 operational\n", 3, ["8200", "0100"], CONVEYOR),
-    "watched, as a document": ("valve", "--quiet 5", ["--watch", "1", "--json"], "node 5 ready\nstarted\nnode 5 late\n", 3, ["8200", "0100"], [5]),
+        READY + "started\n" + lines("node {} operational\n", [1, 11, 12]) + "node 13 late\nnode 14 operational\n", 3, RESET + ["0100"], CONVEYOR),
+    "watched, as a document": ("valve", "--quiet 5", ["--watch", "1", "--json"], "node 5 ready\nstarted\nnode 5 late\n", 3, RESET + ["0100"], [5]),
     "given up": ("valve", "--silent 5 --until 6", ["--limit", "3"], "", 5, ["8200"], []),
-    "stored": ("storing", "", ["--store"], "node 5 ready\nstarted\n", 0, ["8200", "0100"], [5]),
-    "not stored": ("storing", "--abort 5:1010:1:08000020", ["--store"], "node 5 aborted 1010 01 08000020\nnot started\n", 3, ["8200"], [5]),
-    "stored by none": ("conveyor", "", ["--store"], READY + "started\n", 0, ["8200", "0100"], CONVEYOR),
+    "given up in the boot": ("valve", "--silent 5 --until 12", ["--limit", "8"], "node 5 unfinished\n", 5, RESET, []),
+    "given up in the boot, as a document": ("valve", "--silent 5 --until 12", ["--limit", "8", "--json"], "node 5 unfinished\n", 5, RESET, []),
+    "pulled out": ("valve", "--gone 2", [], "", 5, ["8200"], []),
+    "pulled out in the boot": ("valve", "--gone 4", [], "node 5 unfinished\n", 5, RESET, []),
+    "pulled out while it is read back": ("valve", "--gone 7", [], "node 5 ready\n", 5, RESET, [5]),
+    "pulled out while heartbeats are awaited": ("valve", "--gone 13", ["--watch", "20"], "node 5 ready\nstarted\n", 5, RESET + ["0100"], [5]),
+    "stored": ("storing", "", ["--store"], "node 5 ready\nstarted\n", 0, RESET + ["0100"], [5]),
+    "not stored": ("storing", "--abort 5:1010:1:08000020", ["--store"], "node 5 aborted 1010 01 08000020\nnot started\n", 3, RESET, [5]),
+    "stored by none": ("conveyor", "", ["--store"], READY + "started\n", 0, RESET + ["0100"], CONVEYOR),
 }
 
-# What makes of the valve's EDS file that of a device that can store its settings.
+# Examples whose devices are booted twice with what they stored; each of them can store its settings.
+TWICE = {f"twice, {example}": example for example in ("valve", "conveyor", "crane", "drives", "second-range")}
+
+# What makes of an EDS file that of a device that can store its settings.
 STORE = "[1010]\nObjectType=0x8\nSubNumber=2\n[1010sub0]\nDataType=0x0005\nAccessType=ro\nDefaultValue=1\n[1010sub1]\nDataType=0x0007\nAccessType=rw\n"
 
 
-def storing(folder):
-    """The valve's tables, with a device that can store its settings."""
-    source = f"{HERE}/examples/valve"
-    for name in ("nodes.csv", "pdos.csv"):
-        shutil.copy(f"{source}/{name}", folder)
-    with open(f"{source}/unit.eds", newline="") as it:
-        text = it.read()
+def that_stores(text):
+    """An EDS text with 1010h, if it does not have it already."""
+    if "[1010]" in text:
+        return text
     end = "\r\n" if "\r\n" in text else "\n"
     before, after = text.split("[OptionalObjects]", 1)
     count = int(re.search(r"SupportedObjects=(\d+)", after).group(1))
     after = re.sub(r"SupportedObjects=\d+", f"SupportedObjects={count + 1}", after, count=1)
     listed = re.sub(rf"(?m)^{count}=(0x[0-9A-Fa-f]+)", rf"{count}=\1{end}{count + 1}=0x1010", after, count=1)
-    with open(f"{folder}/unit.eds", "w", newline="") as out:
-        out.write(f"{before}[OptionalObjects]{listed}{'' if listed.endswith(end) else end}{STORE.replace(chr(10), end)}")
+    return f"{before}[OptionalObjects]{listed}{'' if listed.endswith(end) else end}{STORE.replace(chr(10), end)}"
+
+
+def storing(example, folder):
+    """An example's tables, with devices that can store their settings."""
+    source = f"{HERE}/examples/{example}"
+    for name in os.listdir(source):
+        if name in ("nodes.csv", "pdos.csv"):
+            shutil.copy(f"{source}/{name}", folder)
+        elif name.endswith(".eds"):
+            with open(f"{source}/{name}", newline="") as it, open(f"{folder}/{name}", "w", newline="") as out:
+                out.write(that_stores(it.read()))
 
 
 def has_other(ends):
@@ -139,16 +189,41 @@ def wanted_text(example, ends):
 def lines_of(document):
     """The lines that a document in JSON stands for."""
     value = json.loads(document)
+    if "error" in value:
+        return "".join(f"{line}\n" for line in value["error"]["words"] if line.startswith("node ") or line == "started")
     lines = [f"node {it['node']} {it['state']}" + (f" {it['index']:04X} {it['sub']:02X} {it.get('found', it.get('code')):08X}" if "index" in it else "")
              for it in value["nodes"]]
     beats = [f"node {it['node']} {it['state']}" for it in value["heartbeats"]]
     return "\n".join(lines + ["started" if value["started"] else "not started"] + beats) + "\n"
 
 
-def run(name, folder):
-    """What is wrong with a case."""
-    example, words, ends, *more = CASES[name]
-    status, options = more if more else (3 if ends else 0, [])
+def opening_faults(seen, options):
+    """Whether the adapter was opened to send though it was not listened for 2 s before, and not because it refuses to listen only."""
+    since, refused = None, False
+    for moment, command, is_taken in seen["given"]:
+        if command == "L":
+            since, refused = moment, not is_taken
+        elif command == "O" and "--take-over" not in options and not refused and (since is None or moment - since < 2):
+            return [f"the adapter is opened to send before it was listened: {seen['given']}"]
+    return []
+
+
+def left_alone(name, folder):
+    """What is wrong with a case in which no frame is to be sent."""
+    example, words, options, said, given = LEFT_ALONE[name]
+    it, seen = boot(example, words, options, folder)
+    faults = opening_faults(seen, options)
+    if it.returncode != 3 or it.stdout or f"canplan: {said}" not in it.stderr:
+        faults.append(f"status {it.returncode}, says {it.stdout!r}")
+    if [command for _, command, _ in seen["given"]] != given:
+        faults.append(f"the adapter is given {seen['given']}, not {given}")
+    if seen["frames_from_manager"]:
+        faults.append(f"{seen['frames_from_manager']} frames are sent")
+    return faults + ([f"standard error: {it.stderr}"] if faults else [])
+
+
+def boot(example, words, options, folder):
+    """What the program gives with a rig, and what the rig reports."""
     tables = [f"{HERE}/examples/{example}/{file}" for file in ("nodes.csv", "pdos.csv")]
     port, report = f"{folder}/port", f"{folder}/report.json"
     rig = subprocess.Popen([sys.executable, RIG, tables[0], port, "--expect", os.path.dirname(tables[0]), "--log", f"{folder}/log",
@@ -157,10 +232,17 @@ def run(name, folder):
     it = subprocess.run([PROGRAM, "boot", "--port", port, *options, *tables], capture_output=True, text=True, timeout=120)
     rig.wait(timeout=60)
     with open(report) as file:
-        seen = json.load(file)
+        return it, json.load(file)
+
+
+def run(name, folder):
+    """What is wrong with a case."""
+    example, words, ends, *more = CASES[name]
+    status, options = more if more else (3 if ends else 0, [])
+    it, seen = boot(example, words, options, folder)
     text = wanted_text(example, ends) if status in (0, 3) and "--running" not in words or status == 0 else ""
-    commands = {0: ["8200", "0100"], 3: [] if "--running" in words or "--rate" in words or has_other(ends) else ["8200"], 5: ["8200"]}[status]
-    faults = []
+    commands = RESET + ["0100"] if status == 0 else [] if "--running" in words or "--rate" in words or has_other(ends) else RESET
+    faults = opening_faults(seen, options)
     if it.returncode != status:
         faults.append(f"status {it.returncode}, not {status}")
     said = lines_of(it.stdout) if "--json" in options else it.stdout
@@ -184,7 +266,7 @@ def reach(name, folder):
     """What is wrong with a case of how far a boot reaches."""
     example, words, options, text, status, commands, set_up = REACHES[name]
     if example == "storing":
-        storing(folder)
+        storing("valve", folder)
     tables = [f"{folder if example == 'storing' else f'{HERE}/examples/{example}'}/{file}" for file in ("nodes.csv", "pdos.csv")]
     expected = f"{HERE}/examples/{'valve' if example == 'storing' else example}"
     port, report = f"{folder}/port", f"{folder}/report.json"
@@ -195,7 +277,7 @@ def reach(name, folder):
     rig.wait(timeout=60)
     with open(report) as file:
         seen = json.load(file)
-    faults = []
+    faults = opening_faults(seen, options)
     said = lines_of(it.stdout) if "--json" in options else it.stdout
     if (said, it.returncode) != (text, status):
         faults.append(f"says {said!r} with status {it.returncode}, not {text!r} with {status}")
@@ -213,13 +295,39 @@ def reach(name, folder):
     return faults + ([f"standard error: {it.stderr}"] if faults else [])
 
 
+def twice(name, folder):
+    """What is wrong with the second boot of devices that have stored what the first one set."""
+    example = TWICE[name]
+    storing(example, folder)
+    tables = [f"{folder}/{file}" for file in ("nodes.csv", "pdos.csv")]
+    port, report = f"{folder}/port", f"{folder}/report.json"
+    rig = subprocess.Popen([sys.executable, RIG, tables[0], port, "--expect", f"{HERE}/examples/{example}", "--sessions", "2", "--log", f"{folder}/log", "--report", report],
+                           stdout=subprocess.PIPE, text=True)
+    rig.stdout.readline()
+    faults = []
+    for time in ("first", "second"):
+        it = subprocess.run([PROGRAM, "boot", "--port", port, "--store", "--take-over", *tables], capture_output=True, text=True, timeout=120)
+        lines = it.stdout.splitlines()
+        if it.returncode or lines[-1:] != ["started"] or not all(line.endswith(" ready") for line in lines[:-1]):
+            faults.append(f"the {time} boot says {it.stdout!r} with status {it.returncode}: {it.stderr}")
+    rig.wait(timeout=60)
+    with open(report) as file:
+        seen = json.load(file)
+    if seen["commands"] != 2 * (RESET + ["0100"]):
+        faults.append(f"NMT commands {seen['commands']}")
+    if not seen["all_as_dcf"]:
+        faults.append("a device has not what its DCF file says")
+    faults += [f"node {node} has not stored what its DCF file says" for node, device in seen["devices"].items() if not device["stored_as_dcf"]]
+    return faults
+
+
 def main(words):
     passed, failed = 0, 0
-    for name in [*CASES, *REACHES]:
+    for name in [*CASES, *LEFT_ALONE, *REACHES, *TWICE]:
         if words and not any(word in name for word in words):
             continue
         with tempfile.TemporaryDirectory() as folder:
-            faults = run(name, folder) if name in CASES else reach(name, folder)
+            faults = (run if name in CASES else left_alone if name in LEFT_ALONE else reach if name in REACHES else twice)(name, folder)
         print(f"{'FAILED' if faults else 'ok'}: {name}", flush=True)
         for fault in faults:
             print(f"  {fault}")

@@ -4,7 +4,7 @@
     /usr/bin/python3 tools/boot_with_python_can.py
 
 python-can reads the lines that canplan writes as frames, and writes the node's frames as lines. The frames that it reads have to be the
-reset, the settings of the node's DCF file, the requests of uploads by which they are read back and the start, and canplan has to tell
+reset, the question which COB-ID the node has, the reset, the settings of its DCF file, the requests of uploads by which they are read back and the start, and canplan has to tell
 the node ready.
 """
 import os
@@ -19,6 +19,8 @@ import can
 
 HERE = os.path.dirname(os.path.dirname(os.path.realpath(__file__)))
 WANTED = [
+    (0x000, "8200"),
+    (0x605, "4000180100000000"),
     (0x000, "8200"),
     (0x605, "23001801850100c0"),
     (0x605, "2300180181010040"),
@@ -49,8 +51,8 @@ def pass_on(source, target):
 
 
 def serve(bus, seen, is_over):
-    """Node 5: it boots up at a reset, confirms each setting, and tells what it has."""
-    has = {}
+    """Node 5: it boots up at a reset, confirms each setting, and tells what it has: at first the COB-ID of its EDS file."""
+    has = {b"\x00\x18\x01": [0x43, 0x00, 0x18, 0x01, 0x85, 0x01, 0x00, 0x40]}
     while not is_over.is_set():
         frame = bus.recv(0.1)
         if frame is None:

@@ -279,6 +279,12 @@ def faults_of_concise(network, tables, out):
     told = rows_of(f"{folder}/master.csv")
     if [(row["object"], row["sub"]) for row in told] != [it for node in network.devices for it in (("1F22h", str(node)), ("1F81h", str(node)))] + [("1F89h", "0")]:
         yield "what a manager is told"
+    first = min(network.devices)
+    said = run("export", "cdcf", "--manager", str(first), *tables, folder)
+    told = [(row["object"], row["sub"]) for row in rows_of(f"{folder}/master.csv")]
+    slaves = [it for node in network.devices if node != first for it in (("1F22h", str(node)), ("1F81h", str(node)))]
+    if said != (0, b"", "") or sorted(told) != sorted([("1F80h", "0"), *slaves, ("1F89h", "0")]):
+        yield f"what node {first} is told as the manager: {said}"
 
 
 def section(name, **keys):

@@ -16,7 +16,7 @@ import tempfile
 
 HERE = os.path.dirname(os.path.dirname(os.path.realpath(__file__)))
 VALVE = f"{HERE}/examples/valve"
-PROGRAM = f"{HERE}/bin/canplan"
+PROGRAM = os.environ.get("CANPLAN", f"{HERE}/bin/canplan")
 FILES = ["plan.txt", "refusals.csv", "node-005.dcf"]
 
 

@@ -20,7 +20,7 @@ import sys
 
 HERE = os.path.dirname(os.path.dirname(os.path.realpath(__file__)))
 EXAMPLES = f"{HERE}/examples"
-PROGRAM = f"{HERE}/bin/canplan"
+PROGRAM = os.environ.get("CANPLAN", f"{HERE}/bin/canplan")
 NAMES = ("chromium", "chromium-browser", "google-chrome")
 WIDTHS = (1280, 390)
 SCHEMES = {"dark": 0, "light": 1}

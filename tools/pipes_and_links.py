@@ -20,7 +20,7 @@ from files import bytes_of, write
 HERE = os.path.dirname(os.path.dirname(os.path.realpath(__file__)))
 VALVE = f"{HERE}/examples/valve"
 TABLES = [f"{VALVE}/nodes.csv", f"{VALVE}/pdos.csv"]
-PROGRAM = f"{HERE}/bin/canplan"
+PROGRAM = os.environ.get("CANPLAN", f"{HERE}/bin/canplan")
 FILES = ["plan.txt", "refusals.csv", "node-005.dcf"]
 
 

@@ -17,7 +17,7 @@ import tempfile
 
 HERE = os.path.dirname(os.path.dirname(os.path.realpath(__file__)))
 EXAMPLES = f"{HERE}/examples"
-PROGRAM = f"{HERE}/bin/canplan"
+PROGRAM = os.environ.get("CANPLAN", f"{HERE}/bin/canplan")
 
 
 def bytes_of(file):

@@ -57,6 +57,10 @@ DEVICES = (
     (None, listed("0x1200", CLIENT + "585"), NODES, ROW, 5, "no row sdo_response of node 5: by its EDS file it has an SDO server (1200h sub 2)"),
     (None, [("DefaultValue=0\n", "DefaultValue=1000\n")], NODES, ROW, 5, "no row heartbeat of node 5: by its EDS file it begins with a heartbeat (1017h)"),
     (None, [], NODES, "5,1,10000,8000,8000,\n", 5, "is not above its jitter"),
+    (None, listed("0x1012", "[1012]\nDataType=7\nAccessType=rw\nDefaultValue=0x40000100"), NODES, ROW, 5, "node 5 sends TIME (100h)"),
+    (None, listed("0x1006", "[1006]\nDataType=7\nAccessType=rw\nDefaultValue=20000"), NODES + "sync,0,,,10000,0\n", ROW, 5, "1006h is 20000 us"),
+    (111, [("DefaultValue=255\n", "DefaultValue=255\nParameterValue=254\n")], NODES, ROW, 5, "ParameterValue=254 of Valve is not the DefaultValue"),
+    (116, [], NODES, "5,1,10000,0,700,\n", 5, "one error on the bus takes up to 664 us, and TPDO 1 of node 5 has 160 us left"),
 )
 
 
@@ -75,7 +79,7 @@ def changed(parts):
 
 def of_place(text, warning):
     """What is wrong with the place of a warning of an EDS text."""
-    if warning["number"] is None or warning["number"] > 85:
+    if warning["number"] is None or warning["number"] > 85 and warning["number"] != 111:
         if warning["file"] is not None or warning["line"] is not None:
             yield f"a place: {warning}"
         return

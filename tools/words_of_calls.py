@@ -5,6 +5,7 @@ and the numbers that `explain` knows, which it tells where it is asked for anoth
     python3 tools/words_of_calls.py
 """
 import os
+import pty
 import re
 import subprocess
 import sys
@@ -81,6 +82,16 @@ def faults_of_numbers():
             yield f"explain {number}: status {done.returncode}, {done.stdout!r}, {done.stderr!r}"
 
 
+def faults_of_no_words():
+    """What is wrong with a call with no words at a terminal, which is help."""
+    ours, its = pty.openpty()
+    done = subprocess.run([PROGRAM], capture_output=True, text=True, stdin=its, timeout=60)
+    os.close(ours)
+    os.close(its)
+    if done.returncode != 0 or "Usage: canplan" not in done.stdout:
+        yield f"no words at a terminal: status {done.returncode}, {done.stdout!r}, {done.stderr!r}"
+
+
 def main():
     with tempfile.TemporaryDirectory() as folder:
         write(f"{folder}/none.csv", NO_REFUSAL)
@@ -90,6 +101,7 @@ def main():
         if os.path.exists(f"{folder}/node-099.cdcf") or bytes_of(f"{folder}/node-099.txt") != b"mine":
             faults.append("files of an earlier plan, and they alone, are to be removed")
     faults += faults_of_numbers()
+    faults += faults_of_no_words()
     return status_of(faults)
 
 

@@ -52,9 +52,9 @@ class Device:
     def command(self, cs, now):
         if cs in (0x81, 0x82):
             self.resets += 1
-            for e in self.entries.values():
+            for key, e in self.entries.items():
                 if cs == 0x81 or 0x1000 <= e.index <= 0x1FFF:
-                    e.value = e.default
+                    e.value = self.kept(key, e)
             self.upload = self.download = self.next_beat = None
             self.pending = []
             if not self.faults.get("silent"):
@@ -62,6 +62,10 @@ class Device:
         elif self.boot_at is None:
             self.starts += cs == 1
             self.state = {1: 0x05, 2: 0x04, 0x80: 0x7F}.get(cs, self.state)
+
+    def kept(self, key, e):
+        """The value that an object has after a reset: the one that was stored, or its default."""
+        return e.default if self.stored is None else self.stored[key]
 
     # --- SDO server -------------------------------------------------------------
     def sdo(self, d, now):
@@ -135,8 +139,8 @@ class Device:
         return bytes([0x60, 0x10, 0x10, 1, 0, 0, 0, 0])
 
     def fall_over(self, now):
-        for x in self.entries.values():
-            x.value = x.default
+        for key, x in self.entries.items():
+            x.value = self.kept(key, x)
         self.boot_at = now + 0.01
         self.log(f"node {self.node}: falls over and boots again")
         return None
@@ -156,9 +160,9 @@ class Device:
             return 0x06070010
         value = int.from_bytes(data, "little")
         if sub == 1 and (0x1400 <= index <= 0x15FF or 0x1800 <= index <= 0x19FF):
-            # the identifier of a PDO that exists may only be changed by switching it off (CiA 301, 7.5.2.36)
-            if not e.value >> 31 and not value >> 31 and (e.value ^ value) & 0x3FFFFFFF:
-                return 0x06090030
+            # bits 0 to 29 may not change while the PDO exists, also not as it is switched off (CiA 301, 7.5.2.36)
+            if not e.value >> 31 and (e.value ^ value) & 0x3FFFFFFF:
+                return 0x08000022
         return 0
 
     def read_first(self, index, sub, now):

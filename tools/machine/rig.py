@@ -9,11 +9,12 @@ RATES = {"0": 10, "1": 20, "2": 50, "3": 100, "4": 125, "5": 250, "6": 500, "7":
 
 
 class Adapter:
-    """Lawicel's text protocol: S, O, C, t, V, v, N, Z, F; CR is yes and BEL is no."""
+    """Lawicel's text protocol: S, O, L, C, t, V, v, N, Z, F; CR is yes and BEL is no. It notes when it was given which command."""
 
     def __init__(self, args, out, frame, log):
         self.args, self.out, self.on_frame, self.log = args, out, frame, log
-        self.line, self.open, self.rate, self.stamps = b"", False, None, False
+        self.line, self.open, self.passive, self.rate, self.stamps = b"", False, False, None, False
+        self.given, self.closed_at = [], None
         self.sent = self.heard = self.bad = self.closed = 0
         self.random = random.Random(args.seed)
 
@@ -40,17 +41,22 @@ class Adapter:
         if not text:
             return self.yes()
         kind, rest = text[0], text[1:]
+        if kind != "t":
+            self.given.append([time.monotonic(), text, kind not in self.args.refuse])
+            self.closed_at = time.monotonic() if kind == "C" else None
+        if kind in self.args.refuse:
+            return self.no(line)
         if kind == "S" and rest in RATES and not self.open:
             self.rate = RATES[rest]
             return self.yes()
-        if kind == "O" and not rest and not self.open and self.rate:
-            self.open = True
-            self.log(f"adapter: open at {self.rate} kbit/s")
+        if kind in "OL" and not rest and not self.open and self.rate:
+            self.open, self.passive = True, kind == "L"
+            self.log(f"adapter: open at {self.rate} kbit/s{', to listen only' if self.passive else ''}")
             return self.yes()
         if kind == "C" and not rest:
             if not self.open and not self.args.lenient:
                 return self.no(line)
-            self.closed += self.open
+            self.closed += self.open and not self.passive
             self.open = False
             return self.yes()
         if kind == "V":
@@ -58,11 +64,11 @@ class Adapter:
         if kind == "N":
             return self.yes(b"NA123")
         if kind == "F":
-            return self.yes(b"F00")
+            return self.yes(b"F" + self.args.flags.encode())
         if kind == "Z" and rest in ("0", "1"):
             self.stamps = rest == "1"
             return self.yes()
-        if kind == "t" and self.open:
+        if kind == "t" and self.open and not self.passive:
             try:
                 ident, size = int(rest[:3], 16), int(rest[3], 16)
                 data = bytes.fromhex(rest[4:])
@@ -81,6 +87,11 @@ class Adapter:
         """A frame was on the bus."""
         if not self.open:
             return
+        if self.args.rate and self.args.rate != self.rate:
+            return
+        if self.args.garbled:
+            self.out(b"#" + data.hex().encode() + b"\r")
+            return
         r = self.random
         if r.random() < self.args.garbage:
             self.out(bytes(r.choice(b"\x00\xff\x80tTzr0159AFg\x07 \n") for _ in range(r.randint(0, 60))) + b"\r")
@@ -90,8 +101,10 @@ class Adapter:
         text = text.lower() if self.args.lower else text.upper().replace("T", "t", 1)
         if self.stamps or self.args.stamps:
             text += f"{int(time.monotonic() * 1000) % 60000:04X}"
+        if self.args.long_stamps:
+            text += f"{int(time.monotonic() * 1000000) % 2 ** 32:08X}"
         self.sent += 1
-        self.out(text.encode() + b"\r")
+        self.out(text.encode() + (b"\r\n" if self.args.line_feeds else b"\r"))
 
 
 class Rig:
@@ -112,7 +125,7 @@ class Rig:
         self.adapter = Adapter(args, self.out, self.from_manager, self.log)
         self.random = random.Random(args.seed + 1)
         self.devices = self.load()
-        self.commands, self.next_other, self.is_gone = [], self.begin, False
+        self.commands, self.next_other, self.next_sent, self.is_gone = [], self.begin, self.begin, False
 
     def log(self, text):
         line = f"{time.monotonic() - self.begin:9.4f} {text}\n"
@@ -135,6 +148,11 @@ class Rig:
             node, index, sub, value = text.split(":")
             entry = found[int(node)].entries[int(index, 16), int(sub, 16)]
             entry.default = entry.value = int(value, 16)
+        for text in self.args.has:
+            node, index, sub, value = text.split(":")
+            device = found[int(node)]
+            device.entries[int(index, 16), int(sub, 16)].value = int(value, 16)
+            device.stored = {key: e.value for key, e in device.entries.items()}
         return found
 
     def faults(self):
@@ -197,13 +215,20 @@ class Rig:
             device.frame(ident, data, now)
 
     def other(self, now):
-        """What else is on a bus: EMCY, SYNC, SDO frames and a heartbeat of nodes that are nobody's."""
+        """What else is on a bus that does not run: EMCY, SDO frames and a heartbeat of nodes that are nobody's."""
         if self.args.traffic and now >= self.next_other:
             self.next_other = now + 1 / self.args.traffic
             r = self.random
-            ident = r.choice([0x080, 0x2A5, 0x481, 0x5FF, 0x6FF, 0x100])
+            ident = r.choice([0x0A5, 0x17F, 0x5FF, 0x6FF, 0x100])
             self.adapter.frame(ident, bytes(r.randrange(256) for _ in range(r.randint(0, 8))))
             self.adapter.frame(0x77F, b"\x7f")
+
+    def machine(self, now):
+        """What a machine sends that runs: frames of some identifiers, each 10 ms."""
+        if self.args.sends and now >= self.next_sent:
+            self.next_sent = now + 0.01
+            for ident in self.args.sends:
+                self.adapter.frame(int(ident, 16), b"" if ident == "080" else bytes(4))
 
     def write_some(self):
         while self.outgoing:
@@ -221,14 +246,12 @@ class Rig:
         for s in (signal.SIGTERM, signal.SIGINT):
             signal.signal(s, lambda *_: stop.append(1))
         print("ready", self.args.link, flush=True)
-        linger = None
         while not stop and not self.is_gone:
             now = time.monotonic()
             if now - self.begin > self.args.until:
                 break
-            if self.adapter.closed and linger is None:
-                linger = now + 0.2
-            if linger and now > linger and not self.args.stay:
+            closed_at, ended = self.adapter.closed_at, self.adapter.closed >= self.args.sessions
+            if closed_at and now > closed_at + 1.0 and not self.args.stay and (ended or self.args.sessions == 1):
                 break
             r, _, _ = select.select([self.master], [], [], 0.002)
             if r:
@@ -240,6 +263,7 @@ class Rig:
             for device in self.devices.values():
                 device.poll(now)
             self.other(now)
+            self.machine(now)
             self.write_some()
         return self.report()
 
@@ -263,7 +287,7 @@ class Rig:
                 one["stored_as_dcf"] = d.stored is not None and all(
                     d.stored.get(key) == w.value for key, w in eds.dictionary(path, node, "parametervalue").items() if w.value is not None)
             told[node] = one
-        summary = {"commands": self.commands, "frames_from_manager": self.adapter.heard, "frames_to_manager": self.adapter.sent,
+        summary = {"given": self.adapter.given, "commands": self.commands, "frames_from_manager": self.adapter.heard, "frames_to_manager": self.adapter.sent,
                    "refused_lines": self.adapter.bad, "rate": self.adapter.rate, "devices": told}
         if wanted_all:
             summary["all_as_dcf"] = good
@@ -304,10 +328,18 @@ def words():
     p.add_argument("--noise", type=float, default=0, help="before so many of the lines a few bytes without CR: that line is lost")
     p.add_argument("--answers", choices=["z", "cr", "none"], default="z", help="how frames that are taken are answered")
     p.add_argument("--stamps", action="store_true", help="four digits of a clock behind each frame")
+    p.add_argument("--long-stamps", action="store_true", help="eight digits of a clock behind each frame")
+    p.add_argument("--line-feeds", action="store_true", help="the lines of frames end with CR LF")
+    p.add_argument("--garbled", action="store_true", help="lines that are no frames come in place of frames")
+    p.add_argument("--sends", nargs="*", default=[], metavar="ID", help="a frame of this identifier (hexadecimal) is on the bus each 10 ms")
+    p.add_argument("--flags", default="00", help="the adapter's status flags, two digits")
+    p.add_argument("--refuse", default="", metavar="LETTERS", help="the adapter refuses the commands of these letters")
     p.add_argument("--lower", action="store_true", help="hexadecimal digits in lower case")
     p.add_argument("--chunk", type=int, default=0, help="give the bytes in parts of at most so many")
     p.add_argument("--lenient", action="store_true", help="C is taken where nothing is open")
     p.add_argument("--no-stty", dest="stty", action="store_false", help="leave the terminal at min 1 time 0, for who sets it by stty")
+    p.add_argument("--sessions", type=int, default=1, help="end once the adapter was closed so many times after it was open to send")
+    p.add_argument("--has", nargs="*", default=[], metavar="NODE:INDEX:SUB:VALUE", help="has stored another value there than its EDS file says")
     p.add_argument("--stay", action="store_true", help="go on after C")
     p.add_argument("--until", type=float, default=60, help="end after so many seconds")
     p.add_argument("--seed", type=int, default=1)

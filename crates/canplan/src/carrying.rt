@@ -14,7 +14,7 @@ use std::io::Write;
 
 /// The numbers that have a rule, as a line.
 const EXPLAINED: &[u8] =
-    b"canplan: explained are 1 to 6, 10 to 18, 20 to 23, 30 to 36, 40 to 53, 60 to 95, 100 and 101\n";
+    b"canplan: explained are 1 to 6, 10 to 18, 20 to 23, 30 to 36, 40 to 53, 60 to 95, 100 to 104, 111 and 116\n";
 
 /// What the rule of a number says. A number that has none is a usage fault, and those that have one are told below it.
 fn explain(rt: &HostRuntime, number: u8) -> Result<u8, Failure> {

@@ -4,30 +4,75 @@ use cop_frame::Rate;
 use cop_logbook::abort_words;
 use std::alloc::{AllocError, Global};
 
-/// The number of the rule that no node of the machine runs.
+/// The number of the rule that nobody runs on the machine.
 pub const RUNNING: u8 = 100;
 
-/// The number of the rule that the node that is booted alone has a device.
+/// The number of the rule that the node that is booted alone, or that is the manager, has a device.
 pub const ABSENT: u8 = 101;
+
+/// The number of the rule that the adapter hears no errors where it hears no frame.
+pub const ERRONEOUS: u8 = 102;
+
+/// The number of the rule that lines which come while it is listened are frames, one at least.
+pub const GARBLED: u8 = 103;
+
+/// The number of the rule that the adapter takes the rate and is opened.
+pub const UNOPENED: u8 = 104;
 
 /// What the rule of a number says, and what is right. Nothing for a number that is no rule of a machine.
 pub fn machine_rule_words(number: u8) -> &'static str {
     match number {
         RUNNING => {
-            "it runs: its heartbeat says operational, or its PDO comes; no frame was sent\nstop the machine, or give --take-over where it may be reset\n"
+            "it runs: its heartbeat says operational, or SYNC or a PDO comes; no frame was sent\nstop the machine, or give --take-over where it may be reset\n"
         }
         ABSENT => {
-            "it has no device row in the table of nodes; nothing was done at the port\ngive --only the number of a node that has one\n"
+            "it has no device row in the table of nodes; nothing was done\ngive --only or --manager the number of a node that has one\n"
+        }
+        ERRONEOUS => {
+            "no frame was heard in 2 s, and the adapter's flags tell of errors on the bus; no frame was sent\nlook at the bit rate that is set in the devices, which may be another, and at wires and termination\n"
+        }
+        GARBLED => {
+            "lines came from the adapter, and none of them is a frame of 11 bits; no frame was sent\nlook at the speed of the serial line, at the port, and at what is on the bus (frames of 29 bits are none)\n"
+        }
+        UNOPENED => {
+            "the adapter refuses the bit rate (S) or to be opened (O); no frame was sent\ngive --rates with rates that it has, or take another adapter\n"
         }
         _ => "",
     }
 }
 
-/// What is said of a node's line that tells of an abort: the code in words; and of one that tells that a value differs, or of lateness.
+/// Whether a number is that of a rule of a machine.
+pub fn is_machine_rule(number: u8) -> bool {
+    !machine_rule_words(number).is_empty()
+}
+
+/// What is said of a refusal by a rule of a machine, where it has such a place.
+pub fn machine_words(alloc: Global, number: u8, place: u64) -> Result<Vec<u8>, AllocError> {
+    let rule = machine_rule_words(number);
+    let words = match number {
+        RUNNING if place == 0 => format!(in alloc; "some node: {rule}")?,
+        RUNNING | ABSENT => format!(in alloc; "node {place}: {rule}")?,
+        GARBLED => format!(in alloc; "{place} lines: {rule}")?,
+        _ => String::from_str(alloc, rule)?,
+    };
+    Ok(words.into_bytes())
+}
+
+/// What is said behind the words of a code by which a boot gives a setting up itself.
+fn own_words(code: u32) -> &'static str {
+    match code {
+        0x0504_0001 => {
+            "; canplan gives the setting up with this code where another answer comes than its confirmation: a late one, or that of another device with this number or to another client"
+        }
+        _ => "",
+    }
+}
+
+/// What is said of a node's line that tells of an abort: the code in words; and of one that tells that a value differs, or what was not heard.
 fn line_words(alloc: Global, line: &str) -> Result<String, AllocError> {
     if line.contains(" differs ") {
         return format!(in alloc;
-            "{line}: it confirmed what was set there, and this is what it has\n"
+            "{line}: the plan has another value there, which it confirmed if it was set, and this is what it has. If it was not set, the device has the value of another machine: restore its defaults (1011h)\n"
         );
     }
     if line.ends_with(" late") {
@@ -35,12 +80,20 @@ fn line_words(alloc: Global, line: &str) -> Result<String, AllocError> {
             "{line}: no heartbeat said that it is operational for one and a half of its time\n"
         );
     }
+    if line.ends_with(" unheard") {
+        return format!(in alloc;
+            "{line}: no heartbeat said that it is operational, and one and a half of its time had not passed yet: give --watch more seconds\n"
+        );
+    }
     let code = match line.rsplit_once(' ') {
         Some((start, code)) if start.contains(" aborted ") => u32::from_str_radix(code, 16).ok(),
         _ => None,
     };
     match code {
-        Some(code) => format!(in alloc; "{line}: {}\n", abort_words(code)),
+        Some(code) => {
+            let (words, own) = (abort_words(code), own_words(code));
+            format!(in alloc; "{line}: {words}{own}\n")
+        }
         None => Ok(String::new(alloc)),
     }
 }

@@ -4,6 +4,7 @@ use crate::texts::Texts;
 use crate::warnings::{all_warned, findings};
 use cop_documents::{Told, fault_document, plan_document};
 use cop_engine::{Fault, message};
+use cop_figures::{figures_of, tightest};
 use cop_net::{PlanFault, Table, network, read_nodes, read_pdos};
 use cop_plan::plan;
 use std::alloc::{AllocError, Global};
@@ -13,9 +14,10 @@ pub fn plan_text(alloc: Global, texts: &Texts) -> Result<String, Fault> {
     let (nodes, pdos) = texts.tables(alloc)?;
     let network = texts.network(alloc, &nodes, &pdos)?;
     let outcome = plan(alloc, &network, texts.asked.choice)?;
-    let found = findings(alloc, texts, &nodes, &network)?;
+    let figures = figures_of(alloc, &network, &outcome)?;
+    let found = findings(alloc, texts, &nodes, &network, tightest(&figures).as_ref())?;
     let warnings = all_warned(alloc, &found)?;
-    Ok(plan_document(alloc, &network, &outcome, &warnings)?)
+    Ok(plan_document(alloc, &network, &outcome, &figures, &warnings)?)
 }
 
 /// The table that a network's refusal is of.

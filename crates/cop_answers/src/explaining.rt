@@ -1,6 +1,6 @@
 //! What is said of a fault in words, below its line, by what was read.
 
-use crate::booting::{ABSENT, RUNNING, machine_rule_words};
+use crate::booting::{is_machine_rule, machine_words};
 use crate::log_rules::log_rule_words;
 use crate::texts::{Inputs, beside};
 use crate::tidying::mend_words;
@@ -105,8 +105,8 @@ fn refused(
     if is_of_log(order, number) {
         return log_words(alloc, number, place);
     }
-    if number == RUNNING || number == ABSENT {
-        return Ok(format!(in alloc; "node {place}: {}", machine_rule_words(number))?.into_bytes());
+    if is_machine_rule(number) {
+        return machine_words(alloc, number, place);
     }
     if let Some(name) = file_of(order, number) {
         let source = Source {

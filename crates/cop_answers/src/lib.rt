@@ -17,12 +17,12 @@ mod tidying;
 mod warning_rules;
 mod warnings;
 
-pub use booting::{ABSENT, RUNNING, boot_notes};
+pub use booting::{ABSENT, ERRONEOUS, GARBLED, RUNNING, UNOPENED, boot_notes};
 pub use checking::checked;
 pub use documents::{fault_text, plan_text};
 pub use explaining::{words_on_file, words_on_refusal};
 pub use identities::identity_notes;
-pub use masters::{NamedFile, concise_files};
+pub use masters::{NamedFile, concise_files, sync_maker};
 pub use notes::{check_notes, plan_notes};
 pub use pages::{Sources, page_text, timeline};
 pub use rules::words_of_rule;

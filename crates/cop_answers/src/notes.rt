@@ -6,7 +6,7 @@ ghost use Rattle.cop_plan.specs.Plans.{IsOutcome};
 use crate::texts::{Inputs, Texts};
 use crate::warnings::finding_lines;
 use cop_engine::Fault;
-use cop_figures::{Figures, figures_of};
+use cop_figures::{Figures, figures_of, tightest};
 use cop_net::{Network, NodeTable};
 use cop_plan::{Outcome, plan};
 use cop_words::{margin_words, refused_words, uncovered_words};
@@ -41,7 +41,8 @@ fn outcome_notes(
     let figures = figures_of(alloc, network, outcome)?;
     let mut words = refused_words(alloc, network, &figures.refused)?;
     words.extend_from_slice(&limits(alloc, network, outcome, &figures)?)?;
-    words.extend_from_slice(&finding_lines(alloc, texts, nodes, network)?)?;
+    let tight = tightest(&figures);
+    words.extend_from_slice(&finding_lines(alloc, texts, nodes, network, tight.as_ref())?)?;
     Ok(words)
 }
 

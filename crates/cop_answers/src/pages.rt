@@ -7,7 +7,7 @@ ghost use Rattle.cop_figures.specs.Figures.{AreFigures};
 use crate::texts::{Inputs, beside};
 use crate::warnings::finding_lines;
 use cop_engine::Fault;
-use cop_figures::{Breakdown, Figures, Timeline, breakdowns_of, figures_of, timeline_of};
+use cop_figures::{Breakdown, Figures, Timeline, breakdowns_of, figures_of, tightest, timeline_of};
 use cop_logbook::Logbook;
 use cop_net::{Network, NodeTable};
 use cop_orders::{NetworkFiles, Shown};
@@ -108,7 +108,14 @@ pub fn page_text(
     let breakdowns = breakdowns(alloc, network, outcome, &figures)?;
     let opened = opened(alloc, sources)?;
     let inputs = inputs(alloc, sources, &opened)?;
-    let warnings = finding_lines(alloc, &sources.inputs.network, nodes, network)?;
+    let tight = tightest(&figures);
+    let warnings = finding_lines(
+        alloc,
+        &sources.inputs.network,
+        nodes,
+        network,
+        tight.as_ref(),
+    )?;
     let report = Report {
         network,
         outcome,

@@ -13,7 +13,7 @@ fn other_words(number: u8) -> &'static str {
     match number {
         70..=84 => question_words(number),
         90..=95 => log_rule_words(number),
-        100..=101 => machine_rule_words(number),
+        100..=104 => machine_rule_words(number),
         _ => warning_rule_words(number),
     }
 }

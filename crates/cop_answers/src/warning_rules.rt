@@ -18,6 +18,12 @@ pub fn warning_rule_words(number: u8) -> &'static str {
         89 => {
             "warning 89: 1005h of a device has another identifier than 80h, or bit 30, so that the device makes SYNC itself\nusually: the maker's value\nright: 80h in 1005h, and bit 30 in one device of the network at most\n"
         }
+        111 => {
+            "warning 111: ParameterValue of an EDS file is not DefaultValue: the plan counts on it, and does not send it\nusually: a DCF file in place of the maker's EDS file\nright: the maker's EDS file, or devices into which this file was loaded\n"
+        }
+        116 => {
+            "warning 116: a PDO has less time left than one error on the bus takes, at most 166 bits: with an error it may be late\nusually: identifiers in canonical order, which leave some PDOs no time\nright: --margin, a longer deadline, or a bus on which no frame is disturbed\n"
+        }
         _ => "",
     }
 }

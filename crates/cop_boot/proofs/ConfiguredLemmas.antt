@@ -1,5 +1,5 @@
 -- A node that is ready was configured.
-use Rattle.std.proofs.Common.{◌≡◌, ℕ, suc, ◌+◌, Bool, true, false, cond, List, [], ◌∷◌, ◌++◌, length, reverse, refl, ap, sym, ◌∙◌, subst, arith, nat_lt, nat_le, ◌==◌, Option, Some, None, append_assoc, ◌&&◌, ◌⊎◌, inl, inr, length-append}
+use Rattle.std.proofs.Common.{◌≡◌, ℕ, suc, ◌+◌, ◌<◌, ◌≤◌, Bool, true, false, cond, List, [], ◌∷◌, ◌++◌, length, reverse, refl, ap, sym, ◌∙◌, subst, arith, nat_lt, nat_le, ◌==◌, Option, Some, None, append_assoc, ◌&&◌, ◌⊎◌, inl, inr, length-append}
 use Rattle.std.specs.Prelude.{slice_get}
 use Rattle.std.specs.Option.{option_or}
 use Rattle.std.proofs.lemmas.Bool.Decides.{nat_tests}
@@ -263,3 +263,57 @@ module _ (number : ℕ) (settings : List Setting) where
       by_end None e h =
           let holds = by_confirmed (is_confirmed settings (reverse events)) refl h in
           configured_after events [] [] e (inl refl) (ap (is_confirmed settings) (append-nil (reverse events)) ∙ holds)
+
+-- ---- the other way
+
+-- each setting has an answer
+confirm_counts : (settings : List Setting) (events : List Event) → ConfirmInTurn settings events → length settings ≤ count events
+confirm_counts [] events h = omega arith
+confirm_counts (s ∷ rest) [] h = absurd h
+confirm_counts (s ∷ rest) (Answer at body ∷ events) h = let more = confirm_counts rest events h.1 in omega (arith, more)
+confirm_counts (s ∷ rest) (BootUp at ∷ events) h = confirm_counts (s ∷ rest) events h
+confirm_counts (s ∷ rest) (Reached at ∷ events) h = confirm_counts (s ∷ rest) events h
+
+-- of events, the latest first, those behind the last boot-up
+answers_behind : (xs ys : List Event) (at : ℕ) → boots xs ≡ 0 → answers (xs ++ BootUp at ∷ ys) ≡ count xs
+answers_behind [] ys at h = refl
+answers_behind (BootUp then ∷ xs) ys at h = absurd (no_suc (boots xs) h)
+answers_behind (Answer then body ∷ xs) ys at h = ap suc (answers_behind xs ys at h)
+answers_behind (Reached then ∷ xs) ys at h = answers_behind xs ys at h
+
+reverse_front : (x : Event) (xs : List Event) → reverse (x ∷ xs) ≡ reverse xs ++ x ∷ []
+reverse_front x xs = reverse-append (x ∷ []) xs
+
+count_reverse : (xs : List Event) → count (reverse xs) ≡ count xs
+count_reverse [] = refl
+count_reverse (x ∷ xs) =
+    let both = count_both (reverse xs) (x ∷ []) in
+    let same = count_both (x ∷ []) xs in
+    ap count (reverse_front x xs) ∙ omega (arith, both, same, count_reverse xs)
+
+boots_reverse : (xs : List Event) → boots (reverse xs) ≡ boots xs
+boots_reverse [] = refl
+boots_reverse (x ∷ xs) =
+    let both = boots_both (reverse xs) (x ∷ []) in
+    let same = boots_both (x ∷ []) xs in
+    ap boots (reverse_front x xs) ∙ omega (arith, both, same, boots_reverse xs)
+
+module _ (number : ℕ) (settings : List Setting) (events : List Event) (h : IsConfigured settings events) where
+  past_is : reverse events ≡ reverse h.after ++ BootUp h.at ∷ reverse h.before
+  past_is =
+      ap reverse h.split ∙ reverse-append h.before (BootUp h.at ∷ h.after) ∙ ap (λ l. l ++ reverse h.before) (reverse_front (BootUp h.at) h.after)
+      ∙ append_assoc (reverse h.after) (BootUp h.at ∷ []) (reverse h.before)
+
+  confirmed_so : is_confirmed settings (reverse events) ≡ true
+  confirmed_so =
+      let none : boots (reverse h.after) ≡ 0 = boots_reverse h.after ∙ h.last in
+      let some : boots (reverse events) ≡ boots (reverse h.after) + suc (boots (reverse h.before)) = ap boots past_is ∙ boots_both (reverse h.after) (BootUp h.at ∷ reverse h.before) in
+      let all : answers (reverse events) ≡ count h.after = ap answers past_is ∙ answers_behind (reverse h.after) (reverse h.before) h.at none ∙ count_reverse h.after in
+      by_counts (boots (reverse events)) (answers (reverse events)) (omega (arith, some)) (omega (arith, all, confirm_counts settings h.after h.confirmed))
+    where
+      by_counts : (b a : ℕ) → 0 < b → length settings ≤ a → (nat_lt 0 b && nat_le (length settings) a) ≡ true
+      by_counts b a some all = grind (arith, nat_tests)
+
+  -- who was configured is ready, where nothing else ended its boot
+  pub confirmed_ready : first_end number settings [] events ≡ None → end_of number settings events ≡ Some Ready
+  confirmed_ready none = ap (λ o. option_or o (ready_after settings (reverse events))) none ∙ ap (λ b. cond b (Some Ready) None) confirmed_so

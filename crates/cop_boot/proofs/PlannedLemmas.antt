@@ -38,7 +38,7 @@ off_small v = omega arith
 on_exists : (v id : ℕ) → id < 2 ^ 11 → exists_by (pdo.on v id) ≡ true
 on_exists v id h = let low = on_small v id h in grind (arith, nat_tests)
 
-on_identifier : (v id : ℕ) → id < 2 ^ 11 → pdo.on v id % 2 ^ 11 ≡ id
+on_identifier : (v id : ℕ) → id < 2 ^ 11 → pdo.on v id % 2 ^ 30 ≡ id
 on_identifier v id h = omega (arith, h)
 
 off_exists : (v : ℕ) → exists_by (pdo.off v) ≡ false

@@ -14,14 +14,14 @@ use Rattle.cop_boot.specs.declared.«end».Phase.TheVariants.{Waiting, Sending, 
 use Rattle.cop_boot.specs.Settings.{address_of}
 use Rattle.cop_boot.specs.Node.{Node, Moved, stays, over, sends, goes_on, is_final, booted, answered, answer_to, judged, awaited, refusal, own_abort, answered_in, awaited_in, gives_up}
 use Rattle.cop_boot.specs.Manager.{Managing, Managed, Meeting, Heard, Moment, is_boot_up, heard_by, end_in, is_ready, is_ready_in, end_at, node_of, starting, moved, at_least, heard, met, met_all, driven, waiting_from, begun_at, all_ready, reset_all, start_all, is_command, commands_of, sent_by}
-use Rattle.cop_boot.specs.Ends.{event_of, events, end_of, IsConfigured, Reached}
+use Rattle.cop_boot.specs.Ends.{event_of, events, end_of, first_end, IsConfigured, Reached}
 use Rattle.cop_boot.specs.Sent.{IsAbout, IsForOne, MaySend, WereConfigured}
 use Rattle.cop_boot.proofs.StageLemmas.{IfThere}
 use Rattle.cop_boot.proofs.EndLemmas.{after_events}
 use Rattle.cop_boot.proofs.DriveLemmas.{Keeps, after_keeps, found_map, drives, heard_begun, passed_begun, heard_met, passed_met}
 use Rattle.cop_boot.proofs.CommandLemmas.{driven_commands}
 use Rattle.cop_boot.proofs.WorldLemmas.{all_are}
-use Rattle.cop_boot.proofs.ConfiguredLemmas.{ready_configured}
+use Rattle.cop_boot.proofs.ConfiguredLemmas.{ready_configured, confirmed_ready}
 
 -- ---- each node's own frames
 
@@ -297,3 +297,72 @@ start_was_late m came = by_started (driven m came).manager.started refl (driven_
     by_started false e h =
         all_so (λ frame. frame ≡ start_all → ⊥) (λ frame. frame ≡ start_all → WereConfigured m.nodes came) (λ frame before_it is. absurd (before_it is)) (driven m came).frames
         (no_start (commands_of false) (driven m came).frames (h ∙ ap commands_of e) (inr refl))
+
+-- ---- the other way
+
+-- a node that was configured is ready, where nothing else ended its boot
+pub configured_is_ready : (m : Managing) (came : List Meeting) (number : ℕ) (node : Node) → node_of m.nodes number ≡ Some node → IsConfigured node.settings (events node.number 0 came)
+    → first_end node.number node.settings [] (events node.number 0 came) ≡ None → end_at (driven m came).manager.nodes number ≡ Some Ready
+configured_is_ready m came number node found h none =
+    drives m came number ∙ ap (option_and_then (λ node. end_of node.number node.settings (events node.number 0 came))) found
+    ∙ confirmed_ready node.number node.settings (events node.number 0 came) h none
+
+-- where all are ready they were started
+abbrev WasStarted : Managing → Type 0
+WasStarted m = all_ready m.nodes ≡ true → m.started ≡ true
+
+starting_starts : (m : Managing) (frames : List Message) → WasStarted (starting m frames).manager
+starting_starts m frames = by_tests m.started refl (all_ready m.nodes) refl
+  where
+    by_tests : (a : Bool) → m.started ≡ a → (b : Bool) → all_ready m.nodes ≡ b
+        → (let out : Managed = cond (not a && b) (record { manager = record m { started = true }; frames = frames ++ start_all ∷ [] }) (record { manager = m; frames = frames }) in WasStarted out.manager)
+    by_tests true e b f = λ _. e
+    by_tests false e true f = λ _. refl
+    by_tests false e false f = λ all. (let clash : false ≡ true = sym f ∙ all in cc)
+
+awaited_ready : (node : Node) (now : ℕ) → is_ready (awaited node now).node ≡ true → is_ready node ≡ true
+awaited_ready node now h = by_phase node.phase h
+  where
+    by_test : (b : Bool) (frame : Option Message) → is_ready (cond b (over node (Silent node.number) frame) (stays node)).node ≡ true → is_ready node ≡ true
+    by_test true frame h = cc
+    by_test false frame h = h
+
+    by_phase : (p : Phase) → is_ready (awaited_in node now p).node ≡ true → is_ready node ≡ true
+    by_phase (Waiting since) h = by_test (nat_le (since + 20000000) now) None h
+    by_phase (Sending done since) h = by_test (nat_le (since + 4000000) now) (gives_up node.number (slice_get node.settings done)) h
+    by_phase (Over e) h = h
+
+all_before : (now : ℕ) (nodes : List Node) → list_all is_ready (map (λ node. (awaited node now).node) nodes) ≡ true → list_all is_ready nodes ≡ true
+all_before now [] h = refl
+all_before now (node ∷ nodes) h = by_test (is_ready (awaited node now).node) refl h (all_before now nodes)
+  where
+    by_test : (b : Bool) → is_ready (awaited node now).node ≡ b → (b && list_all is_ready (map (λ node. (awaited node now).node) nodes)) ≡ true
+        → (list_all is_ready (map (λ node. (awaited node now).node) nodes) ≡ true → list_all is_ready nodes ≡ true) → list_all is_ready (node ∷ nodes) ≡ true
+    by_test true e h more = rw (awaited_ready node now e) (more h)
+    by_test false e h more = cc
+
+ready_before : (now : ℕ) (nodes : List Node) → all_ready (map (λ node. (awaited node now).node) nodes) ≡ true → all_ready nodes ≡ true
+ready_before now [] h = h
+ready_before now (node ∷ nodes) h = all_before now (node ∷ nodes) h
+
+met_starts : (m : Managing) (meeting : Meeting) → m.begun ≡ true → WasStarted m → WasStarted (met m meeting).manager
+met_starts m (Heard frame) begun was =
+    let clock = max m.clock m.clock in
+    subst (λ (x : Managed). WasStarted x.manager) (sym (heard_begun m frame m.clock begun)) (starting_starts (moved (heard_by frame clock) (at_least m m.clock)) (sent_by (heard_by frame clock) m.nodes))
+met_starts m (Moment now) begun was =
+    subst (λ (x : Managed). WasStarted x.manager) (sym (passed_begun m now begun)) (λ all. was (ready_before (max m.clock now) m.nodes all))
+
+all_met_starts : (came : List Meeting) (m : Managing) → m.begun ≡ true → WasStarted m → WasStarted (met_all m came).manager
+unfolding met_all
+all_met_starts [] m begun was = was
+all_met_starts (meeting ∷ came) m begun was = all_met_starts came (met m meeting).manager (met_stay m meeting begun).1 (met_starts m meeting begun was)
+
+none_yet : (nodes : List Node) → false ≡ all_ready (map (waiting_from 0) nodes)
+none_yet [] = refl
+none_yet (node ∷ nodes) = refl
+
+-- and the start is the one command behind the reset
+pub all_ready_are_started : (m : Managing) (came : List Meeting) → all_ready (driven m came).manager.nodes ≡ true → filter is_command (driven m came).frames ≡ commands_of true
+all_ready_are_started m came all =
+    let none : WasStarted (begun_at m 0).manager = λ ready. (let clash : false ≡ true = none_yet m.nodes ∙ ready in cc) in
+    driven_commands m came ∙ ap commands_of (all_met_starts came (begun_at m 0).manager refl none all)

@@ -1,5 +1,5 @@
 -- One turn of a boot whose channels are kept as a log.
-use Rattle.std.proofs.Common.{◌≡◌, ◌==◌, ℕ, zero, suc, ◌+◌, ◌≤◌, Bool, true, false, cond, List, [], ◌∷◌, ◌++◌, map, max, length, drop, get_or, refl, ap, sym, subst, ◌∙◌, arith, replicate, Option, Some, None}
+use Rattle.std.proofs.Common.{◌≡◌, ◌==◌, ℕ, zero, suc, ◌≤◌, Bool, true, false, cond, List, [], ◌∷◌, ◌++◌, map, max, length, drop, get_or, refl, ap, sym, subst, ◌∙◌, arith, replicate, Option, Some, None}
 use Rattle.std.proofs.lemmas.Bool.{eqb-true}
 use Rattle.std.specs.Prelude.{filter, find, option_map, option_to_list, is_some, IsSome, if◌then◌else◌}
 use Rattle.std.proofs.lemmas.List.{drop-append-le, length-map}

@@ -3,9 +3,9 @@ use Rattle.std.specs.Prelude.{◌≡◌, ℕ, ◌%◌, ◌^◌, true, false, Lis
 use Rattle.cop_dict.specs.Find.{Entry, entry_at, unsigned32_of}
 use Rattle.cop_dict.specs.Pdo.{exists_by, is_communication}
 
--- a PDO exists with its identifier where the plan uses it, and else does not exist
+-- a PDO exists with its identifier where the plan uses it, and bits 11 to 29 of its COB-ID are 0; else it does not exist
 abbrev pub IsAsPlanned : Option ℕ → Option ℕ → Type 0
-IsAsPlanned (Some id) (Some cob_id) = (exists_by cob_id ≡ true) × (cob_id % 2 ^ 11 ≡ id)
+IsAsPlanned (Some id) (Some cob_id) = (exists_by cob_id ≡ true) × (cob_id % 2 ^ 30 ≡ id)
 IsAsPlanned (Some id) None = ⊥
 IsAsPlanned None (Some cob_id) = exists_by cob_id ≡ false
 IsAsPlanned None None = ⊥

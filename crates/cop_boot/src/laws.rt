@@ -1,6 +1,6 @@
 //! Laws of the definitions that contracts cite: when settings are accepted in turn, and what they give.
 
-ghost use Rattle.std.specs.Prelude.{◌≡◌, ℕ, List, All, Contains, true, Option, Some, None};
+ghost use Rattle.std.specs.Prelude.{◌≡◌, ℕ, List, [], filter, All, Contains, true, Option, Some, None};
 ghost use Rattle.std.specs.Option.{option_and_then};
 ghost use Rattle.std.specs.List.{AllByRecursion};
 ghost use Rattle.cop_dict.specs.Find.{Entry, entry_at, unsigned32_of};
@@ -16,8 +16,8 @@ ghost use Rattle.cop_rows.specs.declared.node_table.DeviceRow.{DeviceRow};
 ghost use Rattle.cop_net.specs.Devices.{File};
 ghost use Rattle.cop_dcf.specs.Planned.{planned, IsNodeReadAgain};
 ghost use Rattle.cop_boot.specs.declared.«end».End.TheVariants.{Ready};
-ghost use Rattle.cop_boot.specs.Manager.{Managing, Meeting, driven, node_of, end_at, start_all};
-ghost use Rattle.cop_boot.specs.Ends.{IsConfigured, events};
+ghost use Rattle.cop_boot.specs.Manager.{Managing, Meeting, driven, node_of, end_at, start_all, all_ready, is_command, commands_of};
+ghost use Rattle.cop_boot.specs.Ends.{IsConfigured, events, first_end};
 ghost use Rattle.cop_boot.specs.Node.{Node};
 ghost use Rattle.cop_boot.specs.Sent.{MaySend, WereConfigured};
 ghost use Rattle.cop_boot.specs.Device.{Attached};
@@ -78,11 +78,16 @@ pub fn ready_devices_have_what_their_dcf_says()
 {}
 
 /// Who is ready, and when the start is sent, whatever came: a node that is ready has, since its last boot-up, confirmed each of its
-/// settings in turn; and the start was sent only where each node had done so by something that came before.
+/// settings in turn; and the start was sent only where each node had done so by something that came before. The other way round, a node
+/// that has done so is ready, where nothing that came ended its boot otherwise (`first_end`); and where all nodes are ready, the start was sent,
+/// once, behind the reset.
 pub fn ready_nodes_are_configured()
     ensures ready { (m : Managing) (came : List Meeting) (number : ℕ) (node : Node) → node_of m.nodes number ≡ Some node → end_at (driven m came).manager.nodes number ≡ Some Ready
         → IsConfigured node.settings (events node.number 0 came) }
     ensures start { (m : Managing) (came : List Meeting) → AllByRecursion (λ frame. frame ≡ start_all → WereConfigured m.nodes came) (driven m came).frames }
+    ensures becomes_ready { (m : Managing) (came : List Meeting) (number : ℕ) (node : Node) → node_of m.nodes number ≡ Some node → IsConfigured node.settings (events node.number 0 came)
+        → first_end node.number node.settings [] (events node.number 0 came) ≡ None → end_at (driven m came).manager.nodes number ≡ Some Ready }
+    ensures start_follows { (m : Managing) (came : List Meeting) → all_ready (driven m came).manager.nodes ≡ true → filter is_command (driven m came).frames ≡ commands_of true }
 {}
 
 /// Whatever came, a manager sends the reset and the start of all nodes, and to each of its own nodes what is about its

@@ -15,6 +15,7 @@ pub mod Judged
 pub mod SyncEnds
 pub mod Hanging
 pub mod Synced
+pub mod Bounded
 pub mod Converse
 pub mod Places
 pub mod Verdict

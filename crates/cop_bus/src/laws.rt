@@ -8,6 +8,7 @@ ghost use Rattle.cop_frame.specs.Rate.{ticks_of};
 ghost use Rattle.cop_rta.specs.declared.streams.Stream.{Stream};
 ghost use Rattle.cop_rta.specs.Test.{place_by_id, busy_at, queueing_at};
 ghost use Rattle.cop_rta.specs.Greatest.{AreSynced};
+ghost use Rattle.cop_rta.specs.Verdict.{PassesBy};
 ghost use Rattle.cop_bus.specs.Run.{Instance, IsRunAbove, HasResponseAbove, PassesById, jitter_at, IsOnTime, Runs, waiting};
 ghost use Rattle.cop_bus.specs.Period.{IsPeriodOf, starts_of, queued_since};
 ghost use Rattle.cop_rta.specs.Streams.{AreDistinct};
@@ -31,6 +32,13 @@ pub fn started_is_on_time()
     ensures { (rate : Rate) (streams : List Stream) (until : ℕ) (run : List Instance) (index : ℕ) (m : Stream)
         → IsRunAbove rate streams until run index m → AreSynced streams → PassesById rate streams index
         → All (λ y. y.id ≡ m.id → ForSome m.deadline (λ d. ForSome y.start (λ s. s ≤ until → s + y.bits * ticks_of rate ≤ y.event + d))) run }
+{}
+
+/// Each instance of a stream that passes has ended by its greatest response after its event, whatever its deadline.
+pub fn passing_ends_by_its_response()
+    ensures { (rate : Rate) (streams : List Stream) (until : ℕ) (run : List Instance) (index : ℕ) (m : Stream) (r : ℕ)
+        → IsRunAbove rate streams until run index m → AreSynced streams → PassesBy (place_by_id streams index rate) r
+        → All (λ y. y.id ≡ m.id → IsOnTime (ticks_of rate) until (Some r) y) run }
 {}
 
 /// At no moment of such a run do more instances of the stream wait than periods begin within its deadline.

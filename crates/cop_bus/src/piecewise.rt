@@ -87,11 +87,15 @@ impl<W: Write + Drop> TraceWriter<W> {
     }
 
     #[tactic(auto, using(crate::proofs::WriterLemmas::all_handed))]
-    /// Hands what was written so far to the writer underneath, as where a run is given up; `false` where that fails.
+    /// Hands what was written so far to the writer underneath, as where a run is given up; `false` where that fails, and it
+    /// has failed then.
     pub fn hand_over(&mut self) -> bool
-        ensures { result ≡ true → HandsOver W.contents self.old self.new }
+        ensures handed { result ≡ true → HandsOver W.contents self.old self.new }
+        ensures fails { result ≡ false → has_failed self.new ≡ true }
     {
-        self.keep_last() && self.hand_piece()
+        let is_handed = self.keep_last() && self.hand_piece();
+        self.failed = self.failed || !is_handed;
+        is_handed
     }
 
     /// Writes the record of a step; `false` where it fails.

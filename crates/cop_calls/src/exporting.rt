@@ -3,17 +3,18 @@
 ghost use Rattle.std.specs.Prelude.{length};
 ghost use Rattle.cop_plan.specs.Plans.{IsPlan};
 
-use cop_answers::{Inputs, NamedFile, concise_files};
+use cop_answers::{ABSENT, Inputs, NamedFile, concise_files, sync_maker};
 use cop_dbc::dbc;
-use cop_engine::{none_passes, text_status};
+use cop_engine::{Fault, none_passes, text_status};
 use cop_files::{Failure, NodeFiles, print, read_network, remove_earlier, write_file};
-use cop_net::Network;
+use cop_net::{Network, NodeTable};
 use cop_orders::{Format, NetworkFiles};
 use cop_plan::{Outcome, Plan, plan};
 
-/// Where a plan is written, and as what.
+/// Where a plan is written, as what, and by which table of nodes.
 #[derive(Clone, Copy)]
 struct Target<'a> {
+    nodes: &'a NodeTable,
     format: Format,
     out: &'a str,
 }
@@ -36,18 +37,39 @@ fn put(rt: &HostRuntime, folder: &str, name: &str, bytes: &[u8]) -> Result<(), F
     write_file(rt, &path, bytes)
 }
 
+/// The node that is the manager: the one that is named, which has to have a device, or else the first that makes SYNC.
+fn manager_of(
+    rt: &HostRuntime,
+    network: &Network<'_>,
+    nodes: &NodeTable,
+    named: Option<u8>,
+) -> Result<Option<u8>, Failure> {
+    let Some(node) = named else {
+        return Ok(sync_maker(rt.alloc(), nodes, network)?);
+    };
+    if network.devices().iter().any(|row| row.node == node) {
+        Ok(Some(node))
+    } else {
+        Err(Failure::from(Fault::Refused {
+            number: ABSENT,
+            place: u64::from(node),
+        }))
+    }
+}
+
 /// Writes the concise DCF of each device into a folder, and what a manager is told. Once a file cannot be written, no other is. Those
 /// of nodes that the network has not, which are of an earlier plan, are removed.
 fn write_cdcf(
     rt: &HostRuntime,
     network: &Network<'_>,
     plan: &Plan,
+    manager: Option<u8>,
     folder: &str,
 ) -> Result<(), Failure>
     requires { IsPlan network.now.equipment.rates network.now.set (length network.now.rows) plan.now }
 {
     let mut names = Vec::new(rt.alloc());
-    for file in concise_files(rt.alloc(), network, plan)? {
+    for file in concise_files(rt.alloc(), network, plan, manager)? {
         let NamedFile { name, bytes } = file;
         put(rt, folder, &name, &bytes)?;
         names.push(name)?;
@@ -71,7 +93,10 @@ fn write_plan(
 {
     match target.format {
         Format::Dbc => write_dbc(rt, inputs, network, plan, target.out),
-        Format::Cdcf => write_cdcf(rt, network, plan, target.out),
+        Format::Cdcf { manager } => {
+            let manager = manager_of(rt, network, target.nodes, manager)?;
+            write_cdcf(rt, network, plan, manager, target.out)
+        }
     }
 }
 
@@ -109,5 +134,10 @@ pub fn export(
     let texts = &inputs.network;
     let (nodes, pdos) = texts.tables(rt.alloc())?;
     let network = texts.network(rt.alloc(), &nodes, &pdos)?;
-    export_network(rt, inputs, &network, Target { format, out })
+    let target = Target {
+        nodes: &nodes,
+        format,
+        out,
+    };
+    export_network(rt, inputs, &network, target)
 }

@@ -1,5 +1,5 @@
 -- The senders of a plan's PDOs, and what the parts of a boot over a port make of it.
-use Rattle.std.proofs.Common.{◌≡◌, ℕ, ◌<◌, ◌≤◌, List, [], ◌∷◌, Bool, true, false, Option, Some, None, refl, ap, ◌∙◌, arith, All}
+use Rattle.std.proofs.Common.{◌≡◌, ℕ, ◌<◌, ◌≤◌, List, [], ◌∷◌, Bool, true, false, Option, Some, None, refl, arith, All}
 use Rattle.std.specs.Prelude.{◌&&◌, nat_le, is_some, if◌then◌else◌}
 use Rattle.std.specs.List.{AllPairs}
 use Rattle.std.proofs.lemmas.Bool.Decides.{nat_tests}
@@ -12,13 +12,14 @@ use Rattle.cop_dcf.specs.Settings.{dictionary_of}
 use Rattle.cop_engine.proofs.BootLemmas.{IsUpTo, nodes_low, nodes_rise}
 use Rattle.cop_readback.specs.declared.session.ReadBack.{ReadBack}
 use Rattle.cop_live.specs.Log.{ByteStep, ClockStep}
-use Rattle.cop_live.specs.Nodes.{is_empty}
 use Rattle.cop_live.specs.Session.{Closed}
 use Rattle.cop_heartbeats.specs.declared.attending.Awaited.{Awaited}
+use Rattle.cop_heartbeats.specs.declared.attending.Heartbeats.{Heartbeats}
+use Rattle.cop_heartbeats.specs.Attending.{are_all_operational}
 use Rattle.cop_readback.specs.declared.session.Reach.{Reach}
 use Rattle.cop_readback.specs.Session.{ReadsBack}
-use Rattle.cop_commission.specs.Sessions.{Way, awaited_if, IsWatched, BootsAndCloses, IsWhole}
-use Rattle.cop_commission.specs.Commissioning.{meant_nodes, is_meant_device, ended_text, IsEnded}
+use Rattle.cop_commission.specs.Sessions.{Way, awaited_if, IsWatched, BootsAndCloses, HasStarted}
+use Rattle.cop_commission.specs.Commissioning.{meant_nodes, is_meant_device, ended_text, HasEnded}
 
 -- the nodes that are meant are numbers of nodes, and rise
 pub meant_low : (net : Net) (only : Option ℕ) → All (IsUpTo 127) (meant_nodes net only)
@@ -43,11 +44,11 @@ meant_rise net (Some node) = by_test (is_meant_device net node)
     by_test false = λ i j d lt inside. absurd (omega arith)
 
 -- a boot whose nodes are watched then
-pub closed_so : {P : Type 0} (reads writes : ByteStep P) (asks : ClockStep P) (way : Way) (reach : Reach) (own : List Awaited) (limit : ℕ) (m later : Managing) (nodes : List ℕ) (settings : List Question) (back : ReadBack) (late : List Bool) (p booted watched q : P)
+pub closed_so : {P : Type 0} (reads writes : ByteStep P) (asks : ClockStep P) (way : Way) (reach : Reach) (own : List Awaited) (limit : ℕ) (m later : Managing) (nodes : List ℕ) (settings : List Question) (back : ReadBack) (heartbeats : Heartbeats) (p booted watched q : P)
     → reach ≡ way.reach → limit ≡ way.limit → own ≡ awaited_if back.started way.awaited
     → ReadsBack reads writes asks reach m nodes settings p back.exchanges.items back.booted back.ready back.started later booted
-    → IsWatched reads writes asks own limit booted late watched → Closed reads writes watched q → BootsAndCloses reads writes asks way m nodes settings p back late later q
-closed_so reads writes asks way reach own limit m later nodes settings back late p booted watched q er el eo boots watches closes = record {
+    → IsWatched reads writes asks own limit booted heartbeats watched → Closed reads writes watched q → BootsAndCloses reads writes asks way m nodes settings p back heartbeats later q
+closed_so reads writes asks way reach own limit m later nodes settings back heartbeats p booted watched q er el eo boots watches closes = record {
   booted = booted;
   watched = watched;
   boots = rw er at boots;
@@ -55,18 +56,28 @@ closed_so reads writes asks way reach own limit m later nodes settings back late
   closes = closes;
 }
 
--- a session of a plan's manager
-pub ended_so : {P : Type 0} (reads writes : ByteStep P) (asks : ClockStep P) (own way : Way) (at : Rate) (nodes : List ℕ) (questions wanted settings all : List Question) (manager planned later : Managing) (back : ReadBack) (late : List Bool) (p q : P) (text : List ℕ) (ready started on_time : Bool)
-    → manager ≡ planned → own ≡ way → questions ≡ wanted → settings ≡ all
-    → IsWhole reads writes asks own questions manager nodes settings p back late later q
-    → text ≡ ended_text later nodes back own.awaited late → ready ≡ back.ready → started ≡ back.started → on_time ≡ is_empty late → at ≡ way.rate
-    → IsEnded reads writes asks way wanted planned nodes all p q text ready started on_time at
-ended_so reads writes asks own way at nodes questions wanted settings all manager planned later back late p q text ready started on_time em ew eq ea whole says are tells came rated = record {
+-- the start had been sent where a boot's settings were read back and it says so
+pub started_so : {P : Type 0} (reads writes : ByteStep P) (asks : ClockStep P) (way : Way) (reach : Reach) (m later : Managing) (nodes : List ℕ) (settings : List Question) (back : ReadBack) (p booted : P)
+    → reach ≡ way.reach → ReadsBack reads writes asks reach m nodes settings p back.exchanges.items back.booted back.ready back.started later booted
+    → back.started ≡ true → HasStarted reads writes asks way m nodes settings p later
+started_so reads writes asks way reach m later nodes settings back p booted er boots starts = record {
+  back = back;
+  booted = booted;
+  boots = rw er at boots;
+  starts = starts;
+}
+
+-- a boot by a manager
+pub ended_so : {P : Type 0} (reads writes : ByteStep P) (asks : ClockStep P) (way : Way) (at : Rate) (m later : Managing) (nodes : List ℕ) (settings : List Question) (back : ReadBack) (heartbeats : Heartbeats) (p q : P) (text : List ℕ) (ready started operational : Bool)
+    → BootsAndCloses reads writes asks way m nodes settings p back heartbeats later q
+    → text ≡ ended_text later nodes back way.awaited heartbeats → ready ≡ back.ready → started ≡ back.started → operational ≡ are_all_operational heartbeats (awaited_if back.started way.awaited) → at ≡ way.rate
+    → HasEnded reads writes asks way m nodes settings p q text ready started operational at
+ended_so reads writes asks way at m later nodes settings back heartbeats p q text ready started operational boots says are tells came rated = record {
   later = later;
   back = back;
-  late = late;
-  whole = rw (em, ew, eq, ea) at whole;
-  says = says ∙ ap (λ (w : Way). ended_text later nodes back w.awaited late) ew;
+  heartbeats = heartbeats;
+  boots = boots;
+  says = says;
   are = are;
   tells = tells;
   came = came;

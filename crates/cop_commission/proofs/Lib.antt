@@ -1,1 +1,4 @@
 pub mod CommissioningLemmas
+pub mod RefrainingLemmas
+pub mod MeantLemmas
+pub mod ToldLemmas

@@ -1,5 +1,5 @@
 -- The boot of the devices of a planned network over a port, and what is said of it.
-use Rattle.std.specs.Prelude.{◌≡◌, ℕ, List, [], ◌∷◌, ◌++◌, length, Bool, true, false, ◌&&◌, ◌==◌, nat_le, is_some, if◌then◌else◌, Option, Some, None}
+use Rattle.std.specs.Prelude.{◌≡◌, ◌⊎◌, ℕ, List, [], ◌∷◌, ◌++◌, length, Bool, true, false, ◌&&◌, ◌==◌, nat_le, is_some, if◌then◌else◌, Option, Some, None}
 use Rattle.cop_frame.specs.declared.rates.Rate.{Rate}
 use Rattle.cop_rows.specs.declared.pdo_table.PdoRow.{PdoRow}
 use Rattle.cop_net.specs.Devices.{File}
@@ -13,19 +13,25 @@ use Rattle.cop_dcf.specs.Settings.{dictionary_of}
 use Rattle.cop_boot.specs.Manager.{Managing}
 use Rattle.cop_live.specs.Log.{ByteStep, ClockStep}
 use Rattle.cop_live.specs.declared.listening.Sender.{Sender}
-use Rattle.cop_live.specs.Nodes.{is_empty}
+use Rattle.cop_live.specs.declared.listening.Found.TheVariants as found
 use Rattle.cop_heartbeats.specs.declared.attending.Awaited.{Awaited}
+use Rattle.cop_heartbeats.specs.declared.attending.Heartbeats.{Heartbeats}
+use Rattle.cop_heartbeats.specs.Attending.{are_all_operational}
 use Rattle.cop_identity.specs.declared.questions.Question.{Question}
+use Rattle.cop_identity.specs.declared.asking.Exchange.{Exchange}
 use Rattle.cop_engine.specs.Networks.{IsPlannedNetwork}
-use Rattle.cop_engine.specs.Boots.{device_nodes, manager_of}
+use Rattle.cop_engine.specs.Boots.{device_nodes}
 use Rattle.cop_readback.specs.declared.session.ReadBack.{ReadBack}
 use Rattle.cop_commission.specs.declared.commissioning.Approach.{Approach}
 use Rattle.cop_commission.specs.declared.commissioning.Commissioned.{Commissioned}
-use Rattle.cop_commission.specs.declared.commissioning.Commissioned.TheVariants.{Ended, Running, Others, Absent, NonePasses, Failed}
+use Rattle.cop_commission.specs.declared.commissioning.Commissioned.TheVariants.{Ended, Running, Garbled, Erroneous, Unopened, Others, Absent, NonePasses, Failed}
 use Rattle.cop_commission.specs.Heartbeats.{awaited_of, attendance_text}
 use Rattle.cop_commission.specs.Identities.{questions_of, identity_text}
+use Rattle.cop_commission.specs.Senders.{own_senders}
 use Rattle.cop_commission.specs.Readings.{settings_questions, storing_questions, standing_text}
-use Rattle.cop_commission.specs.Sessions.{Way, awaited_if, IsWhole, IsRefrained, IsMistaken}
+use Rattle.cop_commission.specs.Sessions.{Way, awaited_if, BootsAndCloses, HasStarted, IsWhole, IsRefrained, IsUnopened, IsMistaken}
+use Rattle.cop_commission.specs.Told.{off_questions, told_manager}
+use Rattle.cop_commission.specs.Unended.{unended_text}
 
 -- the identifiers of PDOs, and who sends each
 abbrev pub senders_of : List PdoRow → List ℕ → List Sender
@@ -38,10 +44,11 @@ abbrev pub questions_for : Bool → Net → List ℕ → List Question
 questions_for true net nodes = questions_of net nodes
 questions_for false net nodes = []
 
--- what nodes are asked after their boot: whether they have the settings of a plan, and to store them, if they are to
-abbrev pub settings_for : Bool → Net → List ℕ → List ℕ → List Question
-settings_for true net ids nodes = settings_questions net ids nodes ++ storing_questions net nodes
-settings_for false net ids nodes = settings_questions net ids nodes
+-- what nodes are asked after their boot: whether they have the settings of a plan, by what they told of their COB-IDs, and to store them, if
+-- they are to
+abbrev pub settings_for : Bool → Net → List ℕ → List Exchange → List ℕ → List Question
+settings_for true net ids told nodes = settings_questions net ids told nodes ++ storing_questions net nodes
+settings_for false net ids told nodes = settings_questions net ids told nodes
 
 -- a node has a device
 abbrev pub is_meant_device : Net → ℕ → Bool
@@ -56,11 +63,11 @@ meant_nodes net (Some node) = if is_meant_device net node then node ∷ [] else 
 abbrev pub awaited_for : ℕ → Net → List ℕ → List Awaited
 awaited_for watch net nodes = if watch == 0 then [] else awaited_of net nodes
 
--- how the bus of a network is met by a plan with a rate and these identifiers
+-- how the bus of a network is met by a plan with a rate and these identifiers; a node that is meant alone runs, too, where it sends a TPDO of its EDS file
 abbrev pub way_of : Net → Rate → List ℕ → List ℕ → Approach → Way
 way_of net rate ids nodes approach = record {
   rate = rate;
-  senders = senders_of net.rows ids;
+  senders = senders_of net.rows ids ++ own_senders net approach.reach.only;
   take_over = approach.take_over;
   reach = approach.reach;
   awaited = awaited_for approach.watch net nodes;
@@ -68,41 +75,81 @@ way_of net rate ids nodes approach = record {
 }
 
 -- a line for each node, and whether they were started; and then one for each heartbeat that was awaited
-abbrev pub ended_text : Managing → List ℕ → ReadBack → List Awaited → List Bool → List ℕ
-ended_text m nodes back awaited late = standing_text m nodes back ++ attendance_text (awaited_if back.started awaited) late
+abbrev pub ended_text : Managing → List ℕ → ReadBack → List Awaited → Heartbeats → List ℕ
+ended_text m nodes back awaited heartbeats = standing_text m nodes back ++ attendance_text (awaited_if back.started awaited) heartbeats
 
--- a session made this of a manager, whose text this is; told are, too, whether all are ready, whether they were started, whether none was
--- late, and the rate
-pub record IsEnded {P : Type 0} (reads writes : ByteStep P) (asks : ClockStep P) (way : Way) (questions : List Question) (m : Managing) (nodes : List ℕ) (settings : List Question) (p q : P) (text : List ℕ) (ready started on_time : Bool) (at : Rate) : Type 0 where
+-- a boot over an open adapter made this of a manager, whose text this is; told are, too, whether all are ready, whether they were started,
+-- whether each whose heartbeat was awaited is operational, and the rate
+pub record HasEnded {P : Type 0} (reads writes : ByteStep P) (asks : ClockStep P) (way : Way) (m : Managing) (nodes : List ℕ) (settings : List Question) (p q : P) (text : List ℕ) (ready started operational : Bool) (at : Rate) : Type 0 where
   pub later : Managing
   pub back : ReadBack
-  pub late : List Bool
-  pub whole : IsWhole reads writes asks way questions m nodes settings p back late later q
-  pub says : text ≡ ended_text later nodes back way.awaited late
+  pub heartbeats : Heartbeats
+  pub boots : BootsAndCloses reads writes asks way m nodes settings p back heartbeats later q
+  pub says : text ≡ ended_text later nodes back way.awaited heartbeats
   pub are : ready ≡ back.ready
   pub tells : started ≡ back.started
-  pub came : on_time ≡ is_empty late
+  pub came : operational ≡ are_all_operational heartbeats (awaited_if back.started way.awaited)
   pub rated : at ≡ way.rate
 
--- what came of the boot of some nodes by a plan with a rate and these identifiers
+-- a boot over a line that failed has such a text; the start had been sent if that is said
+pub record HasFailed {P : Type 0} (reads writes : ByteStep P) (asks : ClockStep P) (way : Way) (m : Managing) (nodes : List ℕ) (settings : List Question) (p : P) (text : List ℕ) : Type 0 where
+  pub later : Managing
+  pub started : Bool
+  pub says : text ≡ unended_text later nodes started
+  pub sent : started ≡ true → HasStarted reads writes asks way m nodes settings p later
+
+-- what came of a boot over an open adapter
+abbrev pub IsBooting : {P : Type 0} → ByteStep P → ByteStep P → ClockStep P → Way → Managing → List ℕ → List Question → P → P → Commissioned → Type 0
+IsBooting reads writes asks way m nodes settings p q (Ended text ready started operational at) = HasEnded reads writes asks way m nodes settings p q text.items ready started operational at
+IsBooting reads writes asks way m nodes settings p q (Failed text) = HasFailed reads writes asks way m nodes settings p text.items
+IsBooting reads writes asks way m nodes settings p q (Running runner) = ⊥
+IsBooting reads writes asks way m nodes settings p q (Garbled lines) = ⊥
+IsBooting reads writes asks way m nodes settings p q (Erroneous flags at) = ⊥
+IsBooting reads writes asks way m nodes settings p q (Unopened command at) = ⊥
+IsBooting reads writes asks way m nodes settings p q (Others text all) = ⊥
+IsBooting reads writes asks way m nodes settings p q Absent = ⊥
+IsBooting reads writes asks way m nodes settings p q NonePasses = ⊥
+
+-- a session: the devices tell which COB-IDs they have that are to be switched off, and then the manager boots the nodes that has the settings
+-- of a plan with these identifiers by what they told
+pub record IsEnded {P : Type 0} (reads writes : ByteStep P) (asks : ClockStep P) (net : Net) (ids nodes : List ℕ) (way : Way) (identify store : Bool) (p q : P) (text : List ℕ) (ready started operational : Bool) (at : Rate) : Type 0 where
+  pub told : List Exchange
+  pub free : P
+  pub whole : IsWhole reads writes asks way nodes (questions_for identify net nodes) (off_questions net ids nodes) p told free
+  pub ends : HasEnded reads writes asks way (told_manager net ids told nodes) nodes (settings_for store net ids told nodes) free q text ready started operational at
+
+-- a session whose line failed in the boot
+pub record IsUnended {P : Type 0} (reads writes : ByteStep P) (asks : ClockStep P) (net : Net) (ids nodes : List ℕ) (way : Way) (identify store : Bool) (p : P) (text : List ℕ) : Type 0 where
+  pub told : List Exchange
+  pub free : P
+  pub whole : IsWhole reads writes asks way nodes (questions_for identify net nodes) (off_questions net ids nodes) p told free
+  pub fails : HasFailed reads writes asks way (told_manager net ids told nodes) nodes (settings_for store net ids told nodes) free text
+
+-- what came of the boot of some nodes by a plan with a rate and these identifiers; nothing is said where the line failed before the boot
 abbrev pub IsMet : {P : Type 0} → ByteStep P → ByteStep P → ClockStep P → Net → Rate → List ℕ → List ℕ → Approach → P → P → Commissioned → Type 0
-IsMet reads writes asks net rate ids nodes approach p q (Ended text ready started on_time at) =
-    IsEnded reads writes asks (way_of net rate ids nodes approach) (questions_for approach.identify net nodes) (manager_of net ids nodes) nodes (settings_for approach.store net ids nodes) p q text.items ready started on_time at
-IsMet reads writes asks net rate ids nodes approach p q (Running node) = (approach.take_over ≡ false) × IsRefrained reads writes asks (way_of net rate ids nodes approach) node p q
+IsMet reads writes asks net rate ids nodes approach p q (Ended text ready started operational at) =
+    IsEnded reads writes asks net ids nodes (way_of net rate ids nodes approach) approach.identify approach.store p q text.items ready started operational at
+IsMet reads writes asks net rate ids nodes approach p q (Running runner) = IsRefrained reads writes asks (way_of net rate ids nodes approach) (found.Running runner) p q
+IsMet reads writes asks net rate ids nodes approach p q (Garbled lines) = IsRefrained reads writes asks (way_of net rate ids nodes approach) (found.Garbled lines) p q
+IsMet reads writes asks net rate ids nodes approach p q (Erroneous flags at) = IsRefrained reads writes asks (way_of net rate ids nodes approach) (found.Erroneous flags) p q × (at ≡ rate)
+IsMet reads writes asks net rate ids nodes approach p q (Unopened command at) = IsUnopened reads writes asks (way_of net rate ids nodes approach) command p q × (at ≡ rate)
 IsMet reads writes asks net rate ids nodes approach p q (Others text all) =
     IsMistaken reads writes asks (way_of net rate ids nodes approach) (questions_for approach.identify net nodes) all.items p q × (text.items ≡ identity_text nodes all.items)
 IsMet reads writes asks net rate ids nodes approach p q Absent = ⊥
 IsMet reads writes asks net rate ids nodes approach p q NonePasses = ⊥
-IsMet reads writes asks net rate ids nodes approach p q Failed = Unit {0}
+IsMet reads writes asks net rate ids nodes approach p q (Failed text) = (text.items ≡ []) ⊎ IsUnended reads writes asks net ids nodes (way_of net rate ids nodes approach) approach.identify approach.store p text.items
 
 -- where there is no such node nothing is done at the port
 abbrev pub IsWithoutNode : {P : Type 0} → P → P → Commissioned → Type 0
 IsWithoutNode p q Absent = p ≡ q
-IsWithoutNode p q (Ended text ready started on_time at) = ⊥
-IsWithoutNode p q (Running node) = ⊥
+IsWithoutNode p q (Ended text ready started operational at) = ⊥
+IsWithoutNode p q (Running runner) = ⊥
+IsWithoutNode p q (Garbled lines) = ⊥
+IsWithoutNode p q (Erroneous flags at) = ⊥
+IsWithoutNode p q (Unopened command at) = ⊥
 IsWithoutNode p q (Others text all) = ⊥
 IsWithoutNode p q NonePasses = ⊥
-IsWithoutNode p q Failed = ⊥
+IsWithoutNode p q (Failed text) = ⊥
 
 abbrev pub IsMetOrAbsent : {P : Type 0} → ByteStep P → ByteStep P → ClockStep P → Net → Rate → List ℕ → List ℕ → Approach → P → P → Commissioned → Type 0
 IsMetOrAbsent reads writes asks net rate ids [] approach p q ended = IsWithoutNode p q ended
@@ -115,11 +162,14 @@ IsCommissioned reads writes asks net rate ids approach p q ended = IsMetOrAbsent
 -- where no rate passes nothing is done at the port
 abbrev pub IsWithoutPlan : {P : Type 0} → P → P → Commissioned → Type 0
 IsWithoutPlan p q NonePasses = p ≡ q
-IsWithoutPlan p q (Ended text ready started on_time at) = ⊥
-IsWithoutPlan p q (Running node) = ⊥
+IsWithoutPlan p q (Ended text ready started operational at) = ⊥
+IsWithoutPlan p q (Running runner) = ⊥
+IsWithoutPlan p q (Garbled lines) = ⊥
+IsWithoutPlan p q (Erroneous flags at) = ⊥
+IsWithoutPlan p q (Unopened command at) = ⊥
 IsWithoutPlan p q (Others text all) = ⊥
 IsWithoutPlan p q Absent = ⊥
-IsWithoutPlan p q Failed = ⊥
+IsWithoutPlan p q (Failed text) = ⊥
 
 abbrev pub IsCommissionedFor : {P : Type 0} → ByteStep P → ByteStep P → ClockStep P → Net → Outcome → Approach → P → P → Commissioned → Type 0
 IsCommissionedFor reads writes asks net (Planned plan) approach p q ended = IsCommissioned reads writes asks net plan.rate plan.ids approach p q ended

@@ -3,8 +3,11 @@ use Rattle.std.specs.Prelude.{ℕ, ◌*◌, Bool, not, List, [], ◌∷◌, ◌+
 use Rattle.std.specs.List.{flat_map}
 use Rattle.cop_net.specs.Heartbeats.{heartbeat_of}
 use Rattle.cop_net.specs.Network.{Net}
-use Rattle.cop_live.specs.Nodes.{has_node}
 use Rattle.cop_heartbeats.specs.declared.attending.Awaited.{Awaited}
+use Rattle.cop_heartbeats.specs.declared.attending.Heartbeats.{Heartbeats}
+use Rattle.cop_heartbeats.specs.declared.attending.Presence.{Presence}
+use Rattle.cop_heartbeats.specs.declared.attending.Presence.TheVariants.{Operational, Unheard, Late}
+use Rattle.cop_heartbeats.specs.Attending.{presence_of}
 
 -- a node has a heartbeat, whose time is not 0
 abbrev pub has_heartbeat : Net → ℕ → Bool
@@ -21,10 +24,15 @@ awaited_at net node = if has_heartbeat net node then awaited_from net node ∷ [
 abbrev pub awaited_of : Net → List ℕ → List Awaited
 awaited_of net nodes = flat_map (awaited_at net) nodes
 
--- the line of a node
-abbrev pub beat_line : ℕ → Bool → List ℕ
-beat_line node is_late = codes "node " ++ (decimal node ++ (if is_late then codes " late\n" else codes " operational\n"))
+-- the line of a node: `operational` only if a heartbeat said so and none was overdue
+abbrev pub presence_word : Presence → List ℕ
+presence_word Operational = codes " operational\n"
+presence_word Unheard = codes " unheard\n"
+presence_word Late = codes " late\n"
+
+abbrev pub beat_line : ℕ → Presence → List ℕ
+beat_line node presence = codes "node " ++ (decimal node ++ presence_word presence)
 
 -- a line for each
-abbrev pub attendance_text : List Awaited → List Bool → List ℕ
-attendance_text awaited late = flat_map (λ one. beat_line one.node (has_node late one.node)) awaited
+abbrev pub attendance_text : List Awaited → Heartbeats → List ℕ
+attendance_text awaited heartbeats = flat_map (λ one. beat_line one.node (presence_of heartbeats one.node)) awaited

@@ -1,5 +1,9 @@
+pub mod Senders
 pub mod Commissioning
 pub mod Heartbeats
 pub mod Identities
 pub mod Readings
+pub mod Relied
 pub mod Sessions
+pub mod Told
+pub mod Unended

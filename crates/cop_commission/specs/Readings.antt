@@ -1,7 +1,7 @@
 -- What is read back of the settings of nodes, and what is said of it.
 use Rattle.std.specs.Prelude.{ℕ, Bool, not, ◌&&◌, List, [], ◌∷◌, ◌++◌, codes, decimal, ◌==◌, is_some, option_and_then, if◌then◌else◌, Option, Some, None}
 use Rattle.std.specs.List.{flat_map, list_any}
-use Rattle.cop_dict.specs.Find.{entry_at}
+use Rattle.cop_dict.specs.Find.{Entry, entry_at}
 use Rattle.cop_sdo.specs.declared.address.Address.{Address}
 use Rattle.cop_net.specs.Network.{Net}
 use Rattle.cop_dcf.specs.declared.setting.Setting.{Setting}
@@ -11,7 +11,7 @@ use Rattle.cop_boot.specs.declared.«end».End.TheVariants as ends
 use Rattle.cop_boot.specs.Manager.{Managing, end_at}
 use Rattle.cop_engine.specs.Boots.{hexadecimal_of, started_line}
 use Rattle.cop_live.specs.Nodes.{has_node}
-use Rattle.cop_identity.specs.declared.questions.Demand.TheVariants.{Tell, Take}
+use Rattle.cop_identity.specs.declared.questions.Demand.TheVariants.{Take}
 use Rattle.cop_identity.specs.declared.questions.Question.{Question}
 use Rattle.cop_identity.specs.declared.questions.Answer.{Answer}
 use Rattle.cop_identity.specs.declared.questions.Answer.TheVariants as answers
@@ -20,6 +20,8 @@ use Rattle.cop_identity.specs.declared.asking.Outcome.TheVariants as outcomes
 use Rattle.cop_identity.specs.declared.asking.Exchange.{Exchange}
 use Rattle.cop_readback.specs.declared.session.ReadBack.{ReadBack}
 use Rattle.cop_readback.specs.Reading.{is_wanted}
+use Rattle.cop_commission.specs.Relied.{relied_questions}
+use Rattle.cop_commission.specs.Told.{question_about, told_settings}
 use Rattle.cop_commission.specs.declared.readings.Standing.{Standing}
 use Rattle.cop_commission.specs.declared.readings.Standing.TheVariants.{Ready, Differs, Aborted, Silent, Restarting}
 
@@ -30,18 +32,22 @@ is_at s other = (other.index == s.index) && (other.sub == s.sub)
 abbrev pub is_set_again : Setting → List Setting → Bool
 is_set_again s rest = list_any (is_at s) rest
 
--- the question whether a node has a setting
-abbrev pub question_about : ℕ → Setting → Question
-question_about node s = record { node = node; demand = Tell; at = record { index = s.index; sub = s.sub }; wanted = s.value }
-
 -- of settings in their order the last at each address is asked for
 abbrev pub questions_about : ℕ → List Setting → List Question
 questions_about node [] = []
 questions_about node (s ∷ rest) = if is_set_again s rest then questions_about node rest else question_about node s ∷ questions_about node rest
 
--- the questions whether nodes have the settings of a plan with these identifiers
-abbrev pub settings_questions : Net → List ℕ → List ℕ → List Question
-settings_questions net ids nodes = flat_map (λ node. questions_about node (node_settings net ids node)) nodes
+-- the questions whether a node has what a plan relies on that sets this in it, and then whether it has these settings
+abbrev pub relied_by : ℕ → Option (List Entry) → List Setting → List Question
+relied_by node None settings = []
+relied_by node (Some dict) settings = relied_questions node dict settings
+
+abbrev pub node_questions : ℕ → Option (List Entry) → List Setting → List Question
+node_questions node dict settings = relied_by node dict settings ++ questions_about node settings
+
+-- the questions whether nodes have what a plan with these identifiers relies on, and its settings, by what they told of their COB-IDs
+abbrev pub settings_questions : Net → List ℕ → List Exchange → List ℕ → List Question
+settings_questions net ids told nodes = flat_map (λ node. node_questions node (dictionary_of net node) (told_settings told node (node_settings net ids node))) nodes
 
 -- a device can store what it has, where its EDS file has sub 1 of 1010h (CiA 301, "Store parameters")
 abbrev pub can_store : Net → ℕ → Bool

@@ -1,5 +1,5 @@
 -- A boot by a manager over a port, from the opening of the adapter to its closing.
-use Rattle.std.specs.Prelude.{ℕ, List, [], ◌∷◌, Bool, true, false, ◌≡◌, Option, if◌then◌else◌}
+use Rattle.std.specs.Prelude.{ℕ, List, [], ◌∷◌, Bool, true, false, ◌≡◌, if◌then◌else◌}
 use Rattle.cop_frame.specs.declared.rates.Rate.{Rate}
 use Rattle.cop_boot.specs.Manager.{Managing}
 use Rattle.cop_live.specs.Log.{ByteStep, ClockStep}
@@ -7,18 +7,23 @@ use Rattle.cop_live.specs.declared.listening.Sender.{Sender}
 use Rattle.cop_live.specs.declared.listening.Found.{Found}
 use Rattle.cop_live.specs.declared.listening.Found.TheVariants as found
 use Rattle.cop_live.specs.Nodes.{nobody}
-use Rattle.cop_live.specs.Listening.{Listened}
-use Rattle.cop_live.specs.Session.{Opened, Closed}
+use Rattle.cop_live.specs.Approach.{Approached, Looked}
+use Rattle.cop_live.specs.declared.opening.Command.{Command}
+use Rattle.cop_live.specs.Session.{Closed}
 use Rattle.cop_heartbeats.specs.declared.attending.Awaited.{Awaited}
+use Rattle.cop_heartbeats.specs.declared.attending.Heartbeats.{Heartbeats}
 use Rattle.cop_heartbeats.specs.Attending.{Attended}
 use Rattle.cop_identity.specs.declared.questions.Question.{Question}
 use Rattle.cop_identity.specs.declared.asking.Exchange.{Exchange}
 use Rattle.cop_identity.specs.Asking.{AskedAll, has_other}
+use Rattle.cop_identity.specs.Telling.{WereTold}
 use Rattle.cop_readback.specs.declared.session.Reach.{Reach}
 use Rattle.cop_readback.specs.declared.session.ReadBack.{ReadBack}
 use Rattle.cop_readback.specs.Session.{ReadsBack}
 use Rattle.cop_commission.specs.declared.sessions.Session.{Session}
 use Rattle.cop_commission.specs.declared.sessions.Session.TheVariants as sessions
+use Rattle.cop_commission.specs.declared.sessions.Closing.{Closing}
+use Rattle.cop_commission.specs.declared.sessions.Closing.TheVariants as closings
 
 -- how a bus is met: at which rate; to whose PDOs it is listened, unless it is taken over; how far the boot reaches; and whose heartbeats
 -- are awaited after the start, for so many ticks
@@ -30,27 +35,38 @@ pub record Way : Type 0 where
   pub awaited : List Awaited
   pub limit : ℕ
 
--- it was listened for 2 s and no node that is meant was heard to run, unless the bus is taken over
-abbrev pub IsFree : {P : Type 0} → ByteStep P → ByteStep P → ClockStep P → List Sender → Option ℕ → Bool → P → P → Type 0
-IsFree reads writes asks senders only true p q = p ≡ q
-IsFree reads writes asks senders only false p q = Listened reads writes asks senders only p found.Nobody q
+-- a bus was approached, and this was found: where it is nobody or nothing, the adapter is open to send
+abbrev pub IsApproached : {P : Type 0} → ByteStep P → ByteStep P → ClockStep P → Way → P → Found → P → Type 0
+IsApproached reads writes asks way p f q = Approached reads writes asks way.rate way.senders way.reach.only way.take_over p f q
 
 -- heartbeats are awaited where nodes were started
 abbrev pub awaited_if : Bool → List Awaited → List Awaited
 awaited_if started awaited = if started then awaited else []
 
--- these nodes were late among those whose heartbeats are awaited, if there are such
-abbrev pub IsWatched : {P : Type 0} → ByteStep P → ByteStep P → ClockStep P → List Awaited → ℕ → P → List Bool → P → Type 0
-IsWatched reads writes asks [] limit p late q = (late ≡ nobody) × (p ≡ q)
-IsWatched reads writes asks (one ∷ rest) limit p late q = Attended reads writes asks (one ∷ rest) limit p late q
+-- this was heard of those whose heartbeats are awaited, if there are such
+abbrev pub IsWatched : {P : Type 0} → ByteStep P → ByteStep P → ClockStep P → List Awaited → ℕ → P → Heartbeats → P → Type 0
+IsWatched reads writes asks [] limit p heartbeats q = (heartbeats ≡ record { heard = nobody; late = nobody }) × (p ≡ q)
+IsWatched reads writes asks (one ∷ rest) limit p heartbeats q = Attended reads writes asks (one ∷ rest) limit p heartbeats q
 
 -- a manager boots its nodes over an open adapter, what they have is read back, heartbeats are awaited, and the adapter is closed then
-pub record BootsAndCloses {P : Type 0} (reads writes : ByteStep P) (asks : ClockStep P) (way : Way) (m : Managing) (nodes : List ℕ) (settings : List Question) (p : P) (back : ReadBack) (late : List Bool) (later : Managing) (q : P) : Type 0 where
+pub record BootsAndCloses {P : Type 0} (reads writes : ByteStep P) (asks : ClockStep P) (way : Way) (m : Managing) (nodes : List ℕ) (settings : List Question) (p : P) (back : ReadBack) (heartbeats : Heartbeats) (later : Managing) (q : P) : Type 0 where
   pub booted : P
   pub watched : P
   pub boots : ReadsBack reads writes asks way.reach m nodes settings p back.exchanges.items back.booted back.ready back.started later booted
-  pub watches : IsWatched reads writes asks (awaited_if back.started way.awaited) way.limit booted late watched
+  pub watches : IsWatched reads writes asks (awaited_if back.started way.awaited) way.limit booted heartbeats watched
   pub closes : Closed reads writes watched q
+
+-- a boot whose settings were read back started the nodes
+pub record HasStarted {P : Type 0} (reads writes : ByteStep P) (asks : ClockStep P) (way : Way) (m : Managing) (nodes : List ℕ) (settings : List Question) (p : P) (later : Managing) : Type 0 where
+  pub back : ReadBack
+  pub booted : P
+  pub boots : ReadsBack reads writes asks way.reach m nodes settings p back.exchanges.items back.booted back.ready back.started later booted
+  pub starts : back.started ≡ true
+
+-- how a boot over an open adapter ended; where the port failed, the start of the nodes had been sent if that is said
+abbrev pub IsClosing : {P : Type 0} → ByteStep P → ByteStep P → ClockStep P → Way → Managing → List ℕ → List Question → P → Managing → P → Closing → Type 0
+IsClosing reads writes asks way m nodes settings p later q (closings.Closed back heartbeats) = BootsAndCloses reads writes asks way m nodes settings p back heartbeats later q
+IsClosing reads writes asks way m nodes settings p later q (closings.Failed started) = started ≡ true → HasStarted reads writes asks way m nodes settings p later
 
 -- some devices are asked who they are, and none answers with another value than is wanted: each answer is the wanted one or an abort, or
 -- there is none
@@ -59,16 +75,32 @@ pub record AreRight {P : Type 0} (reads writes : ByteStep P) (asks : ClockStep P
   pub asked : AskedAll reads writes asks questions p all q
   pub none_other : has_other all ≡ false
 
--- the adapter is opened, nobody that is meant is heard to run, no device is found to be another one, a manager boots its nodes, what they have is read
--- back, and the adapter is closed: nothing else is done at the port
-pub record IsWhole {P : Type 0} (reads writes : ByteStep P) (asks : ClockStep P) (way : Way) (questions : List Question) (m : Managing) (nodes : List ℕ) (settings : List Question) (p : P) (back : ReadBack) (late : List Bool) (later : Managing) (q : P) : Type 0 where
-  pub opened : P
-  pub free : P
+-- nobody was found, or nothing
+abbrev pub is_free : Found → Bool
+is_free found.Nobody = true
+is_free found.Silence = true
+is_free (found.Running runner) = false
+is_free (found.Garbled lines) = false
+is_free (found.Erroneous flags) = false
+is_free (found.Refused command) = false
+is_free found.Failed = false
+
+-- a bus was found free, and the adapter is open to send
+abbrev pub IsFree : {P : Type 0} → ByteStep P → ByteStep P → ClockStep P → Way → P → P → Type 0
+IsFree reads writes asks way p q = (f : Found) × (is_free f ≡ true) × IsApproached reads writes asks way p f q
+
+-- some devices are asked who they are, none is found to be another one, and those of the nodes that boot up after a reset are asked which COB-IDs
+-- they have, if there are such questions
+pub record AsksFirst {P : Type 0} (reads writes : ByteStep P) (asks : ClockStep P) (way : Way) (nodes : List ℕ) (questions offs : List Question) (p : P) (told : List Exchange) (q : P) : Type 0 where
   pub known : P
-  pub opens : Opened reads writes way.rate p opened
-  pub listens : IsFree reads writes asks way.senders way.reach.only way.take_over opened free
-  pub identifies : AreRight reads writes asks questions free known
-  pub boots : BootsAndCloses reads writes asks way m nodes settings known back late later q
+  pub identifies : AreRight reads writes asks questions p known
+  pub tells : WereTold reads writes asks way.reach.only nodes offs known told q
+
+-- the bus is found free and the adapter open, and the devices are asked so: nothing else is done at the port
+pub record IsWhole {P : Type 0} (reads writes : ByteStep P) (asks : ClockStep P) (way : Way) (nodes : List ℕ) (questions offs : List Question) (p : P) (told : List Exchange) (q : P) : Type 0 where
+  pub free : P
+  pub frees : IsFree reads writes asks way p free
+  pub asked : AsksFirst reads writes asks way nodes questions offs free told q
 
 -- some devices are asked who they are, one answers with another value than is wanted, and the adapter is closed
 pub record FindsOther {P : Type 0} (reads writes : ByteStep P) (asks : ClockStep P) (questions : List Question) (all : List Exchange) (p q : P) : Type 0 where
@@ -77,44 +109,53 @@ pub record FindsOther {P : Type 0} (reads writes : ByteStep P) (asks : ClockStep
   pub some_other : has_other all ≡ true
   pub closes : Closed reads writes known q
 
--- the adapter is opened, nobody that is meant is heard to run, some device is found to be another one, and the adapter is closed: of frames the requests
+-- the bus is found free and the adapter open, some device is found to be another one, and the adapter is closed: of frames the requests
 -- of uploads alone are sent
 pub record IsMistaken {P : Type 0} (reads writes : ByteStep P) (asks : ClockStep P) (way : Way) (questions : List Question) (all : List Exchange) (p q : P) : Type 0 where
-  pub opened : P
   pub free : P
-  pub opens : Opened reads writes way.rate p opened
-  pub listens : IsFree reads writes asks way.senders way.reach.only way.take_over opened free
+  pub frees : IsFree reads writes asks way p free
   pub finds : FindsOther reads writes asks questions all free q
 
--- the adapter is opened, a node that is meant is heard to run, and the adapter is closed: no frame is sent
-pub record IsRefrained {P : Type 0} (reads writes : ByteStep P) (asks : ClockStep P) (way : Way) (node : ℕ) (p q : P) : Type 0 where
-  pub opened : P
+-- the bus is not taken over, the adapter is opened to listen (to listen only, if it can), somebody who is meant is heard to run, or lines come of which none
+-- is a frame, or none comes and its flags tell of errors, and the adapter is closed: no frame is sent
+pub record IsRefrained {P : Type 0} (reads writes : ByteStep P) (asks : ClockStep P) (way : Way) (f : Found) (p q : P) : Type 0 where
   pub heard : P
-  pub opens : Opened reads writes way.rate p opened
-  pub listens : Listened reads writes asks way.senders way.reach.only opened (found.Running node) heard
+  pub left_alone : way.take_over ≡ false
+  pub looks : Looked reads writes asks way.rate way.senders way.reach.only p f heard
   pub closes : Closed reads writes heard q
 
--- what the end of a session says; where a node is heard to run the bus is not taken over
-abbrev pub IsSession : {P : Type 0} → ByteStep P → ByteStep P → ClockStep P → Way → List Question → Managing → List ℕ → List Question → P → Managing → P → Session → Type 0
-IsSession reads writes asks way questions m nodes settings p later q (sessions.Booted back late) = IsWhole reads writes asks way questions m nodes settings p back late later q
-IsSession reads writes asks way questions m nodes settings p later q (sessions.Running node) = (way.take_over ≡ false) × IsRefrained reads writes asks way node p q
-IsSession reads writes asks way questions m nodes settings p later q (sessions.Others all) = IsMistaken reads writes asks way questions all.items p q
-IsSession reads writes asks way questions m nodes settings p later q sessions.Failed = Unit {0}
+-- the adapter refuses a command by which it is opened, and is closed: no frame is sent
+pub record IsUnopened {P : Type 0} (reads writes : ByteStep P) (asks : ClockStep P) (way : Way) (command : Command) (p q : P) : Type 0 where
+  pub refused : P
+  pub approaches : IsApproached reads writes asks way p (found.Refused command) refused
+  pub closes : Closed reads writes refused q
 
--- what a look at the bus gives: nobody, where it is taken over, and else what listening finds
-abbrev pub IsLook : {P : Type 0} → ByteStep P → ByteStep P → ClockStep P → List Sender → Option ℕ → Bool → P → Found → P → Type 0
-IsLook reads writes asks senders only true p f q = (f ≡ found.Nobody) × (p ≡ q)
-IsLook reads writes asks senders only false p f q = Listened reads writes asks senders only p f q
+-- what the beginning of a session says
+abbrev pub IsSession : {P : Type 0} → ByteStep P → ByteStep P → ClockStep P → Way → List ℕ → List Question → List Question → P → P → Session → Type 0
+IsSession reads writes asks way nodes questions offs p q (sessions.Told told) = IsWhole reads writes asks way nodes questions offs p told.items q
+IsSession reads writes asks way nodes questions offs p q (sessions.Running runner) = IsRefrained reads writes asks way (found.Running runner) p q
+IsSession reads writes asks way nodes questions offs p q (sessions.Garbled lines) = IsRefrained reads writes asks way (found.Garbled lines) p q
+IsSession reads writes asks way nodes questions offs p q (sessions.Erroneous flags) = IsRefrained reads writes asks way (found.Erroneous flags) p q
+IsSession reads writes asks way nodes questions offs p q (sessions.Unopened command) = IsUnopened reads writes asks way command p q
+IsSession reads writes asks way nodes questions offs p q (sessions.Others all) = IsMistaken reads writes asks way questions all.items p q
+IsSession reads writes asks way nodes questions offs p q sessions.Failed = Unit {0}
 
--- devices are asked who they are and a manager boots its nodes, and no device is found to be another one
-pub record AsksAndBoots {P : Type 0} (reads writes : ByteStep P) (asks : ClockStep P) (way : Way) (questions : List Question) (m : Managing) (nodes : List ℕ) (settings : List Question) (p : P) (back : ReadBack) (late : List Bool) (later : Managing) (q : P) : Type 0 where
-  pub known : P
-  pub identifies : AreRight reads writes asks questions p known
-  pub boots : BootsAndCloses reads writes asks way m nodes settings known back late later q
+-- the adapter is closed where nothing is to be sent, for what was found
+abbrev pub Refrains : {P : Type 0} → ByteStep P → ByteStep P → Found → P → Session → P → Type 0
+Refrains reads writes f p (sessions.Told told) q = ⊥
+Refrains reads writes f p (sessions.Running runner) q = (f ≡ found.Running runner) × Closed reads writes p q
+Refrains reads writes f p (sessions.Garbled lines) q = (f ≡ found.Garbled lines) × Closed reads writes p q
+Refrains reads writes f p (sessions.Erroneous flags) q = (f ≡ found.Erroneous flags) × Closed reads writes p q
+Refrains reads writes f p (sessions.Unopened command) q = (f ≡ found.Refused command) × Closed reads writes p q
+Refrains reads writes f p (sessions.Others all) q = ⊥
+Refrains reads writes f p sessions.Failed q = Unit {0}
 
 -- how a session goes on where nobody that is meant is heard to run
-abbrev pub GoesOn : {P : Type 0} → ByteStep P → ByteStep P → ClockStep P → Way → List Question → Managing → List ℕ → List Question → P → Managing → P → Session → Type 0
-GoesOn reads writes asks way questions m nodes settings p later q (sessions.Booted back late) = AsksAndBoots reads writes asks way questions m nodes settings p back late later q
-GoesOn reads writes asks way questions m nodes settings p later q (sessions.Running node) = ⊥
-GoesOn reads writes asks way questions m nodes settings p later q (sessions.Others all) = FindsOther reads writes asks questions all.items p q
-GoesOn reads writes asks way questions m nodes settings p later q sessions.Failed = Unit {0}
+abbrev pub GoesOn : {P : Type 0} → ByteStep P → ByteStep P → ClockStep P → Way → List ℕ → List Question → List Question → P → P → Session → Type 0
+GoesOn reads writes asks way nodes questions offs p q (sessions.Told told) = AsksFirst reads writes asks way nodes questions offs p told.items q
+GoesOn reads writes asks way nodes questions offs p q (sessions.Running runner) = ⊥
+GoesOn reads writes asks way nodes questions offs p q (sessions.Garbled lines) = ⊥
+GoesOn reads writes asks way nodes questions offs p q (sessions.Erroneous flags) = ⊥
+GoesOn reads writes asks way nodes questions offs p q (sessions.Unopened command) = ⊥
+GoesOn reads writes asks way nodes questions offs p q (sessions.Others all) = FindsOther reads writes asks questions all.items p q
+GoesOn reads writes asks way nodes questions offs p q sessions.Failed = Unit {0}

@@ -5,18 +5,23 @@ ghost use Rattle.cop_net.specs.Devices.{handed_in};
 ghost use Rattle.cop_net.specs.Network.{IsNetwork};
 ghost use Rattle.cop_plan.specs.Plans.{IsPlan};
 ghost use Rattle.cop_engine.specs.Networks.{ExplainsNetwork};
-ghost use Rattle.cop_commission.specs.Commissioning.{senders_of, questions_for, settings_for, meant_nodes, is_meant_device, awaited_for, way_of, ended_text, IsMet, IsCommissioned, IsCommissionedBy, IsCommissioning};
+ghost use Rattle.cop_heartbeats.specs.Attending.{are_all_operational};
+ghost use Rattle.cop_commission.specs.Sessions.{awaited_if};
+ghost use Rattle.cop_commission.specs.Commissioning.{senders_of, questions_for, settings_for, meant_nodes, is_meant_device, awaited_for, way_of, ended_text, IsBooting, IsMet, IsCommissioned, IsCommissionedBy, IsCommissioning};
 
 use crate::heartbeats::{attendance_text, awaited_of};
 use crate::identities::{identity_text, questions_of};
 use crate::readings::{settings_questions, standing_text, storing_questions};
-use crate::sessions::{Bus, Questions, Session, awaited_if, run_session};
+use crate::senders::add_own_senders;
+use crate::sessions::{Bus, Closing, Questions, Session, awaited_if, boot_and_close, run_session};
+use crate::told::{off_questions, told_manager};
+use crate::unended::unended_text;
 use cop_boot::Manager;
-use cop_engine::{Fault, device_nodes, manager_of};
+use cop_engine::{Fault, device_nodes};
 use cop_frame::Rate;
-use cop_heartbeats::Awaited;
+use cop_heartbeats::{Awaited, Heartbeats};
 use cop_identity::{Exchange, Question};
-use cop_live::{NodeSet, Port, Sender};
+use cop_live::{Command, Port, Runner, Sender};
 use cop_net::{Network, network, read_nodes, read_pdos};
 use cop_plan::{Asked, Choice, Outcome, Plan, plan};
 use cop_readback::{Reach, ReadBack};
@@ -42,17 +47,31 @@ pub struct Approach {
 #[derive(Drop)]
 pub enum Commissioned {
     /// The boot of each node ended, at a rate, and its settings were read back: the text has a line for each, and whether they were
-    /// started, and behind them one for each heartbeat that was awaited; all are ready, or not, and all of these came in time, or not.
+    /// started, and behind them one for each heartbeat that was awaited; all are ready, or not, and each of these nodes is operational, or not.
     Ended {
         text: Vec<u8>,
         ready: bool,
         started: bool,
-        on_time: bool,
+        operational: bool,
         rate: Rate,
     },
-    /// A node runs already: no frame was sent.
+    /// Somebody runs already: no frame was sent.
     Running {
-        node: u8,
+        runner: Runner,
+    },
+    /// Lines came, so many (at most a million are counted), and none of them is a frame: no frame was sent.
+    Garbled {
+        lines: u64,
+    },
+    /// No frame was heard at a rate, and these flags of the adapter tell of errors on the bus: no frame was sent.
+    Erroneous {
+        flags: u16,
+        rate: Rate,
+    },
+    /// The adapter refuses a command by which it is opened at a rate: no frame was sent.
+    Unopened {
+        command: Command,
+        rate: Rate,
     },
     /// Some device is another one than is planned: of frames questions alone were sent. The text has a line for each node.
     Others {
@@ -63,8 +82,11 @@ pub enum Commissioned {
     Absent,
     /// No rate passes: nothing was done at the port.
     NonePasses,
-    /// The port or its clock failed.
-    Failed,
+    /// The port or its clock failed. The text has a line for each node by where its boot stood then, and says whether the start was sent; it
+    /// is empty where the settings had not been begun.
+    Failed {
+        text: Vec<u8>,
+    },
 }
 
 /// The identifiers of a plan's PDOs, and who sends each.
@@ -98,18 +120,20 @@ fn questions_for(
     }
 }
 
-/// What nodes of a network are asked after their boot: whether they have the settings of a plan, and to store them, if they are to.
+/// What nodes of a network are asked after their boot: whether they have the settings of a plan, by what they told of their COB-IDs, and to
+/// store them, if they are to.
 fn settings_for(
     alloc: Global,
     store: bool,
     plan: &Plan,
     network: &Network<'_>,
+    told: &[Exchange],
     nodes: &[u8],
 ) -> Result<Vec<Question>, AllocError>
     requires { IsPlan network.now.equipment.rates network.now.set (length network.now.rows) plan.now }
-    ensures { IfOk result (λ questions. questions.items ≡ settings_for store network.now plan.now.ids nodes.now) }
+    ensures { IfOk result (λ questions. questions.items ≡ settings_for store network.now plan.now.ids told.now nodes.now) }
 {
-    let mut questions = settings_questions(alloc, plan, network, nodes)?;
+    let mut questions = settings_questions(alloc, plan, network, told, nodes)?;
     if store {
         let storing = storing_questions(alloc, network, nodes)?;
         questions.extend_from_slice(&storing)?;
@@ -171,9 +195,11 @@ fn bus_of(
     requires { length plan.now.ids ≡ length network.now.rows }
     ensures { IfOk result (λ bus. bus ≡ way_of network.now plan.now.rate plan.now.ids nodes.now approach) }
 {
+    let mut senders = senders_of(alloc, network.rows(), plan.ids())?;
+    add_own_senders(&mut senders, network, approach.reach.only)?;
     Ok(Bus {
         rate: plan.rate(),
-        senders: senders_of(alloc, network.rows(), plan.ids())?,
+        senders,
         take_over: approach.take_over,
         reach: approach.reach,
         awaited: awaited_for(alloc, approach.watch, network, nodes)?,
@@ -188,14 +214,46 @@ fn ended_text(
     nodes: &[u8],
     back: &ReadBack,
     bus: &Bus,
-    late: &NodeSet,
+    heartbeats: &Heartbeats,
 ) -> Result<Vec<u8>, AllocError>
-    ensures { IfOk result (λ text. text.items ≡ ended_text manager.now nodes.now back.now bus.now.awaited late.now) }
+    ensures { IfOk result (λ text. text.items ≡ ended_text manager.now nodes.now back.now bus.now.awaited heartbeats.now) }
 {
     let mut text = standing_text(alloc, manager, nodes, back)?;
-    let attendance = attendance_text(alloc, awaited_if(back.started, &bus.awaited), late)?;
+    let attendance = attendance_text(alloc, awaited_if(back.started, &bus.awaited), heartbeats)?;
     text.extend_from_slice(&attendance)?;
     Ok(text)
+}
+
+/// Whether each node whose heartbeat was awaited is operational.
+fn is_operational(back: &ReadBack, bus: &Bus, heartbeats: &Heartbeats) -> bool
+    ensures { result ≡ are_all_operational heartbeats.now (awaited_if back.now.started bus.now.awaited) }
+{
+    heartbeats.are_all_operational(awaited_if(back.started, &bus.awaited))
+}
+
+/// The boot of nodes by a manager over an open adapter.
+fn boot_nodes<P: Port>(
+    alloc: Global,
+    manager: &mut Manager,
+    nodes: &[u8],
+    settings: &[Question],
+    bus: &Bus,
+    port: &mut P,
+) -> Result<Commissioned, AllocError>
+    ensures { IfOk result (λ ended. IsBooting P.reads P.writes P.asks bus.now manager.old nodes.now settings.now port.old port.new ended) }
+{
+    match boot_and_close(alloc, manager, nodes, settings, bus, port)? {
+        Closing::Closed { back, heartbeats } => Ok(Commissioned::Ended {
+            text: ended_text(alloc, manager, nodes, &back, bus, &heartbeats)?,
+            ready: back.ready,
+            started: back.started,
+            operational: is_operational(&back, bus, &heartbeats),
+            rate: bus.rate,
+        }),
+        Closing::Failed { started } => Ok(Commissioned::Failed {
+            text: unended_text(alloc, manager, nodes, started)?,
+        }),
+    }
 }
 
 /// The boot of nodes of a network by its plan.
@@ -213,25 +271,33 @@ fn commission_nodes<P: Port>(
     ensures { IfOk result (λ ended. IsMet P.reads P.writes P.asks network.now plan.now.rate plan.now.ids nodes.now approach port.old port.new ended) }
 {
     let bus = bus_of(alloc, network, plan, nodes, approach)?;
-    let mut manager = manager_of(alloc, plan, network, nodes)?;
     let questions = Questions {
         identity: questions_for(alloc, approach.identify, network, nodes)?,
-        settings: settings_for(alloc, approach.store, plan, network, nodes)?,
+        offs: off_questions(alloc, plan, network, nodes)?,
     };
-    match run_session(alloc, &mut manager, nodes, &bus, &questions, port)? {
-        Session::Booted { back, late } => Ok(Commissioned::Ended {
-            text: ended_text(alloc, &manager, nodes, &back, &bus, &late)?,
-            ready: back.ready,
-            started: back.started,
-            on_time: late.is_empty(),
+    match run_session(alloc, nodes, &bus, &questions, port)? {
+        Session::Told { told } => {
+            let mut manager = told_manager(alloc, plan, network, &told, nodes)?;
+            let settings = settings_for(alloc, approach.store, plan, network, &told, nodes)?;
+            boot_nodes(alloc, &mut manager, nodes, &settings, &bus, port)
+        }
+        Session::Running { runner } => Ok(Commissioned::Running { runner }),
+        Session::Garbled { lines } => Ok(Commissioned::Garbled { lines }),
+        Session::Erroneous { flags } => Ok(Commissioned::Erroneous {
+            flags,
             rate: plan.rate(),
         }),
-        Session::Running { node } => Ok(Commissioned::Running { node }),
+        Session::Unopened { command } => Ok(Commissioned::Unopened {
+            command,
+            rate: plan.rate(),
+        }),
         Session::Others { exchanges } => Ok(Commissioned::Others {
             text: identity_text(alloc, nodes, &exchanges)?,
             exchanges,
         }),
-        Session::Failed => Ok(Commissioned::Failed),
+        Session::Failed => Ok(Commissioned::Failed {
+            text: Vec::new(alloc),
+        }),
     }
 }
 
@@ -273,9 +339,11 @@ fn commission_network<P: Port>(
 }
 
 /// The boot of the devices of a planned network over a port, of one node alone or of all. The network is planned, and the adapter is opened
-/// at its rate. Unless the bus is taken over, it is listened for 2 s, and where a node that is meant is heard to run no frame is sent. If
+/// at its rate. Unless the bus is taken over, it is opened to listen only, if it can, for 2 s, and where somebody who is meant is heard to run,
+/// or lines come of which none is a frame, or none comes and the adapter's flags tell of errors, no frame is sent. If
 /// they are to be identified, the devices are asked who they are, and where one is another than its EDS file says nothing else is sent.
-/// Then the settings of each node are sent to it, and read back once the boot of each has ended; devices that have theirs store them, if
+/// Where PDOs are to be switched off the nodes are reset then, and those that boot up are asked which COB-IDs these have, which are switched
+/// off as they are. Then the nodes are reset; the settings of each node are sent to it, and read back once the boot of each has ended; devices that have theirs store them, if
 /// they are to and can; the nodes are started if they are to be, where each has its settings; and the adapter is closed. Otherwise the
 /// first rule that the network breaks, or want of memory.
 pub fn commission<P: Port>(

@@ -4,8 +4,7 @@ ghost use Rattle.std.specs.Prelude.{◌≡◌, ◌++◌, OnOk, IfOk};
 ghost use Rattle.std.specs.String.{string_bytes};
 ghost use Rattle.cop_commission.specs.Heartbeats.{has_heartbeat, awaited_from, awaited_at, awaited_of, beat_line, attendance_text};
 
-use cop_heartbeats::Awaited;
-use cop_live::NodeSet;
+use cop_heartbeats::{Awaited, Heartbeats, Presence};
 use cop_net::Network;
 use std::alloc::{AllocError, Global};
 
@@ -56,13 +55,13 @@ pub fn awaited_of(
 }
 
 // The line of a node.
-fn beat_line(alloc: Global, node: u8, is_late: bool) -> Result<String, AllocError>
-    ensures { IfOk result (λ line. string_bytes line ≡ beat_line node is_late) }
+fn beat_line(alloc: Global, node: u8, presence: Presence) -> Result<String, AllocError>
+    ensures { IfOk result (λ line. string_bytes line ≡ beat_line node presence) }
 {
-    if is_late {
-        format!(in alloc; "node {node} late\n")
-    } else {
-        format!(in alloc; "node {node} operational\n")
+    match presence {
+        Presence::Operational => format!(in alloc; "node {node} operational\n"),
+        Presence::Unheard => format!(in alloc; "node {node} unheard\n"),
+        Presence::Late => format!(in alloc; "node {node} late\n"),
     }
 }
 
@@ -70,13 +69,13 @@ fn beat_line(alloc: Global, node: u8, is_late: bool) -> Result<String, AllocErro
 pub fn attendance_text(
     alloc: Global,
     awaited: &[Awaited],
-    late: &NodeSet,
+    heartbeats: &Heartbeats,
 ) -> Result<Vec<u8>, AllocError>
-    ensures { IfOk result (λ text. text.items ≡ attendance_text awaited.now late.now) }
+    ensures { IfOk result (λ text. text.items ≡ attendance_text awaited.now heartbeats.now) }
 {
     let mut text = Vec::new(alloc);
     for one in awaited {
-        let line = beat_line(alloc, one.node, late.has(one.node))?;
+        let line = beat_line(alloc, one.node, heartbeats.presence_of(one.node))?;
         text.extend_from_slice(line.as_bytes())?;
     }
     Ok(text)

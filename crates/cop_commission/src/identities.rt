@@ -52,8 +52,11 @@ fn question_at(node: u8, dict: &Dictionary, at: Address) -> Option<Question>
     }
 }
 
-// Adds a question, if there is one.
-fn add(questions: &mut Vec<Question>, question: Option<Question>) -> Result<(), AllocError>
+/// Adds a question, if there is one.
+pub(crate) fn add(
+    questions: &mut Vec<Question>,
+    question: Option<Question>,
+) -> Result<(), AllocError>
     ensures { OnOk result (questions.new.items ≡ questions.old.items ++ option_to_list question) }
 {
     match question {

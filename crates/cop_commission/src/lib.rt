@@ -5,7 +5,12 @@ mod commissioning;
 mod heartbeats;
 mod identities;
 mod readings;
+mod relied;
+mod senders;
 mod sessions;
+mod told;
+mod unended;
 
 pub use commissioning::{Approach, Commissioned, commission};
+pub use cop_live::{Command, Runner};
 pub use cop_readback::Reach;

@@ -3,11 +3,13 @@
 ghost use Rattle.std.specs.Prelude.{◌≡◌, ◌++◌, length, OnOk, IfOk};
 ghost use Rattle.std.specs.String.{string_bytes};
 ghost use Rattle.cop_plan.specs.Plans.{IsPlan};
+ghost use Rattle.cop_dcf.specs.Settings.{dictionary_of};
 ghost use Rattle.cop_engine.specs.Boots.{started_line};
-ghost use Rattle.cop_commission.specs.Readings.{is_at, is_set_again, question_about, questions_about, settings_questions, can_store, storing, storing_at, storing_questions, standing_by, standing_read, standing_after, standing_of, standing_line, standing_text};
+ghost use Rattle.cop_commission.specs.Readings.{is_at, is_set_again, questions_about, node_questions, settings_questions, can_store, storing, storing_at, storing_questions, standing_by, standing_read, standing_after, standing_of, standing_line, standing_text};
 
+use crate::relied::add_relied;
+use crate::told::{question_about, told_settings};
 use cop_boot::{End, Manager, Setting};
-use cop_dcf::settings;
 use cop_identity::{Address, Answer, Demand, Exchange, Outcome, Question};
 use cop_net::Network;
 use cop_plan::Plan;
@@ -43,24 +45,6 @@ fn is_set_again(setting: &Setting, rest: &[Setting]) -> bool
     rest.iter().any(|later| is_at(setting, later))
 }
 
-// The question whether a node has a setting.
-fn question_about(node: u8, setting: &Setting) -> Question
-    ensures { result ≡ question_about node setting.now }
-{
-    let Setting {
-        index,
-        sub,
-        value,
-        ..
-    } = *setting;
-    Question {
-        node,
-        demand: Demand::Tell,
-        at: Address { index, sub },
-        wanted: value,
-    }
-}
-
 // Adds the questions whether a node has settings: of each address the last.
 fn add_questions(
     questions: &mut Vec<Question>,
@@ -80,20 +64,37 @@ fn add_questions(
     }
 }
 
-/// The questions whether nodes of a network have the settings of a plan. Otherwise want of memory.
+// Adds the questions whether a node has what a plan relies on that sets this in it, and then whether it has these settings.
+fn add_node(
+    questions: &mut Vec<Question>,
+    network: &Network<'_>,
+    node: u8,
+    settings: &[Setting],
+) -> Result<(), AllocError>
+    ensures { OnOk result (questions.new.items ≡ questions.old.items ++ node_questions node (dictionary_of network.now node) settings.now) }
+{
+    if let Some(dict) = network.dictionary(node) {
+        add_relied(questions, node, dict, settings)?;
+    }
+    add_questions(questions, node, settings)
+}
+
+/// The questions whether nodes of a network have what a plan relies on, and its settings, by what they told of their COB-IDs. Otherwise want of
+/// memory.
 pub fn settings_questions(
     alloc: Global,
     plan: &Plan,
     network: &Network<'_>,
+    told: &[Exchange],
     nodes: &[u8],
 ) -> Result<Vec<Question>, AllocError>
     requires { IsPlan network.now.equipment.rates network.now.set (length network.now.rows) plan.now }
-    ensures { IfOk result (λ questions. questions.items ≡ settings_questions network.now plan.now.ids nodes.now) }
+    ensures { IfOk result (λ questions. questions.items ≡ settings_questions network.now plan.now.ids told.now nodes.now) }
 {
     let mut questions = Vec::new(alloc);
     for node in nodes {
-        let settings = settings(alloc, plan, network, *node)?;
-        add_questions(&mut questions, *node, &settings)?;
+        let settings = told_settings(alloc, plan, network, told, *node)?;
+        add_node(&mut questions, network, *node, &settings)?;
     }
     Ok(questions)
 }
@@ -188,8 +189,8 @@ fn standing_read(node: u8, all: &[Exchange]) -> Standing
     }
 }
 
-// Where a node stands by the end of its boot, and by what was read back.
-fn standing_after(end: Option<End>, read: Standing) -> Standing
+/// Where a node stands by the end of its boot, and by what was read back.
+pub fn standing_after(end: Option<End>, read: Standing) -> Standing
     ensures { result ≡ standing_after end read }
 {
     match end {
@@ -221,8 +222,8 @@ fn standing_of(manager: &Manager, back: &ReadBack, node: u8) -> Standing
     }
 }
 
-// The line of a node.
-fn standing_line(alloc: Global, node: u8, standing: Standing) -> Result<String, AllocError>
+/// The line of a node. Otherwise want of memory.
+pub fn standing_line(alloc: Global, node: u8, standing: Standing) -> Result<String, AllocError>
     ensures { IfOk result (λ line. string_bytes line ≡ standing_line node standing) }
 {
     match standing {

@@ -1,13 +1,13 @@
-//! A boot by a manager over a port, from the opening of the adapter to its closing.
+//! A boot by a manager over a port, from the opening of the adapter to its closing: what goes before it, and the boot itself.
 
 ghost use Rattle.std.specs.Prelude.{◌≡◌, IfOk, IfSome};
-ghost use Rattle.cop_commission.specs.Sessions.{awaited_if, IsWatched, BootsAndCloses, GoesOn, IsLook, IsSession};
+ghost use Rattle.cop_commission.specs.Sessions.{awaited_if, IsWatched, IsClosing, Refrains, GoesOn, IsSession};
 
 use cop_boot::Manager;
 use cop_frame::Rate;
-use cop_heartbeats::{Awaited, attend};
-use cop_identity::{Exchange, Question, ask_all, has_other};
-use cop_live::{Found, NodeSet, Port, Sender, close, listen, open};
+use cop_heartbeats::{Awaited, Heartbeats, attend};
+use cop_identity::{Exchange, Question, ask_all, has_other, reset_and_ask};
+use cop_live::{Command, Found, Port, Runner, Sender, approach, close};
 use cop_readback::{Reach, ReadBack, boot_and_read_back};
 use std::alloc::{AllocError, Global};
 use std::marker::Model;
@@ -32,32 +32,38 @@ impl Model for Bus {
     ghost view = { λ bus. record { rate = bus.rate; senders = bus.senders.items; take_over = bus.take_over; reach = bus.reach; awaited = bus.awaited.items; limit = bus.limit } };
 }
 
-/// What the devices are asked: who they are before a boot, and after it what they have, and to store it.
+/// What the devices are asked before a boot: who they are, and which COB-IDs they have that are to be switched off.
 #[derive(Drop)]
 pub struct Questions {
     pub identity: Vec<Question>,
-    pub settings: Vec<Question>,
+    pub offs: Vec<Question>,
 }
 
-/// How a session ended.
+/// How a session began.
 #[derive(Drop)]
 pub enum Session {
-    /// The boot of each node ended, and its settings were read back; of those whose heartbeats were awaited these were late.
-    Booted { back: ReadBack, late: NodeSet },
-    /// A node runs already: no frame was sent.
-    Running { node: u8 },
+    /// The nodes may be booted: this is what came of the questions about COB-IDs.
+    Told { told: Vec<Exchange> },
+    /// Somebody runs already: no frame was sent.
+    Running { runner: Runner },
+    /// Lines came, so many, and none of them is a frame: no frame was sent.
+    Garbled { lines: u64 },
+    /// No frame was heard, and these flags of the adapter tell of errors on the bus: no frame was sent.
+    Erroneous { flags: u16 },
+    /// The adapter refuses a command by which it is opened: no frame was sent.
+    Unopened { command: Command },
     /// Some device is another one: of frames questions alone were sent.
     Others { exchanges: Vec<Exchange> },
     /// The port or its clock failed.
     Failed,
 }
 
-// Awaits heartbeats, if there are any to be awaited, and gives the nodes that are late.
-fn watch<P: Port>(awaited: &[Awaited], limit: u64, port: &mut P) -> Option<NodeSet>
-    ensures { IfSome result (λ late. IsWatched P.reads P.writes P.asks awaited.now limit port.old late port.new) }
+// Awaits heartbeats, if there are any to be awaited, and gives what was heard of their nodes.
+fn watch<P: Port>(awaited: &[Awaited], limit: u64, port: &mut P) -> Option<Heartbeats>
+    ensures { IfSome result (λ heartbeats. IsWatched P.reads P.writes P.asks awaited.now limit port.old heartbeats port.new) }
 {
     match awaited {
-        [] => Some(NodeSet::new()),
+        [] => Some(Heartbeats::new()),
         [_, ..] => attend(awaited, limit, port),
     }
 }
@@ -69,51 +75,72 @@ pub fn awaited_if(started: bool, awaited: &[Awaited]) -> &[Awaited]
     if started { awaited } else { &[] }
 }
 
-// Boots the nodes over an open adapter, reads their settings back, awaits heartbeats, and closes the adapter.
-fn boot_and_close<P: Port>(
+/// How a boot over an open adapter ended.
+#[derive(Drop)]
+pub enum Closing {
+    /// The boot of each node ended, its settings were read back, this was heard of those whose heartbeats were awaited, and the adapter was
+    /// closed.
+    Closed {
+        back: ReadBack,
+        heartbeats: Heartbeats,
+    },
+    /// The port or its clock failed, once the start of the nodes was sent, or before.
+    Failed {
+        started: bool,
+    },
+}
+
+/// Boots the nodes of a manager over an open adapter, reads their settings back, awaits heartbeats where they were started, and closes the
+/// adapter. Otherwise want of memory.
+pub fn boot_and_close<P: Port>(
     alloc: Global,
     manager: &mut Manager,
     nodes: &[u8],
     settings: &[Question],
     bus: &Bus,
     port: &mut P,
-) -> Result<Option<(ReadBack, NodeSet)>, AllocError>
-    ensures { IfOk result (λ done. IfSome done (λ both. BootsAndCloses P.reads P.writes P.asks bus.now manager.old nodes.now settings.now port.old both.0 both.1 manager.new port.new)) }
+) -> Result<Closing, AllocError>
+    ensures { IfOk result (λ closing. IsClosing P.reads P.writes P.asks bus.now manager.old nodes.now settings.now port.old manager.new port.new closing) }
 {
     let Some(back) = boot_and_read_back(alloc, manager, nodes, settings, bus.reach, port)? else {
-        return Ok(None);
+        return Ok(Closing::Failed { started: false });
     };
-    let Some(late) = watch(awaited_if(back.started, &bus.awaited), bus.limit, port) else {
-        return Ok(None);
+    let started = back.started;
+    let Some(heartbeats) = watch(awaited_if(started, &bus.awaited), bus.limit, port) else {
+        return Ok(Closing::Failed { started });
     };
     if close(port) {
-        Ok(Some((back, late)))
+        Ok(Closing::Closed { back, heartbeats })
     } else {
-        Ok(None)
+        Ok(Closing::Failed { started })
     }
 }
 
-// What is heard over an open adapter.
-fn look<P: Port>(senders: &[Sender], only: Option<u8>, take_over: bool, port: &mut P) -> Found
-    ensures { IsLook P.reads P.writes P.asks senders.now only take_over port.old result port.new }
+// Closes an adapter over which nothing is to be sent, for what was found.
+fn refrain<P: Port>(found: Found, port: &mut P) -> Session
+    ensures { Refrains P.reads P.writes found port.old result port.new }
 {
-    if take_over {
-        Found::Nobody
-    } else {
-        listen(senders, only, port)
+    if !close(port) {
+        return Session::Failed;
+    }
+    match found {
+        Found::Running { runner } => Session::Running { runner },
+        Found::Garbled { lines } => Session::Garbled { lines },
+        Found::Erroneous { flags } => Session::Erroneous { flags },
+        Found::Refused { command } => Session::Unopened { command },
+        Found::Nobody | Found::Silence | Found::Failed => Session::Failed,
     }
 }
 
-// Asks the devices at an open adapter who they are, boots the nodes unless one is another, awaits heartbeats, and closes the adapter.
-fn ask_and_boot<P: Port>(
+// Asks the devices at an open adapter who they are, and unless one is another resets the nodes and asks which COB-IDs they have.
+fn ask_first<P: Port>(
     alloc: Global,
-    manager: &mut Manager,
     nodes: &[u8],
     questions: &Questions,
     bus: &Bus,
     port: &mut P,
 ) -> Result<Session, AllocError>
-    ensures { IfOk result (λ session. GoesOn P.reads P.writes P.asks bus.now questions.now.identity.items manager.old nodes.now questions.now.settings.items port.old manager.new port.new session) }
+    ensures { IfOk result (λ session. GoesOn P.reads P.writes P.asks bus.now nodes.now questions.now.identity.items questions.now.offs.items port.old port.new session) }
 {
     let Some(exchanges) = ask_all(alloc, &questions.identity, port)? else {
         return Ok(Session::Failed);
@@ -124,37 +151,29 @@ fn ask_and_boot<P: Port>(
         }
         return Ok(Session::Failed);
     }
-    match boot_and_close(alloc, manager, nodes, &questions.settings, bus, port)? {
-        Some((back, late)) => Ok(Session::Booted { back, late }),
+    match reset_and_ask(alloc, nodes, bus.reach.only, &questions.offs, port)? {
+        Some(told) => Ok(Session::Told { told }),
         None => Ok(Session::Failed),
     }
 }
 
-/// Opens the adapter at a port at the bus's rate, and listens for 2 s unless the bus is taken over. If nobody that is meant is heard to
-/// run, it asks the devices who they are, boots the nodes of a manager unless a device is found to be another one, reads their settings back,
-/// awaits heartbeats where they were started, and closes the adapter. `Failed` where the port or its clock fails, and otherwise want of memory.
+/// Opens the adapter at a port at the bus's rate to listen only, and listens for 2 s, unless the bus is taken over. If nobody that is meant
+/// is heard to run, nor errors without a frame, it opens it to send and asks the devices who they are. Unless a device is found to be another
+/// one, it resets the nodes and asks those that boot up which COB-IDs they have, if some are to be switched off. `Failed` if the port or its
+/// clock fails, and otherwise want of memory.
 pub fn run_session<P: Port>(
     alloc: Global,
-    manager: &mut Manager,
     nodes: &[u8],
     bus: &Bus,
     questions: &Questions,
     port: &mut P,
 ) -> Result<Session, AllocError>
-    ensures { IfOk result (λ session. IsSession P.reads P.writes P.asks bus.now questions.now.identity.items manager.old nodes.now questions.now.settings.items port.old manager.new port.new session) }
+    ensures { IfOk result (λ session. IsSession P.reads P.writes P.asks bus.now nodes.now questions.now.identity.items questions.now.offs.items port.old port.new session) }
 {
-    if !open(port, bus.rate) {
-        return Ok(Session::Failed);
-    }
-    match look(&bus.senders, bus.reach.only, bus.take_over, port) {
-        Found::Nobody => ask_and_boot(alloc, manager, nodes, questions, bus, port),
-        Found::Running { node } => {
-            if close(port) {
-                Ok(Session::Running { node })
-            } else {
-                Ok(Session::Failed)
-            }
-        }
+    let (only, take_over) = (bus.reach.only, bus.take_over);
+    match approach(bus.rate, &bus.senders, only, take_over, port) {
+        Found::Nobody | Found::Silence => { ask_first(alloc, nodes, questions, bus, port) }
         Found::Failed => Ok(Session::Failed),
+        found => Ok(refrain(found, port)),
     }
 }

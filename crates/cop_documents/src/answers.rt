@@ -118,7 +118,9 @@ fn has_line(text: &[u8], wanted: &str) -> bool {
 
 /// Whether a line tells of a heartbeat that was awaited after a start.
 fn is_of_heartbeat(line: &str) -> bool {
-    line.ends_with(" operational") || line.ends_with(" late")
+    [" operational", " unheard", " late"]
+        .iter()
+        .any(|word| line.ends_with(word))
 }
 
 /// What the lines of nodes say that tell of heartbeats, or those that do not.

@@ -1,12 +1,9 @@
 //! Plans.
 
-ghost use Rattle.std.specs.Prelude.{length};
-ghost use Rattle.cop_plan.specs.Plans.{IsOutcome};
-
 use crate::objects::Object;
 use crate::values::{time, time_if};
 use crate::warnings::{Warned, warnings_of};
-use cop_figures::{FrameTimes, Load, PdoTimes, Reason, RefusedRate, SyncTimes, figures_of};
+use cop_figures::{Figures, FrameTimes, Load, PdoTimes, Reason, RefusedRate, SyncTimes};
 use cop_net::{Network, PdoRow};
 use cop_plan::Outcome;
 use cop_rta::Stream;
@@ -111,17 +108,15 @@ fn refused_of(
     Ok(Value::Array(values))
 }
 
-/// The numbers of what the planner answers for a network, as its report has them, and what is worth a look before one relies on it.
+/// What the planner answers for a network, with its numbers, as its report has them, and what is worth a look before one relies on it.
 /// `Err` is want of memory.
 pub fn plan_document(
     alloc: Global,
     network: &Network<'_>,
     outcome: &Outcome,
+    figures: &Figures,
     warnings: &[Warned<'_>],
-) -> Result<String, AllocError>
-    requires { IsOutcome network.now.equipment.rates network.now.set (length network.now.rows) outcome.now }
-{
-    let figures = figures_of(alloc, network, outcome)?;
+) -> Result<String, AllocError> {
     let rate = match figures.rate {
         Some(rate) => Value::from(rate.kbits()),
         None => Value::Null,

@@ -1,9 +1,17 @@
 -- A plan's guarantee for the rows of both tables.
-use Rattle.std.proofs.Common.{◌≡◌, ◌≢◌, ℕ, ◌+◌, ◌-◌, ◌≤◌, inl, inr, List, length, get_or, slice_get, option_map, Option, Some, None, IfSome, All, Contains, refl, sym, ap, ◌∙◌, subst}
+use Rattle.std.proofs.Common.{◌≡◌, ◌≢◌, ℕ, ◌+◌, ◌-◌, ◌<◌, ◌≤◌, arith, inl, inr, List, length, get_or, slice_get, option_map, Option, Some, None, IfSome, All, Contains, refl, sym, ap, ◌∙◌, subst}
+use Rattle.std.specs.Option.{option_and_then}
 use Rattle.std.proofs.lemmas.Bool.{cases_lt}
+use Rattle.std.proofs.lemmas.Option.{slice_get_within}
 use Rattle.std.proofs.lemmas.List.Elements.{All-weaker, All-contains}
 use Rattle.cop_frame.specs.Rate.{ticks_of}
 use Rattle.cop_rta.specs.declared.streams.Stream.{Stream}
+use Rattle.cop_rta.specs.declared.verdicts.Verdict.{Verdict}
+use Rattle.cop_rta.specs.declared.verdicts.Verdict.TheVariants.{Pass, Late, Long}
+use Rattle.cop_rta.specs.Test.{StreamPlace, deadline_at, place_by_id, Passes}
+use Rattle.cop_rta.specs.Verdict.{PassesBy, IsJudged, response_of}
+use Rattle.cop_rta.proofs.GreatestLemmas.{same_response}
+use Rattle.cop_rta.proofs.VerdictLemmas.{pass_iff}
 use Rattle.cop_bus.specs.Run.{Instance, IsOnTime}
 use Rattle.cop_rows.specs.declared.pdo_table.PdoRow.{PdoRow}
 use Rattle.cop_rows.specs.declared.node_table.FrameRow.{FrameRow}
@@ -20,13 +28,29 @@ use Rattle.cop_plan.proofs.MarginLemmas.{tested_after}
 use Rattle.cop_plan.proofs.MarginKept.{lowered_plan, kept_with_margin}
 use Rattle.cop_sim.specs.Guarantee.{IsRunOf, IsKept}
 use Rattle.cop_sim.proofs.GuaranteeLemmas.{kept}
-use Rattle.cop_engine.specs.Guarantee.{IsFrameOf, AreOnTimeIn, IsGuaranteed}
+use Rattle.cop_engine.specs.Guarantee.{IsFrameOf, AreOnTimeIn, IsGuaranteed, ArePrinted}
+use Rattle.cop_engine.specs.Plans.{ArePlanVerdicts}
+use Rattle.cop_engine.specs.Tests.{AreVerdicts}
 use Rattle.cop_engine.proofs.MarginRuns.{legal_lowered, obeying_lowered, lowered_here}
 use Rattle.cop_engine.proofs.PlanStreams.{fine, synced, have_deadlines, provisional, pdo_of, frame_at, tested_at, no_other}
 
 sent_row : (row : FrameRow) (d : ℕ) → row.deadline ≡ Some d → IfSome row.deadline (IsFrameDeadline row.kind row.period) → row.period ≢ 0
 sent_row row d dated h =
     let its : IfSome (Some d) (IsFrameDeadline row.kind row.period) = subst (λ (o : Option ℕ). IfSome o (IsFrameDeadline row.kind row.period)) dated h in its.sent
+
+-- a verdict of a stream that passes has its greatest response
+passing_by : (place : StreamPlace) (verdict : Verdict) → IsJudged place verdict → Passes place → PassesBy place (response_of verdict)
+passing_by place (Pass response) judged passes = judged
+passing_by place (Late q response) judged passes = absurd ((pass_iff place (Late q response) judged).1 passes)
+passing_by place Long judged passes = absurd ((pass_iff place Long judged).1 passes)
+
+-- which is within its deadline
+within_deadline : (place : StreamPlace) (response d : ℕ) → PassesBy place response → deadline_at place ≡ Some d → response ≤ d
+within_deadline place response d by dated =
+    let last = by.reached in
+    let each = by.on_time last.0 last.1 in
+    let same : each.0 ≡ response = same_response place last.0 each.0 response each.1 last.2 in
+    omega (arith, same, each.2 d dated)
 
 module _ (net : Net) (is : IsNetwork net) where
   module _ (plan : PlanValue) (planned : IsPlan net.equipment.rates net.set (length net.rows) plan) where
@@ -107,6 +131,27 @@ module _ (net : Net) (is : IsNetwork net) where
         let k = frame_at net is plan planned row at (sent_row row d dated its.deadline) in
         on_time k.0 k.2 (base_of row.kind + row.node) (ticks d) k.3 k.4.id (k.4.deadline ∙ ap (option_map ticks) dated)
 
+    -- each transfer of a stream that passes takes at most its greatest response
+    responses : (p response : ℕ) (k : Stream) → slice_get plan.streams p ≡ Some k → PassesBy (place_by_id plan.streams p plan.rate) response → AreOnTimeIn plan k.id response
+    responses p response k here passes until run legal = (kept plan (fine net is plan planned) (synced net is plan planned) until run legal).responses p response k here passes
+
+    printed : (verdicts : List Verdict) → AreVerdicts plan.rate plan.streams verdicts (length net.rows) → ArePrinted net (Planned plan) verdicts
+    printed verdicts judged p row there =
+        let low : p < length net.rows = slice_get_within net.rows p row there in
+        let k = pdo_of net is plan planned p row there in
+        let by : PassesBy (place_by_id plan.streams p plan.rate) (response_of (get_or verdicts p Long)) =
+        passing_by (place_by_id plan.streams p plan.rate) (get_or verdicts p Long) (judged.1 p low) ((fine net is plan planned).pass p (omega (arith, low, planned.count))) in
+        record {
+          greatest = by;
+          within = within_deadline (place_by_id plan.streams p plan.rate) (response_of (get_or verdicts p Long)) (ticks row.deadline) by (ap (option_and_then (λ (s : Stream). s.deadline)) k.1.here ∙ k.1.deadline);
+          bounds = λ until run legal. All-weaker (λ y. y.id ≡ k.0.id → IsOnTime (ticks_of plan.rate) until (Some (response_of (get_or verdicts p Long))) y) (λ y. y.id ≡ id_of plan.ids p → IsOnTime (ticks_of plan.rate) until (Some (response_of (get_or verdicts p Long))) y)
+              (λ y h same. h (same ∙ sym k.1.id)) run (responses p (response_of (get_or verdicts p Long)) k.0 k.1.here by until run legal);
+        }
+
+  pub are_printed : (outcome : Outcome) (verdicts : List Verdict) → IsOutcome net.equipment.rates net.set (length net.rows) outcome → ArePlanVerdicts outcome verdicts (length net.rows) → ArePrinted net outcome verdicts
+  are_printed (Planned plan) verdicts h judged = printed plan h verdicts judged
+  are_printed (Refused refusals) verdicts h judged = tt
+
   pub guaranteed : (outcome : Outcome) → IsOutcome net.equipment.rates net.set (length net.rows) outcome → IsGuaranteed net outcome
   guaranteed (Planned plan) h = (
     h,
@@ -116,6 +161,7 @@ module _ (net : Net) (is : IsNetwork net) where
       frames = frame_of plan h;
       no_other = no_other net is plan h;
       frames_on_time = frames_on_time plan h;
+      responses = responses plan h;
     },
   )
   guaranteed (Refused refusals) h = h

@@ -7,6 +7,10 @@ use Rattle.cop_dict.specs.Mapping.{total_bits}
 use Rattle.cop_pdo.specs.Bits.{bytes_for}
 use Rattle.cop_pdo.specs.Payload.{payload_of}
 use Rattle.cop_rta.specs.declared.streams.Stream.{Stream}
+use Rattle.cop_rta.specs.declared.verdicts.Verdict.{Verdict}
+use Rattle.cop_rta.specs.declared.verdicts.Verdict.TheVariants.{Long}
+use Rattle.cop_rta.specs.Test.{place_by_id}
+use Rattle.cop_rta.specs.Verdict.{PassesBy, response_of}
 use Rattle.cop_bus.specs.Run.{Instance, IsOnTime}
 use Rattle.cop_rows.specs.declared.pdo_table.PdoRow.{PdoRow}
 use Rattle.cop_rows.specs.declared.node_table.FrameRow.{FrameRow}
@@ -77,14 +81,26 @@ AreOnTimeIn plan id deadline =
     (until : ℕ) (run : List Instance) → IsRunOf plan until run → All (λ y. y.id ≡ id → IsOnTime (ticks_of plan.rate) until (Some deadline) y) run
 
 -- Each row's PDO ends each of its transfers within the row's deadline, and by the plan's margin before it, in every legal run of the plan's
--- streams at its rate in which all of them obey. So does each SDO frame for which the table of nodes has a deadline. The plan has no streams but those of
--- the rows of both tables.
+-- streams at its rate in which all of them obey. So does each SDO frame for which the table of nodes has a deadline. Each stream that passes
+-- ends each of its transfers there within its greatest response. The plan has no streams but those of the rows of both tables.
 pub record MeetsDeadlines (net : Net) (plan : PlanValue) : Type 0 where
   pub pdos : (p : ℕ) (row : PdoRow) → slice_get net.rows p ≡ Some row → (k : Stream) × IsPdoOf net plan p row k
   pub on_time : (p : ℕ) (row : PdoRow) → slice_get net.rows p ≡ Some row → AreOnTimeIn plan (id_of plan.ids p) (ticks row.deadline - margin_of plan)
   pub frames : (row : FrameRow) → Contains net.nodes.frames row → row.period ≢ 0 → (k : Stream) × IsFrameOf plan row k
   pub no_other : (f : ℕ) (k : Stream) → length net.rows ≤ f → slice_get plan.streams f ≡ Some k → (row : FrameRow) × Contains net.nodes.frames row × (row.period ≢ 0) × IsFrameOf plan row k
   pub frames_on_time : (row : FrameRow) (d : ℕ) → Contains net.nodes.frames row → row.deadline ≡ Some d → AreOnTimeIn plan (base_of row.kind + row.node) (ticks d - margin_of plan)
+  pub responses : (p response : ℕ) (k : Stream) → slice_get plan.streams p ≡ Some k → PassesBy (place_by_id plan.streams p plan.rate) response → AreOnTimeIn plan k.id response
+
+-- the greatest response that the test has for the PDO of a row is within the row's deadline, and bounds each of its transfers
+pub record TakesAtMost (plan : PlanValue) (p : ℕ) (row : PdoRow) (response : ℕ) : Type 0 where
+  pub greatest : PassesBy (place_by_id plan.streams p plan.rate) response
+  pub within : response ≤ ticks row.deadline
+  pub bounds : AreOnTimeIn plan (id_of plan.ids p) response
+
+-- So is the response of each row's PDO that the plan's text has.
+abbrev pub ArePrinted : Net → Outcome → List Verdict → Type 0
+ArePrinted net (Planned plan) verdicts = (p : ℕ) (row : PdoRow) → slice_get net.rows p ≡ Some row → TakesAtMost plan p row (response_of (get_or verdicts p Long))
+ArePrinted net (Refused refusals) verdicts = Unit {0}
 
 -- The plan has the slowest candidate, of the rates that are wanted and that all devices support, at which some assignment of identifiers passes the
 -- response-time test, it passes there, and each slower rate has a refusal that holds; and its PDOs and SDO frames meet their
@@ -93,7 +109,9 @@ abbrev pub IsGuaranteed : Net → Outcome → Type 0
 IsGuaranteed net (Planned plan) = IsPlan net.equipment.rates net.set (length net.rows) plan × MeetsDeadlines net plan
 IsGuaranteed net (Refused refusals) = AreAllRefused net.equipment.rates net.set (length net.rows) refusals
 
--- the files of the plan of the network that the tables and the EDS files say, with what the plan guarantees
+-- the files of the plan of the network that the tables and the EDS files say, with what the plan guarantees, and what its text says of
+-- responses
 pub record AreGuaranteedFiles (asked : Asked) (nodes pdos : List ℕ) (eds : List File) (files : Files) : Type 0 where
   pub exact : AreFilesOf asked nodes pdos eds files
   pub guaranteed : IsGuaranteed exact.network.net exact.outcome
+  pub printed : ArePrinted exact.network.net exact.outcome exact.written.verdicts

@@ -6,7 +6,7 @@ ghost use Rattle.cop_plan.specs.declared.choices.Asked.{Asked};
 ghost use Rattle.cop_engine.specs.declared.plans.Files.{Files};
 ghost use Rattle.cop_engine.specs.Dcfs.{AreReadAgain};
 ghost use Rattle.cop_engine.specs.Plans.{AreFilesOf};
-ghost use Rattle.cop_engine.specs.Guarantee.{IsGuaranteed};
+ghost use Rattle.cop_engine.specs.Guarantee.{IsGuaranteed, ArePrinted};
 ghost use Rattle.cop_engine.specs.Judgements.{IsJudgement, SaysOnTime};
 
 /// The planner's guarantee. Of the files of [`plan_bytes`](crate::plan_bytes): the plan uses the slowest of the rates wanted
@@ -14,9 +14,12 @@ ghost use Rattle.cop_engine.specs.Judgements.{IsJudgement, SaysOnTime};
 /// that test; each slower one of those that all devices support carries a refusal that holds, which rules out every
 /// assignment there; and in every error-free run of the bus in which all streams obey their periods, jitters and lengths, each PDO and each SDO frame
 /// that has a deadline ends its transfer within it. That of a PDO that is sent by SYNC counts from SYNC's event, and the
-/// stream of such a PDO has as many times SYNC's period as the transmission type of its device says.
+/// stream of such a PDO has as many times SYNC's period as the transmission type of its device says. Each transfer of a PDO takes at most the
+/// response that the plan's text has for it, which is within the deadline.
 pub fn planner_guarantee()
-    ensures { (asked : Asked) (nodes pdos : List ℕ) (eds : List File) (files : Files) → (f : AreFilesOf asked nodes pdos eds files) → IsGuaranteed f.network.net f.outcome }
+    ensures guaranteed { (asked : Asked) (nodes pdos : List ℕ) (eds : List File) (files : Files) → (f : AreFilesOf asked nodes pdos eds files) → IsGuaranteed f.network.net f.outcome }
+    ensures printed { (asked : Asked) (nodes pdos : List ℕ) (eds : List File) (files : Files) → (f : AreFilesOf asked nodes pdos eds files)
+        → ArePrinted f.network.net f.outcome f.written.verdicts }
 {}
 
 /// By it the judgement of a trace ([`judge_bytes`](crate::judge_bytes)) never says that an instance is late.

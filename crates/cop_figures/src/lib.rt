@@ -2,6 +2,7 @@
 #![tactic(auto)]
 
 mod delays;
+mod errors;
 mod figures;
 mod frames;
 mod loads;
@@ -10,6 +11,7 @@ mod timelines;
 mod times;
 
 pub use delays::{Breakdown, Delay, breakdowns_of};
+pub use errors::{Tight, error_cost, tightest};
 pub use figures::{Figures, figures_of};
 pub use frames::{FrameTimes, SyncTimes};
 pub use loads::Load;

@@ -10,7 +10,7 @@ use std::io;
 #[derive(Drop)]
 pub struct Failure {
     pub fault: Fault,
-    /// Of a file that is not read or written: why, as a line.
+    /// Of a file that is not read or written, or of what was found at a port: why, as a line.
     pub reason: Option<String>,
 }
 

@@ -8,7 +8,8 @@ use Rattle.cop_slcan.specs.Reading.{taken, said_from, left_from}
 use Rattle.cop_live.specs.Log.{ByteStep, ClockStep, Asked, Read, DidAll}
 use Rattle.cop_live.proofs.Sessions.{did_both}
 use Rattle.cop_heartbeats.specs.declared.attending.Awaited.{Awaited}
-use Rattle.cop_heartbeats.specs.Attending.{beat_at, beats_in, Hearing, beginning, turned, attended, attending_log, Attended}
+use Rattle.cop_heartbeats.specs.declared.attending.Heartbeats.{Heartbeats}
+use Rattle.cop_heartbeats.specs.Attending.{beat_at, beats_in, heard_at, heard_in, Hearing, beginning, turned, attended, attending_log, Attended}
 
 -- what bytes say and leave, by the first and the others
 rest_of : (pending : List ℕ) (b : ℕ) (bytes : List ℕ) → take (length (b ∷ bytes) - 1) bytes ≡ bytes
@@ -18,13 +19,29 @@ beats_append : (now : ℕ) (last : List ℕ) (xs ys : List Told) → beats_in no
 beats_append now last [] ys = refl
 beats_append now last (x ∷ xs) ys = beats_append now (beat_at now last x) xs ys
 
+heard_append : (heard : List Bool) (xs ys : List Told) → heard_in heard (xs ++ ys) ≡ heard_in (heard_in heard xs) ys
+heard_append heard [] ys = refl
+heard_append heard (x ∷ xs) ys = heard_append (heard_at heard x) xs ys
+
+-- what is made of bytes, by the first and the others
+folded : {A : Type 0} (made : A → List Told → A) → ((a : A) (xs ys : List Told) → made a (xs ++ ys) ≡ made (made a xs) ys)
+    → (old first new : A) (pending left bytes : List ℕ) → 1 ≤ length bytes → left ≡ (taken pending (get_or bytes 0 0)).0
+    → first ≡ made old (option_to_list (taken pending (get_or bytes 0 0)).1) → new ≡ made first (said_from left (take (length bytes - 1) (drop 1 bytes)))
+    → new ≡ made old (said_from pending bytes)
+folded made appends old first new pending left [] some el ef en = absurd (omega arith)
+folded made appends old first new pending left (b ∷ bytes) some el ef en =
+    en ∙ ap (λ l. made first (said_from left l)) (rest_of pending b bytes) ∙ ap (λ l. made first (said_from l bytes)) el ∙ ap (λ a. made a (said_from (taken pending b).0 bytes)) ef
+    ∙ sym (appends old (option_to_list (taken pending b).1) (said_from (taken pending b).0 bytes))
+
+pub nodes_heard : (old first new : List Bool) (pending left bytes : List ℕ) → 1 ≤ length bytes → left ≡ (taken pending (get_or bytes 0 0)).0
+    → first ≡ heard_in old (option_to_list (taken pending (get_or bytes 0 0)).1) → new ≡ heard_in first (said_from left (take (length bytes - 1) (drop 1 bytes)))
+    → new ≡ heard_in old (said_from pending bytes)
+nodes_heard = folded heard_in heard_append
+
 pub bytes_heard : (now : ℕ) (old first new pending left bytes : List ℕ) → 1 ≤ length bytes → left ≡ (taken pending (get_or bytes 0 0)).0
     → first ≡ beats_in now old (option_to_list (taken pending (get_or bytes 0 0)).1) → new ≡ beats_in now first (said_from left (take (length bytes - 1) (drop 1 bytes)))
     → new ≡ beats_in now old (said_from pending bytes)
-bytes_heard now old first new pending left [] some el ef en = absurd (omega arith)
-bytes_heard now old first new pending left (b ∷ bytes) some el ef en =
-    en ∙ ap (λ l. beats_in now first (said_from left l)) (rest_of pending b bytes) ∙ ap (λ l. beats_in now first (said_from l bytes)) el ∙ ap (λ l. beats_in now l (said_from (taken pending b).0 bytes)) ef
-    ∙ sym (beats_append now old (option_to_list (taken pending b).1) (said_from (taken pending b).0 bytes))
+bytes_heard now = folded (beats_in now) (beats_append now)
 
 pub bytes_left : (pending left later bytes : List ℕ) → 1 ≤ length bytes → left ≡ (taken pending (get_or bytes 0 0)).0 → later ≡ left_from left (take (length bytes - 1) (drop 1 bytes)) → later ≡ left_from pending bytes
 bytes_left pending left later [] some el e = absurd (omega arith)
@@ -72,14 +89,15 @@ module _ {P : Type 0} (reads writes : ByteStep P) (asks : ClockStep P) (awaited 
     is = turn_is h later q now bytes a e;
   }
 
-  pub attends_all : (h later : Hearing) (q r s : P) (now : ℕ) (bytes : List ℕ) (late : List Bool) → Attends reads writes asks awaited limit began p h q → reads q bytes r → asks r now s → later ≡ turned awaited h now bytes → limit ≤ now - began
-      → late ≡ later.late → Attended reads writes asks awaited limit p late s
-  attends_all h later q r s now bytes late a got asked e enough el = record {
+  pub attends_all : (h later : Hearing) (q r s : P) (now : ℕ) (bytes : List ℕ) (heartbeats : Heartbeats) → Attends reads writes asks awaited limit began p h q → reads q bytes r → asks r now s → later ≡ turned awaited h now bytes → limit ≤ now - began
+      → heartbeats ≡ record { heard = later.heard; late = later.late } → Attended reads writes asks awaited limit p heartbeats s
+  attends_all h later q r s now bytes heartbeats a got asked e enough el = record {
     began = began;
     early = a.turns;
     last = (now, bytes);
     did = turn_done h q r s now bytes a got asked;
     soon = a.soon;
     reaches = enough;
-    late_are = el ∙ ap (λ (x : Hearing). x.late) (turn_is h later q now bytes a e);
+    heard_are = ap (λ (x : Heartbeats). x.heard) el ∙ ap (λ (x : Hearing). x.heard) (turn_is h later q now bytes a e);
+    late_are = ap (λ (x : Heartbeats). x.late) el ∙ ap (λ (x : Hearing). x.late) (turn_is h later q now bytes a e);
   }

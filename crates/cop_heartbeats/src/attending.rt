@@ -3,7 +3,8 @@
 ghost use Rattle.std.specs.Prelude.{◌≡◌, option_to_list, IfSome};
 ghost use Rattle.cop_slcan.specs.Meaning.{told_of};
 ghost use Rattle.cop_slcan.specs.Reading.{said_from, left_from, taken};
-ghost use Rattle.cop_heartbeats.specs.Attending.{beat_at, beats_in, late_if, late_at, turned, Attended};
+ghost use Rattle.cop_live.specs.Nodes.{nobody};
+ghost use Rattle.cop_heartbeats.specs.Attending.{beat_at, beats_in, heard_at, heard_in, late_if, late_at, turned, presence_of, are_all_operational, Attended};
 
 use cop_live::{NodeSet, Port, beat_of};
 use cop_slcan::{Reader, Said};
@@ -16,12 +17,64 @@ pub struct Awaited {
     pub time: u64,
 }
 
-// What was heard: of each node the moment at which it last was operational, or that of the beginning; which nodes were late; and the
-// reader of what comes.
+/// What was heard of nodes whose heartbeats were awaited: which said operational at all, and which were late.
+#[derive(Drop)]
+pub struct Heartbeats {
+    pub heard: NodeSet,
+    pub late: NodeSet,
+}
+
+/// What the heartbeats of a node say of it.
+#[derive(Clone, Copy, Debug, PartialEq, Eq)]
+pub enum Presence {
+    /// A heartbeat said operational, and none was overdue.
+    Operational,
+    /// No heartbeat said operational, and its time had not passed yet.
+    Unheard,
+    /// Its time passed in which no heartbeat said operational.
+    Late,
+}
+
+impl Heartbeats {
+    /// Nothing was heard of any node.
+    pub fn new() -> Heartbeats
+        ensures { result ≡ record { heard = nobody; late = nobody } }
+    {
+        Heartbeats {
+            heard: NodeSet::new(),
+            late: NodeSet::new(),
+        }
+    }
+
+    /// What was heard of a node.
+    pub fn presence_of(&self, node: u8) -> Presence
+        ensures { result ≡ presence_of self.now node }
+    {
+        if self.late.has(node) {
+            Presence::Late
+        } else if self.heard.has(node) {
+            Presence::Operational
+        } else {
+            Presence::Unheard
+        }
+    }
+
+    /// Whether each of some nodes is operational.
+    pub fn are_all_operational(&self, awaited: &[Awaited]) -> bool
+        ensures { result ≡ are_all_operational self.now awaited.now }
+    {
+        awaited
+            .iter()
+            .all(|one| self.presence_of(one.node) == Presence::Operational)
+    }
+}
+
+// What was heard: of each node the moment at which it last was operational, or that of the beginning; which nodes were operational, and
+// which late; and the reader of what comes.
 #[derive(Drop)]
 struct Attendance {
     last: [u64; 256],
-    late: NodeSet,
+    heartbeats: Heartbeats,
     reader: Reader,
 }
 
@@ -30,16 +83,20 @@ impl Model for Attendance {
 
     ghost Value = { Hearing };
 
-    ghost view = { λ a. record { last = a.last; late = a.late; reader = a.reader } };
+    ghost view = { λ a. record { last = a.last; heard = a.heartbeats.heard; late = a.heartbeats.late; reader = a.reader } };
 }
 
-// Notes the moment of a heartbeat that says operational.
-fn hear(last: &mut [u64; 256], now: u64, said: &Said)
-    ensures { last.new ≡ beat_at now last.old (told_of said.now) }
+// Notes the moment of a heartbeat that says operational, and whose it is.
+fn hear(last: &mut [u64; 256], heard: &mut NodeSet, now: u64, said: &Said)
+    ensures last { last.new ≡ beat_at now last.old (told_of said.now) }
+    ensures heard { heard.new ≡ heard_at heard.old (told_of said.now) }
 {
     match said {
         Said::Heard(frame) => match beat_of(frame) {
-            Some(node) => last[usize::from(node)] = now,
+            Some(node) => {
+                last[usize::from(node)] = now;
+                heard.add(node);
+            }
             None => {}
         },
         Said::Done | Said::Refused | Said::Other => {}
@@ -47,26 +104,34 @@ fn hear(last: &mut [u64; 256], now: u64, said: &Said)
 }
 
 // Hears what a byte says, if it ends a line.
-fn hear_byte(last: &mut [u64; 256], reader: &mut Reader, now: u64, byte: u8)
+fn hear_byte(last: &mut [u64; 256], heard: &mut NodeSet, reader: &mut Reader, now: u64, byte: u8)
     ensures reader { reader.new ≡ (taken reader.old byte).0 }
     ensures last { last.new ≡ beats_in now last.old (option_to_list (taken reader.old byte).1) }
+    ensures heard { heard.new ≡ heard_in heard.old (option_to_list (taken reader.old byte).1) }
 {
     match reader.take(byte) {
-        Some(said) => hear(last, now, &said),
+        Some(said) => hear(last, heard, now, &said),
         None => {}
     }
 }
 
 // Hears what bytes say.
-fn hear_bytes(last: &mut [u64; 256], reader: &mut Reader, now: u64, bytes: &[u8])
+fn hear_bytes(
+    last: &mut [u64; 256],
+    heard: &mut NodeSet,
+    reader: &mut Reader,
+    now: u64,
+    bytes: &[u8],
+)
     ensures reader { reader.new ≡ left_from reader.old bytes.now }
     ensures last { last.new ≡ beats_in now last.old (said_from reader.old bytes.now) }
+    ensures heard { heard.new ≡ heard_in heard.old (said_from reader.old bytes.now) }
 {
     match bytes {
         [] => {}
         [byte, rest @ ..] => {
-            hear_byte(last, reader, now, *byte);
-            hear_bytes(last, reader, now, rest)
+            hear_byte(last, heard, reader, now, *byte);
+            hear_bytes(last, heard, reader, now, rest)
         }
     }
 }
@@ -97,28 +162,39 @@ fn look(late: &mut NodeSet, last: &[u64; 256], now: u64, awaited: &[Awaited])
 fn turn(attendance: &mut Attendance, awaited: &[Awaited], now: u64, bytes: &[u8])
     ensures { attendance.new ≡ turned awaited.now attendance.old now bytes.now }
 {
-    hear_bytes(&mut attendance.last, &mut attendance.reader, now, bytes);
-    look(&mut attendance.late, &attendance.last, now, awaited);
+    hear_bytes(
+        &mut attendance.last,
+        &mut attendance.heartbeats.heard,
+        &mut attendance.reader,
+        now,
+        bytes,
+    );
+    look(
+        &mut attendance.heartbeats.late,
+        &attendance.last,
+        now,
+        awaited,
+    );
 }
 
-// The nodes that were late.
-fn late_of(attendance: Attendance) -> NodeSet
-    ensures { result ≡ attendance.late }
+// What was heard of the nodes.
+fn heartbeats_of(attendance: Attendance) -> Heartbeats
+    ensures { result ≡ record { heard = attendance.heard; late = attendance.late } }
 {
-    attendance.late
+    attendance.heartbeats
 }
 
-/// Listens for so many ticks at least, and gives the nodes that were late: a node is, once its time passes in which no heartbeat of it
-/// says operational. Nothing is written. `None` where the port or its clock fails.
-pub fn attend<P: Port>(awaited: &[Awaited], limit: u64, port: &mut P) -> Option<NodeSet>
-    ensures { IfSome result (λ late. Attended P.reads P.writes P.asks awaited.now limit port.old late port.new) }
+/// Listens for so many ticks at least, and gives which nodes said by a heartbeat that they are operational, and which were late: a node is,
+/// once its time passes in which no heartbeat of it says operational. Nothing is written. `None` if the port or its clock fails.
+pub fn attend<P: Port>(awaited: &[Awaited], limit: u64, port: &mut P) -> Option<Heartbeats>
+    ensures { IfSome result (λ heartbeats. Attended P.reads P.writes P.asks awaited.now limit port.old heartbeats port.new) }
 {
     let Some(began) = port.now() else {
         return None;
     };
     let mut attendance = Attendance {
         last: [began; 256],
-        late: NodeSet::new(),
+        heartbeats: Heartbeats::new(),
         reader: Reader::new(),
     };
     for _ in 0..u64::MAX {
@@ -131,7 +207,7 @@ pub fn attend<P: Port>(awaited: &[Awaited], limit: u64, port: &mut P) -> Option<
         };
         turn(&mut attendance, awaited, now, &buffer[..count]);
         if now.saturating_sub(began) >= limit {
-            return Some(late_of(attendance));
+            return Some(heartbeats_of(attendance));
         }
     }
     None

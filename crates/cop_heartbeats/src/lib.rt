@@ -3,4 +3,4 @@
 
 mod attending;
 
-pub use attending::{Awaited, attend};
+pub use attending::{Awaited, Heartbeats, Presence, attend};

@@ -1,11 +1,11 @@
 //! What the device of a node is asked, and what a frame answers.
 
-ghost use Rattle.std.specs.Prelude.{◌≡◌, slice_index};
+ghost use Rattle.std.specs.Prelude.{◌≡◌, slice_index, option_map};
 ghost use Rattle.cop_sdo.specs.Message.{message_of};
 ghost use Rattle.cop_sdo.specs.Request.{address_in};
 ghost use Rattle.cop_sdo.specs.Client.{same_address};
 ghost use Rattle.cop_sdo.specs.Reply.{upload_of, reply_of};
-ghost use Rattle.cop_identity.specs.Questions.{body_by, request_of, limit_of, number_of, value_of, judged, answer_by, answer_in};
+ghost use Rattle.cop_identity.specs.Questions.{body_by, request_of, limit_of, number_of, value_of, judged, judged_off, answer_by, answer_in};
 
 use byteorder::{ByteOrder, LittleEndian};
 use cop_frame::Frame;
@@ -17,6 +17,8 @@ use cop_sdo::Address;
 pub enum Demand {
     /// To tell the value that an object has.
     Tell,
+    /// To tell a COB-ID, which is to have bit 31: its PDO is off, and its other bits do not matter.
+    TellOff,
     /// To take a value of four bytes for an object, which may take it longer.
     Take,
 }
@@ -47,7 +49,7 @@ fn body_by(demand: Demand, at: Address, wanted: u32) -> [u8; 8]
 {
     let (low, high) = ((at.index % 256) as u8, (at.index / 256) as u8);
     match demand {
-        Demand::Tell => [0x40, low, high, at.sub, 0, 0, 0, 0],
+        Demand::Tell | Demand::TellOff => [0x40, low, high, at.sub, 0, 0, 0, 0],
         Demand::Take => [
             0x23,
             low,
@@ -83,7 +85,7 @@ pub fn limit_of(demand: Demand) -> u64
     ensures { result ≡ limit_of demand }
 {
     match demand {
-        Demand::Tell => 4_000_000,
+        Demand::Tell | Demand::TellOff => 4_000_000,
         Demand::Take => 40_000_000,
     }
 }
@@ -95,8 +97,8 @@ fn byte_at(bytes: &[u8], i: usize) -> u8
     if i < bytes.len() { bytes[i] } else { 0 }
 }
 
-// The number that at most four bytes are.
-fn number_of(bytes: &[u8]) -> u32
+/// The number that at most four bytes are, the least significant first.
+pub fn number_of(bytes: &[u8]) -> u32
     ensures { result ≡ number_of bytes.now }
 {
     u32::from(byte_at(bytes, 0))
@@ -129,6 +131,27 @@ fn is_about(at: Address, body: &[u8; 8]) -> bool
     at.index == LittleEndian::read_u16(&body[1..3]) && at.sub == body[3]
 }
 
+// What a COB-ID that was found answers, if it is to have bit 31.
+fn judged_off(found: u32) -> Answer
+    ensures { result ≡ judged_off found }
+{
+    if found < 1 << 31 {
+        Answer::Other { found }
+    } else {
+        Answer::Wanted
+    }
+}
+
+// What the COB-ID that a body has answers.
+fn off_by(body: &[u8; 8]) -> Option<Answer>
+    ensures { result ≡ option_map judged_off (value_of (upload_of (slice_index body.now 0) body.now)) }
+{
+    match value_in(body) {
+        Some(found) => Some(judged_off(found)),
+        None => None,
+    }
+}
+
 impl Question {
     // What a value that was found answers.
     fn judged(&self, found: u32) -> Answer
@@ -141,15 +164,23 @@ impl Question {
         }
     }
 
+    // What the value that a body has answers.
+    fn told_by(&self, body: &[u8; 8]) -> Option<Answer>
+        ensures { result ≡ option_map (judged self.now.wanted) (value_of (upload_of (slice_index body.now 0) body.now)) }
+    {
+        match value_in(body) {
+            Some(found) => Some(self.judged(found)),
+            None => None,
+        }
+    }
+
     // What a body about its object answers.
     fn answer_by(&self, body: &[u8; 8]) -> Option<Answer>
         ensures { result ≡ answer_by self.now.demand self.now.wanted (reply_of body.now) }
     {
         match (self.demand, body[0] / 32) {
-            (Demand::Tell, 2) => match value_in(body) {
-                Some(found) => Some(self.judged(found)),
-                None => None,
-            },
+            (Demand::Tell, 2) => self.told_by(body),
+            (Demand::TellOff, 2) => off_by(body),
             (Demand::Take, 3) => Some(Answer::Wanted),
             (_, 4) => Some(Answer::Aborted {
                 code: number_of(&body[4..]),

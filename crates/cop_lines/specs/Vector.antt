@@ -38,7 +38,11 @@ id_in base text =
 
 -- the direction of a frame, which other events have not
 abbrev pub is_direction : List ℕ → Bool
-is_direction text = bytes_eq text (codes "Rx") || (bytes_eq text (codes "Tx") || bytes_eq text (codes "TxRq"))
+is_direction text = bytes_eq text (codes "Rx") || bytes_eq text (codes "Tx")
+
+-- the request to send a frame, which is no transfer: that has a line of its own, with Tx
+abbrev pub is_request : List ℕ → Bool
+is_request text = bytes_eq text (codes "TxRq")
 
 -- length and bytes
 unfoldable pub bytes_in : Base → List ℕ → Result (Option Content) LineFault
@@ -59,10 +63,12 @@ abbrev pub without_direction : Result ℕ LineFault → Result (Option Message) 
 without_direction (Ok id) = Err fault.Form
 without_direction (Err f) = Ok None
 
--- behind the channel: an error frame, a frame where the second word is a direction, or one of the many events that are no frames
+-- behind the channel: an error frame, the request to send a frame, a frame if the second word is a direction, or one of the many events that are
+-- no frames
 unfoldable pub on_channel : Base → ℕ → List ℕ → Result (Option Message) LineFault
 on_channel base at text =
     if bytes_eq (word text) (codes "ErrorFrame") then Ok (Some (error_frame at)) else
+    if is_request (field 1 text) then Ok None else
     if is_direction (field 1 text) then (frame_in base at text >>= (λ message. Ok (Some message))) else
     without_direction (id_in base (word text))
 

@@ -1,7 +1,7 @@
 //! Lines of logs in Vector's form .asc.
 
 ghost use Rattle.std.specs.Prelude.{◌≡◌, ◌<◌, length};
-ghost use Rattle.cop_lines.specs.Vector.{base_in, is_header, is_long, id_in, is_direction, bytes_in, data_in, frame_in, without_direction, on_channel, event_in};
+ghost use Rattle.cop_lines.specs.Vector.{base_in, is_header, is_long, id_in, is_direction, is_request, bytes_in, data_in, frame_in, without_direction, on_channel, event_in};
 
 use crate::entries::{Content, Message};
 use crate::faults::LineFault;
@@ -72,7 +72,14 @@ fn id_in(base: Base, text: &[u8]) -> Result<u32, LineFault>
 fn is_direction(text: &[u8]) -> bool
     ensures { result ≡ is_direction text.now }
 {
-    text == b"Rx".as_slice() || text == b"Tx".as_slice() || text == b"TxRq".as_slice()
+    text == b"Rx".as_slice() || text == b"Tx".as_slice()
+}
+
+// The request to send a frame, which is no transfer: that has a line of its own.
+fn is_request(text: &[u8]) -> bool
+    ensures { result ≡ is_request text.now }
+{
+    text == b"TxRq".as_slice()
 }
 
 #[tactic(auto, unfolding(crate::specs::Vector::bytes_in))]
@@ -124,6 +131,9 @@ fn on_channel(base: Base, at: u64, text: &[u8]) -> Result<Option<Message>, LineF
 {
     if word(text) == b"ErrorFrame".as_slice() {
         return Ok(Some(error_frame(at)));
+    }
+    if is_request(field(1, text)) {
+        return Ok(None);
     }
     if is_direction(field(1, text)) {
         let message = frame_in(base, at, text)?;

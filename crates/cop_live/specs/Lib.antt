@@ -1,4 +1,8 @@
-pub mod Listening
+pub mod Awaiting
 pub mod Log
 pub mod Nodes
+pub mod Opening
+pub mod Flags
+pub mod Listening
+pub mod Approach
 pub mod Session

@@ -1,31 +1,18 @@
 -- A boot over a port: what is done there, and what is true of it. The start of the nodes is held back.
 use Rattle.std.specs.Prelude.{◌≡◌, ℕ, ◌-◌, Bool, not, ◌&&◌, ◌==◌, List, [], ◌∷◌, ◌++◌, map, filter, slice_index, nat_lt, unwrap_or, Option, Some, None, option_and_then, if◌then◌else◌}
-use Rattle.cop_frame.specs.declared.rates.Rate.{Rate}
 use Rattle.cop_sdo.specs.Message.{Message}
 use Rattle.cop_boot.specs.declared.«end».End.TheVariants.{Ready}
 use Rattle.cop_boot.specs.Node.{Node}
 use Rattle.cop_boot.specs.Manager.{Managing, Managed, heard, passed, and_then, begun_at, driven, node_of, end_at, is_command}
 use Rattle.cop_boot.specs.Ends.{events, end_of, IsConfigured}
-use Rattle.cop_slcan.specs.Lines.{rate_digit}
 use Rattle.cop_slcan.specs.Meaning.{Told, Heard, Done, Refused, Other}
 use Rattle.cop_slcan.specs.Reading.{said_from, left_from}
 use Rattle.cop_live.specs.Log.{ByteStep, ClockStep, Doing, Asked, Sent, Read, DidAll, came}
 use Rattle.cop_live.specs.Nodes.{with_node}
 
--- CR ends a line that is begun, twice; `C` closes the adapter, `S` and a digit set the rate, `O` opens it
-abbrev pub opening : Rate → List ℕ
-opening rate = 13 ∷ 13 ∷ 67 ∷ 13 ∷ 83 ∷ rate_digit rate ∷ 13 ∷ 79 ∷ 13 ∷ []
-
 -- `C` closes the adapter
 abbrev pub closing : List ℕ
 closing = 67 ∷ 13 ∷ []
-
--- the commands are written, and what is said to them is read
-pub record Opened {P : Type 0} (reads writes : ByteStep P) (rate : Rate) (p q : P) : Type 0 where
-  pub written : P
-  pub said : List ℕ
-  pub writes_commands : writes p (opening rate) written
-  pub reads_answers : reads written said q
 
 -- two reads give the adapter time to send what it took, and the command is written
 pub record Closed {P : Type 0} (reads writes : ByteStep P) (p q : P) : Type 0 where

@@ -7,14 +7,14 @@ ghost use Rattle.cop_boot.specs.Manager.{passed, heard, end_at};
 ghost use Rattle.cop_slcan.specs.Meaning.{told_of};
 ghost use Rattle.cop_slcan.specs.Reading.{taken, said_from, left_from};
 ghost use Rattle.cop_live.specs.Log.{Sent, DidAll};
-ghost use Rattle.cop_live.specs.Session.{State, told, told_all, is_start, held, boot_up_of, boot_up_told, noting, noted, turn_log, turn_state, command_to, start_of, Opened, Closed, Booted};
+ghost use Rattle.cop_live.specs.Session.{State, told, told_all, is_start, held, boot_up_of, boot_up_told, noting, noted, turn_log, turn_state, command_to, reset_of, start_of, Closed, Booted};
 
 use crate::nodes::NodeSet;
 use crate::port::Port;
 use cop_boot::Manager;
+use cop_frame::Frame;
 use cop_frame::identifiers::HEARTBEAT;
-use cop_frame::{Frame, Rate};
-use cop_slcan::{Reader, Said, line_of, rate_digit};
+use cop_slcan::{Reader, Said, line_of};
 
 /// Sends a frame. `false` where the port fails.
 pub fn send<P: Port>(port: &mut P, frame: &Frame) -> bool
@@ -107,7 +107,7 @@ pub struct Boot {
 }
 
 // Notes the node whose boot-up a line tells.
-fn note(booted: &mut NodeSet, said: &Said)
+pub(crate) fn note(booted: &mut NodeSet, said: &Said)
     ensures { booted.new ≡ noting booted.old (boot_up_told (told_of said.now)) }
 {
     match boot_up_told(said) {
@@ -197,25 +197,6 @@ pub fn take_turn<P: Port>(
     }
 }
 
-/// Opens the adapter at a rate: ends a line that is begun, closes it, sets the rate, opens it; and drops what it says.
-pub fn open<P: Port>(port: &mut P, rate: Rate) -> bool
-    ensures { result ≡ true → Opened P.reads P.writes rate port.old port.new }
-{
-    let commands = [
-        b'\r',
-        b'\r',
-        b'C',
-        b'\r',
-        b'S',
-        rate_digit(rate),
-        b'\r',
-        b'O',
-        b'\r',
-    ];
-    let mut buffer = [0; 256];
-    port.write(&commands) && port.read(&mut buffer).is_some()
-}
-
 /// Closes the adapter, once it has had time to send what it took.
 pub fn close<P: Port>(port: &mut P) -> bool
     ensures { result ≡ true → Closed P.reads P.writes port.old port.new }
@@ -235,6 +216,13 @@ fn command_to(command: u8, only: Option<u8>) -> Frame
     }
 }
 
+/// The NMT command that resets the communication of one node alone, or of all.
+pub(crate) fn reset_of(only: Option<u8>) -> Frame
+    ensures { message_of result ≡ reset_of only }
+{
+    command_to(130, only)
+}
+
 /// The NMT command that starts one node alone, or all.
 pub fn start_of(only: Option<u8>) -> Frame
     ensures { message_of result ≡ start_of only }
@@ -250,7 +238,7 @@ fn begin<P: Port>(manager: &mut Manager, only: Option<u8>, port: &mut P) -> Opti
         return None;
     };
     let _to_all = manager.begin(0);
-    if send(port, &command_to(130, only)) {
+    if send(port, &reset_of(only)) {
         Some(Boot {
             began,
             reader: Reader::new(),

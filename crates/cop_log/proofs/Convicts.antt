@@ -15,7 +15,7 @@ use Rattle.cop_log.specs.declared.findings.Finding.{Finding}
 use Rattle.cop_log.specs.declared.findings.Finding.TheVariants.{Unknown, Length, Soon, Crowded}
 use Rattle.cop_log.specs.Log.{Terms, entry_at, IsOf, HasLog, AreBounded, IsRunWith, count_of, least_of, Lane, IsLaneOf, IsNear, IsSoon, stamp, IsEvidence}
 use Rattle.cop_log.proofs.Counted.{count-next, count-own, least-next}
-use Rattle.cop_log.proofs.Bounded as Bounded
+use Rattle.cop_bus.proofs.Bounded as Bounded
 use Rattle.cop_log.proofs.Distance as Distance
 
 module _ (t : Terms) (until : ℕ) (run : List Instance) (log : List Entry) (bounded : AreBounded t) (with : IsRunWith t until run log) where

@@ -1,6 +1,5 @@
 pub mod Counted
 pub mod Distance
-pub mod Bounded
 pub mod Convicts
 pub mod Kept
 pub mod Watched

@@ -96,8 +96,8 @@ pub struct TidyOrder<'a> {
 pub enum Format {
     /// A CAN database.
     Dbc,
-    /// Concise DCFs.
-    Cdcf,
+    /// Concise DCFs, for a manager of the network: this node, or the one that makes SYNC.
+    Cdcf { manager: Option<u8> },
 }
 
 /// A log of a real bus that is to be watched.
@@ -233,9 +233,9 @@ fn check_order<'a>(matches: &ArgMatches<'a>) -> Order<'a> {
     }
 }
 
-/// The node that is booted alone; 0, which is no node's number, where the word is none.
-fn only_of(matches: &ArgMatches<'_>) -> Option<u8> {
-    let number: u64 = matches.get_one("only")?;
+/// The node that a word names; 0, which is no node's number, if the word is none.
+fn node_of(matches: &ArgMatches<'_>, name: &str) -> Option<u8> {
+    let number: u64 = matches.get_one(name)?;
     Some(u8::try_from(number).unwrap_or(0))
 }
 
@@ -247,7 +247,7 @@ fn boot_order<'a>(matches: &ArgMatches<'a>) -> Order<'a> {
             port,
             take_over: matches.get_flag("take-over"),
             identify: !matches.get_flag("no-identity"),
-            only: only_of(matches),
+            only: node_of(matches, "only"),
             start: !matches.get_flag("no-start"),
             store: matches.get_flag("store"),
             watch: matches.get_one("watch").unwrap_or(0),
@@ -297,7 +297,9 @@ fn report_order<'a>(matches: &ArgMatches<'a>) -> Order<'a> {
 
 fn export_order<'a>(matches: &ArgMatches<'a>) -> Order<'a> {
     let format = match matches.get_str("FORMAT") {
-        Some("cdcf") => Format::Cdcf,
+        Some("cdcf") => Format::Cdcf {
+            manager: node_of(matches, "manager"),
+        },
         _ => Format::Dbc,
     };
     Order::Export {

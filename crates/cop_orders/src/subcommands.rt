@@ -216,7 +216,7 @@ static REPORT: [Word; 12] = [
     DELTA,
 ];
 
-static EXPORT: [Word; 7] = [
+static EXPORT: [Word; 8] = [
     Word {
         name: "FORMAT",
         kind: Kind::PlaceOf(Choices::Formats),
@@ -240,6 +240,12 @@ static EXPORT: [Word; 7] = [
         kind: Kind::Place,
         need: Need::Required,
         help: "The file of the database, or the folder, which has to be there, for node-005.cdcf and so on and master.csv",
+    },
+    Word {
+        name: "manager",
+        kind: Kind::Number(MOST_NODE),
+        need: Need::Optional,
+        help: "The node that is the manager, which is no slave in master.csv; without it the first one that makes SYNC by its EDS file",
     },
     MARGIN,
     LISTED_RATES,

@@ -1,6 +1,7 @@
 -- Streams lowered one after the other, and the halving that finds the greatest margin.
-use Rattle.std.proofs.Common.{◌≡◌, ◌==◌, ℕ, ◌-◌, ◌<◌, ◌≤◌, true, false, List, length, take, get_or, Option, Some, None, is_some, option_map, MatchOption, All, refl, sym, ap, ◌∙◌, subst, arith}
+use Rattle.std.proofs.Common.{◌≡◌, ◌==◌, ℕ, zero, suc, ◌+◌, ◌-◌, ◌*◌, ◌^◌, ◌<◌, ◌≤◌, le_trans, lit≤, true, false, List, length, take, get_or, Option, Some, None, is_some, option_map, MatchOption, All, refl, sym, ap, ◌∙◌, subst, arith}
 use Rattle.std.specs.Option.{ForSome}
+use Rattle.std.proofs.Math.Nat.{pow-succ'}
 use Rattle.std.proofs.lemmas.Bool.{ne_eqb}
 use Rattle.std.proofs.lemmas.List.{get_or-map, get_or-take, length-take-le}
 use Rattle.std.proofs.lemmas.List.Folds.{list_any_none, Any-from_list_any}
@@ -80,3 +81,43 @@ refused_none rate streams pdos r few h = subst (λ (rate : Rate). NoAssignmentPa
 pub by_case : {A : Type 0} (o : Option A) (P Q : Type 0) (R S : A → Type 0) → (P → Q) → ((a : A) → R a → S a) → MatchOption o P R → MatchOption o Q S
 by_case None P Q R S none some h = none h
 by_case (Some a) P Q R S none some h = some a h
+
+-- ---- how often a gap is halved
+
+-- so many halvings make a gap one at most, and a count has room for what each of them adds
+pub record HasHalvings (gap now most each : ℕ) : Type 0 where
+  pub left : ℕ
+  pub small : gap ≤ 2 ^ left
+  pub room : now + left * each ≤ most
+
+pub halvings_begin : (gap old each : ℕ) → gap ≤ 240000001 → HasHalvings gap old (old + 28 * each) each
+halvings_begin gap old each h = record {
+  left = 28;
+  small = (let p : 240000001 ≤ 2 ^ 28 = lit≤ tt in le_trans h p);
+  room = omega arith;
+}
+
+pub halved : (gap smaller now later most each : ℕ) → 1 < gap → smaller * 2 ≤ gap + 1 → later ≤ now + each → HasHalvings gap now most each → HasHalvings smaller later most each
+halved gap smaller now later most each wide half adds h = go h.left h.small h.room
+  where
+    go : (left : ℕ) → gap ≤ 2 ^ left → now + left * each ≤ most → HasHalvings smaller later most each
+    go zero small room = absurd (omega (arith, small, wide))
+    go (suc m) small room = let twice = pow-succ' 2 m in record {
+      left = m;
+      small = omega (arith, small, half, twice);
+      room = omega (arith, room, adds);
+    }
+
+pub halvings_end : (gap now most each : ℕ) → HasHalvings gap now most each → now ≤ most
+halvings_end gap now most each h = omega (arith, h.room)
+
+-- where one adds to the count it ends there
+pub halvings_left : (gap now later most each : ℕ) → 1 < gap → later ≤ now + each → HasHalvings gap now most each → later ≤ most
+halvings_left gap now later most each wide adds h = halvings_end 0 later most each (halved gap 0 now later most each wide (omega arith) adds h)
+
+-- the counts of a few PDOs stay far below what their numbers hold
+pub trials_have_room : (pdos old now : ℕ) → pdos ≤ 512 → old ≤ 4294967296 + 536870912 → 2 * now ≤ 2 * old + 28 * (3 * (pdos * (pdos + 1))) → now ≤ 4294967296 + 1073741824
+trials_have_room pdos old now few room h = let most : pdos * (pdos + 1) ≤ 512 * 513 = grind (arith, few) in omega (arith, room, h, most)
+
+pub trials_so_far : (pdos old now : ℕ) → pdos ≤ 512 → old ≤ 4294967296 → 2 * now ≤ 2 * old + 24 * (pdos * (pdos + 1)) → now ≤ 4294967296 + 536870912
+trials_so_far pdos old now few room h = let most : pdos * (pdos + 1) ≤ 512 * 513 = grind (arith, few) in omega (arith, room, h, most)

@@ -1,5 +1,5 @@
 -- The greatest margin is what one PDO or SDO frame keeps.
-use Rattle.std.proofs.Common.{◌≡◌, ℕ, suc, ◌-◌, ◌<◌, ◌≤◌, ◌⊎◌, inl, inr, true, List, length, slice_get, Option, Some, All, ap, ◌∙◌, arith, ⊎_elim}
+use Rattle.std.proofs.Common.{◌≡◌, ℕ, suc, ◌<◌, ◌≤◌, ◌⊎◌, inl, inr, true, List, length, slice_get, Option, Some, All, ap, ◌∙◌, arith, ⊎_elim}
 use Rattle.std.specs.Option.{option_and_then, ForSome}
 use Rattle.std.proofs.lemmas.Bool.{cases_lt}
 use Rattle.std.proofs.lemmas.Option.{slice_get-get_or}

@@ -188,6 +188,14 @@ module _ (rate : Rate) (streams renamed : List Stream) (pdos : ℕ) (ids : ℕ �
       (ahead_same streams renamed (askings streams renamed (sym have.timings)) (sync_alike provisional low) rate)
       (passes_same streams renamed (sym have.timings) (is_lower streams pdos ids p) p rate (ahead_of streams rate) passes))
 
+  -- and the other way
+  passes_before : ArePdosHigh streams pdos → ((p : ℕ) → p < pdos → least_id ≤ ids p) → (p : ℕ) → p < length streams → Passes (place_by_id renamed p rate) → Passes (place_under rate streams pdos ids p)
+  passes_before provisional low p h passes =
+      passes_same renamed streams have.timings (is_lower streams pdos ids p) p rate (ahead_of streams rate)
+      (subst (λ (ahead : ℕ). Passes (place_at renamed (is_lower streams pdos ids p) p rate ahead))
+      (sym (ahead_same streams renamed (askings streams renamed (sym have.timings)) (sync_alike provisional low) rate))
+      (passes_under_fewer (under (place_by_id renamed p rate) (is_lower streams pdos ids p)) (has_lower_id renamed p) (omega (arith, h, same_count)) (lower_after p h) passes))
+
   same_fixed : (f : ℕ) → pdos ≤ f → f < length streams → of_stream (λ s. s.id) renamed f ≡ of_stream (λ s. s.id) streams f
   same_fixed f fixed inside = id_renamed f inside ∙ id_of_fixed streams pdos ids f fixed
 
@@ -220,6 +228,13 @@ module _ (rate : Rate) (streams renamed : List Stream) (pdos : ℕ) (ids : ℕ �
     deadlines = λ p h. let d = deadlines p h in (d.0, same_deadline renamed streams have.timings p ∙ d.1);
     pass = λ p h. passes_renamed provisional low p (omega (arith, h, few)) (all.each p h);
     frames = λ f t. let before = tested_before f t in passes_renamed provisional low f before.inside (all.frames f before);
+  }
+
+  -- what is on time under the identifiers that the streams have passes under the assignment
+  pub passing_before_renaming : pdos ≤ length streams → ArePdosHigh streams pdos → ((p : ℕ) → p < pdos → least_id ≤ ids p) → AreOnTime rate renamed pdos → AllTestedPass rate streams pdos ids
+  passing_before_renaming few provisional low fine = record {
+    each = λ p h. passes_before provisional low p (omega (arith, h, few)) (fine.pass p h);
+    frames = λ f t. passes_before provisional low f t.inside (fine.frames f (still_tested f t));
   }
 
   -- synchronous streams keep pace with SYNC, which stands where it stood

@@ -6,7 +6,7 @@ ghost use Rattle.cop_rta.specs.declared.streams.Stream.{Stream};
 ghost use Rattle.cop_cert.specs.declared.refusals.Refusal.{Refusal};
 ghost use Rattle.cop_rta.specs.Ranges.{first_range, second_range};
 ghost use Rattle.cop_rta.specs.Streams.{AreDistinct};
-ghost use Rattle.cop_cert.specs.Assignments.{AreOutside, IsTested, IsPassing};
+ghost use Rattle.cop_cert.specs.Assignments.{AreOutside, IsTested, IsAssignment, IsPassing, NoAssignmentPasses};
 ghost use Rattle.cop_cert.specs.Causes.{kept, PassesBelow};
 ghost use Rattle.cop_cert.specs.Sets.{IsStuckSet, IsGreatestStuckSet};
 ghost use Rattle.cop_cert.specs.Writable.{AreWritable};
@@ -17,7 +17,7 @@ ghost use Rattle.cop_plan.specs.Orders.{HasPdos, FramesPass, IsPlanOrder};
 ghost use Rattle.cop_plan.specs.Plans.{IsOutcome, IsPlan, IsChosenBy, AreAllRefused};
 ghost use Rattle.cop_plan.specs.declared.choices.Choice.{Choice};
 ghost use Rattle.cop_plan.specs.Fillings.{PassInTurn, AreSplit, IsFilled, ids_in_ranges};
-ghost use Rattle.cop_plan.specs.Values.{PlanValue};
+ghost use Rattle.cop_plan.specs.Values.{PlanValue, HaveIds, ArePdosHigh, AreOnTime};
 ghost use Rattle.cop_plan.specs.declared.assigning.Outcome.{Outcome};
 
 /// No set of streams has two orders.
@@ -35,6 +35,14 @@ pub fn one_outcome()
 /// No two streams of a plan have one identifier.
 pub fn planned_streams_are_distinct()
     ensures { (rates : List Rate) (streams : List Stream) (pdos : ℕ) (plan : PlanValue) → HasPdos streams pdos → IsPlan rates streams pdos plan → AreDistinct plan.streams }
+{}
+
+/// What it means that no assignment passes: under whatever identifiers that are permitted, streams that have them are not all on time. It is
+/// said of PDOs whose identifiers before are 181h or above, so that SYNC, of which a synchronous stream's jitter has the response, stands
+/// above them before and after.
+pub fn no_assignment_is_on_time()
+    ensures { (rate : Rate) (streams renamed : List Stream) (pdos : ℕ) (ids : ℕ → ℕ) → pdos ≤ length streams → ArePdosHigh streams pdos
+        → NoAssignmentPasses rate streams pdos → IsAssignment pdos ids → HaveIds streams pdos ids renamed → AreOnTime rate renamed pdos → ⊥ }
 {}
 
 /// Where places of a range are filled, each by a PDO that passes there with those that have none yet above it, those left at the end,

@@ -1,6 +1,6 @@
 //! Identifiers with the greatest least margin.
 
-ghost use Rattle.std.specs.Prelude.{◌≡◌, ◌↔◌, ℕ, ◌<◌, ◌≤◌, true, false, List, Some, is_some, length, map, All, IfOk, IsTrue, MatchOption};
+ghost use Rattle.std.specs.Prelude.{◌≡◌, ◌↔◌, ℕ, ◌<◌, ◌≤◌, ◌+◌, ◌*◌, ◌^◌, true, false, List, Some, is_some, length, map, All, IfOk, IsTrue, MatchOption};
 ghost use Rattle.std.specs.Option.{ForSome};
 ghost use Rattle.cop_frame.specs.declared.rates.Rate.{Rate};
 ghost use Rattle.cop_rta.specs.Entries.{entry_of};
@@ -117,27 +117,41 @@ fn keeping(
     pdos: usize,
     rate: Rate,
     margin: u64,
+    count: &mut Count,
 ) -> Result<Option<Placing>, AllocError>
     requires can { CanAssign set.now pdos }
-    ensures { IfOk result (λ kept. MatchOption kept (NoneFrom rate set.now pdos margin) (λ placing. ArePlannedWith margin rate set.now pdos placing.lower.items placing.upper.items)) }
+    requires room { count.old.trials ≤ 2 ^ 32 + 2 ^ 30 }
+    requires busy_room { count.old.busy ≤ 2 ^ 32 + 2 ^ 30 }
+    ensures rises { count.old.trials ≤ count.new.trials }
+    ensures trials { 2 * count.new.trials ≤ 2 * count.old.trials + 3 * (pdos * (pdos + 1)) }
+    ensures busy_rises { count.old.busy ≤ count.new.busy }
+    ensures busy { count.new.busy ≤ count.old.busy + 3 * pdos }
+    ensures kept { IfOk result (λ kept. MatchOption kept (NoneFrom rate set.now pdos margin) (λ placing. ArePlannedWith margin rate set.now pdos placing.lower.items placing.upper.items)) }
 {
     if !are_above(set.streams(), margin) {
         return Ok(None);
     }
     let lowered = lowered(alloc, set, margin)?;
-    let mut count = Count { trials: 0, busy: 0 };
-    let found = at_rate(alloc, &lowered, pdos, rate, &mut count)?;
+    let found = at_rate(alloc, &lowered, pdos, rate, count)?;
     Ok(placing_of(found))
 }
 
-/// The greatest margin that some assignment keeps at a rate, found by halving.
+/// The greatest margin that some assignment keeps at a rate, found by halving: the PDOs are placed at most 28 times, since no deadline
+/// has 2^28 ticks.
 fn greatest_margin(
     alloc: Global,
     set: &StreamSet,
     pdos: usize,
     rate: Rate,
+    count: &mut Count,
 ) -> Result<Widest, AllocError>
     requires can { CanAssign set.now pdos }
+    requires room { count.old.trials ≤ 2 ^ 32 + 2 ^ 29 }
+    requires busy_room { count.old.busy ≤ 2 ^ 32 + 2 ^ 29 }
+    ensures rises { count.old.trials ≤ count.new.trials }
+    ensures trials { 2 * count.new.trials ≤ 2 * count.old.trials + 28 * (3 * (pdos * (pdos + 1))) }
+    ensures busy_rises { count.old.busy ≤ count.new.busy }
+    ensures busy { count.new.busy ≤ count.old.busy + 28 * (3 * pdos) }
     ensures greatest { IfOk result (λ widest. IsGreatestMargin rate set.now pdos widest.margin) }
     ensures placing { IfOk result (λ widest. MatchOption widest.placing (widest.margin ≡ 0) (λ placing. ArePlannedWith widest.margin rate set.now pdos placing.lower.items placing.upper.items)) }
 {
@@ -150,7 +164,7 @@ fn greatest_margin(
     };
     while above - margin > 1 {
         let middle = margin + (above - margin) / 2;
-        match keeping(alloc, set, pdos, rate, middle)? {
+        match keeping(alloc, set, pdos, rate, middle, count)? {
             Some(kept) => {
                 margin = middle;
                 placing = Some(kept);
@@ -162,12 +176,24 @@ fn greatest_margin(
 }
 
 /// The plan at the same rate whose identifiers keep the greatest margin.
-fn widened(alloc: Global, set: &StreamSet, pdos: usize, plan: Plan) -> Result<Plan, AllocError>
+fn widened(
+    alloc: Global,
+    set: &StreamSet,
+    pdos: usize,
+    plan: Plan,
+    count: &mut Count,
+) -> Result<Plan, AllocError>
     requires can { CanAssign set.now pdos }
-    ensures { (rates : List Rate) → IsPlan rates set.now pdos plan → is_some plan.margin ≡ false → IfOk result (λ wider. IsPlan rates set.now pdos wider × (is_some wider.margin ≡ true)) }
+    requires room { count.old.trials ≤ 2 ^ 32 + 2 ^ 29 }
+    requires busy_room { count.old.busy ≤ 2 ^ 32 + 2 ^ 29 }
+    ensures rises { count.old.trials ≤ count.new.trials }
+    ensures trials { 2 * count.new.trials ≤ 2 * count.old.trials + 28 * (3 * (pdos * (pdos + 1))) }
+    ensures busy_rises { count.old.busy ≤ count.new.busy }
+    ensures busy { count.new.busy ≤ count.old.busy + 28 * (3 * pdos) }
+    ensures wider { (rates : List Rate) → IsPlan rates set.now pdos plan → is_some plan.margin ≡ false → IfOk result (λ wider. IsPlan rates set.now pdos wider × (is_some wider.margin ≡ true)) }
 {
     let rate = plan.rate();
-    let Widest { margin, placing } = greatest_margin(alloc, set, pdos, rate)?;
+    let Widest { margin, placing } = greatest_margin(alloc, set, pdos, rate, count)?;
     match placing {
         Some(placing) => planned(
             alloc,
@@ -185,20 +211,29 @@ fn widened(alloc: Global, set: &StreamSet, pdos: usize, plan: Plan) -> Result<Pl
 
 /// What [`assign`](crate::assign) finds, but at the same rate the identifiers that keep the greatest margin: by so many ticks each
 /// deadline can be lowered, and each PDO and each SDO frame with a deadline still passes; with each lowered by more no assignment passes.
-/// `Err` is want of memory. The PDOs are placed at most 28 times more.
+/// `Err` is want of memory.
+///
+/// It makes the trials of [`assign`](crate::assign), and places the PDOs at most 28 times more, with 3n(n+1)/2 trials at most each time for n
+/// PDOs, and 3n busy times. It counts all of them.
 pub fn assign_with_margin(
     alloc: Global,
     set: &StreamSet,
     pdos: usize,
     rates: &RateSet,
+    count: &mut Count,
 ) -> Result<Outcome, AllocError>
-    requires { CanAssign set.now pdos }
+    requires can { CanAssign set.now pdos }
+    requires room { count.old.trials ≤ 2 ^ 32 }
+    requires busy_room { count.old.busy ≤ 2 ^ 32 }
     ensures outcome { IfOk result (IsOutcome rates.now set.now pdos) }
     ensures by_margin { IfOk result (IsChosenBy Margin) }
+    ensures rises { count.old.trials ≤ count.new.trials }
+    ensures bounded { 2 * count.new.trials ≤ 2 * count.old.trials + (8 + 28) * (3 * (pdos * (pdos + 1))) }
+    ensures busy_rises { count.old.busy ≤ count.new.busy }
+    ensures busy_bounded { count.new.busy ≤ count.old.busy + (8 + 28) * (3 * pdos) }
 {
-    let mut count = Count { trials: 0, busy: 0 };
-    match assign(alloc, set, pdos, rates, &mut count)? {
-        Outcome::Planned(plan) => Ok(Outcome::Planned(widened(alloc, set, pdos, plan)?)),
+    match assign(alloc, set, pdos, rates, count)? {
+        Outcome::Planned(plan) => Ok(Outcome::Planned(widened(alloc, set, pdos, plan, count)?)),
         Outcome::Refused(refusals) => Ok(Outcome::Refused(refusals)),
     }
 }

@@ -19,11 +19,11 @@ pub fn plan(alloc: Global, network: &Network<'_>, choice: Choice) -> Result<Outc
     ensures choice { IfOk result (IsChosenBy choice) }
 {
     let rates = network.rates();
+    let mut count = Count { trials: 0, busy: 0 };
     match choice {
-        Choice::Order => {
-            let mut count = Count { trials: 0, busy: 0 };
-            assign(alloc, network.set(), network.pdos(), &rates, &mut count)
+        Choice::Order => assign(alloc, network.set(), network.pdos(), &rates, &mut count),
+        Choice::Margin => {
+            assign_with_margin(alloc, network.set(), network.pdos(), &rates, &mut count)
         }
-        Choice::Margin => assign_with_margin(alloc, network.set(), network.pdos(), &rates),
     }
 }

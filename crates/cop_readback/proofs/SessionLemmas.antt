@@ -12,7 +12,7 @@ use Rattle.cop_boot.proofs.CommandLemmas.{driven_commands}
 use Rattle.cop_boot.proofs.StartLemmas.{start_was_late, all_sent_may}
 use Rattle.cop_slcan.specs.Reading.{left_from}
 use Rattle.cop_live.specs.Log.{ByteStep, ClockStep, Doing, Asked, Sent, Read, DidAll, sent_in, came_after, came}
-use Rattle.cop_live.specs.Nodes.{nobody, is_empty}
+use Rattle.cop_live.specs.Nodes.{nobody}
 use Rattle.cop_live.specs.Session.{State, is_start, held, reset_of, turn_log, turn_state, Step, Turn, Request, steps_log, steps_state, turns, first_state, boot_log, Booted}
 use Rattle.cop_live.proofs.Sessions.{did_both, state_more, log_more, turn_then, given_up, answered, given, boot_driven, is_driven}
 use Rattle.cop_identity.specs.declared.questions.Question.{Question}
@@ -22,7 +22,7 @@ use Rattle.cop_identity.specs.declared.asking.Exchange.{Exchange}
 use Rattle.cop_identity.specs.Questions.{request_of}
 use Rattle.cop_readback.specs.Reading.{Round, steps_for, round_steps, rounds_steps, exchanges_of, AreRounds, booted_in, Steps, are_ready, all_wanted}
 use Rattle.cop_readback.specs.declared.session.Reach.{Reach}
-use Rattle.cop_readback.specs.Session.{starts_of, commands_of, session_log, booted_state, may_start, IsRequest, IsCommand, IsSession, ReadsBack}
+use Rattle.cop_readback.specs.Session.{starts_of, commands_of, session_log, booted_state, none_booted, may_start, IsRequest, IsCommand, IsSession, ReadsBack}
 
 -- ---- lists of frames
 
@@ -304,5 +304,5 @@ reads_back reads writes asks reach m nodes questions p x y q began s t exchanges
       may = may;
       starts = starts;
       is = is_session reach.only m began b.taken rounds started t.manager questions (ap (λ (u : State). u.manager) whole_state) each
-          (may_only reach.start t.manager.started (are_ready t.manager.nodes nodes) (all_wanted exchanges) (is_empty booted) ready started may starts);
+          (may_only reach.start t.manager.started (are_ready t.manager.nodes nodes) (all_wanted exchanges) (none_booted booted nodes) ready started may starts);
     }

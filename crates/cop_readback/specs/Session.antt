@@ -1,11 +1,11 @@
 -- A boot over a port whose settings are read back, and the start of the nodes.
-use Rattle.std.specs.Prelude.{◌≡◌, ℕ, Bool, true, ◌&&◌, List, [], ◌∷◌, ◌++◌, map, filter, is_some, ◌⊎◌, Option, if◌then◌else◌}
+use Rattle.std.specs.Prelude.{◌≡◌, ℕ, Bool, true, not, ◌&&◌, List, [], ◌∷◌, ◌++◌, map, filter, is_some, ◌⊎◌, Option, if◌then◌else◌}
 use Rattle.std.specs.List.{AllByRecursion, list_all}
 use Rattle.cop_sdo.specs.Message.{Message}
 use Rattle.cop_boot.specs.Manager.{Managing, is_command, end_at}
 use Rattle.cop_boot.specs.Sent.{MaySend, WereConfigured}
 use Rattle.cop_live.specs.Log.{ByteStep, ClockStep, Doing, Sent, DidAll, sent_in, came}
-use Rattle.cop_live.specs.Nodes.{nobody, is_empty}
+use Rattle.cop_live.specs.Nodes.{nobody, has_node}
 use Rattle.cop_live.specs.Session.{State, turns, steps_state, reset_of, start_of, first_state, boot_log, IsDriven}
 use Rattle.cop_identity.specs.declared.questions.Question.{Question}
 use Rattle.cop_identity.specs.declared.asking.Exchange.{Exchange}
@@ -28,10 +28,14 @@ session_log only m began booting rounds started = boot_log only m began (turns b
 abbrev pub booted_state : Managing → ℕ → List (ℕ × List ℕ) → State
 booted_state m began booting = steps_state began (first_state m) (turns booting)
 
--- the manager found all nodes ready, each of these is ready still, each question was answered as it should be, and no node booted up
+-- none of some nodes booted up
+abbrev pub none_booted : List Bool → List ℕ → Bool
+none_booted booted nodes = list_all (λ node. not (has_node booted node)) nodes
+
+-- the manager found all nodes ready, each of these is ready still, each question was answered as it should be, and none of them booted up
 -- meanwhile
 abbrev pub may_start : Managing → List ℕ → List Exchange → List Bool → Bool
-may_start m nodes exchanges booted = (m.started && are_ready m.nodes nodes) && (all_wanted exchanges && is_empty booted)
+may_start m nodes exchanges booted = (m.started && are_ready m.nodes nodes) && (all_wanted exchanges && none_booted booted nodes)
 
 -- a frame is the request of one of some questions
 abbrev pub IsRequest : List Question → Message → Type 0

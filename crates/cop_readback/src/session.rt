@@ -2,7 +2,7 @@
 
 ghost use Rattle.std.specs.Prelude.{◌≡◌, ◌&&◌, true, map, IfSome, IfOk};
 ghost use Rattle.cop_live.specs.Log.{Sent, DidAll};
-ghost use Rattle.cop_readback.specs.Session.{may_start, starts_of, ReadsBack};
+ghost use Rattle.cop_readback.specs.Session.{none_booted, may_start, starts_of, ReadsBack};
 
 use crate::reading::{all_wanted, are_ready, read_back};
 use cop_boot::Manager;
@@ -48,17 +48,24 @@ fn start<P: Port>(port: &mut P, only: Option<u8>, started: bool) -> bool
     !started || send(port, &start_of(only))
 }
 
+// Whether none of some nodes booted up.
+fn none_booted(booted: &NodeSet, nodes: &[u8]) -> bool
+    ensures { result ≡ none_booted booted.now nodes.now }
+{
+    nodes.iter().all(|node| !booted.has(*node))
+}
+
 // Whether the nodes may be started.
 fn may_start(manager: &Manager, nodes: &[u8], exchanges: &[Exchange], booted: &NodeSet) -> bool
     ensures { result ≡ may_start manager.now nodes.now exchanges.now booted.now }
 {
     let ready = manager.started() && are_ready(manager, nodes);
-    ready && all_wanted(exchanges) && booted.is_empty()
+    ready && all_wanted(exchanges) && none_booted(booted, nodes)
 }
 
 /// Boots the nodes of a manager over a port, one alone or all, whatever bytes come, and at whatever moments; once the boot of each of some
 /// nodes has ended, asks the questions in their order; and starts the nodes if they are to be started, where all are ready, each
-/// question was answered as it should be, and no node booted up meanwhile. `None` where the port or its clock fails, and otherwise want
+/// question was answered as it should be, and none of them booted up meanwhile. `None` where the port or its clock fails, and otherwise want
 /// of memory.
 pub fn boot_and_read_back<P: Port>(
     alloc: Global,

@@ -215,8 +215,8 @@ static EXPLANATIONS: [Explanation; 50] = [
     Explanation {
         number: 46,
         rule: "the COB-ID of the PDO cannot be switched off and then given each identifier from 181h to 57Fh, and from 680h to 6DFh where an SDO frame has a deadline and there are at most 96 PDOs",
-        cause: "sub 1 of 1800h or 1400h and on is absent, read-only, of another type than UNSIGNED32, or has limits",
-        right: "AccessType=rw and DataType=0x0007 in [1800sub1]",
+        cause: "sub 1 of 1800h or 1400h and on is ro or const, so that the device fixes this identifier; or it is absent, of another type than UNSIGNED32, or has limits",
+        right: "a PDO whose sub 1 the device lets be written ([1800sub1] says AccessType=rw and DataType=0x0007); do not edit the maker's file, since the device stays as it is",
     },
     Explanation {
         number: 47,
@@ -239,8 +239,8 @@ static EXPLANATIONS: [Explanation; 50] = [
     Explanation {
         number: 50,
         rule: "a PDO of the device that no row uses exists and cannot be switched off",
-        cause: "its COB-ID is read-only, or has limits that exclude bit 31",
-        right: "AccessType=rw in its sub 1, or a row for it",
+        cause: "its COB-ID is ro or const, so that the device sends or hears this identifier in any case; or it has limits that exclude bit 31",
+        right: "another device or another file of its maker; do not edit the maker's file, since the device stays as it is",
     },
     Explanation {
         number: 51,

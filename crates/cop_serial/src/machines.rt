@@ -1,12 +1,20 @@
 //! The boot of the devices at a port.
 
+ghost use Rattle.std.specs.Prelude.{◌≡◌, IfOk, IfErr, Some};
+ghost use Rattle.cop_engine.specs.declared.faults.Fault.TheVariants.{Refused};
+ghost use Rattle.cop_serial.specs.Boots.{approach_of, status_of, refused_as, FailsBy};
+
 use crate::serial::{Serial, open_serial};
-use cop_answers::{ABSENT, Inputs, RUNNING, boot_notes, identity_notes};
-use cop_commission::{Approach, Commissioned, Reach, commission};
+use cop_answers::{
+    ABSENT, ERRONEOUS, GARBLED, Inputs, RUNNING, UNOPENED, boot_notes, identity_notes,
+};
+use cop_commission::{Approach, Command, Commissioned, Reach, Runner, commission};
 use cop_documents::boot_document;
 use cop_engine::{Fault, none_passes};
 use cop_files::{Failure, Form, Use, file_failure, print, read_network};
+use cop_frame::Rate;
 use cop_orders::MachineOrder;
+use cop_slcan::rate_digit;
 use std::io::Write;
 use std::str;
 
@@ -38,18 +46,69 @@ fn answer_in(rt: &HostRuntime, port: &str, form: Form, text: &[u8]) -> Result<()
     }
 }
 
-/// Tells of what the adapter refused. The command that closes it is refused where it is closed already, which is told only where the nodes
-/// were not started.
-fn tell_refused(rt: &HostRuntime, refused: u64, started: bool) {
-    if refused == 0 || refused == 1 && started {
+/// Tells of what the adapter refused since it was opened, and of what it takes otherwise than others.
+fn tell_adapter(rt: &HostRuntime, port: &Serial<'_>) {
+    if port.cannot_listen {
+        say(
+            rt,
+            b"canplan: the adapter cannot listen only (it refuses L), and was opened by O to listen\n",
+        );
+    }
+    if port.is_at_seven {
+        say(
+            rt,
+            b"canplan: S7 is 800 kbit/s; some adapters take it as 750 kbit/s (CANable's firmware, python-can)\n",
+        );
+    }
+    let refused = port.refused;
+    if refused == 0 {
         return;
     }
-    let line = format!(in rt.alloc();
-        "canplan: the adapter refused {refused} of the commands; the one that closes it is refused where it is closed already\n"
-    );
+    let line = format!(in rt.alloc(); "canplan: the adapter refused {refused} of the commands\n");
     if let Ok(line) = line {
         say(rt, line.as_bytes());
     }
+}
+
+/// A refusal of what was found at the port, with a line of its own if there is memory for it.
+fn refusal(number: u8, place: u64, reason: Option<String>) -> Failure
+    ensures { result.fault ≡ Refused number place }
+{
+    Failure {
+        fault: Fault::Refused { number, place },
+        reason,
+    }
+}
+
+/// The refusal where somebody runs, by a frame of an identifier.
+fn running_refusal(rt: &HostRuntime, runner: Runner) -> Failure
+    ensures { result.fault ≡ Refused 100 runner.node }
+{
+    let id = runner.id;
+    let line = format!(in rt.alloc(); "a frame {id:03X}h was heard\n");
+    refusal(RUNNING, u64::from(runner.node), line.ok())
+}
+
+/// The refusal where the adapter's flags tell of errors at a rate, and no frame is heard.
+fn errors_refusal(rt: &HostRuntime, flags: u16, rate: Rate) -> Failure
+    ensures { result.fault ≡ Refused 102 0 }
+{
+    let kbits = rate.kbits();
+    let line = format!(in rt.alloc(); "its flags are {flags:02X}h, at {kbits} kbit/s\n");
+    refusal(ERRONEOUS, 0, line.ok())
+}
+
+/// The refusal where an adapter is not opened at a rate.
+fn unopened_refusal(rt: &HostRuntime, command: Command, rate: Rate) -> Failure
+    ensures { result.fault ≡ Refused 104 0 }
+{
+    let kbits = rate.kbits();
+    let digit = char::from(rate_digit(rate));
+    let line = match command {
+        Command::Rate => format!(in rt.alloc(); "it refuses S{digit}, {kbits} kbit/s\n"),
+        Command::Open => format!(in rt.alloc(); "it refuses O, at {kbits} kbit/s\n"),
+    };
+    refusal(UNOPENED, 0, line.ok())
 }
 
 /// The failure of a line that was opened.
@@ -71,46 +130,80 @@ fn line_failure(rt: &HostRuntime, name: &str, port: &Serial<'_>) -> Failure {
     }
 }
 
-/// Tells what came of a boot, and gives its status: 3 where some node is not ready, or late.
+/// A failure with lines behind its reason.
+fn with_lines(rt: &HostRuntime, failure: Failure, text: &[u8]) -> Failure {
+    let reason = match &failure.reason {
+        Some(reason) => reason.as_str(),
+        None => "",
+    };
+    let lines = str::from_utf8(text).unwrap_or("");
+    match format!(in rt.alloc(); "{reason}{lines}") {
+        Ok(all) => Failure {
+            fault: failure.fault,
+            reason: Some(all),
+        },
+        Err(error) => Failure::from(error),
+    }
+}
+
+/// Tells how far the boot of each node was on a line that failed, before the failure or, as that is one document, in it; and gives the failure.
+fn boot_failure(
+    rt: &HostRuntime,
+    name: &str,
+    form: Form,
+    text: &[u8],
+    port: &Serial<'_>,
+) -> Result<Failure, Failure> {
+    let failure = line_failure(rt, name, port);
+    if form == Form::Document {
+        return Ok(with_lines(rt, failure, text));
+    }
+    if !text.is_empty() {
+        answer(rt, name, text)?;
+    }
+    Ok(failure)
+}
+
+/// Tells what came of a boot, and gives its status: 3 if some node is not ready, or was not heard to be operational.
 fn tell_ended(
     rt: &HostRuntime,
     order: MachineOrder<'_>,
     form: Form,
     ended: &Commissioned,
     port: &Serial<'_>,
-) -> Result<u8, Failure> {
+) -> Result<u8, Failure>
+    ensures ends { IfOk result (λ status. status_of ended.now ≡ Some status) }
+    ensures fails { IfErr result (λ failure. FailsBy (refused_as order.entry.only ended.now) failure.fault) }
+{
     let name = order.port;
     match ended {
         Commissioned::Ended {
             text,
             ready,
-            on_time,
+            operational,
             rate,
             ..
         } => {
             answer_in(rt, name, form, text)?;
             let words = str::from_utf8(text).unwrap_or("");
             say(rt, &boot_notes(rt.alloc(), words, *rate)?);
-            Ok(if *ready && *on_time { 0 } else { 3 })
+            Ok(if *ready && *operational { 0 } else { 3 })
         }
         Commissioned::Others { text, exchanges } => {
             answer_in(rt, name, form, text)?;
             say(rt, &identity_notes(rt.alloc(), exchanges)?);
             Ok(3)
         }
-        Commissioned::Running { node } => Err(Failure::from(Fault::Refused {
-            number: RUNNING,
-            place: u64::from(*node),
-        })),
-        Commissioned::Absent => Err(Failure::from(Fault::Refused {
-            number: ABSENT,
-            place: u64::from(order.only.unwrap_or(0)),
-        })),
+        Commissioned::Running { runner } => Err(running_refusal(rt, *runner)),
+        Commissioned::Garbled { lines } => Err(refusal(GARBLED, *lines, None)),
+        Commissioned::Erroneous { flags, rate } => Err(errors_refusal(rt, *flags, *rate)),
+        Commissioned::Unopened { command, rate } => Err(unopened_refusal(rt, *command, *rate)),
+        Commissioned::Absent => Err(refusal(ABSENT, u64::from(order.only.unwrap_or(0)), None)),
         Commissioned::NonePasses => {
             answer_in(rt, name, form, &none_passes(rt.alloc())?)?;
             Ok(4)
         }
-        Commissioned::Failed => Err(line_failure(rt, name, port)),
+        Commissioned::Failed { text } => Err(boot_failure(rt, name, form, text, port)?),
     }
 }
 
@@ -125,7 +218,9 @@ fn said_before(order: MachineOrder<'_>) -> &'static str {
 }
 
 /// How the devices are approached.
-fn approach_of(order: MachineOrder<'_>) -> Approach {
+fn approach_of(order: MachineOrder<'_>) -> Approach
+    ensures { result ≡ approach_of order.entry }
+{
     Approach {
         take_over: order.take_over,
         identify: order.identify,
@@ -169,7 +264,6 @@ pub fn boot_machine(
         approach,
         &mut port,
     )?;
-    let started = matches!(ended, Commissioned::Ended { started: true, .. });
-    tell_refused(rt, port.refused, started);
+    tell_adapter(rt, &port);
     tell_ended(rt, order, form, &ended, &port)
 }

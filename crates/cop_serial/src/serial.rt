@@ -28,8 +28,14 @@ pub struct Serial<'a> {
     rt: &'a HostRuntime,
     line: Line,
     opened: Instant,
-    /// How many commands the adapter refused.
+    /// How many commands the adapter refused since it was opened.
     pub refused: u64,
+    /// Whether it refused to listen only.
+    pub cannot_listen: bool,
+    /// Whether it was set to `S7`, which adapters take in two ways.
+    pub is_at_seven: bool,
+    /// The command that was written last, by its letter.
+    letter: u8,
     /// What the system said of a read or a write that failed.
     pub error: Option<io::Error>,
     /// After how many ticks the line is given up.
@@ -38,18 +44,34 @@ pub struct Serial<'a> {
     pub over: bool,
 }
 
+// The device file of a serial line. Any other file is refused before a byte is written there.
+fn open_device(rt: &HostRuntime, name: &str) -> io::Result<File> {
+    let file = File::options().read(true).write(true).open(rt, name)?;
+    if file.is_terminal() {
+        Ok(file)
+    } else {
+        Err(io::Error::new(
+            io::ErrorKind::InvalidInput,
+            "it is no device file of a serial line, and nothing was written to it",
+        ))
+    }
+}
+
 /// The line to an adapter by the name of its device file; `-` is standard input and output. It is given up after so many ticks.
 pub fn open_serial<'a>(rt: &'a HostRuntime, name: &str, limit: u64) -> io::Result<Serial<'a>> {
     let line = if name == "-" {
         Line::Streams
     } else {
-        Line::Device(File::options().read(true).write(true).open(rt, name)?)
+        Line::Device(open_device(rt, name)?)
     };
     Ok(Serial {
         rt,
         line,
         opened: Instant::now(rt)?,
         refused: 0,
+        cannot_listen: false,
+        is_at_seven: false,
+        letter: b'\r',
         error: None,
         limit,
         over: false,
@@ -93,6 +115,22 @@ impl Serial<'_> {
     }
 }
 
+impl Serial<'_> {
+    /// Notes a command. `O` behind `L` is given where that is refused. What the adapter refuses counts from its opening on, since one that is
+    /// closed already refuses to be closed.
+    fn note(&mut self, bytes: &[u8]) {
+        let Some(letter) = bytes.first() else {
+            return;
+        };
+        if *letter == b'O' || *letter == b'L' {
+            self.cannot_listen = self.cannot_listen || *letter == b'O' && self.letter == b'L';
+            self.refused = 0;
+        }
+        self.is_at_seven = self.is_at_seven || bytes.starts_with(b"S7");
+        self.letter = *letter;
+    }
+}
+
 impl Port for Serial<'_> {
     ghost reads = { λ _ _ _. Unit {0} };
 
@@ -121,6 +159,7 @@ impl Port for Serial<'_> {
     }
 
     fn write(&mut self, bytes: &[u8]) -> bool {
+        self.note(bytes);
         match self.write_line(bytes) {
             Ok(()) => true,
             Err(error) => {

@@ -8,6 +8,7 @@ pub mod Queued
 pub mod Started
 pub mod Plays
 pub mod Bounded
+pub mod RunLemmas
 pub mod Held
 pub mod Noted
 pub mod Competing

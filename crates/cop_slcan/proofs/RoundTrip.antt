@@ -14,7 +14,7 @@ use Rattle.cop_slcan.specs.Reading.{taken, said_from, said}
 
 -- a byte that ends no line
 abbrev pub IsPlain : ℕ → Type 0
-IsPlain b = (nat_eq b 13 ≡ false) × (nat_eq b 7 ≡ false)
+IsPlain b = (nat_eq b 13 ≡ false) × (nat_eq b 7 ≡ false) × (nat_eq b 10 ≡ false)
 
 abbrev pub ArePlain : List ℕ → Type 0
 ArePlain [] = Unit {0}
@@ -23,7 +23,7 @@ ArePlain (b ∷ rest) = IsPlain b × ArePlain rest
 pub taken_plain : (pending : List ℕ) (b : ℕ) → IsPlain b → length pending < 32 → taken pending b ≡ (pending ++ b ∷ [], None)
 taken_plain pending b plain room =
     let more : nat_lt (length pending) 32 ≡ true = grind (arith) in
-    rw (plain.0, plain.1, more) refl
+    rw (plain.0, plain.1, plain.2, more) refl
 
 pub plain_said : (pending text rest : List ℕ) → ArePlain text → length pending + length text ≤ 32 → said_from pending (text ++ 13 ∷ rest) ≡ meaning (pending ++ text) ∷ said rest
 plain_said pending [] rest plain room = ap (λ l. meaning l ∷ said rest) (sym (append-nil pending))
@@ -38,7 +38,7 @@ plain_said pending (b ∷ text) rest plain room =
 pub digit_plain : (d : ℕ) → d < 16 → IsPlain (digit d)
 digit_plain d low =
     let reads : hex_digit_value (digit d) ≡ Some d = IsDigits-upper_digits d low in
-    (ne_eqb (digit d) 13 (λ e. let h : hex_digit_value 13 ≡ Some d = rw e at reads in cc h), ne_eqb (digit d) 7 (λ e. let h : hex_digit_value 7 ≡ Some d = rw e at reads in cc h))
+    (ne_eqb (digit d) 13 (λ e. let h : hex_digit_value 13 ≡ Some d = rw e at reads in cc h), ne_eqb (digit d) 7 (λ e. let h : hex_digit_value 7 ≡ Some d = rw e at reads in cc h), ne_eqb (digit d) 10 (λ e. let h : hex_digit_value 10 ≡ Some d = rw e at reads in cc h))
 
 pub digits_plain : (bytes : List ℕ) → IsBytes bytes → ArePlain (encode_upper bytes)
 unfolding encode_with
@@ -112,7 +112,7 @@ read_again frame eight bytes rest =
     let low : frame.id < 2048 = frame.id_in_range in
     let count : length (data_of frame) ≡ frame.len = length-take-le frame.len frame.body (omega (arith, eight, few)) in
     let l = length-encode_with upper_digits (data_of frame) in
-    let plain : ArePlain (text_of (message_of frame)) = ((refl, refl), (digit_plain (frame.id / 256) (omega (arith, low)), (digit_plain (frame.id / 16 % 16) (omega arith), (digit_plain (frame.id % 16) (omega arith), (digit_plain frame.len (omega (arith, few)), digits_plain (data_of frame) bytes))))) in
+    let plain : ArePlain (text_of (message_of frame)) = ((refl, refl, refl), (digit_plain (frame.id / 256) (omega (arith, low)), (digit_plain (frame.id / 16 % 16) (omega arith), (digit_plain (frame.id % 16) (omega arith), (digit_plain frame.len (omega (arith, few)), digits_plain (data_of frame) bytes))))) in
     ap said (append_assoc (text_of (message_of frame)) (13 ∷ []) rest)
     ∙ plain_said [] (text_of (message_of frame)) rest plain (omega (arith, l, count, few))
     ∙ ap (λ t. t ∷ said rest) (meant_again frame eight bytes)

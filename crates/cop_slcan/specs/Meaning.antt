@@ -29,9 +29,9 @@ id_in a b c = option_and_then (λ x. option_and_then (λ y. option_and_then (λ 
 abbrev pub len_in : ℕ → Option ℕ
 len_in c = if nat_le 48 c && nat_le c 56 then Some (c - 48) else None
 
--- nothing, or the four digits of an adapter's clock
+-- nothing, or the four or eight digits of an adapter's clock
 abbrev pub is_stamp : List ℕ → Bool
-is_stamp text = (length text == 0) || ((length text == 4) && list_all is_hex_digit text)
+is_stamp text = (length text == 0) || (((length text == 4) || (length text == 8)) && list_all is_hex_digit text)
 
 -- a frame of these data bytes; those after them are 0
 abbrev pub frame_with : ℕ → ℕ → Result (List ℕ) FromHexError → Option Message

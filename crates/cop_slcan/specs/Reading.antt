@@ -2,11 +2,12 @@
 use Rattle.std.specs.Prelude.{ℕ, List, [], ◌∷◌, ◌++◌, length, ◌==◌, nat_lt, if◌then◌else◌, Option, Some, None, option_to_list}
 use Rattle.cop_slcan.specs.Meaning.{Told, Refused, meaning}
 
--- a byte after those since the last line's end; of a line that is too long for a frame the first 32 are kept
+-- a byte after those since the last line's end; LF (0Ah) is passed over, and of a line that is too long for a frame the first 32 are kept
 abbrev pub taken : List ℕ → ℕ → List ℕ × Option Told
 taken pending byte =
     if byte == 13 then ([], Some (meaning pending))
     else if byte == 7 then ([], Some Refused)
+    else if byte == 10 then (pending, None)
     else (if nat_lt (length pending) 32 then pending ++ byte ∷ [] else pending, None)
 
 -- what is said by bytes after others

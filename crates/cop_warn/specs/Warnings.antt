@@ -1,7 +1,7 @@
 -- What is worth a look before one relies on a plan.
-use Rattle.std.specs.Prelude.{ℕ, ◌+◌, ◌*◌, ◌/◌, ◌%◌, Bool, not, ◌&&◌, ◌==◌, nat_le, nat_lt, if◌then◌else◌, List, [], ◌∷◌, ◌++◌, get_or, Option, Some, None, option_and_then, option_map, ℤ, pos, negsuc}
+use Rattle.std.specs.Prelude.{ℕ, ◌+◌, ◌*◌, ◌/◌, ◌%◌, Bool, not, ◌&&◌, ◌==◌, nat_le, nat_lt, if◌then◌else◌, List, [], ◌∷◌, ◌++◌, get_or, Option, Some, None, option_and_then, option_map, find, ℤ, pos, negsuc}
 use Rattle.std.specs.List.{list_any}
-use Rattle.std.specs.Option.{option_to_list}
+use Rattle.std.specs.Option.{option_to_list, option_map_or}
 use Rattle.cop_dict.specs.Find.{Entry, entry_at, integer_of, unsigned32_of}
 use Rattle.cop_rows.specs.declared.node_table.DeviceRow.{DeviceRow}
 use Rattle.cop_rows.specs.declared.node_table.FrameKind.{FrameKind}
@@ -126,8 +126,31 @@ of_identifiers node dict =
     option_to_list (sync_warning node dict) ++ option_to_list (other_identifier node 0x1014 0 (0x80 + node) dict)
     ++ option_to_list (other_identifier node 0x1200 1 (0x600 + node) dict) ++ option_to_list (other_identifier node 0x1200 2 (0x580 + node) dict)
 
+-- bit 30 of the COB-ID of TIME says that the device sends it (CiA 301, "COB-ID time stamp object")
+abbrev pub time_by : ℕ → Option ℕ → Option Warning
+time_by node None = None
+time_by node (Some cob_id) = if cob_id / 1073741824 % 2 == 1 then Some (warnings.MakesTime node) else None
+
+abbrev pub time_warning : ℕ → List Entry → Option Warning
+time_warning node dict = time_by node (word_at dict 0x1012 0)
+
+-- the period of SYNC's row, 0 if there is none
+abbrev pub sync_period : List FrameRow → ℕ
+sync_period frames = option_map_or (λ row. row.period) (find (is_row 0 kinds.Sync) frames) 0
+
+-- the period of SYNC in a device is neither 0 nor that of SYNC's row, which has one (CiA 301, "Communication cycle period")
+abbrev pub period_by : ℕ → ℕ → Option ℕ → Option Warning
+period_by node period None = None
+period_by node period (Some micros) = if not (micros == 0) && (not (period == 0) && not (micros == period)) then Some (warnings.SyncPeriod node micros) else None
+
+abbrev pub period_warning : List FrameRow → ℕ → List Entry → Option Warning
+period_warning frames node dict = period_by node (sync_period frames) (word_at dict 0x1006 0)
+
+abbrev pub of_clocks : List FrameRow → ℕ → List Entry → List Warning
+of_clocks frames node dict = option_to_list (time_warning node dict) ++ option_to_list (period_warning frames node dict)
+
 abbrev pub of_device : List FrameRow → ℕ → List Entry → List Warning
-of_device frames node dict = of_frames frames node dict ++ of_identifiers node dict
+of_device frames node dict = of_frames frames node dict ++ of_identifiers node dict ++ of_clocks frames node dict
 
 -- ---- the network
 
@@ -167,3 +190,5 @@ number_of (warnings.InhibitTime place units) = Some 87
 number_of (warnings.NoRow node kind) = number_of_kind kind
 number_of (warnings.OtherIdentifier node index sub cob_id) = number_of_index index
 number_of (warnings.MakesSync node) = Some 89
+number_of (warnings.MakesTime node) = None
+number_of (warnings.SyncPeriod node micros) = None

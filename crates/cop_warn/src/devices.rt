@@ -1,7 +1,7 @@
 //! Warnings on devices.
 
 ghost use Rattle.std.specs.Prelude.{◌≡◌, ◌+◌, ◌++◌, OnOk};
-ghost use Rattle.cop_warn.specs.Warnings.{is_row, has_row, no_row, emcy_warning, request_warning, response_warning, heartbeat_warning, other_identifier, sync_warning, of_frames, of_identifiers, of_device};
+ghost use Rattle.cop_warn.specs.Warnings.{is_row, has_row, no_row, emcy_warning, request_warning, response_warning, heartbeat_warning, other_identifier, sync_warning, time_warning, sync_period, period_warning, of_clocks, of_frames, of_identifiers, of_device};
 
 use crate::numbers::{natural_at, word_at};
 use crate::rows::push_some;
@@ -122,6 +122,56 @@ fn sync_warning(node: u8, dict: &Dictionary) -> Option<Warning>
     None
 }
 
+/// That a device sends TIME.
+fn time_warning(node: u8, dict: &Dictionary) -> Option<Warning>
+    ensures { result ≡ time_warning node dict.now }
+{
+    match word_at(dict, 0x1012, 0) {
+        Some(cob_id) if cob_id / 0x4000_0000 % 2 == 1 => Some(Warning::MakesTime { node }),
+        _ => None,
+    }
+}
+
+/// The period of SYNC's row, in microseconds; 0 if SYNC has none.
+fn sync_period(frames: &[FrameRow]) -> u64
+    ensures { result ≡ sync_period frames.now }
+{
+    for row in frames {
+        if is_row(row, 0, FrameKind::Sync) {
+            return u64::from(row.period);
+        }
+    }
+    0
+}
+
+/// That a device has another period of SYNC than its row.
+fn period_warning(frames: &[FrameRow], node: u8, dict: &Dictionary) -> Option<Warning>
+    ensures { result ≡ period_warning frames.now node dict.now }
+{
+    let Some(micros) = word_at(dict, 0x1006, 0) else {
+        return None;
+    };
+    let period = sync_period(frames);
+    if micros != 0 && period != 0 && micros != period {
+        Some(Warning::SyncPeriod { node, micros })
+    } else {
+        None
+    }
+}
+
+/// Adds what a device does with the times of the network.
+fn push_clocks(
+    found: &mut Vec<Warning>,
+    frames: &[FrameRow],
+    node: u8,
+    dict: &Dictionary,
+) -> Result<(), AllocError>
+    ensures { OnOk result (found.new.items ≡ found.old.items ++ of_clocks frames.now node dict.now) }
+{
+    push_some(found, time_warning(node, dict))?;
+    push_some(found, period_warning(frames, node, dict))
+}
+
 /// Adds which frames of a device have no row.
 fn push_frames(
     found: &mut Vec<Warning>,
@@ -160,5 +210,6 @@ pub(crate) fn push_device(
     ensures { OnOk result (found.new.items ≡ found.old.items ++ of_device frames.now node dict.now) }
 {
     push_frames(found, frames, node, dict)?;
-    push_identifiers(found, node, dict)
+    push_identifiers(found, node, dict)?;
+    push_clocks(found, frames, node, dict)
 }

@@ -40,6 +40,15 @@ pub enum Warning {
     MakesSync {
         node: u8,
     },
+    /// The node's device sends TIME (bit 30 of 1012h), which goes before all PDOs and has no row.
+    MakesTime {
+        node: u8,
+    },
+    /// The SYNC period of the node's device (1006h) has so many microseconds, and the row of SYNC has another period.
+    SyncPeriod {
+        node: u8,
+        micros: u64,
+    },
 }
 
 impl Warning {
@@ -58,7 +67,9 @@ impl Warning {
             Warning::OtherIdentifier { index: 0x1005, .. } | Warning::MakesSync { .. } => Some(89),
             Warning::DeadlineWithinJitter { .. }
             | Warning::NoRow { .. }
-            | Warning::OtherIdentifier { .. } => None,
+            | Warning::OtherIdentifier { .. }
+            | Warning::MakesTime { .. }
+            | Warning::SyncPeriod { .. } => None,
         }
     }
 }

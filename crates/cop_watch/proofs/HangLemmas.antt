@@ -18,10 +18,12 @@ use Rattle.cop_bus.proofs.StepLemmas.{nth_that-at, nth_before}
 use Rattle.cop_bus.proofs.Grows.{count_to-more, nth_that-more, below-more, balanced, no-more}
 use Rattle.cop_bus.proofs.Appended.{step_at-here, length-one, one-more, last_event-here}
 use Rattle.cop_bus.proofs.AnchorLemmas.{ended, anchor_synced, gap-synced, apart-true, time-true}
+use Rattle.cop_watch.specs.declared.syncs.Syncs.{Syncs}
 use Rattle.cop_watch.specs.declared.syncs.Newest.{Newest}
 use Rattle.cop_watch.specs.declared.syncs.Newest.TheVariants.{Nothing, Sync, Lost}
 use Rattle.cop_watch.specs.Knowing.{queues, starts}
-use Rattle.cop_watch.specs.Syncs.{ObeysSync, IsSync, HangsOn, IsNewest, IsBehind}
+use Rattle.cop_watch.specs.Syncs.{ObeysSync, IsSync, HangsOn, IsNewest, AreKnown, IsBehind}
+use Rattle.cop_watch.proofs.SyncLemmas.{among}
 use Rattle.cop_watch.proofs.Further.{FindsTheSame, finds-more, count-kept, count-raised}
 
 module _ (tau : ℕ) (streams : List Stream) (now later : ℕ) (steps ahead more : List Step) (x : Step) (le : now ≤ later) (look : FindsTheSame steps ahead (x ∷ more)) (fine : KeepTheRules tau streams now steps ahead) where
@@ -50,28 +52,31 @@ module _ (tau : ℕ) (streams : List Stream) (now later : ℕ) (steps ahead more
         ∙ ap (λ (xs : List Step). sync_below xs e so_many) (one-more steps x more) ∙ below-same e
         ∙ sym (ap (sync_below (steps ++ ahead) e) (count_to-more (is_end sync_id) steps ahead (length steps) (omega arith)))
 
-    pub newest-after : (newest : Newest) → IsNewest newest (steps ++ ahead) (length steps) → IsNewest newest ((steps ++ x ∷ []) ++ more) (length (steps ++ x ∷ []))
+    newest-after : (newest : Newest) → IsNewest newest (steps ++ ahead) (length steps) → IsNewest newest ((steps ++ x ∷ []) ++ more) (length (steps ++ x ∷ []))
     newest-after Nothing h = count-after ∙ h
-    newest-after (Sync event mark from) h = record { number = count-after ∙ h.number; first = anchor-after event ∙ h.first; later = λ e l. anchor-after e ∙ h.later e l }
+    newest-after (Sync s) h = record { number = count-after ∙ h.number; first = anchor-after s.event ∙ h.first; later = λ e l. anchor-after e ∙ h.later e l }
     newest-after Lost h = tt
+
+    pub syncs-after : (syncs : Syncs) → AreKnown syncs (steps ++ ahead) (length steps) → AreKnown syncs ((steps ++ x ∷ []) ++ more) (length (steps ++ x ∷ []))
+    syncs-after syncs h = record { newest = newest-after syncs.newest h.newest; recent = λ s on. anchor-after s.event ∙ h.recent s on }
 
     pub hang-after : (v mark : ℕ) → HangsOn (sync_anchor (steps ++ ahead) (length steps) v) mark → HangsOn (sync_anchor ((steps ++ x ∷ []) ++ more) (length (steps ++ x ∷ [])) v) mark
     hang-after v mark h = subst (λ o. HangsOn o mark) (sym (anchor-after v)) h
 
   -- rules 62 and 63 of a queue step of a synchronous stream
-  module _ (k : Stream) (before : Option ℕ) (mark : ℕ) (newest : Newest) (id at event : ℕ) (frame : Content) (o : ObeysSync k before mark newest at event frame) (is_newest : IsNewest newest (steps ++ ahead) (length steps))
+  module _ (k : Stream) (before : Option ℕ) (mark : ℕ) (syncs : Syncs) (id at event : ℕ) (frame : Content) (number : ℕ) (o : ObeysSync k before mark syncs at event frame number) (known : AreKnown syncs (steps ++ ahead) (length steps))
       (hangs : (v : ℕ) → before ≡ Some v → HangsOn (sync_anchor (steps ++ ahead) (length steps) v) mark) where
     abbrev xs : List Step
     xs = steps ++ x ∷ more
 
     abbrev anchor : Anchor
-    anchor = record { mark = o.number; from = o.from }
+    anchor = record { mark = o.sync.mark; from = o.sync.from }
 
-    the-sync : IsSync (steps ++ ahead) (length steps) event o.number o.from
-    the-sync = subst (λ n. IsNewest n (steps ++ ahead) (length steps)) o.on is_newest
+    the-sync : sync_anchor (steps ++ ahead) (length steps) event ≡ Some anchor
+    the-sync = subst (λ v. sync_anchor (steps ++ ahead) (length steps) v ≡ Some anchor) o.its (among (steps ++ ahead) (length steps) syncs o.sync known o.on)
 
     pub hangs-here : anchor_of k xs (length steps) event ≡ Some anchor
-    hangs-here = anchor_synced k xs (length steps) event o.synced ∙ anchor-here event ∙ the-sync.first
+    hangs-here = anchor_synced k xs (length steps) event o.synced ∙ anchor-here event ∙ the-sync
 
     mark-is : (v : ℕ) (d : Anchor) → before ≡ Some v → anchor_of k xs (length steps) v ≡ Some d → d.mark ≡ mark
     mark-is v d b e = subst (λ p. HangsOn p mark) (sym (anchor-here v) ∙ sym (anchor_synced k xs (length steps) v o.synced) ∙ e) (hangs v b)
@@ -142,6 +147,11 @@ module _ (tau : ℕ) (streams : List Stream) (now : ℕ) (steps : List Step) (at
       ∙ ap (λ o. or_next o (anchor_if v a (sync_number (steps ++ e ∷ []) a))) (below-same tau streams now now steps [] [] e (omega arith) (finds-more steps (e ∷ [])) fine v
       ∙ sym (ap (sync_below (steps ++ []) v) (count_to-more (is_end sync_id) steps [] (length steps) (omega arith))))
 
+  -- what is found stays
+  pub recent-next : (v mark from : ℕ) → sync_anchor (steps ++ []) (length steps) v ≡ Some (record { mark = mark; from = from })
+      → sync_anchor ((steps ++ e ∷ []) ++ []) (length (steps ++ e ∷ [])) v ≡ Some (record { mark = mark; from = from })
+  recent-next v mark from h = anchor-next v ∙ ap (λ o. or_next o (anchor_if v a (sync_number (steps ++ e ∷ []) a))) h
+
   pub hang-next : (v mark : ℕ) → HangsOn (sync_anchor (steps ++ []) (length steps) v) mark → HangsOn (sync_anchor ((steps ++ e ∷ []) ++ []) (length (steps ++ e ∷ [])) v) mark
   hang-next v mark h = subst (λ o. HangsOn o mark) (sym (anchor-next v)) (hang-stays (sync_anchor (steps ++ []) (length steps) v) (anchor_if v a (sync_number (steps ++ e ∷ []) a)) mark h)
 
@@ -186,7 +196,7 @@ module _ (tau : ℕ) (streams : List Stream) (now : ℕ) (steps : List Step) (at
         let c = count_to-more (is_end sync_id) steps [] (length steps) (omega arith) in
         let m : mark ≡ a = omega (arith, b, c, h) in
         subst (λ n. IsSync ((steps ++ e ∷ []) ++ []) (length (steps ++ e ∷ [])) event n at) (sym m) (sync-next (λ v l. ap (sync_below (steps ++ []) v) h))
-    newest-next (Sync before number from) mark b h =
+    newest-next (Sync before) mark b h =
         let c = count_to-more (is_end sync_id) steps [] (length steps) (omega arith) in
         let m : mark ≡ a = omega (arith, b.1, c, h.number) in
         subst (λ n. IsSync ((steps ++ e ∷ []) ++ []) (length (steps ++ e ∷ [])) event n at) (sym m) (sync-next (λ v l. h.later v (let s = b.0 in omega (arith, s, l))))

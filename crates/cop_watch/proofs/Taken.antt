@@ -1,5 +1,5 @@
 -- A step that is taken: what is known after it.
-use Rattle.std.proofs.Common.{◌≡◌, ◌≢◌, ℕ, ◌+◌, ◌-◌, ◌*◌, ◌≤◌, ◌<◌, inl, inr, List, [], ◌∷◌, ◌++◌, length, refl, sym, ◌∙◌, ap, subst, arith, suc, zero, true, false, cond, not, ◌&&◌, ◌==◌, nat_lt, nat_le, get_or, get_or-set_same, get_or-set_other, length-append}
+use Rattle.std.proofs.Common.{◌≡◌, ◌≢◌, ℕ, ◌+◌, ◌-◌, ◌*◌, ◌≤◌, ◌<◌, ◌⊎◌, inl, inr, List, [], ◌∷◌, ◌++◌, length, refl, sym, ◌∙◌, ap, subst, arith, suc, zero, true, false, cond, not, ◌&&◌, ◌==◌, nat_lt, nat_le, get_or, get_or-set_same, get_or-set_other, length-append}
 use Rattle.std.specs.Prelude.{Option, None, Some, is_some, slice_index, slice_set}
 use Rattle.std.specs.BTreeSet.{BTreeSet, contains}
 use Rattle.std.specs.Ordering.{nat_cmp}
@@ -24,14 +24,17 @@ use Rattle.cop_bus.proofs.Appended.{length-one, one-more, step_at-here, last_eve
 use Rattle.cop_watch.specs.declared.bus.Bus.{Bus}
 use Rattle.cop_watch.specs.declared.bus.Bus.TheVariants.{Idle, Sending, Joining}
 use Rattle.cop_watch.specs.Rules.{Obeys, IsOfLength, is_after}
+use Rattle.cop_watch.specs.declared.syncs.Syncs.{Syncs}
+use Rattle.cop_watch.specs.declared.syncs.EndedSync.{EndedSync}
 use Rattle.cop_watch.specs.declared.syncs.Newest.{Newest}
 use Rattle.cop_watch.specs.declared.syncs.Newest.TheVariants.{Nothing, Sync, Lost}
-use Rattle.cop_watch.specs.Syncs.{mark_of, MayCome, HangsOn, IsNewest, EndsSync}
+use Rattle.cop_watch.specs.Syncs.{Recalls, IsAmong, MayCome, HangsOn, IsNewest, AreKnown, EndsLast, EndsOne}
 use Rattle.cop_watch.specs.Rings.{ring_of, Waits, Leaves, Stays, ArePassed}
 use Rattle.cop_watch.specs.Knowing.{queues, starts, sent, is_a_start, IsQueued, IsHeld, IsJoiner, Awaits, runs_of, joins}
-use Rattle.cop_watch.specs.Watching.{Knows, IsOpen}
+use Rattle.cop_watch.specs.Watching.{Knows, IsOpen, IsLastSync}
 use Rattle.cop_watch.proofs.Further.{FindsTheSame, finds-more, finds-between, fine-one, running-kept, running-one, keeps-none, order-more, idle-more, runs-idle, start-period, end-period, start-time, end-time, start-length, end-length, count-kept, count-raised, order-is, after-le, now-one, idle-is}
-use Rattle.cop_watch.proofs.HangLemmas.{newest-after, hang-after, period-sync, time-sync, queued-kept, queued-sync, hang-next, newest-next}
+use Rattle.cop_watch.proofs.HangLemmas.{syncs-after, recent-next, hang-after, period-sync, time-sync, queued-kept, queued-sync, hang-next, newest-next}
+use Rattle.cop_watch.proofs.SyncLemmas.{among}
 use Rattle.cop_watch.proofs.HeldLemmas.{waits-is, held-other, held-started, held-joiner, held-joined, held-queued}
 
 -- a length of a bit at least is one of a bit time at least
@@ -119,15 +122,14 @@ some-event a b e = cc
 some-stream : (a b : Stream) → Some a ≡ Some b → a ≡ b
 some-stream a b e = cc
 
--- the newest SYNC's event hangs on it
-hangs-on-newest : (xs : List Step) (i event number from : ℕ) (newest : Newest) → newest ≡ Sync event number from → IsNewest newest xs i → HangsOn (sync_anchor xs i event) (mark_of newest)
-hangs-on-newest xs i event number from newest e h =
-    let s = subst (λ n. IsNewest n xs i) e h in
-    subst (HangsOn (sync_anchor xs i event)) (sym (ap mark_of e)) (subst (λ o. HangsOn o number) (sym s.first) refl)
+-- a recalled SYNC's event hangs on it
+hangs-on-recalled : (xs : List Step) (i event number : ℕ) (syncs : Syncs) (s : EndedSync) → IsAmong syncs s → s.event ≡ event → number ≡ s.mark → AreKnown syncs xs i → HangsOn (sync_anchor xs i event) number
+hangs-on-recalled xs i event number syncs s on its is known =
+    subst (λ v. HangsOn (sync_anchor xs i v) number) its (subst (λ o. HangsOn o number) (sym (among xs i syncs s known on)) (sym is))
 
 -- What is known before a step.
-module _ (tau : ℕ) (streams : List Stream) (steps : List Step) (bus : Bus) (now rank : ℕ) (last : List (Option ℕ)) (marks : List ℕ) (newest : Newest) (rings : List (List ℕ)) (waiting : BTreeSet ℕ) (count : ℕ)
-    (h : Knows tau streams steps bus now rank last marks newest rings waiting count) where
+module _ (tau : ℕ) (streams : List Stream) (steps : List Step) (bus : Bus) (now rank : ℕ) (last : List (Option ℕ)) (marks : List ℕ) (syncs : Syncs) (rings : List (List ℕ)) (waiting : BTreeSet ℕ) (count : ℕ)
+    (h : Knows tau streams steps bus now rank last marks syncs rings waiting count) where
   -- an instance waits where its identifier is listed
   pub waits-listed : (id : ℕ) → contains nat_cmp waiting id ≡ waits_after steps (length steps) id
   waits-listed id = h.listed id ∙ sym (waits-is steps now id (ring_of rings id) (h.held id))
@@ -169,7 +171,7 @@ module _ (tau : ℕ) (streams : List Stream) (steps : List Step) (bus : Bus) (no
           subst (λ (xs : List Step). is_not_idle streams steps (length steps) (runs_of tau (Joining k start) xs) at ≡ true) (sym a.is) (runs-idle streams steps (length steps) at (k, start + a.frame.bits * tau))
 
   -- A queue step.
-  module _ (id at event : ℕ) (frame : Content) (k : Stream) (its : stream_of streams id ≡ Some k) (obeying : MayCome k (get_or last id None) (slice_index marks id) newest at event frame)
+  module _ (id at event : ℕ) (frame : Content) (k : Stream) (its : stream_of streams id ≡ Some k) (number : ℕ) (obeying : MayCome k (get_or last id None) (slice_index marks id) syncs at event frame number)
       (order : is_after now rank at 1 ≡ true) (open_to : IsOpen tau now waiting bus at) (long : id < length last) (mark_there : id < length marks) (ring_there : id < length rings) where
     abbrev x : Step
     x = Queue id at event frame
@@ -190,8 +192,8 @@ module _ (tau : ℕ) (streams : List Stream) (steps : List Step) (bus : Bus) (no
         elim obeying [
           | inl o ↦ keeps (period-is k (get_or last id None) (steps ++ x ∷ more) (length steps) id at event frame o) (time-is k (get_or last id None) (steps ++ x ∷ more) (length steps) id at event frame o) (length-is k id at event frame o.length)
               runs (fits-open id at event frame ahead a open_to) (idle-open at ahead a open_to)
-          | inr o ↦ keeps (period-sync tau streams now at steps ahead more x le look (h.fine ahead a) k (get_or last id None) (slice_index marks id) newest id at event frame o (h.hangs ahead a) (hangs-before ahead a o.synced))
-              (time-sync tau streams now at steps ahead more x le look (h.fine ahead a) k (get_or last id None) (slice_index marks id) newest id at event frame o (h.hangs ahead a) (hangs-before ahead a o.synced)) (length-is k id at event frame o.length)
+          | inr o ↦ keeps (period-sync tau streams now at steps ahead more x le look (h.fine ahead a) k (get_or last id None) (slice_index marks id) syncs id at event frame number o (h.hangs ahead a) (hangs-before ahead a o.synced))
+              (time-sync tau streams now at steps ahead more x le look (h.fine ahead a) k (get_or last id None) (slice_index marks id) syncs id at event frame number o (h.hangs ahead a) (hangs-before ahead a o.synced)) (length-is k id at event frame o.length)
               runs (fits-open id at event frame ahead a open_to) (idle-open at ahead a open_to)
         ]
 
@@ -210,21 +212,21 @@ module _ (tau : ℕ) (streams : List Stream) (steps : List Step) (bus : Bus) (no
 
     -- the marks of the last events
     marked-queue : (ahead more : List Step) → Awaits tau bus ahead → FindsTheSame steps ahead (x ∷ more) → (m : ℕ) (j : Stream) → stream_of streams m ≡ Some j → 1 ≤ j.every → (v : ℕ) → last_event m (steps ++ x ∷ []) (length (steps ++ x ∷ [])) ≡ Some v →
-        HangsOn (sync_anchor ((steps ++ x ∷ []) ++ more) (length (steps ++ x ∷ [])) v) (slice_index (slice_set marks id (mark_of newest)) m)
+        HangsOn (sync_anchor ((steps ++ x ∷ []) ++ more) (length (steps ++ x ∷ [])) v) (slice_index (slice_set marks id number) m)
     marked-queue ahead more a look m j there synced v e =
         let after = hang-after tau streams now at steps ahead more x le look (h.fine ahead a) refl in
         let was = sym (last-now m) ∙ e in
         elim (bool_cases (id == m)) [
-          | inr f ↦ subst (HangsOn (sync_anchor ((steps ++ x ∷ []) ++ more) (length (steps ++ x ∷ [])) v)) (sym (get_or-set_other marks id m (mark_of newest) 0 (λ s. apart id m f (sym s))))
+          | inr f ↦ subst (HangsOn (sync_anchor ((steps ++ x ∷ []) ++ more) (length (steps ++ x ∷ [])) v)) (sym (get_or-set_other marks id m number 0 (λ s. apart id m f (sym s))))
               (after v (slice_index marks m) (h.marked ahead a m j there synced v (sym (ap (λ b. cond b (Some event) (last_event m steps (length steps))) f) ∙ was)))
           | inl t ↦ (let same : id ≡ m = true-eq id m t in
               let v_is : event ≡ v = some-event event v (sym (ap (λ b. cond b (Some event) (last_event m steps (length steps))) t) ∙ was) in
               let j_is : k.every ≡ j.every = ap (λ (q : Stream). q.every) (some-stream k j (sym its ∙ ap (stream_of streams) same ∙ there)) in
               elim obeying [
                 | inl o ↦ absurd (let z = o.async in omega (arith, z, j_is, synced))
-                | inr o ↦ subst (λ n. HangsOn (sync_anchor ((steps ++ x ∷ []) ++ more) (length (steps ++ x ∷ [])) n) (slice_index (slice_set marks id (mark_of newest)) m)) v_is
-                    (subst (HangsOn (sync_anchor ((steps ++ x ∷ []) ++ more) (length (steps ++ x ∷ [])) event)) (sym (subst (λ n. get_or (slice_set marks id (mark_of newest)) n 0 ≡ mark_of newest) same (get_or-set_same marks id (mark_of newest) 0 mark_there)))
-                    (after event (mark_of newest) (hangs-on-newest (steps ++ ahead) (length steps) event o.number o.from newest o.on (h.hangs ahead a))))
+                | inr o ↦ subst (λ n. HangsOn (sync_anchor ((steps ++ x ∷ []) ++ more) (length (steps ++ x ∷ [])) n) (slice_index (slice_set marks id number) m)) v_is
+                    (subst (HangsOn (sync_anchor ((steps ++ x ∷ []) ++ more) (length (steps ++ x ∷ [])) event)) (sym (subst (λ n. get_or (slice_set marks id number) n 0 ≡ number) same (get_or-set_same marks id number 0 mark_there)))
+                    (after event number (hangs-on-recalled (steps ++ ahead) (length steps) event number syncs o.sync o.on o.its o.numbered (h.hangs ahead a))))
               ])
         ]
 
@@ -280,7 +282,7 @@ module _ (tau : ℕ) (streams : List Stream) (steps : List Step) (bus : Bus) (no
         | inr f ↦ (let c = count-kept (is_queue m) steps x f in omega (arith, c))
       ]
 
-      pub queued-behind : Knows tau streams (steps ++ x ∷ []) bus at 1 (slice_set last id (Some event)) (slice_set marks id (mark_of newest)) newest rings' waiting' count
+      pub queued-behind : Knows tau streams (steps ++ x ∷ []) bus at 1 (slice_set last id (Some event)) (slice_set marks id number) syncs rings' waiting' count
       queued-behind = record {
         tick = h.tick;
         last_is = now-one steps x;
@@ -293,7 +295,7 @@ module _ (tau : ℕ) (streams : List Stream) (steps : List Step) (bus : Bus) (no
         ];
         lasts = last-queue id at event frame last steps long h.lasts;
         last_queued = last-queued;
-        hangs = λ ahead a. newest-after tau streams now at steps ahead ahead x le (look-behind ahead a) (h.fine ahead a) refl newest (h.hangs ahead a);
+        hangs = λ ahead a. syncs-after tau streams now at steps ahead ahead x le (look-behind ahead a) (h.fine ahead a) refl syncs (h.hangs ahead a);
         marked = λ ahead a. marked-queue ahead ahead a (look-behind ahead a);
         held = held-behind;
         listed = listed-behind;
@@ -332,7 +334,7 @@ module _ (tau : ℕ) (streams : List Stream) (steps : List Step) (bus : Bus) (no
         | inr f ↦ other-held m f
       ]
 
-      pub queued-joined : Knows tau streams (steps ++ x ∷ []) (Sending id (start + frame.bits * tau)) at 1 (slice_set last id (Some event)) (slice_set marks id (mark_of newest)) newest rings waiting count
+      pub queued-joined : Knows tau streams (steps ++ x ∷ []) (Sending id (start + frame.bits * tau)) at 1 (slice_set last id (Some event)) (slice_set marks id number) syncs rings waiting count
       queued-joined = record {
         tick = h.tick;
         last_is = now-one steps x;
@@ -346,9 +348,9 @@ module _ (tau : ℕ) (streams : List Stream) (steps : List Step) (bus : Bus) (no
         one_ahead = λ m t. absurd (cc);
         lasts = last-queue id at event frame last steps long h.lasts;
         last_queued = last-queued;
-        hangs = λ ahead e. subst (λ (xs : List Step). IsNewest newest ((steps ++ x ∷ []) ++ xs) (length (steps ++ x ∷ []))) (sym e)
-            (newest-after tau streams now at steps (x ∷ []) [] x le same-found (h.fine (x ∷ []) awaited) refl newest (h.hangs (x ∷ []) awaited));
-        marked = λ ahead e m j there synced v l. subst (λ (xs : List Step). HangsOn (sync_anchor ((steps ++ x ∷ []) ++ xs) (length (steps ++ x ∷ [])) v) (slice_index (slice_set marks id (mark_of newest)) m)) (sym e)
+        hangs = λ ahead e. subst (λ (xs : List Step). AreKnown syncs ((steps ++ x ∷ []) ++ xs) (length (steps ++ x ∷ []))) (sym e)
+            (syncs-after tau streams now at steps (x ∷ []) [] x le same-found (h.fine (x ∷ []) awaited) refl syncs (h.hangs (x ∷ []) awaited));
+        marked = λ ahead e m j there synced v l. subst (λ (xs : List Step). HangsOn (sync_anchor ((steps ++ x ∷ []) ++ xs) (length (steps ++ x ∷ [])) v) (slice_index (slice_set marks id number) m)) (sym e)
             (marked-queue (x ∷ []) [] awaited same-found m j there synced v l);
         held = held-joined-here;
         listed = h.listed;
@@ -416,8 +418,8 @@ module _ (tau : ℕ) (streams : List Stream) (steps : List Step) (bus : Bus) (no
     last-start : (m : ℕ) → last_event m (steps ++ s ∷ []) (length (steps ++ s ∷ [])) ≡ last_event m steps (length steps)
     last-start m = ap (last_event m (steps ++ s ∷ [])) (length-one steps s) ∙ last_event-here m steps s []
 
-    hangs-start : (more : List Step) → IsNewest newest ((steps ++ s ∷ []) ++ more) (length (steps ++ s ∷ []))
-    hangs-start more = newest-after tau streams now at steps [] more s le-start (finds-more steps (s ∷ more)) (h.fine [] none-awaited) refl newest (h.hangs [] none-awaited)
+    hangs-start : (more : List Step) → AreKnown syncs ((steps ++ s ∷ []) ++ more) (length (steps ++ s ∷ []))
+    hangs-start more = syncs-after tau streams now at steps [] more s le-start (finds-more steps (s ∷ more)) (h.fine [] none-awaited) refl syncs (h.hangs [] none-awaited)
 
     marked-start : (more : List Step) (m : ℕ) (j : Stream) → stream_of streams m ≡ Some j → 1 ≤ j.every → (v : ℕ) → last_event m (steps ++ s ∷ []) (length (steps ++ s ∷ [])) ≡ Some v → HangsOn (sync_anchor ((steps ++ s ∷ []) ++ more) (length (steps ++ s ∷ [])) v) (slice_index marks m)
     marked-start more m j there synced v e =
@@ -477,7 +479,7 @@ module _ (tau : ℕ) (streams : List Stream) (steps : List Step) (bus : Bus) (no
       ends : at + bits_of (Some y) * tau ≡ at + bits * tau
       ends = ap (λ n. at + n * tau) queued-first.long
 
-      pub started-first : Knows tau streams (steps ++ s ∷ []) (Sending id (at + bits * tau)) at 2 last marks newest rings' waiting' (count + 1)
+      pub started-first : Knows tau streams (steps ++ s ∷ []) (Sending id (at + bits * tau)) at 2 last marks syncs rings' waiting' (count + 1)
       started-first = record {
         tick = h.tick;
         last_is = now-one steps s;
@@ -527,7 +529,7 @@ module _ (tau : ℕ) (streams : List Stream) (steps : List Step) (bus : Bus) (no
         | inr f ↦ other-held-start m f
       ]
 
-      pub started-joiner : Knows tau streams (steps ++ s ∷ []) (Joining id at) at 2 last marks newest rings' waiting' (count + 1)
+      pub started-joiner : Knows tau streams (steps ++ s ∷ []) (Joining id at) at 2 last marks syncs rings' waiting' (count + 1)
       started-joiner = record {
         tick = h.tick;
         last_is = now-one steps s;
@@ -579,10 +581,10 @@ module _ (tau : ℕ) (streams : List Stream) (steps : List Step) (bus : Bus) (no
     last-end : (m : ℕ) → last_event m (steps ++ e ∷ []) (length (steps ++ e ∷ [])) ≡ last_event m steps (length steps)
     last-end m = ap (last_event m (steps ++ e ∷ [])) (length-one steps e) ∙ last_event-here m steps e []
 
-    ended : (newest' : Newest) → IsNewest newest' ((steps ++ e ∷ []) ++ []) (length (steps ++ e ∷ [])) →
+    ended : (syncs' : Syncs) → AreKnown syncs' ((steps ++ e ∷ []) ++ []) (length (steps ++ e ∷ [])) →
         ((v mark : ℕ) → HangsOn (sync_anchor (steps ++ []) (length steps) v) mark → HangsOn (sync_anchor ((steps ++ e ∷ []) ++ []) (length (steps ++ e ∷ [])) v) mark) →
-        Knows tau streams (steps ++ e ∷ []) Idle at 0 last marks newest' rings waiting count
-    ended newest' hangs' hang = record {
+        Knows tau streams (steps ++ e ∷ []) Idle at 0 last marks syncs' rings waiting count
+    ended syncs' hangs' hang = record {
       tick = h.tick;
       last_is = now-one steps e;
       fine = λ ahead a. subst (KeepTheRules tau streams at (steps ++ e ∷ [])) (sym a) (fine-one tau streams now at steps [] [] e (after-le now rank at 0 order) (finds-more steps (e ∷ [])) (h.fine [] none-awaited-end) here-end);
@@ -591,7 +593,7 @@ module _ (tau : ℕ) (streams : List Stream) (steps : List Step) (bus : Bus) (no
       one_ahead = λ m t. absurd (cc);
       lasts = last-kept e last steps (λ k v. refl) h.lasts;
       last_queued = queued-kept steps e refl (λ v. refl) h.last_queued;
-      hangs = λ ahead a. subst (λ (xs : List Step). IsNewest newest' ((steps ++ e ∷ []) ++ xs) (length (steps ++ e ∷ []))) (sym a) hangs';
+      hangs = λ ahead a. subst (λ (xs : List Step). AreKnown syncs' ((steps ++ e ∷ []) ++ xs) (length (steps ++ e ∷ []))) (sym a) hangs';
       marked = λ ahead a m j there synced v l. subst (λ (xs : List Step). HangsOn (sync_anchor ((steps ++ e ∷ []) ++ xs) (length (steps ++ e ∷ [])) v) (slice_index marks m)) (sym a)
           (hang v (slice_index marks m) (h.marked [] none-awaited-end m j there synced v (sym (last-end m) ∙ l)));
       held = λ m. held-other steps e now at m (ring_of rings m) (after-le now rank at 0 order) refl refl (h.held m);
@@ -600,10 +602,10 @@ module _ (tau : ℕ) (streams : List Stream) (steps : List Step) (bus : Bus) (no
       count = h.count ∙ sym (count-kept is_a_start steps e refl);
     }
 
-    pub ended-other : (id == sync_id) ≡ false → Knows tau streams (steps ++ e ∷ []) Idle at 0 last marks newest rings waiting count
+    pub ended-other : (id == sync_id) ≡ false → Knows tau streams (steps ++ e ∷ []) Idle at 0 last marks syncs rings waiting count
     ended-other f =
         let le = after-le now rank at 0 order in
-        ended newest (newest-after tau streams now at steps [] [] e le (finds-more steps (e ∷ [])) (h.fine [] none-awaited-end) f newest (h.hangs [] none-awaited-end))
+        ended syncs (syncs-after tau streams now at steps [] [] e le (finds-more steps (e ∷ [])) (h.fine [] none-awaited-end) f syncs (h.hangs [] none-awaited-end))
         (hang-after tau streams now at steps [] [] e le (finds-more steps (e ∷ [])) (h.fine [] none-awaited-end) f)
 
   -- The end of a SYNC.
@@ -621,12 +623,25 @@ module _ (tau : ℕ) (streams : List Stream) (steps : List Step) (bus : Bus) (no
         let l = h.none_ahead sync_id (ap (λ b. joins b sync_id) sends) in
         omega (arith, c, n, l)
 
-    pub ended-sync : (newest' : Newest) → EndsSync (ring_of rings sync_id) (get_or last sync_id None) newest at newest' → Knows tau streams (steps ++ End sync_id at ∷ []) Idle at 0 last marks newest' rings waiting count
-    ended-sync Nothing w = absurd w
-    ended-sync (Sync event mark from) w =
-        let its = λ (some : 0 < queues sync_id steps). h.last_queued some ∙ sym (h.lasts sync_id) ∙ w.1 in
-        let many = as-many-sync w.0 in
-        let next = newest-next tau streams now steps at (h.fine [] none-awaited-sync) event runs-sync many its newest mark w.3 (h.hangs [] none-awaited-sync) in
-        ended sync_id at sends order is_known (Sync event mark from) (subst (λ n. IsNewest (Sync event mark n) ((steps ++ End sync_id at ∷ []) ++ []) (length (steps ++ End sync_id at ∷ []))) (sym w.2) next)
+    newest-so : (event : Option ℕ) → ((v : ℕ) → event ≡ Some v → IsLastSync (ring_of rings sync_id) (get_or last sync_id None) v) → (newest' : Newest) → EndsLast event syncs.newest at newest'
+        → IsNewest newest' ((steps ++ End sync_id at ∷ []) ++ []) (length (steps ++ End sync_id at ∷ []))
+    newest-so event its Nothing w = absurd w
+    newest-so event its (Sync s) w =
+        let is = its s.event w.0 in
+        let told = λ (some : 0 < queues sync_id steps). h.last_queued some ∙ sym (h.lasts sync_id) ∙ is.1 in
+        let next = newest-next tau streams now steps at (h.fine [] none-awaited-sync) s.event runs-sync (as-many-sync is.0) told syncs.newest s.mark w.2 (h.hangs [] none-awaited-sync).newest in
+        subst (λ n. IsNewest (Sync (record { event = s.event; mark = s.mark; from = n })) ((steps ++ End sync_id at ∷ []) ++ []) (length (steps ++ End sync_id at ∷ []))) (sym w.1) next
+    newest-so event its Lost w = tt
+
+    pub ended-sync : (event : Option ℕ) → ((v : ℕ) → event ≡ Some v → IsLastSync (ring_of rings sync_id) (get_or last sync_id None) v) → (syncs' : Syncs) → EndsOne event syncs at syncs'
+        → Knows tau streams (steps ++ End sync_id at ∷ []) Idle at 0 last marks syncs' rings waiting count
+    ended-sync event its syncs' w =
+        let newest = newest-so event its syncs'.newest w.newest in
+        ended sync_id at sends order is_known syncs'
+        (record { newest = newest; recent = λ s on. recalled s (w.recent s on) newest })
         (hang-next tau streams now steps at (h.fine [] none-awaited-sync))
-    ended-sync Lost w = ended sync_id at sends order is_known Lost tt (hang-next tau streams now steps at (h.fine [] none-awaited-sync))
+      where
+        recalled : (s : EndedSync) → Recalls syncs s ⊎ (syncs'.newest ≡ Sync s) → IsNewest syncs'.newest ((steps ++ End sync_id at ∷ []) ++ []) (length (steps ++ End sync_id at ∷ []))
+            → sync_anchor ((steps ++ End sync_id at ∷ []) ++ []) (length (steps ++ End sync_id at ∷ [])) s.event ≡ Some (record { mark = s.mark; from = s.from })
+        recalled s (inl on) newest = recent-next tau streams now steps at (h.fine [] none-awaited-sync) s.event s.mark s.from ((h.hangs [] none-awaited-sync).recent s on)
+        recalled s (inr is) newest = (subst (λ n. IsNewest n ((steps ++ End sync_id at ∷ []) ++ []) (length (steps ++ End sync_id at ∷ []))) is newest).first

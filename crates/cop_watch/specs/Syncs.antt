@@ -1,5 +1,5 @@
--- The SYNC that ended last, and what hangs on it.
-use Rattle.std.specs.Prelude.{◌≡◌, ℕ, ◌+◌, ◌≤◌, ◌<◌, ◌⊎◌, List, [], Option, Some, None}
+-- The SYNCs that have ended, and what hangs on them.
+use Rattle.std.specs.Prelude.{◌≡◌, ℕ, ◌+◌, ◌≤◌, ◌<◌, ◌⊎◌, List, Option, Some, None, slice_get}
 use Rattle.cop_rta.specs.declared.streams.Stream.{Stream}
 use Rattle.cop_rta.specs.Test.{sync_id}
 use Rattle.cop_bus.specs.declared.steps.Step.{Step}
@@ -7,28 +7,35 @@ use Rattle.cop_bus.specs.declared.steps.Content.{Content}
 use Rattle.cop_bus.specs.declared.anchors.Anchor.{Anchor}
 use Rattle.cop_bus.specs.Trace.{count_to}
 use Rattle.cop_bus.specs.Ends.{is_end, sync_anchor}
+use Rattle.cop_watch.specs.declared.syncs.EndedSync.{EndedSync}
+use Rattle.cop_watch.specs.declared.syncs.Syncs.{Syncs}
 use Rattle.cop_watch.specs.declared.syncs.Newest.{Newest}
 use Rattle.cop_watch.specs.declared.syncs.Newest.TheVariants.{Nothing, Sync, Lost}
 use Rattle.cop_watch.specs.Rules.{Obeys, IsOfLength}
 
-abbrev pub mark_of : Newest → ℕ
-mark_of Nothing = 0
-mark_of (Sync event mark from) = mark
-mark_of Lost = 0
+-- a SYNC is among those that are recalled
+abbrev pub Recalls : Syncs → EndedSync → Type 0
+Recalls syncs s = (place : ℕ) × (slice_get syncs.recent.items place ≡ Some (Some s))
 
--- a synchronous stream may queue an instance of the newest SYNC's event, by the mark of the one before
-pub record ObeysSync (k : Stream) (before : Option ℕ) (mark : ℕ) (newest : Newest) (at event : ℕ) (frame : Content) : Type 0 where
+-- or it is the newest
+abbrev pub IsAmong : Syncs → EndedSync → Type 0
+IsAmong syncs s = (syncs.newest ≡ Sync s) ⊎ Recalls syncs s
+
+-- a synchronous stream may queue an instance of a recalled SYNC's event, by the mark of the one before
+pub record ObeysSync (k : Stream) (before : Option ℕ) (mark : ℕ) (syncs : Syncs) (at event : ℕ) (frame : Content) (number : ℕ) : Type 0 where
   pub synced : 1 ≤ k.every
-  pub number : ℕ
-  pub from : ℕ
-  pub on : newest ≡ Sync event number from
-  pub later : (v : ℕ) → before ≡ Some v → mark + k.every ≤ number
-  pub after_from : from ≤ at
-  pub by : at ≤ from + k.jitter
+  pub sync : EndedSync
+  pub on : IsAmong syncs sync
+  pub its : sync.event ≡ event
+  pub numbered : number ≡ sync.mark
+  pub later : (v : ℕ) → before ≡ Some v → mark + k.every ≤ sync.mark
+  pub after_from : sync.from ≤ at
+  pub by : at ≤ sync.from + k.jitter
   pub length : IsOfLength k frame
 
-abbrev pub MayCome : Stream → Option ℕ → ℕ → Newest → ℕ → ℕ → Content → Type 0
-MayCome k before mark newest at event frame = Obeys k before at event frame ⊎ ObeysSync k before mark newest at event frame
+-- a stream may queue an instance, and if it is synchronous that hangs on the SYNC of a number
+abbrev pub MayCome : Stream → Option ℕ → ℕ → Syncs → ℕ → ℕ → Content → ℕ → Type 0
+MayCome k before mark syncs at event frame number = Obeys k before at event frame ⊎ ObeysSync k before mark syncs at event frame number
 
 -- the SYNC with this event, after so many others, is the first that ended of those with it, and none with a later one ended
 pub record IsSync (xs : List Step) (i event mark from : ℕ) : Type 0 where
@@ -43,21 +50,35 @@ HangsOn (Some e) mark = e.mark ≡ mark
 
 abbrev pub IsNewest : Newest → List Step → ℕ → Type 0
 IsNewest Nothing xs i = count_to (is_end sync_id) xs i ≡ 0
-IsNewest (Sync event mark from) xs i = IsSync xs i event mark from
+IsNewest (Sync s) xs i = IsSync xs i s.event s.mark s.from
 IsNewest Lost xs i = Unit {0}
+
+-- the SYNC that ended last is known, and each that is recalled is the first that ended of those with its event
+pub record AreKnown (syncs : Syncs) (xs : List Step) (i : ℕ) : Type 0 where
+  pub newest : IsNewest syncs.newest xs i
+  pub recent : (s : EndedSync) → Recalls syncs s → sync_anchor xs i s.event ≡ Some (record { mark = s.mark; from = s.from })
 
 -- how the newest one changes where a SYNC with an event ends
 abbrev pub IsBehind : Newest → ℕ → ℕ → Type 0
 IsBehind Nothing event mark = mark ≡ 0
-IsBehind (Sync before number from) event mark = (before < event) × (mark ≡ number + 1)
+IsBehind (Sync before) event mark = (before.event < event) × (mark ≡ before.mark + 1)
 IsBehind Lost event mark = ⊥
 
 abbrev pub EndsLast : Option ℕ → Newest → ℕ → Newest → Type 0
 EndsLast last newest at Nothing = ⊥
-EndsLast last newest at (Sync event mark from) = (last ≡ Some event) × (from ≡ at) × IsBehind newest event mark
+EndsLast last newest at (Sync s) = (last ≡ Some s.event) × (s.from ≡ at) × IsBehind newest s.event s.mark
 EndsLast last newest at Lost = Unit {0}
 
-abbrev pub EndsSync : List ℕ → Option ℕ → Newest → ℕ → Newest → Type 0
-EndsSync ring last newest at Nothing = ⊥
-EndsSync ring last newest at (Sync event mark from) = (ring ≡ []) × (last ≡ Some event) × (from ≡ at) × IsBehind newest event mark
-EndsSync ring last newest at Lost = Unit {0}
+-- what stands at places afterwards stood there before, or is one SYNC
+abbrev pub Puts : List (Option EndedSync) → List (Option EndedSync) → EndedSync → Type 0
+Puts before after sync = (place : ℕ) (s : EndedSync) → slice_get after place ≡ Some (Some s) → (slice_get before place ≡ Some (Some s)) ⊎ (s ≡ sync)
+
+-- no SYNC has ended
+pub record AreNone (syncs : Syncs) : Type 0 where
+  pub newest : syncs.newest ≡ Nothing
+  pub recent : (s : EndedSync) → Recalls syncs s → ⊥
+
+-- A SYNC ends, whose event is known, or it is lost: what is recalled afterwards was recalled before, or is this SYNC.
+pub record EndsOne (event : Option ℕ) (before : Syncs) (at : ℕ) (after : Syncs) : Type 0 where
+  pub newest : EndsLast event before.newest at after.newest
+  pub recent : (s : EndedSync) → Recalls after s → Recalls before s ⊎ (after.newest ≡ Sync s)

@@ -1,11 +1,11 @@
 //! The rules of a step that ask neither what runs nor what waits.
 
-ghost use Rattle.std.specs.Prelude.{◌≡◌, ◌+◌, ◌≤◌, ℕ, true, Some};
+ghost use Rattle.std.specs.Prelude.{◌≡◌, ◌+◌, ◌≤◌, ℕ, true, Some, IfSome};
 ghost use Rattle.cop_bus.specs.Judge.{stream_of};
 ghost use Rattle.cop_watch.specs.Rules.{Obeys, IsOfLength, is_after};
 ghost use Rattle.cop_watch.specs.Syncs.{ObeysSync};
 
-use crate::syncs::Newest;
+use crate::syncs::Syncs;
 use cop_bus::Content;
 use cop_frame::{least_bits, worst_bits};
 use cop_rta::{Stream, StreamSet};
@@ -51,34 +51,38 @@ pub(crate) fn obeys(
         && is_of_length(stream, frame)
 }
 
-/// Whether a synchronous stream may queue an instance, by the event of the one before and the number of the SYNC that has it.
-pub(crate) fn obeys_sync(
+fn is_far(stream: &Stream, before: Option<u64>, mark: u64, number: u64) -> bool
+    ensures { result ≡ true → (v : ℕ) → before ≡ Some v → mark + stream.now.every ≤ number }
+{
+    match before {
+        Some(_) => u128::from(mark) + u128::from(stream.every) <= u128::from(number),
+        None => true,
+    }
+}
+
+/// The number of the SYNC on which an instance hangs that a synchronous stream may queue, by the event of the one before and the number
+/// of the SYNC that has it; none where it may not, or that SYNC is not recalled.
+pub(crate) fn sync_obeyed(
     stream: &Stream,
     before: Option<u64>,
     mark: u64,
-    newest: Newest,
+    syncs: &Syncs,
     at: u64,
     event: u64,
     frame: &Content,
-) -> bool
+) -> Option<u64>
     requires { 1 ≤ stream.now.every }
-    ensures { result ≡ true → ObeysSync stream.now before mark newest at event frame.now }
+    ensures { IfSome result (ObeysSync stream.now before mark syncs.now at event frame.now) }
 {
-    match newest {
-        Newest::Sync {
-            event: newest,
-            mark: number,
-            from,
-        } => {
-            newest == event
-                && (before.is_none()
-                    || u128::from(mark) + u128::from(stream.every) <= u128::from(number))
-                && from <= at
-                && u128::from(at) <= u128::from(from) + u128::from(stream.jitter)
-                && is_of_length(stream, frame)
-        }
-        Newest::Nothing | Newest::Lost => false,
+    let sync = syncs.of_event(event)?;
+    if is_far(stream, before, mark, sync.mark)
+        && sync.from <= at
+        && u128::from(at) <= u128::from(sync.from) + u128::from(stream.jitter)
+        && is_of_length(stream, frame)
+    {
+        return Some(sync.mark);
     }
+    None
 }
 
 /// The stream of the set that has the identifier.

@@ -1,6 +1,6 @@
 //! A trace that is watched, step by step.
 
-ghost use Rattle.std.specs.Prelude.{◌≡◌, ◌<◌, ◌++◌, ◌∷◌, [], ℕ, List, IfOk, None, true, length, slice_index, slice_index_or};
+ghost use Rattle.std.specs.Prelude.{◌≡◌, ◌<◌, ◌++◌, ◌∷◌, [], ℕ, List, IfOk, IfSome, None, true, length, slice_index, slice_index_or};
 ghost use Rattle.cop_frame.specs.Rate.{ticks_of};
 ghost use Rattle.cop_rta.specs.declared.streams.Stream.{Stream as Seen};
 ghost use Rattle.cop_bus.specs.declared.steps.Step.{Step};
@@ -8,13 +8,13 @@ ghost use Rattle.cop_bus.specs.Judge.{first_broken};
 ghost use Rattle.cop_watch.specs.Knowing.{sent};
 ghost use Rattle.cop_watch.specs.Rings.{ring_of};
 ghost use Rattle.cop_rta.specs.Test.{sync_id};
-ghost use Rattle.cop_watch.specs.Syncs.{MayCome, EndsSync};
-ghost use Rattle.cop_watch.specs.Watching.{HasTaken, MayQueue, MayStart, MayEnd, IsOpen};
+ghost use Rattle.cop_watch.specs.Syncs.{MayCome};
+ghost use Rattle.cop_watch.specs.Watching.{HasTaken, MayQueue, MayStart, MayEnd, IsOpen, IsLastSync};
 
 use crate::bus::{Bus, sending};
 use crate::rings::{Ring, none_lower, none_waits, take_first, wait};
-use crate::rules::{is_after, obeys, obeys_sync, stream_of};
-use crate::syncs::{Newest, ended};
+use crate::rules::{is_after, obeys, stream_of, sync_obeyed};
+use crate::syncs::Syncs;
 use cop_bus::{Content, Step};
 use cop_frame::Rate;
 use cop_frame::identifiers::SYNC;
@@ -34,7 +34,7 @@ pub struct Watch<'a> {
     // Each identifier's last event, and of a synchronous stream the number of the SYNC that has it.
     last: Vec<Option<u64>>,
     marks: Vec<u64>,
-    newest: Newest,
+    syncs: Syncs,
     // Each identifier's instances that wait, and those of which some do.
     rings: Vec<Ring>,
     waiting: BTreeSet<u16>,
@@ -55,7 +55,7 @@ impl<'a> Watch<'a> {
             ticks: rate.ticks_per_bit(),
             last: no_events(alloc)?,
             marks: vec![in alloc; 0; IDS]?,
-            newest: Newest::Nothing,
+            syncs: Syncs::new(alloc)?,
             rings: rings(alloc)?,
             waiting: BTreeSet::new(alloc),
             bus: Bus::Idle,
@@ -74,7 +74,7 @@ impl<'a> Watch<'a> {
 
     /// Takes the next step. Where it says that it did, all the steps so far may stand so in a trace that breaks no rule. Where it does not,
     /// nothing is known of them, and nothing more is to be taken: a rule may be broken, or more instances of a stream wait than there is
-    /// room for, or memory is wanting, or an instance hangs on another SYNC than the one that ended last.
+    /// room for, or memory is wanting, or an instance hangs on another SYNC than the 64 that ended last, or one ended while another waited.
     pub fn take(&mut self, step: &Step) -> bool
         ensures { result ≡ true → (tau : ℕ) (streams : List Seen) (steps : List Step)
             → HasTaken tau streams steps self.old → HasTaken tau streams (steps ++ step.now ∷ []) self.new }
@@ -117,41 +117,52 @@ impl<'a> Watch<'a> {
         }
     }
 
-    fn may_queue(&self, id: u16, at: u64, event: u64, frame: &Content) -> bool
-        ensures { result ≡ true → MayQueue self.now id at event frame.now }
+    // Whether a queue step may come: the number of the SYNC on which a synchronous instance hangs, and 0 for another.
+    fn may_queue(&self, id: u16, at: u64, event: u64, frame: &Content) -> Option<u64>
+        ensures { IfSome result (MayQueue self.now id at event frame.now) }
     {
         let place = usize::from(id);
         if place >= self.last.len() || place >= self.rings.len() || place >= self.marks.len() {
-            return false;
+            return None;
         }
         if !is_after(self.at, self.rank, at, 1) || !self.is_open(at) {
-            return false;
+            return None;
         }
         match stream_of(self.streams, id) {
             Some(stream) => self.may_come(&stream, place, at, event, frame),
-            None => false,
+            None => None,
         }
     }
 
     // Whether the stream at a place may queue an instance, by those before it.
-    fn may_come(&self, stream: &Stream, place: usize, at: u64, event: u64, frame: &Content) -> bool
+    fn may_come(
+        &self,
+        stream: &Stream,
+        place: usize,
+        at: u64,
+        event: u64,
+        frame: &Content,
+    ) -> Option<u64>
         requires last { place < length self.now.last.items }
         requires marks { place < length self.now.marks.items }
-        ensures { result ≡ true → MayCome stream.now (slice_index_or self.now.last.items place None) (slice_index self.now.marks.items place) self.now.newest at event frame.now }
+        ensures { IfSome result (MayCome stream.now (slice_index_or self.now.last.items place None) (slice_index self.now.marks.items place) self.now.syncs at event frame.now) }
     {
-        if stream.every == 0 {
-            obeys(stream, self.last[place], at, event, frame)
-        } else {
-            obeys_sync(
+        let last = self.last[place];
+        if stream.every > 0 {
+            return sync_obeyed(
                 stream,
-                self.last[place],
+                last,
                 self.marks[place],
-                self.newest,
+                &self.syncs,
                 at,
                 event,
                 frame,
-            )
+            );
         }
+        if obeys(stream, last, at, event, frame) {
+            return Some(0);
+        }
+        None
     }
 
     fn may_start(&self, id: u16, at: u64) -> bool
@@ -178,14 +189,15 @@ impl<'a> Watch<'a> {
         ensures { result ≡ true → (tau : ℕ) (streams : List Seen) (steps : List Step)
             → HasTaken tau streams steps self.old → HasTaken tau streams (steps ++ Step.Queue id at event frame.now ∷ []) self.new }
     {
-        if !self.may_queue(id, at, event, frame) {
-            return false;
-        }
+        let mark = match self.may_queue(id, at, event, frame) {
+            Some(mark) => mark,
+            None => return false,
+        };
         let place = usize::from(id);
         self.at = at;
         self.rank = 1;
         self.last[place] = Some(event);
-        self.marks[place] = self.newest.mark();
+        self.marks[place] = mark;
         match self.bus.joined(id) {
             Some(start) => {
                 self.bus = sending(id, start, frame.bits, self.ticks);
@@ -223,20 +235,21 @@ impl<'a> Watch<'a> {
         self.rank = 0;
         self.bus = Bus::Idle;
         if id == SYNC {
-            self.newest = self.after_sync(at);
+            let event = self.last_sync();
+            self.syncs.end(event, at);
         }
         true
     }
 
-    // The newest SYNC, where one ends. Where another waits it is lost which of them ends.
-    fn after_sync(&self, at: u64) -> Newest
-        ensures { EndsSync (ring_of self.now.rings.items sync_id) (slice_index_or self.now.last.items sync_id None) self.now.newest at result }
+    // The event of the SYNC that ends. Where another waits it is lost which of them does.
+    fn last_sync(&self) -> Option<u64>
+        ensures { IfSome result (IsLastSync (ring_of self.now.rings.items sync_id) (slice_index_or self.now.last.items sync_id None)) }
     {
         let place = usize::from(SYNC);
         if place >= self.rings.len() || place >= self.last.len() || !self.rings[place].is_empty() {
-            return Newest::Lost;
+            return None;
         }
-        ended(self.newest, self.last[place], at)
+        self.last[place]
     }
 }
 

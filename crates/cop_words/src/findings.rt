@@ -2,7 +2,9 @@
 
 use crate::devices::row_of;
 use crate::hazards::push_texts;
+use crate::margins::error_words;
 use crate::warnings::{place_of, row_at, sentence_of, warning_words};
+use cop_figures::Tight;
 use cop_net::{Network, NodeTable};
 use cop_warn::Warning;
 use std::alloc::{AllocError, Global};
@@ -19,7 +21,7 @@ pub struct EdsLine {
 /// Something under which a plan may be no plan of the machine.
 #[derive(Drop)]
 pub struct Finding {
-    /// 80 to 89; some have none.
+    /// 80 to 89, and 110 on; some have none.
     pub number: Option<u8>,
     /// The node. Where several devices have one EDS text, that of the first.
     pub node: Option<u8>,
@@ -43,7 +45,8 @@ fn node_of(network: &Network<'_>, warning: Warning) -> Option<u8> {
     match warning {
         Warning::NoRow { node, .. } => Some(node),
         Warning::OtherIdentifier { node, .. } => Some(node),
-        Warning::MakesSync { node } => Some(node),
+        Warning::MakesSync { node } | Warning::MakesTime { node } => Some(node),
+        Warning::SyncPeriod { node, .. } => Some(node),
         Warning::DeadlineWithinJitter { place }
         | Warning::EventTimer { place, .. }
         | Warning::InhibitTime { place, .. } => match row_at(network, place) {
@@ -94,18 +97,42 @@ fn findings_of_texts(
     Ok(findings)
 }
 
-/// All that is worth a look before one relies on a plan: what the EDS texts of a network leave implicit, and its warnings, by rising
-/// number and record. `Err` is want of memory.
+/// What one error on the bus takes of a plan, as a finding.
+fn error_finding(
+    alloc: Global,
+    network: &Network<'_>,
+    tight: &Tight,
+) -> Result<Finding, AllocError> {
+    let said = error_words(alloc, network, tight)?;
+    let node = match network.rows().get(tight.times.pdo) {
+        Some(row) => Some(row.node),
+        None => None,
+    };
+    Ok(Finding {
+        number: Some(116),
+        node,
+        record: Some((tight.times.pdo as u64).saturating_add(1)),
+        at: None,
+        words: String::from_str(alloc, said.trim_end())?,
+    })
+}
+
+/// All that is worth a look before one relies on a plan: what the EDS texts of a network leave implicit, its warnings, and the PDO that one
+/// error on the bus may make late, by rising number and record. `Err` is want of memory.
 pub fn findings_of(
     alloc: Global,
     eds_files: &[(String, Vec<u8>)],
     nodes: &NodeTable,
     network: &Network<'_>,
     warnings: &[Warning],
+    tight: Option<&Tight>,
 ) -> Result<Vec<Finding>, AllocError> {
     let mut findings = findings_of_texts(alloc, eds_files, nodes)?;
     for warning in warnings {
         findings.push(finding_of(alloc, nodes, network, *warning)?)?;
+    }
+    if let Some(tight) = tight {
+        findings.push(error_finding(alloc, network, tight)?)?;
     }
     findings.sort_by_key(|finding| finding.rank())?;
     Ok(findings)
@@ -124,19 +151,23 @@ fn push_finding(words: &mut Vec<u8>, alloc: Global, finding: &Finding) -> Result
     Ok(())
 }
 
-/// The lines of all that is worth a look before one relies on a plan: first of what EDS texts leave implicit, and then of the warnings,
-/// with one line for all nodes that lack a row of one kind. `Err` is want of memory.
+/// The lines of all that is worth a look before one relies on a plan: first of what EDS texts leave implicit, then of the warnings, with one
+/// line for all nodes that lack a row of one kind, and of the PDO that one error on the bus may make late. `Err` is want of memory.
 pub fn finding_words(
     alloc: Global,
     eds_files: &[(String, Vec<u8>)],
     nodes: &NodeTable,
     network: &Network<'_>,
     warnings: &[Warning],
+    tight: Option<&Tight>,
 ) -> Result<Vec<u8>, AllocError> {
     let mut words = Vec::new(alloc);
     for finding in findings_of_texts(alloc, eds_files, nodes)?.iter() {
         push_finding(&mut words, alloc, finding)?;
     }
     words.extend_from_slice(&warning_words(alloc, network, warnings)?)?;
+    if let Some(tight) = tight {
+        push_finding(&mut words, alloc, &error_finding(alloc, network, tight)?)?;
+    }
     Ok(words)
 }

@@ -2,6 +2,7 @@
 
 use crate::devices::{accepted, text_named};
 use crate::findings::{EdsLine, Finding};
+use crate::parameters::push_parameters;
 use crate::words::push_shown;
 use cop_eds::Eds;
 use cop_hazard::{Hazard, all_hazards, index_at, miscounts};
@@ -12,14 +13,14 @@ use std::str;
 
 /// A device's EDS text, with the first row that names it, and how many other rows do.
 #[derive(Clone, Copy)]
-struct Text<'t, 's, 'n> {
-    eds: &'t Eds<'s>,
-    row: &'n DeviceRow,
-    others: usize,
+pub(crate) struct Text<'t, 's, 'n> {
+    pub eds: &'t Eds<'s>,
+    pub row: &'n DeviceRow,
+    pub others: usize,
 }
 
 /// The bytes of a line by its number, from 1.
-fn line_of<'a>(eds: &Eds<'a>, number: usize) -> &'a [u8] {
+pub(crate) fn line_of<'a>(eds: &Eds<'a>, number: usize) -> &'a [u8] {
     let Some(place) = number.checked_sub(1) else {
         return b"";
     };
@@ -52,7 +53,7 @@ fn pdo_at(alloc: Global, index: u64) -> Result<String, AllocError> {
 }
 
 /// The devices that have a text: Valve, or Valve and 2 more.
-fn devices_of(alloc: Global, text: Text<'_, '_, '_>) -> Result<String, AllocError> {
+pub(crate) fn devices_of(alloc: Global, text: Text<'_, '_, '_>) -> Result<String, AllocError> {
     let name = str::from_utf8(text.row.name.as_bytes()).unwrap_or("the device");
     let others = text.others;
     if others == 0 {
@@ -62,7 +63,7 @@ fn devices_of(alloc: Global, text: Text<'_, '_, '_>) -> Result<String, AllocErro
 }
 
 /// Bytes of a text as they may be shown.
-fn shown(alloc: Global, bytes: &[u8]) -> Result<String, AllocError> {
+pub(crate) fn shown(alloc: Global, bytes: &[u8]) -> Result<String, AllocError> {
     let mut said = Vec::new(alloc);
     push_shown(&mut said, bytes)?;
     match str::from_utf8(&said) {
@@ -157,7 +158,8 @@ fn push_text(
     text: Text<'_, '_, '_>,
 ) -> Result<(), AllocError> {
     push_hazards(findings, alloc, text, &all_hazards(alloc, text.eds)?)?;
-    push_hazards(findings, alloc, text, &miscounts(alloc, text.eds)?)
+    push_hazards(findings, alloc, text, &miscounts(alloc, text.eds)?)?;
+    push_parameters(findings, alloc, text)
 }
 
 /// How many rows name the same EDS file as one.

@@ -8,6 +8,7 @@ mod mappings;
 mod margins;
 mod networks;
 mod paces;
+mod parameters;
 mod pdos;
 mod places;
 mod rates;

@@ -3,7 +3,7 @@
 use crate::mappings::pdo_name;
 use crate::refusals::micros;
 use cop_dict::Direction;
-use cop_figures::{Figures, FrameTimes, PdoTimes};
+use cop_figures::{Figures, FrameTimes, PdoTimes, Tight};
 use cop_net::{DevicePdo, Network};
 use std::alloc::{AllocError, Global};
 
@@ -40,6 +40,30 @@ fn push_frames(
         words.extend_from_slice(frame_words(alloc, times)?.as_bytes())?;
     }
     Ok(())
+}
+
+/// What one error on the bus takes, and what the PDO with the least left has.
+pub(crate) fn error_words(
+    alloc: Global,
+    network: &Network<'_>,
+    tight: &Tight,
+) -> Result<String, AllocError> {
+    let Some(row) = network.rows().get(tight.times.pdo) else {
+        return Ok(String::new(alloc));
+    };
+    let (cost, left) = (
+        micros(alloc, tight.cost)?,
+        micros(alloc, tight.times.left())?,
+    );
+    let pdo = DevicePdo {
+        direction: Direction::Transmit,
+        node: row.node,
+        number: row.tpdo,
+    };
+    let name = pdo_name(alloc, pdo)?;
+    format!(in alloc;
+        "no error is counted: one error on the bus takes up to {cost} us, and {name} has {left} us left. Plan with --margin, or give it a longer deadline\n"
+    )
 }
 
 /// What limits the margin of a plan, a line each: the PDOs, and the SDO frames with deadlines, that have no more than it left, which is

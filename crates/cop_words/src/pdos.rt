@@ -90,7 +90,7 @@ pub(crate) fn push_transmit(
 /// Why a COB-ID cannot be set as plans do.
 fn cob_id_reason(description: Description) -> &'static str {
     if matches!(description.access, Access::ReadOnly | Access::Constant) {
-        return "its AccessType does not let it be written";
+        return "its AccessType does not let it be written, so the device fixes this identifier; another word in the file does not change the device";
     }
     "its LowLimit or HighLimit excludes a value that it needs"
 }

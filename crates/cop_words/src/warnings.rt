@@ -150,6 +150,12 @@ fn device_words(alloc: Global, warning: Warning) -> Result<String, AllocError> {
         Warning::MakesSync { node } => format!(in alloc;
             "node {node} makes SYNC itself by its EDS file (bit 30 of 1005h): it alone may, with the period of the row sync\n"
         ),
+        Warning::MakesTime { node } => format!(in alloc;
+            "node {node} sends TIME (100h) by its EDS file (bit 30 of 1012h): these frames go before all PDOs, and no row counts them: clear the bit in the device\n"
+        ),
+        Warning::SyncPeriod { node, micros } => format!(in alloc;
+            "node {node}: 1006h is {micros} us by its EDS file, and the period of the row sync is another: set one to the other\n"
+        ),
         _ => Ok(String::new(alloc)),
     }
 }

@@ -26,7 +26,7 @@ const VECTOR: &[u8] =
     b"date Thu Nov 26 10:14:44.123 PM 2026\nbase hex  timestamps absolute\nno internal events logged\n\
     // version 9.0.0\nBegin Triggerblock Thu Nov 26 10:14:44.123 PM 2026\n   0.000000 Start of measurement\n\
     \x20  0.016132 1  181             Rx   d 8 00 11 22 33 44 55 66 77  Length = 224000 BitCount = 115 ID = 385\n\
-    \x20  0.0171 2  18FEF100x       Tx   d 1 A5\n   0.018000 1  Statistic: D 3 R 0 XD 0 XR 0 E 0 O 0 B 0.15%\n\
+    \x20  0.0170 2  18FEF100x       TxRq d 1 A5\n   0.0171 2  18FEF100x       Tx   d 1 A5\n   0.018000 1  Statistic: D 3 R 0 XD 0 XR 0 E 0 O 0 B 0.15%\n\
     \x20  0.018123456 1  7FF             Rx   r\n   0.019000 1  ErrorFrame\n   0.020000 Li 1 34 Rx 8 00\nEnd TriggerBlock\n";
 
 const RELATIVE: &[u8] =

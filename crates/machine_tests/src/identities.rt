@@ -22,6 +22,8 @@ const AS_PLANNED: &[Turn] = &[
     (400, b"t5858431810"),
     (800, b"01FD020000\r"),
     (1_200, b"t58584318100291010000\r"),
+    (1_400, b"t705100\r"),
+    (1_500, b"t58584300180185010040\r"),
     (1_600, b"t705100\r"),
     (2_000, b"t58586000180100000000\r"),
     (2_400, b"t58586000180100000000\r"),
@@ -42,14 +44,15 @@ const OTHER: &[Turn] = &[
     (1_600, b""),
 ];
 
-/// No answer in 1 s, and no boot-up in 5 s.
+/// No answer in 1 s, and no boot-up in 5 s, and in 5 s more.
 const SILENT: &[Turn] = &[
     (0, b""),
     (10, b""),
     (4_000_010, b""),
     (24_000_010, b""),
-    (24_000_400, b""),
-    (24_000_800, b""),
+    (44_000_010, b""),
+    (44_000_400, b""),
+    (44_000_800, b""),
 ];
 
 /// It does not tell its type, and has no identity.
@@ -60,13 +63,16 @@ const ABORTED: &[Turn] = &[
     (800, b"t58588018100200000206\r"),
     (1_200, b""),
     (20_001_200, b""),
-    (20_001_600, b""),
-    (20_002_000, b""),
+    (40_001_200, b""),
+    (40_001_600, b""),
+    (40_002_000, b""),
 ];
 
 /// What is not asked.
 const BOOTED: &[Turn] = &[
     (0, b""),
+    (1_400, b"t705100\r"),
+    (1_500, b"t58584300180185010040\r"),
     (1_600, b"t705100\r"),
     (2_000, b"t58586000180100000000\r"),
     (2_400, b"t58586000180100000000\r"),
@@ -78,18 +84,18 @@ const BOOTED: &[Turn] = &[
 ];
 
 const ASKED_AND_BOOTED: &[u8] =
-    b"\r\rC\rS6\rO\rt60584000100000000000\rt60584018100100000000\rt60584018100200000000\rt00028200\rt605823001801850100C0\rt60582300180181010040\rt60582B17100064000000\rt60584000180100000000\rt60584017100000000000\rt00020100\rC\r";
+    b"\r\rC\rS6\rO\rt60584000100000000000\rt60584018100100000000\rt60584018100200000000\rt00028200\rt60584000180100000000\rt00028200\rt605823001801850100C0\rt60582300180181010040\rt60582B17100064000000\rt60584000180200000000\rt605840001A0000000000\rt605840001A0100000000\rt605840001A0200000000\rt60584000180100000000\rt60584017100000000000\rt00020100\rC\r";
 
 const ASKED: &[u8] =
     b"\r\rC\rS6\rO\rt60584000100000000000\rt60584018100100000000\rt60584018100200000000\rC\r";
 
-const ASKED_ONCE: &[u8] = b"\r\rC\rS6\rO\rt60584000100000000000\rt00028200\rC\r";
+const ASKED_ONCE: &[u8] = b"\r\rC\rS6\rO\rt60584000100000000000\rt00028200\rt00028200\rC\r";
 
 const ASKED_AND_RESET: &[u8] =
-    b"\r\rC\rS6\rO\rt60584000100000000000\rt60584018100100000000\rt60584018100200000000\rt00028200\rC\r";
+    b"\r\rC\rS6\rO\rt60584000100000000000\rt60584018100100000000\rt60584018100200000000\rt00028200\rt00028200\rC\r";
 
 const NOT_ASKED: &[u8] =
-    b"\r\rC\rS6\rO\rt00028200\rt605823001801850100C0\rt60582300180181010040\rt60582B17100064000000\rt60584000180100000000\rt60584017100000000000\rt00020100\rC\r";
+    b"\r\rC\rS6\rO\rt00028200\rt60584000180100000000\rt00028200\rt605823001801850100C0\rt60582300180181010040\rt60582B17100064000000\rt60584000180200000000\rt605840001A0000000000\rt605840001A0100000000\rt605840001A0200000000\rt60584000180100000000\rt60584017100000000000\rt00020100\rC\r";
 
 /// Whether the device is asked, what comes, what is said, and what is written.
 const CASES: &[(bool, &[Turn], &[u8], &[u8])] = &[
@@ -124,9 +130,12 @@ fn text_of(alloc: Global, ended: Commissioned) -> Result<Vec<u8>, AllocError> {
             exchanges: _exchanges,
         } => Ok(text),
         Commissioned::Running { .. } => Vec::from_slice(alloc, b"running"),
+        Commissioned::Garbled { .. } => Vec::from_slice(alloc, b"garbled"),
+        Commissioned::Erroneous { .. } => Vec::from_slice(alloc, b"errors"),
+        Commissioned::Unopened { .. } => Vec::from_slice(alloc, b"unopened"),
         Commissioned::Absent => Vec::from_slice(alloc, b"absent"),
         Commissioned::NonePasses => Vec::from_slice(alloc, b"none passes"),
-        Commissioned::Failed => Vec::from_slice(alloc, b"failed"),
+        Commissioned::Failed { text } => Ok(text),
     }
 }
 

@@ -97,7 +97,8 @@ fn write_made(text: &mut String, order: Order<'_>) -> Result<(), AllocError> {
         } => {
             let name = match format {
                 Format::Dbc => "dbc",
-                Format::Cdcf => "cdcf",
+                Format::Cdcf { manager: None } => "cdcf",
+                Format::Cdcf { manager: Some(_) } => "cdcf of a manager",
             };
             write!(text, "export {name} {out}")?;
             write_network(text, network)
@@ -183,6 +184,10 @@ const ASKED: &[(&str, &str)] = &[
         "report out t log l 7 200 first n p",
     ),
     ("export cdcf n p out", "export cdcf out n p"),
+    (
+        "export cdcf --manager 1 n p out",
+        "export cdcf of a manager out n p",
+    ),
     ("export dbc n p out", "export dbc out n p"),
     ("tidy --clamp in out", "tidy in out true"),
     ("tidy --check in", "tidy in no false"),

@@ -1,6 +1,6 @@
 use crate::plans::{plan_of, rates_of};
 use cop_frame::Rate;
-use cop_plan::{Plan, assign_with_margin, can_assign};
+use cop_plan::{Count, Plan, assign_with_margin, can_assign};
 use cop_rta::read_streams;
 use std::alloc::Global;
 use std::test::Fail;
@@ -11,7 +11,9 @@ fn widest(alloc: Global, table: &[u8]) -> Result<Plan, Fail> {
     if !can_assign(&set, set.len()) {
         return Err(Fail::from("not to be assigned"));
     }
-    plan_of(assign_with_margin(alloc, &set, set.len(), &rates_of(&Rate::ALL))?)
+    let mut count = Count { trials: 0, busy: 0 };
+    let rates = rates_of(&Rate::ALL);
+    plan_of(assign_with_margin(alloc, &set, set.len(), &rates, &mut count)?)
 }
 
 // Tables, their slowest rate, and the greatest least margin of all orders there, in ticks.

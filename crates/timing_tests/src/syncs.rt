@@ -23,9 +23,13 @@ const DELAY: u64 = 100;
 
 const LATENCY: u64 = 400;
 
+// A latency that reaches past the next SYNC.
+const LONG_LATENCY: u64 = 50_000;
+
 // SYNC each 40,000 ticks, a PDO of 8 bytes for each so many SYNCs, and one that is not synchronous.
-fn streams(every: u8) -> [Stream; 3]
-    requires { (1 ≤ every) × (every ≤ 2) }
+fn streams(every: u8, latency: u64) -> [Stream; 3]
+    requires every { (1 ≤ every) × (every ≤ 2) }
+    requires latency { latency ≤ 240000000 }
 {
     [
         Stream {
@@ -40,7 +44,7 @@ fn streams(every: u8) -> [Stream; 3]
             id: PDO,
             bytes: 8,
             period: 40_000 * u64::from(every),
-            jitter: LATENCY,
+            jitter: latency,
             deadline: Some(40_000),
             every,
         },
@@ -59,7 +63,12 @@ fn streams(every: u8) -> [Stream; 3]
 pub fn set(alloc: Global, every: u8) -> Result<StreamSet, SetFault>
     requires { (1 ≤ every) × (every ≤ 2) }
 {
-    set_of(alloc, &streams(every))
+    set_of(alloc, &streams(every, LATENCY))
+}
+
+/// The same with a PDO for each SYNC, whose latency reaches past the next one.
+pub fn long_set(alloc: Global) -> Result<StreamSet, SetFault> {
+    set_of(alloc, &streams(1, LONG_LATENCY))
 }
 
 /// The step that breaks a rule first, and the rule, in a trace that ends with its last step.

@@ -3,7 +3,7 @@
 ghost use Rattle.std.specs.Prelude.{◌≤◌};
 
 use crate::bus::{LATE_JOINER, two_streams};
-use crate::syncs::set;
+use crate::syncs::{long_set, set};
 use cop_frame::Rate;
 use cop_rta::StreamSet;
 use cop_watch::TraceWatch;
@@ -65,5 +65,28 @@ fn a_synchronous_instance_is_watched(rt: HostRuntime) -> Result<(), Fail> {
     for text in AFTER_SYNC {
         assert!(rt; starts(rt.alloc(), &set, Rate::Kbit500, *text, 64)? == Some(2));
     }
+    Ok(())
+}
+
+/// An instance of the first SYNC that is queued after the second has ended, and then one of the second.
+const AFTER_TWO: &str = "kind,moment,id,event,bits,data\n\
+    queue,0,128,0,47,\n\
+    start,0,128,,,\n\
+    end,376,128,,,\n\
+    queue,40000,128,40000,47,\n\
+    start,40000,128,,,\n\
+    end,40376,128,,,\n\
+    queue,40376,385,0,111,0000000000000000\n\
+    start,40376,385,,,\n\
+    end,41264,385,,,\n\
+    queue,41264,385,40000,111,0000000000000000\n\
+    start,41264,385,,,\n\
+    end,42152,385,,,\n\
+    until,42152,0,,,\n";
+
+#[test]
+fn an_instance_of_an_earlier_sync_is_watched(rt: HostRuntime) -> Result<(), Fail> {
+    let set = long_set(rt.alloc())?;
+    assert!(rt; starts(rt.alloc(), &set, Rate::Kbit500, AFTER_TWO, 64)? == Some(4));
     Ok(())
 }

@@ -124,7 +124,7 @@ fn words_on(
 ) -> Result<Vec<u8>, Fail> {
     let network = network(alloc, &all_rates(), nodes, pdos, files)?;
     let warnings = warnings_of(alloc, nodes, &network)?;
-    Ok(finding_words(alloc, files, nodes, &network, &warnings)?)
+    Ok(finding_words(alloc, files, nodes, &network, &warnings, None)?)
 }
 
 /// What is found worth a look in tables and files.
@@ -136,7 +136,7 @@ fn findings_on(
 ) -> Result<Vec<Finding>, Fail> {
     let network = network(alloc, &all_rates(), nodes, pdos, files)?;
     let warnings = warnings_of(alloc, nodes, &network)?;
-    Ok(findings_of(alloc, files, nodes, &network, &warnings)?)
+    Ok(findings_of(alloc, files, nodes, &network, &warnings, None)?)
 }
 
 /// What is found worth a look in a network of one device.

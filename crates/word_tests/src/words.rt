@@ -434,7 +434,7 @@ const CONSUMER_MISTAKES: &[(&str, &str, &str, &str, &str)] = &[
         "AccessType=rw\nDefaultValue=$NODEID+0x200",
         "AccessType=ro\nDefaultValue=$NODEID+0x200",
         "5,1,10000,0,670,6.1",
-        "node 6 is Drive, by the EDS file other.eds\nRPDO 1 of node 6: its COB-ID is 1400h sub 1: its AccessType does not let it be written\nits EDS file, line 21: DefaultValue=$NODEID+0x200\n",
+        "node 6 is Drive, by the EDS file other.eds\nRPDO 1 of node 6: its COB-ID is 1400h sub 1: its AccessType does not let it be written, so the device fixes this identifier; another word in the file does not change the device\nits EDS file, line 21: DefaultValue=$NODEID+0x200\n",
         "rule 46: ",
     ),
     (

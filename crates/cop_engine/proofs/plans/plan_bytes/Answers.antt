@@ -3,7 +3,7 @@ use Rattle.cop_net.specs.Network.{IsNetwork, accepted}
 use Rattle.cop_engine.specs.Faults.{fault_of}
 use Rattle.cop_engine.proofs.DcfLemmas.{have_texts}
 use Rattle.cop_engine.proofs.NetworkLemmas.{nodes_explain, pdos_explain, network_explains, files_are, err_is}
-use Rattle.cop_engine.proofs.GuaranteeLemmas.{guaranteed}
+use Rattle.cop_engine.proofs.GuaranteeLemmas.{guaranteed, are_printed}
 use Rattle.cop_engine.proofs.plans.plan_bytes.Goals as goal
 
 pub files_of-requires : goal.files_of-requires
@@ -30,4 +30,8 @@ returns c =
     let f = files_are c.args.asked.now c.args.nodes.now c.args.pdos.now _ c.in_ok-nodes.nodes c.in_ok-pdos.pdos c.in_ok-network.network c.in_ok-files_of.field-0
     c.in_ok-nodes.ensures c.in_ok-pdos.ensures (rw c.in_ok-eds_files.ensures at c.in_ok-network.ensures.exact) c.in_ok-network.ensures.tables.0 c.in_ok-network.ensures.tables.1
     (subst IsNetwork c.network.view_is c.network.invariant.0) (rw c.in_ok-eds_files.ensures at c.in_ok-files_of.ensures) in
-    record { exact = f; guaranteed = guaranteed f.network.net f.network.said.network f.outcome f.network.planned }
+    record {
+      exact = f;
+      guaranteed = guaranteed f.network.net f.network.said.network f.outcome f.network.planned;
+      printed = are_printed f.network.net f.network.said.network f.outcome f.written.verdicts f.network.planned f.written.judged;
+    }

@@ -14,4 +14,4 @@ loop-preserved g c =
 pub returns-then-saturating_sub-limit : goal.returns-then-saturating_sub-limit
 returns-then-saturating_sub-limit g c =
     attends_all g.P.Port.reads g.P.Port.writes g.P.Port.asks c.args.awaited.now c.args.limit c.in-Some.began c.args.port.now c.loop.attendance c.turn.new.attendance c.loop.port c.read.new.self c.now-in-loop.new.self c.in-Some-now.now _ _
-    c.loop.invariant c.in-Some-read.ensures.reads c.in-Some-now.ensures c.turn.ensures (rw c.saturating_sub.ensures at c.if-saturating_sub-limit.true) c.late_of.ensures
+    c.loop.invariant c.in-Some-read.ensures.reads c.in-Some-now.ensures c.turn.ensures (rw c.saturating_sub.ensures at c.if-saturating_sub-limit.true) c.heartbeats_of.ensures

@@ -1,4 +1,4 @@
-use Rattle.std.proofs.Common.{length, arith, true, false}
+use Rattle.std.proofs.Common.{length}
 use Rattle.cop_rta.specs.Test.{is_flagged}
 use Rattle.cop_plan.proofs.FillingLemmas.{no_bit}
 use Rattle.cop_plan.proofs.FrameLemmas.{next_passes, next_is_above, next_is_lowest}

@@ -1,6 +1,7 @@
-use Rattle.std.proofs.Common.{◌≡◌, ◌-◌, ◌<◌, ◌≤◌, true, false, MatchOption}
+use Rattle.std.proofs.Common.{◌≡◌, ◌+◌, ◌-◌, ◌*◌, ◌<◌, ◌≤◌, true, false, MatchOption}
 use Rattle.cop_plan.specs.Found.{ArePlannedWith, NoneFrom}
 use Rattle.cop_plan.specs.Margins.{has_deadline}
+use Rattle.cop_plan.proofs.MarginSteps.{HasHalvings}
 use Rattle.cop_plan.proofs.margins.greatest_margin.Given as goal
 
 -- some assignment keeps the margin, and with a deadline none keeps what is above
@@ -11,6 +12,10 @@ invariant-loop-above l = record {
   fails : has_deadline l.set ≡ true → NoneFrom l.rate l.set l.pdos l.above;
   none : has_deadline l.set ≡ false → l.above ≡ 1;
   kept : MatchOption l.placing (l.margin ≡ 0) (λ placing. ArePlannedWith l.margin l.rate l.set l.pdos placing.lower.items placing.upper.items);
+  rises : l.fn.count.trials ≤ l.count.trials;
+  trials : HasHalvings (l.above - l.margin) (2 * l.count.trials) (2 * l.fn.count.trials + 28 * (3 * (l.pdos * (l.pdos + 1)))) (3 * (l.pdos * (l.pdos + 1)));
+  busy_rises : l.fn.count.busy ≤ l.count.busy;
+  busy : HasHalvings (l.above - l.margin) l.count.busy (l.fn.count.busy + 28 * (3 * l.pdos)) (3 * l.pdos);
 }
 
 abbrev pub decreases-loop-above : goal.decreases-loop-above

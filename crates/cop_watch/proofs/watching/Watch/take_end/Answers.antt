@@ -18,9 +18,9 @@ returns-then-id-eq-SYNC c = λ is tau streams steps h.
     record {
       ticks = h.ticks;
       set = h.set;
-      knows = subst (λ n. Knows tau streams (steps ++ End n c.args.at ∷ []) Idle c.args.at 0 w.last.items w.marks.items c.after_sync-self.result w.rings.items w.waiting w.sent) (sym its)
-          (ended-sync tau streams steps w.bus w.at w.rank w.last.items w.marks.items w.newest w.rings.items w.waiting w.sent h.knows c.args.at (m.sending ∙ ap (λ n. Sending n c.args.at) its) m.order
-          (subst (λ (ks : List Stream). is_some (stream_of ks sync_id) ≡ true) h.set (subst (λ n. is_some (stream_of w.streams.now n) ≡ true) its m.known)) c.after_sync-self.result c.after_sync-self.ensures);
+      knows = subst (λ n. Knows tau streams (steps ++ End n c.args.at ∷ []) Idle c.args.at 0 w.last.items w.marks.items c.end.new.self w.rings.items w.waiting w.sent) (sym its)
+          (ended-sync tau streams steps w.bus w.at w.rank w.last.items w.marks.items w.syncs w.rings.items w.waiting w.sent h.knows c.args.at (m.sending ∙ ap (λ n. Sending n c.args.at) its) m.order
+          (subst (λ (ks : List Stream). is_some (stream_of ks sync_id) ≡ true) h.set (subst (λ n. is_some (stream_of w.streams.now n) ≡ true) its m.known)) c.last_sync-event.result (λ v e. rw e at c.last_sync-event.ensures) c.end.new.self c.end.ensures);
     }
 
 pub returns-else-id-eq-SYNC : goal.returns-else-id-eq-SYNC
@@ -30,6 +30,6 @@ returns-else-id-eq-SYNC c = λ is tau streams steps h.
     record {
       ticks = h.ticks;
       set = h.set;
-      knows = ended-other tau streams steps w.bus w.at w.rank w.last.items w.marks.items w.newest w.rings.items w.waiting w.sent h.knows c.args.id c.args.at m.sending m.order
+      knows = ended-other tau streams steps w.bus w.at w.rank w.last.items w.marks.items w.syncs w.rings.items w.waiting w.sent h.knows c.args.id c.args.at m.sending m.order
           (subst (λ (ks : List Stream). is_some (stream_of ks c.args.id) ≡ true) h.set m.known) (ne_eqb c.args.id 128 c.if-id-eq-SYNC.false);
     }

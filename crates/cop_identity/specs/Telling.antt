@@ -1,0 +1,53 @@
+-- What devices tell once they have been reset.
+use Rattle.std.specs.Prelude.{◌≡◌, ℕ, Bool, ◌&&◌, List, [], ◌∷◌, filter, ◌==◌, Option, Some, None, if◌then◌else◌}
+use Rattle.std.specs.Option.{option_or}
+use Rattle.cop_sdo.specs.declared.address.Address.{Address}
+use Rattle.cop_live.specs.Log.{ByteStep, ClockStep}
+use Rattle.cop_live.specs.Nodes.{has_node}
+use Rattle.cop_live.specs.Awaiting.{Awoke}
+use Rattle.cop_identity.specs.declared.questions.Question.{Question}
+use Rattle.cop_identity.specs.declared.questions.Answer.{Answer}
+use Rattle.cop_identity.specs.declared.questions.Answer.TheVariants.{Wanted, Other, Aborted}
+use Rattle.cop_identity.specs.declared.asking.Outcome.{Outcome}
+use Rattle.cop_identity.specs.declared.asking.Outcome.TheVariants.{Answered, Silent, Unasked}
+use Rattle.cop_identity.specs.declared.asking.Exchange.{Exchange}
+use Rattle.cop_identity.specs.Asking.{AskedAll}
+
+-- of questions those to nodes that booted up
+abbrev pub of_booted : List Bool → List Question → List Question
+of_booted booted questions = filter (λ question. has_node booted question.node) questions
+
+-- the communication of one node alone or of all is reset, the boot-ups of some nodes are awaited, and those that booted up are asked
+pub record AreTold {P : Type 0} (reads writes : ByteStep P) (asks : ClockStep P) (only : Option ℕ) (nodes : List ℕ) (questions : List Question) (p : P) (all : List Exchange) (q : P) : Type 0 where
+  pub booted : List Bool
+  pub awake : P
+  pub awakes : Awoke reads writes asks only nodes p booted awake
+  pub asked : AskedAll reads writes asks (of_booted booted questions) awake all q
+
+-- and where there is no question nothing is done
+abbrev pub WereTold : {P : Type 0} → ByteStep P → ByteStep P → ClockStep P → Option ℕ → List ℕ → List Question → P → List Exchange → P → Type 0
+WereTold reads writes asks only nodes [] p all q = (all ≡ []) × (p ≡ q)
+WereTold reads writes asks only nodes (question ∷ rest) p all q = AreTold reads writes asks only nodes (question ∷ rest) p all q
+
+-- the value that an answer tells
+abbrev pub answer_tells : ℕ → Answer → Option ℕ
+answer_tells wanted Wanted = Some wanted
+answer_tells wanted (Other found) = Some found
+answer_tells wanted (Aborted code) = None
+
+abbrev pub outcome_tells : ℕ → Outcome → Option ℕ
+outcome_tells wanted (Answered answer) = answer_tells wanted answer
+outcome_tells wanted Silent = None
+outcome_tells wanted Unasked = None
+
+abbrev pub told_by : Exchange → Option ℕ
+told_by asked = outcome_tells asked.question.wanted asked.outcome
+
+-- the value that a node told of an object at a question
+abbrev pub told_of : ℕ → Address → Exchange → Option ℕ
+told_of node at asked = if (asked.question.node == node) && ((asked.question.at.index == at.index) && (asked.question.at.sub == at.sub)) then told_by asked else None
+
+-- and the last time that it did
+abbrev pub told_at : ℕ → Address → List Exchange → Option ℕ
+told_at node at [] = None
+told_at node at (asked ∷ rest) = option_or (told_at node at rest) (told_of node at asked)
