@@ -92,28 +92,31 @@ def streams():
 
 
 def faults():
-    """Refused inputs: each with its number, record, table and column."""
+    """Refused inputs: each with its number, record, table and column, and with the file and the line there."""
     valve = f"{HERE}/examples/valve"
     tables = [f"{valve}/nodes.csv", f"{valve}/pdos.csv"]
     with tempfile.TemporaryDirectory() as out:
         bad = f"{out}/bad.csv"
         write(bad, bytes_of(tables[1]).replace(b"5,1,10000,", b"5,1,10 ms,"))
         write(f"{out}/empty", b"")
+        write(f"{out}/nodes.csv", b"row,node,name,eds,period,jitter\ndevice,5,Valve,bent.eds,0,0\n")
+        write(f"{out}/bent.eds", b"[FileInfo]\nFileName=bent.eds\nno key\n")
         wanted = [
-            (["plan", tables[0], bad, out], (41, 1, "pdos", "period")),
-            (["boot", "--seed", "1", tables[1], tables[1]], (40, 0, "nodes", None)),
-            (["check", *tables, tables[0]], (31, 0, "refusals", None)),
-            (["judge", *tables, tables[0]], (69, 0, "trace", None)),
-            (["test", "--rate", "125", tables[0]], (1, 0, "streams", None)),
-            (["watch", *tables, tables[0]], (91, 1, "log", None)),
-            (["watch", *tables, f"{out}/empty"], (94, 0, "log", None)),
-            (["watch", *tables, f"{out}/none.log"], (None, None, None, None)),
-            (["plan", f"{out}/none.csv", tables[1], out], (None, None, None, None)),
+            (["plan", tables[0], bad, out], (41, 1, "pdos", "period", bad, 2)),
+            (["plan", f"{out}/nodes.csv", tables[1], out], (43, 1, "nodes", None, f"{out}/bent.eds", 3)),
+            (["boot", "--seed", "1", tables[1], tables[1]], (40, 0, "nodes", None, tables[1], 1)),
+            (["check", *tables, tables[0]], (31, 0, "refusals", None, tables[0], 1)),
+            (["judge", *tables, tables[0]], (69, 0, "trace", None, tables[0], 1)),
+            (["test", "--rate", "125", tables[0]], (1, 0, "streams", None, tables[0], 1)),
+            (["watch", *tables, tables[0]], (90, 1, "log", None, tables[0], 1)),
+            (["watch", *tables, f"{out}/empty"], (94, 0, "log", None, f"{out}/empty", None)),
+            (["watch", *tables, f"{out}/none.log"], (None,) * 6),
+            (["plan", f"{out}/none.csv", tables[1], out], (None,) * 6),
         ]
         for words, places in wanted:
             _, said, value = answers(*words)
             error = value["error"]
-            found = tuple(error[key] for key in ("number", "record", "table", "column"))
+            found = tuple(error[key] for key in ("number", "record", "table", "column", "file", "file_line"))
             assert error["line"] == said[0] and error["words"], f"{words[0]}: {error}"
             assert found == places, f"{words[0]}: {found}"
         lines, _, value = answers("watch", "--rates", "250", *tables, f"{out}/empty")

@@ -73,6 +73,8 @@ def breach_words(it, clock):
         time, period, response, transfer, bit = (int(least[key]["us"]) for key in ("time", "period", "response", "transfer", "bit"))
         made = f"{least['periods']} x {period} us - {response} us response + {transfer} us frame - {bit} us bit"
         return f"{named} comes {it['distance']['us']} us after that of line {it['from_line']}; the least is {time} us ({made}), {clock}"
+    if it["kind"] == "fallen":
+        return f"the log's clock falls by {it['fall']['us']} us from line {it['from_line']} on, {clock.split(' and ')[0]} for the clock"
     return f"the transfers after line {it['from_line']} take {int(it['transfers']['us'])} us at least, and end {it['distance']['us']} us after it, {clock}"
 
 
@@ -87,11 +89,16 @@ def lines_of_document(it):
     clock = f"with {it['clock']['error']['us']} us and {it['clock']['drift']} ppm for the clock"
     lines = [f"rate {it['rate']} frames {it['frames']} time {it['time']['us']} us load {share(it['load'])}"]
     lines += [stream_line(stream) for stream in it["streams"]]
+    lines += [f"{stream['id']:03X}h never seen" for stream in it["streams"] if stream["frames"] == 0]
     lines += [unknown_line(stranger) for stranger in it["unknown"]]
     lines += [heartbeat_line(heartbeat) for heartbeat in it["late_heartbeats"]]
     lines += [notice_line(notice) for notice in it["noticed"]["told"]]
     counts = (("NMT commands", "commands"), ("boot-ups", "boot_ups"), ("EMCYs", "emergencies"), ("SDO aborts", "aborts"))
     lines += [f"{words} {it['noticed'][key]}" for words, key in counts if it["noticed"][key] > MOST_TOLD]
+    if it["unended"] is not None:
+        lines.append(f"line {it['unended']}: the last line has no end, and was left out")
+    if it["may_be_distances"]:
+        lines.append("the load is above 100 % and stamps fall: are these distances? --delta")
     lines += [breach_line(breach, clock) for breach in it["breaches"]["told"]]
     assert it["keeps"] == (it["breaches"]["count"] == 0)
     return lines + ["keeps to the tables" if it["keeps"] else f"breaches {it['breaches']['count']}"]

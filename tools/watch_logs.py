@@ -63,6 +63,7 @@ def good_logs(log, chance):
     for at, number, body in log:
         mixed += [line_of(at, number, body), line_of(at, 0x7FF, "00", "can1")]
     yield "mixed", mixed
+    yield "blank", [part for line in lines for part in (line, "")]
     yield "directed", [line + chance.choice(("", " R", " T")) for line in lines]
 
 
@@ -92,6 +93,9 @@ def bad_logs(log, chance):
     # Stamps of a second are pressed into a tenth of it.
     pressed = [(START + (at - START) // 10, number, body) for at, number, body in log]
     yield "pressed", lines_of(pressed), None, "the transfers after line"
+    # The clock is set back by a second, and nothing else is wrong.
+    fallen = log[:n + 1] + [(at - 1000000, number, body) for at, number, body in log[n + 1:]]
+    yield "fallen", lines_of(fallen), n + 2, "the log's clock falls by"
 
 
 def told_logs(log, chance):
@@ -119,6 +123,7 @@ def told_logs(log, chance):
 def refused_logs(log):
     """Logs that are refused: number and place."""
     lines = lines_of(log[:20])
+    yield 90, 1, ["Time Stamp,ID,Extended"] + lines
     for number, line in ((90, lines[4] + " X"), (91, "x" + lines[4]), (91, lines[4].replace(".", ":", 1)), (92, lines[4].replace("can0 ", "can0 1", 1)),
                          (93, lines[4] + "0"), (93, lines[4] + "0011223344556677")):
         yield number, 5, lines[:4] + [line] + lines[5:]

@@ -48,9 +48,10 @@ CALLS = (
     (("explain", "90"), 0, "", ""),
     (("explain", "94"), 0, "no frame of the channel", ""),
     (("explain", "95"), 0, "4096 bytes", ""),
-    (("explain", "96"), 2, "", "60 to 95"),
+    (("explain", "96"), 0, "distance", ""),
+    (("explain", "97"), 2, "", "60 to 96"),
     (("explain", "100"), 0, "--take-over", ""),
-    (("watch", "--json", *CRANE, "OUT/none.csv"), 3, '"number":91', ""),
+    (("watch", "--json", *CRANE, "OUT/none.csv"), 3, '"number":90', ""),
     (("report", "--json", *CRANE, "OUT/page.html"), 2, "", "--json"),
     (("report", "--log", "/dev/null", *CRANE, "OUT/page.html"), 3, "", "canplan: refused 94 0"),
 )
@@ -82,6 +83,14 @@ def faults_of_numbers():
             yield f"explain {number}: status {done.returncode}, {done.stdout!r}, {done.stderr!r}"
 
 
+def faults_of_page():
+    """What is wrong with docs/RULES.md, which is what `explain --all` prints."""
+    said = subprocess.run([PROGRAM, "explain", "--all"], capture_output=True, text=True).stdout
+    with open(f"{HERE}/docs/RULES.md", encoding="utf-8") as page:
+        if said != page.read():
+            yield "docs/RULES.md is not what explain --all prints"
+
+
 def faults_of_no_words():
     """What is wrong with a call with no words at a terminal, which is help."""
     ours, its = pty.openpty()
@@ -101,6 +110,7 @@ def main():
         if os.path.exists(f"{folder}/node-099.cdcf") or bytes_of(f"{folder}/node-099.txt") != b"mine":
             faults.append("files of an earlier plan, and they alone, are to be removed")
     faults += faults_of_numbers()
+    faults += faults_of_page()
     faults += faults_of_no_words()
     return status_of(faults)
 

@@ -1,7 +1,7 @@
 //! How a request is carried out.
 
 use crate::faults::tell;
-use cop_answers::{Inputs, words_of_rule};
+use cop_answers::{Inputs, explained_line, page_of_rules, words_of_rule};
 use cop_calls::{
     Drawn, Wanted, boot, check, export, judge, plan, run, test, watch_bus, write_report,
 };
@@ -12,18 +12,25 @@ use cop_orders::{Order, Request};
 use cop_serial::boot_machine;
 use std::io::Write;
 
-/// The numbers that have a rule, as a line.
-const EXPLAINED: &[u8] =
-    b"canplan: explained are 1 to 6, 10 to 18, 20 to 23, 30 to 36, 40 to 53, 60 to 95, 100 to 104, 111 and 116\n";
+/// Says that a number has no rule, which is a usage fault, and which have one.
+fn refuse_number(rt: &HostRuntime) -> Result<u8, Failure> {
+    let fault = Fault::Usage;
+    tell(rt, &fault);
+    let explained = explained_line(rt.alloc())?;
+    let line = format!(in rt.alloc(); "canplan: explained are {explained}\n")?;
+    let _ = rt.stderr().write_all(line.as_bytes());
+    Ok(status(&fault))
+}
 
-/// What the rule of a number says. A number that has none is a usage fault, and those that have one are told below it.
-fn explain(rt: &HostRuntime, number: u8) -> Result<u8, Failure> {
-    let words = words_of_rule(rt.alloc(), number)?;
+/// Prints what the rule of a number says, or what all say.
+fn explain(rt: &HostRuntime, number: Option<u8>) -> Result<u8, Failure> {
+    let alloc = rt.alloc();
+    let words = match number {
+        Some(number) => words_of_rule(alloc, number)?,
+        None => page_of_rules(alloc)?.into_bytes(),
+    };
     if words.is_empty() {
-        let fault = Fault::Usage;
-        tell(rt, &fault);
-        let _ = rt.stderr().write_all(EXPLAINED);
-        return Ok(status(&fault));
+        return refuse_number(rt);
     }
     print(rt, &words)?;
     Ok(0)

@@ -1,6 +1,6 @@
 //! What is said of a failure in words, below its line.
 
-use cop_answers::{Inputs, words_on_file, words_on_refusal};
+use cop_answers::{Inputs, words_on_file, words_on_network, words_on_refusal};
 use cop_engine::Fault;
 use cop_files::Failure;
 use cop_orders::{Order, PlanOrder};
@@ -38,6 +38,11 @@ pub fn explain(
         words.extend_from_slice(reason.as_bytes())?;
     }
     match &failure.fault {
+        Fault::Network(refusal) => {
+            let said = words_on_network(alloc, order, inputs, refusal)?;
+            words.extend_from_slice(&said)?;
+            push_earlier(&mut words, rt, order)?;
+        }
         Fault::Refused { number, place } => {
             let said = words_on_refusal(alloc, order, inputs, *number, *place)?;
             words.extend_from_slice(&said)?;

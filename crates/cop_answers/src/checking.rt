@@ -1,34 +1,23 @@
 //! The check of a refusal file against a network.
 
-use crate::texts::{Inputs, Texts};
+use cop_cert::Refusal;
 use cop_covering::covers_slower;
-use cop_engine::{Fault, check_bytes, check_status, strict_check_status};
-use std::alloc::Global;
+use cop_engine::{all_hold, check_status, strict_check_status};
+use cop_net::Network;
+use std::alloc::{AllocError, Global};
 
-/// Whether a refusal file has a refusal of each rate that the plan of its network refuses.
-fn covers(alloc: Global, texts: &Texts, refusals: &[u8]) -> Result<bool, Fault> {
-    let (nodes, pdos) = texts.tables(alloc)?;
-    let network = texts.network(alloc, &nodes, &pdos)?;
-    let refusals = cop_cert::read(alloc, refusals)?;
-    Ok(covers_slower(alloc, &network, refusals.as_slice())?)
-}
-
-/// The check of the refusal file that was read: its lines and its status. Where that is wanted a slower candidate that the file does not
-/// refuse is a failure.
-pub fn checked(alloc: Global, inputs: &Inputs, strict: bool) -> Result<(Vec<u8>, u8), Fault> {
-    let texts = &inputs.network;
-    let (text, all_hold) = check_bytes(
-        alloc,
-        &texts.asked.rates,
-        &texts.nodes,
-        &texts.pdos,
-        &texts.eds_files,
-        &inputs.other,
-    )?;
-    let status = if strict {
-        strict_check_status(all_hold, covers(alloc, texts, &inputs.other)?)
+/// The status after a check of refusals against a network. Where that is asked a slower candidate that none refuses is a failure.
+pub fn status_after_check(
+    alloc: Global,
+    network: &Network<'_>,
+    refusals: &[Refusal],
+    answers: &[bool],
+    strict: bool,
+) -> Result<u8, AllocError> {
+    let holds = all_hold(answers);
+    if strict {
+        Ok(strict_check_status(holds, covers_slower(alloc, network, refusals)?))
     } else {
-        check_status(all_hold)
-    };
-    Ok((text, status))
+        Ok(check_status(holds))
+    }
 }

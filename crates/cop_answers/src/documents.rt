@@ -1,97 +1,161 @@
 //! Answers and faults as documents in JSON.
 
-use crate::texts::Texts;
-use crate::warnings::{all_warned, findings};
+use crate::spots::{Spot, spot_in_network, spot_of_refusal};
+use crate::texts::Inputs;
+use crate::warnings::all_warned;
 use cop_documents::{Told, fault_document, plan_document};
-use cop_engine::{Fault, message};
-use cop_figures::{figures_of, tightest};
-use cop_net::{PlanFault, Table, network, read_nodes, read_pdos};
-use cop_plan::plan;
+use cop_engine::{Fault, PlannedNetwork, message};
+use cop_figures::Figures;
+use cop_net::{Rule, Table};
+use cop_orders::Order;
+use cop_rules::name_of;
+use cop_words::Finding;
 use std::alloc::{AllocError, Global};
 
-/// The document of a plan.
-pub fn plan_text(alloc: Global, texts: &Texts) -> Result<String, Fault> {
-    let (nodes, pdos) = texts.tables(alloc)?;
-    let network = texts.network(alloc, &nodes, &pdos)?;
-    let outcome = plan(alloc, &network, texts.asked.choice)?;
-    let figures = figures_of(alloc, &network, &outcome)?;
-    let found = findings(alloc, texts, &nodes, &network, tightest(&figures).as_ref())?;
-    let warnings = all_warned(alloc, &found)?;
-    Ok(plan_document(alloc, &network, &outcome, &figures, &warnings)?)
+/// The document of a plan, with its numbers and what is worth a look before one relies on it.
+pub fn plan_text(
+    alloc: Global,
+    planned: &PlannedNetwork<'_>,
+    figures: &Figures,
+    findings: &[Finding],
+) -> Result<String, AllocError> {
+    let (network, outcome) = planned.parts();
+    let warnings = all_warned(alloc, findings)?;
+    plan_document(alloc, network, outcome, figures, &warnings)
 }
 
-/// The table that a network's refusal is of.
-fn table_of(alloc: Global, texts: &Texts) -> Option<Table> {
-    let nodes = match read_nodes(alloc, &texts.nodes) {
-        Ok(nodes) => nodes,
-        Err(PlanFault::Refused(refusal)) => return Some(refusal.table),
-        Err(PlanFault::Memory) => return None,
-    };
-    let pdos = match read_pdos(alloc, &texts.pdos) {
-        Ok(pdos) => pdos,
-        Err(PlanFault::Refused(refusal)) => return Some(refusal.table),
-        Err(PlanFault::Memory) => return None,
-    };
-    match network(alloc, &texts.asked.rates, &nodes, &pdos, &texts.eds_files) {
-        Err(PlanFault::Refused(refusal)) => Some(refusal.table),
-        _ => None,
+/// The name of a table of a network.
+fn name_of_table(table: Table) -> &'static str {
+    match table {
+        Table::Nodes => "nodes",
+        Table::Pdos => "pdos",
     }
 }
 
-/// The table that a rule is of, by its number.
-fn table_name(alloc: Global, number: u8, texts: &Texts) -> Option<&'static str> {
+/// The table that a rule of another input than a network is of, by its number.
+fn table_name(number: u8) -> Option<&'static str> {
     match number {
         1..=6 => Some("streams"),
         30..=36 => Some("refusals"),
         60..=69 => Some("trace"),
-        90..=95 => Some("log"),
-        40..=53 => match table_of(alloc, texts) {
-            Some(Table::Nodes) => Some("nodes"),
-            Some(Table::Pdos) => Some("pdos"),
-            None => None,
-        },
+        90..=96 => Some("log"),
         _ => None,
     }
 }
 
-/// The column that the words on a fault name.
-fn column_of(words: &str) -> Option<&str> {
-    for line in words.lines() {
-        if let Some(rest) = line.strip_prefix("wanted in column ") {
-            return match rest.split_once(':') {
-                Some((column, _)) => Some(column),
-                None => None,
-            };
-        }
+/// The column whose value a rule refuses.
+fn column_of(rule: Rule) -> Option<&'static str> {
+    match rule {
+        Rule::Record(cop_rows::Rule::Value(column)) => Some(name_of(column)),
+        _ => None,
     }
-    None
+}
+
+/// What a document tells of a fault: which rule is broken, and where.
+#[derive(Drop)]
+struct Broken {
+    number: Option<u8>,
+    table: Option<&'static str>,
+    record: Option<u64>,
+    column: Option<&'static str>,
+    spot: Spot,
+}
+
+/// Which rule a fault is of, and where it is broken.
+fn broken_of(
+    alloc: Global,
+    order: Order<'_>,
+    inputs: &Inputs,
+    fault: &Fault,
+) -> Result<Broken, AllocError> {
+    match fault {
+        Fault::Network(refusal) => Ok(Broken {
+            number: Some(refusal.rule.number()),
+            table: Some(name_of_table(refusal.table)),
+            record: Some(refusal.place),
+            column: column_of(refusal.rule),
+            spot: spot_in_network(alloc, order, inputs, refusal)?,
+        }),
+        Fault::Refused { number, place } => Ok(Broken {
+            number: Some(*number),
+            table: table_name(*number),
+            record: Some(*place),
+            column: None,
+            spot: spot_of_refusal(alloc, order, inputs, *number, *place)?,
+        }),
+        Fault::Simulation | Fault::File(_) | Fault::Usage | Fault::Memory => Ok(Broken {
+            number: None,
+            table: None,
+            record: None,
+            column: None,
+            spot: Spot::nowhere(),
+        }),
+    }
+}
+
+/// The names in a document of a fault: of a table, of a column, and of a file.
+#[derive(Clone, Copy)]
+struct Names<'a> {
+    table: Option<&'a str>,
+    column: Option<&'a str>,
+    file: Option<&'a str>,
+}
+
+/// The names in a document, as it is told.
+fn names_of<'a>(
+    table: Option<&'a str>,
+    column: Option<&'a str>,
+    file: Option<&'a str>,
+) -> Names<'a> {
+    Names {
+        table,
+        column,
+        file,
+    }
+}
+
+/// The document of a rule that is broken.
+fn broken_document<'a>(
+    alloc: Global,
+    broken: &Broken,
+    names: Names<'a>,
+    line: &'a str,
+    words: &'a str,
+) -> Result<String, AllocError> {
+    let Names {
+        table,
+        column,
+        file,
+    } = names;
+    fault_document(
+        alloc,
+        Told {
+            number: broken.number,
+            table,
+            record: broken.record,
+            column,
+            file,
+            file_line: broken.spot.line,
+            line,
+            words,
+        },
+    )
 }
 
 /// The document of a fault, with the words on it.
 pub fn fault_text(
     alloc: Global,
-    texts: &Texts,
+    order: Order<'_>,
+    inputs: &Inputs,
     fault: &Fault,
     words: &str,
 ) -> Result<String, AllocError> {
     let line = message(alloc, fault)?;
-    let (number, record) = match fault {
-        Fault::Refused { number, place } => (Some(*number), Some(*place)),
-        _ => (None, None),
-    };
-    let table = match number {
-        Some(number) => table_name(alloc, number, texts),
+    let broken = broken_of(alloc, order, inputs, fault)?;
+    let file = match &broken.spot.file {
+        Some(name) => Some(name.as_str()),
         None => None,
     };
-    fault_document(
-        alloc,
-        Told {
-            number,
-            table,
-            record,
-            column: column_of(words),
-            line: line.trim_end(),
-            words,
-        },
-    )
+    let names = names_of(broken.table, broken.column, file);
+    broken_document(alloc, &broken, names, line.trim_end(), words)
 }

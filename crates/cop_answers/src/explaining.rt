@@ -4,15 +4,22 @@ use crate::booting::{is_machine_rule, machine_words};
 use crate::log_rules::log_rule_words;
 use crate::texts::{Inputs, beside};
 use crate::tidying::mend_words;
-use cop_net::read_nodes;
+use cop_net::{Refusal, Rule, read_nodes};
 use cop_orders::{NetworkFiles, Order};
 use cop_tidy::refusal_words;
 use cop_words::{Network, Source, line_at, network_words, record_words, rule_words};
 use std::alloc::{AllocError, Global};
 use std::str;
 
+/// An EDS file: its path, and its text.
+#[derive(Drop)]
+pub(crate) struct EdsText<'a> {
+    pub path: String,
+    pub text: &'a [u8],
+}
+
 /// The files of the network of an order.
-fn network_of<'a>(order: Order<'a>) -> Option<NetworkFiles<'a>> {
+pub(crate) fn network_of<'a>(order: Order<'a>) -> Option<NetworkFiles<'a>> {
     match order {
         Order::Plan(order) => Some(order.network),
         Order::Check { network, .. } => Some(network),
@@ -27,7 +34,7 @@ fn network_of<'a>(order: Order<'a>) -> Option<NetworkFiles<'a>> {
 }
 
 /// The name of the file that a rule is about, where that is none of a network's: of streams, of refusals, or a trace.
-fn file_of<'a>(order: Order<'a>, number: u8) -> Option<&'a str> {
+pub(crate) fn file_of<'a>(order: Order<'a>, number: u8) -> Option<&'a str> {
     match order {
         Order::Test { file: "-", .. } => Some("standard input"),
         Order::Test { file, .. } => Some(file),
@@ -58,11 +65,12 @@ fn log_words(alloc: Global, number: u8, line: u64) -> Result<Vec<u8>, AllocError
     Ok(words)
 }
 
-/// What is said of the network that was read.
+/// What is said of the network that was read, and that is refused.
 fn refused_network(
     alloc: Global,
     files: NetworkFiles<'_>,
     inputs: &Inputs,
+    refusal: &Refusal,
 ) -> Result<Vec<u8>, AllocError> {
     let texts = &inputs.network;
     let network = Network {
@@ -77,7 +85,7 @@ fn refused_network(
         eds_files: &texts.eds_files,
         wanted: &texts.asked.rates,
     };
-    network_words(alloc, network)
+    network_words(alloc, network, refusal)
 }
 
 /// What is said of an EDS file that is not made one that plan reads.
@@ -92,7 +100,8 @@ fn refused_text(
     refusal_words(alloc, name, number, line, found.map(|found| found.text))
 }
 
-fn refused(
+/// What is said of a refusal by a rule that is none of a network's: of what was read, where the rule is broken and what it is.
+pub fn words_on_refusal(
     alloc: Global,
     order: Order<'_>,
     inputs: &Inputs,
@@ -108,15 +117,11 @@ fn refused(
     if is_machine_rule(number) {
         return machine_words(alloc, number, place);
     }
-    if let Some(name) = file_of(order, number) {
-        let source = Source {
-            name,
-            text: &inputs.other,
-        };
-        return record_words(alloc, source, number, place);
-    }
-    match network_of(order) {
-        Some(files) => refused_network(alloc, files, inputs),
+    match file_of(order, number) {
+        Some(name) => {
+            let text = &inputs.other;
+            record_words(alloc, Source { name, text }, number, place)
+        }
         None => rule_words(alloc, number),
     }
 }
@@ -168,40 +173,44 @@ pub fn words_on_file(
     }
 }
 
-/// Adds whether the EDS file of a record that is refused can be mended, and how.
-fn push_mend(
-    words: &mut Vec<u8>,
+/// The EDS file of the device of a record, with its path.
+pub(crate) fn eds_of_record<'a>(
     alloc: Global,
     files: NetworkFiles<'_>,
-    inputs: &Inputs,
+    inputs: &'a Inputs,
     record: u64,
-) -> Result<(), AllocError> {
+) -> Result<Option<EdsText<'a>>, AllocError> {
     let Ok(nodes) = read_nodes(alloc, &inputs.network.nodes) else {
-        return Ok(());
+        return Ok(None);
     };
-    for device in nodes.devices() {
-        if device.place != record {
-            continue;
-        }
+    for device in nodes
+        .devices()
+        .iter()
+        .filter(|device| device.place == record)
+    {
         if let Some((name, text)) = eds_file(inputs, device.eds.as_bytes()) {
             let path = beside(alloc, files.nodes, name)?;
-            words.extend_from_slice(mend_words(alloc, &path, text)?.as_bytes())?;
+            return Ok(Some(EdsText { path, text }));
         }
     }
-    Ok(())
+    Ok(None)
 }
 
-/// What is said of a refusal: of what was read, where the rule is broken and what it is; of an EDS file also whether it can be mended.
-pub fn words_on_refusal(
+/// What is said of a network that is refused; of an EDS file also whether it can be mended, and how.
+pub fn words_on_network(
     alloc: Global,
     order: Order<'_>,
     inputs: &Inputs,
-    number: u8,
-    place: u64,
+    refusal: &Refusal,
 ) -> Result<Vec<u8>, AllocError> {
-    let mut words = refused(alloc, order, inputs, number, place)?;
-    if let (43, Some(files)) = (number, network_of(order)) {
-        push_mend(&mut words, alloc, files, inputs, place)?;
+    let Some(files) = network_of(order) else {
+        return rule_words(alloc, refusal.rule.number());
+    };
+    let mut words = refused_network(alloc, files, inputs, refusal)?;
+    if let Rule::Eds(_) = refusal.rule {
+        if let Some(eds) = eds_of_record(alloc, files, inputs, refusal.place)? {
+            words.extend_from_slice(mend_words(alloc, &eds.path, eds.text)?.as_bytes())?;
+        }
     }
     Ok(words)
 }

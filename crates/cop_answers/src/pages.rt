@@ -1,13 +1,11 @@
 //! The page that shows the plan of a network, and what a trace and a log tell of it.
 
-ghost use Rattle.std.specs.Prelude.{length};
-ghost use Rattle.cop_plan.specs.Plans.{IsOutcome};
 ghost use Rattle.cop_figures.specs.Figures.{AreFigures};
 
 use crate::texts::{Inputs, beside};
 use crate::warnings::finding_lines;
-use cop_engine::Fault;
-use cop_figures::{Breakdown, Figures, Timeline, breakdowns_of, figures_of, tightest, timeline_of};
+use cop_engine::{Fault, PlannedNetwork};
+use cop_figures::{Breakdown, Figures, Timeline, breakdowns_of, figures_of, timeline_of};
 use cop_logbook::Logbook;
 use cop_net::{Network, NodeTable};
 use cop_orders::{NetworkFiles, Shown};
@@ -97,25 +95,16 @@ pub fn page_text(
     alloc: Global,
     sources: Sources<'_>,
     nodes: &NodeTable,
-    network: &Network<'_>,
-    outcome: &Outcome,
+    planned: &PlannedNetwork<'_>,
     timeline: Option<&Timeline>,
     log: Option<&Logbook<'_>>,
-) -> Result<String, AllocError>
-    requires { IsOutcome network.now.equipment.rates network.now.set (length network.now.rows) outcome.now }
-{
+) -> Result<String, AllocError> {
+    let (network, outcome) = planned.parts();
     let figures = figures_of(alloc, network, outcome)?;
     let breakdowns = breakdowns(alloc, network, outcome, &figures)?;
     let opened = opened(alloc, sources)?;
     let inputs = inputs(alloc, sources, &opened)?;
-    let tight = tightest(&figures);
-    let warnings = finding_lines(
-        alloc,
-        &sources.inputs.network,
-        nodes,
-        network,
-        tight.as_ref(),
-    )?;
+    let warnings = finding_lines(alloc, &sources.inputs.network, nodes, network, &figures)?;
     let report = Report {
         network,
         outcome,

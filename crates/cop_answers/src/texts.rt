@@ -1,9 +1,16 @@
 //! What is read for an order, and what the engines answer on it.
 
-use cop_engine::{Fault, Files, boot_bytes, judge_bytes, outcome_of, plan_bytes};
-use cop_net::{Network, NodeTable, PdoTable, all_rates, network, read_nodes, read_pdos};
-use cop_plan::{Asked, Choice, Outcome};
+use cop_engine::{Fault, Files, PlannedNetwork, planned, planned_with_files};
+use cop_net::{Network, NodeTable, PdoTable, all_rates, network, read_pdos};
+use cop_plan::{Asked, Choice};
 use std::alloc::{AllocError, Global};
+
+/// The two tables of a network, each read once.
+#[derive(Drop)]
+pub struct Tables {
+    pub nodes: NodeTable,
+    pub pdos: PdoTable,
+}
 
 /// The files of a network, as far as they were read.
 #[derive(Drop)]
@@ -40,59 +47,39 @@ impl Inputs {
             other: Vec::new(alloc),
         }
     }
-
-    /// The judgement of the trace that was read, by the plan of the network that was read.
-    pub fn judged(&self, alloc: Global) -> Result<Vec<u8>, Fault> {
-        let texts = &self.network;
-        judge_bytes(
-            alloc,
-            &texts.nodes,
-            &texts.pdos,
-            &texts.eds_files,
-            &texts.asked,
-            &self.other,
-        )
-    }
 }
 
 impl Texts {
-    /// The two tables that the texts are.
-    pub fn tables(&self, alloc: Global) -> Result<(NodeTable, PdoTable), Fault> {
-        let nodes = read_nodes(alloc, &self.nodes)?;
-        Ok((nodes, read_pdos(alloc, &self.pdos)?))
+    /// The two tables of the network, of which that of nodes was read before its EDS files.
+    pub fn tables(&self, alloc: Global, nodes: NodeTable) -> Result<Tables, Fault> {
+        let pdos = read_pdos(alloc, &self.pdos)?;
+        Ok(Tables { nodes, pdos })
     }
 
-    /// The network that tables and EDS files make.
-    pub fn network<'a>(
+    /// The network that the tables and the EDS files make.
+    pub fn network<'a>(&self, alloc: Global, tables: &'a Tables) -> Result<Network<'a>, Fault> {
+        let Tables { nodes, pdos } = tables;
+        Ok(network(alloc, &self.asked.rates, nodes, pdos, &self.eds_files)?)
+    }
+
+    /// The network, and what the planner answers for it.
+    pub fn planned<'a>(
         &self,
         alloc: Global,
-        nodes: &'a NodeTable,
-        pdos: &'a PdoTable,
-    ) -> Result<Network<'a>, Fault> {
-        let rates = &self.asked.rates;
-        Ok(network(alloc, rates, nodes, pdos, &self.eds_files)?)
+        tables: &'a Tables,
+    ) -> Result<PlannedNetwork<'a>, Fault> {
+        let Tables { nodes, pdos } = tables;
+        Ok(planned(alloc, &self.asked, nodes, pdos, &self.eds_files)?)
     }
 
-    /// The files of the plan of the network.
-    pub fn files(&self, alloc: Global) -> Result<Files, Fault> {
-        plan_bytes(alloc, &self.nodes, &self.pdos, &self.eds_files, &self.asked)
-    }
-
-    /// What the planner answers for the network.
-    pub fn outcome(&self, alloc: Global) -> Result<Outcome, Fault> {
-        outcome_of(alloc, &self.nodes, &self.pdos, &self.eds_files, &self.asked)
-    }
-
-    /// The boot of the network by its plan, by the turns that a seed draws.
-    pub fn booted(&self, alloc: Global, seed: u64) -> Result<Vec<u8>, Fault> {
-        boot_bytes(
-            alloc,
-            seed,
-            &self.nodes,
-            &self.pdos,
-            &self.eds_files,
-            &self.asked,
-        )
+    /// The same with the files of the plan.
+    pub fn planned_with_files<'a>(
+        &self,
+        alloc: Global,
+        tables: &'a Tables,
+    ) -> Result<(PlannedNetwork<'a>, Files), Fault> {
+        let Tables { nodes, pdos } = tables;
+        Ok(planned_with_files(alloc, &self.asked, nodes, pdos, &self.eds_files)?)
     }
 }
 

@@ -2,24 +2,31 @@
 
 use crate::texts::Texts;
 use cop_documents::Warned;
-use cop_engine::{Fault, plan_status};
-use cop_figures::{Tight, figures_of, tightest};
+use cop_engine::plan_status;
+use cop_figures::{Figures, tightest};
 use cop_net::{Network, NodeTable};
-use cop_plan::plan;
 use cop_warn::warnings_of;
 use cop_words::{Finding, finding_words, findings_of};
 use std::alloc::{AllocError, Global};
 
-/// All that is worth a look before one relies on the plan of a network.
+/// All that is worth a look before one relies on the plan of a network, which has these numbers.
 pub fn findings(
     alloc: Global,
     texts: &Texts,
     nodes: &NodeTable,
     network: &Network<'_>,
-    tight: Option<&Tight>,
+    figures: &Figures,
 ) -> Result<Vec<Finding>, AllocError> {
     let warnings = warnings_of(alloc, nodes, network)?;
-    findings_of(alloc, &texts.eds_files, nodes, network, &warnings, tight)
+    let tight = tightest(figures);
+    findings_of(
+        alloc,
+        &texts.eds_files,
+        nodes,
+        network,
+        &warnings,
+        tight.as_ref(),
+    )
 }
 
 /// The same in words, a line each.
@@ -28,10 +35,18 @@ pub fn finding_lines(
     texts: &Texts,
     nodes: &NodeTable,
     network: &Network<'_>,
-    tight: Option<&Tight>,
+    figures: &Figures,
 ) -> Result<Vec<u8>, AllocError> {
     let warnings = warnings_of(alloc, nodes, network)?;
-    finding_words(alloc, &texts.eds_files, nodes, network, &warnings, tight)
+    let tight = tightest(figures);
+    finding_words(
+        alloc,
+        &texts.eds_files,
+        nodes,
+        network,
+        &warnings,
+        tight.as_ref(),
+    )
 }
 
 /// A finding as a document tells it.
@@ -62,33 +77,10 @@ pub fn all_warned<'a>(
     Ok(all)
 }
 
-/// Whether one error on the bus may make a PDO of a network's plan late.
-fn is_tight(alloc: Global, texts: &Texts, network: &Network<'_>) -> Result<bool, AllocError> {
-    let outcome = plan(alloc, network, texts.asked.choice)?;
-    let figures = figures_of(alloc, network, &outcome)?;
-    Ok(tightest(&figures).is_some())
-}
-
-/// Whether something is worth a look before one relies on the plan of what was read.
-fn is_warned(alloc: Global, texts: &Texts) -> Result<bool, Fault> {
-    let (nodes, pdos) = texts.tables(alloc)?;
-    let network = texts.network(alloc, &nodes, &pdos)?;
-    if !findings(alloc, texts, &nodes, &network, None)?.is_empty() {
-        return Ok(true);
+/// The status after a plan: 4 where no rate passes; 3 if something is worth a look before one relies on the plan, and that is asked; else 0.
+pub fn status_after(planned: bool, warned: bool) -> u8 {
+    if planned && warned {
+        return 3;
     }
-    Ok(is_tight(alloc, texts, &network)?)
-}
-
-/// The status after a plan: 4 where no rate passes; where that is wanted 3 if something is worth a look before one relies on the plan; else
-/// 0.
-pub fn status_after(
-    alloc: Global,
-    texts: &Texts,
-    planned: bool,
-    is_strict: bool,
-) -> Result<u8, Fault> {
-    if planned && is_strict && is_warned(alloc, texts)? {
-        return Ok(3);
-    }
-    Ok(plan_status(planned))
+    plan_status(planned)
 }

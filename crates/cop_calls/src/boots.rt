@@ -2,7 +2,7 @@
 
 use cop_answers::Inputs;
 use cop_documents::boot_document;
-use cop_engine::text_status;
+use cop_engine::{boot_of, plan_status};
 use cop_files::{Failure, Form, print, print_document, read_network};
 use cop_orders::NetworkFiles;
 
@@ -15,12 +15,13 @@ pub fn boot(
     form: Form,
     inputs: &mut Inputs,
 ) -> Result<u8, Failure> {
-    read_network(rt, &mut inputs.network, network)?;
-    let text = inputs.network.booted(rt.alloc(), seed)?;
+    let tables = read_network(rt, &mut inputs.network, network)?;
+    let planned = inputs.network.planned(rt.alloc(), &tables)?;
+    let text = boot_of(rt.alloc(), seed, &planned)?;
     if form == Form::Document {
         print_document(rt, &boot_document(rt.alloc(), &text)?)?;
     } else {
         print(rt, &text)?;
     }
-    Ok(text_status(&text))
+    Ok(plan_status(planned.is_planned()))
 }

@@ -1,11 +1,15 @@
 //! The check of a refusal file against a network.
 
-use cop_answers::{Inputs, check_notes, checked};
+use cop_answers::{Inputs, Tables, status_after_check};
+use cop_cert::{Refusal, read};
 use cop_documents::check_document;
+use cop_engine::{Fault, checked, checks_text};
 use cop_files::{
     Failure, Form, print, print_document, read_eds_files, read_file, read_tables, tell,
 };
 use cop_orders::NetworkFiles;
+use cop_words::uncovered_words;
+use std::alloc::Global;
 
 /// What is wanted of a check.
 #[derive(Clone, Copy)]
@@ -22,30 +26,49 @@ fn read_for_check(
     network: NetworkFiles<'_>,
     refusals: &str,
     inputs: &mut Inputs,
-) -> Result<(), Failure> {
+) -> Result<Tables, Failure> {
     read_tables(rt, &mut inputs.network, network)?;
     inputs.other = read_file(rt, refusals)?;
     read_eds_files(rt, &mut inputs.network, network)
+}
+
+/// The refusals that a text has.
+fn read_refusals(alloc: Global, text: &[u8]) -> Result<Vec<Refusal>, Fault> {
+    Ok(read(alloc, text)?)
+}
+
+/// Prints what a check found of each refusal in a form.
+fn print_checks(
+    rt: &HostRuntime,
+    refusals: &[Refusal],
+    answers: &[bool],
+    form: Form,
+) -> Result<(), Failure> {
+    if form == Form::Document {
+        print_document(rt, &check_document(rt.alloc(), refusals, answers)?)
+    } else {
+        print(rt, &checks_text(rt.alloc(), refusals, answers)?)
+    }
 }
 
 /// The check of a refusal file against a network.
 #[inline(never)]
 pub fn check(
     rt: &HostRuntime,
-    network: NetworkFiles<'_>,
-    refusals: &str,
+    files: NetworkFiles<'_>,
+    name: &str,
     wanted: Wanted,
     inputs: &mut Inputs,
 ) -> Result<u8, Failure> {
-    read_for_check(rt, network, refusals, inputs)?;
-    let (text, status) = checked(rt.alloc(), inputs, wanted.strict)?;
-    if wanted.form == Form::Document {
-        print_document(rt, &check_document(rt.alloc(), &text)?)?;
-    } else {
-        print(rt, &text)?;
-    }
+    let alloc = rt.alloc();
+    let tables = read_for_check(rt, files, name, inputs)?;
+    let network = inputs.network.network(alloc, &tables)?;
+    let refusals = read_refusals(alloc, &inputs.other)?;
+    let answers = checked(alloc, &network, &refusals)?;
+    let status = status_after_check(alloc, &network, &refusals, &answers, wanted.strict)?;
+    print_checks(rt, &refusals, &answers, wanted.form)?;
     if wanted.form == Form::Told {
-        tell(rt, check_notes(rt.alloc(), inputs, refusals));
+        tell(rt, uncovered_words(alloc, name, &network, &refusals));
     }
     Ok(status)
 }

@@ -5,11 +5,11 @@ ghost use Rattle.cop_plan.specs.Plans.{IsPlan};
 
 use cop_answers::{ABSENT, Inputs, NamedFile, concise_files, sync_maker};
 use cop_dbc::dbc;
-use cop_engine::{Fault, none_passes, text_status};
+use cop_engine::{Fault, PlannedNetwork, none_passes, plan_status};
 use cop_files::{Failure, NodeFiles, print, read_network, remove_earlier, write_file};
 use cop_net::{Network, NodeTable};
 use cop_orders::{Format, NetworkFiles};
-use cop_plan::{Outcome, Plan, plan};
+use cop_plan::{Outcome, Plan};
 
 /// Where a plan is written, as what, and by which table of nodes.
 #[derive(Clone, Copy)]
@@ -104,20 +104,15 @@ fn write_plan(
 fn export_network(
     rt: &HostRuntime,
     inputs: &Inputs,
-    network: &Network<'_>,
+    planned: &PlannedNetwork<'_>,
     target: Target<'_>,
 ) -> Result<u8, Failure> {
-    match plan(rt.alloc(), network, inputs.network.asked.choice)? {
-        Outcome::Planned(plan) => {
-            write_plan(rt, inputs, network, &plan, target)?;
-            Ok(0)
-        }
-        Outcome::Refused(_) => {
-            let text = none_passes(rt.alloc())?;
-            print(rt, &text)?;
-            Ok(text_status(&text))
-        }
+    let (network, outcome) = planned.parts();
+    match outcome {
+        Outcome::Planned(plan) => write_plan(rt, inputs, network, plan, target)?,
+        Outcome::Refused(_) => print(rt, &none_passes(rt.alloc())?)?,
     }
+    Ok(plan_status(planned.is_planned()))
 }
 
 /// The plan of a network for other tools: a CAN database into a file, or concise DCFs into a folder. Where no rate passes,
@@ -130,14 +125,12 @@ pub fn export(
     out: &str,
     inputs: &mut Inputs,
 ) -> Result<u8, Failure> {
-    read_network(rt, &mut inputs.network, files)?;
-    let texts = &inputs.network;
-    let (nodes, pdos) = texts.tables(rt.alloc())?;
-    let network = texts.network(rt.alloc(), &nodes, &pdos)?;
+    let tables = read_network(rt, &mut inputs.network, files)?;
+    let planned = inputs.network.planned(rt.alloc(), &tables)?;
     let target = Target {
-        nodes: &nodes,
+        nodes: &tables.nodes,
         format,
         out,
     };
-    export_network(rt, inputs, &network, target)
+    export_network(rt, inputs, &planned, target)
 }

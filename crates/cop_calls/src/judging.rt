@@ -2,7 +2,7 @@
 
 use cop_answers::Inputs;
 use cop_documents::judge_document;
-use cop_engine::{judge_outcome, judge_pieces, text_status};
+use cop_engine::{Judgement, judge_outcome, judge_pieces, judged_bytes, plan_status};
 use cop_files::{
     Failure, Form, is_regular, open_file, print, print_document, read_eds_files, read_file,
     read_opened, read_tables,
@@ -10,6 +10,15 @@ use cop_files::{
 use cop_orders::NetworkFiles;
 use cop_plan::Outcome;
 use std::fs::File;
+
+/// A trace that is to be judged.
+#[derive(Drop)]
+enum Trace {
+    /// In a regular file, which is read in pieces.
+    File(File),
+    /// Its bytes were read.
+    Bytes,
+}
 
 /// The judgement of the trace in a regular file, by what the planner answers. It is read in pieces, and read again as a whole only where
 /// it is not seen by them that it breaks no rule.
@@ -19,41 +28,49 @@ fn judged_by(
     file: File,
     outcome: &Outcome,
     read: &mut Vec<u8>,
-) -> Result<Vec<u8>, Failure> {
-    if let Some(text) = judge_pieces(rt.alloc(), outcome, file) {
-        return Ok(text);
+) -> Result<Judgement, Failure> {
+    if let Some(judgement) = judge_pieces(rt.alloc(), outcome, file) {
+        return Ok(judgement);
     }
     *read = read_file(rt, name)?;
     Ok(judge_outcome(rt.alloc(), outcome, read)?)
 }
 
-/// The judgement of the trace in a regular file, by the plan of the network that was read.
-fn judged_file(
-    rt: &HostRuntime,
-    name: &str,
-    file: File,
-    inputs: &mut Inputs,
-) -> Result<Vec<u8>, Failure> {
-    let outcome = inputs.network.outcome(rt.alloc())?;
-    judged_by(rt, name, file, &outcome, &mut inputs.other)
-}
-
-/// What is said of a trace by the plan of a network.
+/// What is said of a trace by what the planner answers for the network that was read.
 fn judged(
     rt: &HostRuntime,
-    network: NetworkFiles<'_>,
-    trace: &str,
-    inputs: &mut Inputs,
-) -> Result<Vec<u8>, Failure> {
-    read_tables(rt, &mut inputs.network, network)?;
-    let file = open_file(rt, trace)?;
-    if is_regular(&file) {
-        read_eds_files(rt, &mut inputs.network, network)?;
-        return judged_file(rt, trace, file, inputs);
+    name: &str,
+    trace: Trace,
+    outcome: &Outcome,
+    read: &mut Vec<u8>,
+) -> Result<Judgement, Failure> {
+    match trace {
+        Trace::File(file) => judged_by(rt, name, file, outcome, read),
+        Trace::Bytes => Ok(judged_bytes(rt.alloc(), outcome, read)?),
     }
-    inputs.other = read_opened(rt, trace, file)?;
-    read_eds_files(rt, &mut inputs.network, network)?;
-    Ok(inputs.judged(rt.alloc())?)
+}
+
+/// Opens a trace: one that is no regular file is read at once.
+fn open_trace(rt: &HostRuntime, name: &str, read: &mut Vec<u8>) -> Result<Trace, Failure> {
+    let file = open_file(rt, name)?;
+    if is_regular(&file) {
+        return Ok(Trace::File(file));
+    }
+    *read = read_opened(rt, name, file)?;
+    Ok(Trace::Bytes)
+}
+
+/// Prints a judgement in a form.
+fn print_judgement(rt: &HostRuntime, judgement: Judgement, form: Form) -> Result<(), Failure> {
+    let transfers = match judgement {
+        Judgement::NonePasses => None,
+        Judgement::OnTime { transfers } => Some(transfers),
+    };
+    if form == Form::Document {
+        print_document(rt, &judge_document(rt.alloc(), transfers)?)
+    } else {
+        print(rt, &judgement.text(rt.alloc())?)
+    }
 }
 
 /// The judgement of a trace by the plan of a network.
@@ -61,15 +78,16 @@ fn judged(
 pub fn judge(
     rt: &HostRuntime,
     network: NetworkFiles<'_>,
-    trace: &str,
+    name: &str,
     form: Form,
     inputs: &mut Inputs,
 ) -> Result<u8, Failure> {
-    let text = judged(rt, network, trace, inputs)?;
-    if form == Form::Document {
-        print_document(rt, &judge_document(rt.alloc(), &text)?)?;
-    } else {
-        print(rt, &text)?;
-    }
-    Ok(text_status(&text))
+    read_tables(rt, &mut inputs.network, network)?;
+    let trace = open_trace(rt, name, &mut inputs.other)?;
+    let tables = read_eds_files(rt, &mut inputs.network, network)?;
+    let planned = inputs.network.planned(rt.alloc(), &tables)?;
+    let (_network, outcome) = planned.parts();
+    let judgement = judged(rt, name, trace, outcome, &mut inputs.other)?;
+    print_judgement(rt, judgement, form)?;
+    Ok(plan_status(planned.is_planned()))
 }

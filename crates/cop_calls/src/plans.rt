@@ -1,10 +1,12 @@
 //! The plan of a network.
 
-use cop_answers::{Inputs, Texts, plan_notes, plan_text, status_after};
-use cop_engine::{Files, deliver};
+use cop_answers::{Inputs, Notes, Texts, findings, plan_notes, plan_text, status_after};
+use cop_engine::{Files, PlannedNetwork, deliver};
+use cop_figures::figures_of;
 use cop_files::{
     Failure, Folder, Form, NodeFiles, print, print_document, read_network, remove_earlier, tell,
 };
+use cop_net::NodeTable;
 use cop_orders::PlanOrder;
 use std::alloc::{AllocError, Global};
 
@@ -36,27 +38,68 @@ fn write_files(rt: &HostRuntime, files: &Files, out: &str) -> Result<(), Failure
     remove_earlier(rt, out, written)
 }
 
-/// Writes the files of a plan into a folder, and then prints its document.
-fn give_document(rt: &HostRuntime, texts: &Texts, files: &Files, out: &str) -> Result<(), Failure> {
-    let document = plan_text(rt.alloc(), texts)?;
-    write_files(rt, files, out)?;
-    print_document(rt, &document)
+/// A plan that is to be told and written.
+#[derive(Clone, Copy)]
+struct Made<'a> {
+    texts: &'a Texts,
+    nodes: &'a NodeTable,
+    planned: &'a PlannedNetwork<'a>,
+    files: &'a Files,
 }
 
-/// Prints a plan, and then writes its files into a folder. Notes on it are said where words are wanted.
-fn give_lines(
+/// Writes the files of a plan, and then prints its document. The status tells warnings only if that is asked.
+fn give_document(rt: &HostRuntime, order: PlanOrder<'_>, made: &Made<'_>) -> Result<u8, Failure> {
+    let alloc = rt.alloc();
+    let (network, outcome) = made.planned.parts();
+    let figures = figures_of(alloc, network, outcome)?;
+    let findings = findings(alloc, made.texts, made.nodes, network, &figures)?;
+    let document = plan_text(alloc, made.planned, &figures, &findings)?;
+    write_files(rt, made.files, order.out)?;
+    print_document(rt, &document)?;
+    Ok(status_after(made.files.planned, order.strict && !findings.is_empty()))
+}
+
+/// Prints a plan, and then writes its files.
+fn give_lines(rt: &HostRuntime, order: PlanOrder<'_>, made: &Made<'_>) -> Result<(), Failure> {
+    print(rt, &made.files.plan)?;
+    write_files(rt, made.files, order.out)
+}
+
+/// What is said of a plan.
+fn notes(rt: &HostRuntime, made: &Made<'_>) -> Result<Notes, AllocError> {
+    plan_notes(rt.alloc(), made.texts, made.nodes, made.planned)
+}
+
+/// Prints a plan and writes its files. Warnings are looked for first, and the status tells of them.
+fn give_strictly(
     rt: &HostRuntime,
-    texts: &Texts,
-    files: &Files,
-    out: &str,
-    form: Form,
-) -> Result<(), Failure> {
-    print(rt, &files.plan)?;
-    write_files(rt, files, out)?;
-    if form == Form::Told {
-        tell(rt, plan_notes(rt.alloc(), texts));
+    order: PlanOrder<'_>,
+    is_told: bool,
+    made: &Made<'_>,
+) -> Result<u8, Failure> {
+    let notes = notes(rt, made)?;
+    let status = status_after(made.files.planned, !notes.warnings.is_empty());
+    give_lines(rt, order, made)?;
+    if is_told {
+        tell(rt, notes.into_words());
     }
-    Ok(())
+    Ok(status)
+}
+
+/// Prints a plan and writes its files. What is to be said of it in words follows, if there is memory for it.
+fn give(
+    rt: &HostRuntime,
+    order: PlanOrder<'_>,
+    is_told: bool,
+    made: &Made<'_>,
+) -> Result<u8, Failure> {
+    give_lines(rt, order, made)?;
+    if is_told {
+        if let Ok(notes) = notes(rt, made) {
+            tell(rt, notes.into_words());
+        }
+    }
+    Ok(status_after(made.files.planned, false))
 }
 
 /// The plan of a network: it is printed in a form, and written into a folder.
@@ -67,14 +110,21 @@ pub fn plan(
     form: Form,
     inputs: &mut Inputs,
 ) -> Result<u8, Failure> {
-    read_network(rt, &mut inputs.network, order.network)?;
+    let tables = read_network(rt, &mut inputs.network, order.network)?;
     let texts = &inputs.network;
-    let files = texts.files(rt.alloc())?;
-    let status = status_after(rt.alloc(), texts, files.planned, order.strict)?;
+    let (planned, files) = texts.planned_with_files(rt.alloc(), &tables)?;
+    let made = Made {
+        texts,
+        nodes: &tables.nodes,
+        planned: &planned,
+        files: &files,
+    };
+    let is_told = form == Form::Told;
     if form == Form::Document {
-        give_document(rt, texts, &files, order.out)?;
+        give_document(rt, order, &made)
+    } else if order.strict {
+        give_strictly(rt, order, is_told, &made)
     } else {
-        give_lines(rt, texts, &files, order.out, form)?;
+        give(rt, order, is_told, &made)
     }
-    Ok(status)
 }

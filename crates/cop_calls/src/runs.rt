@@ -1,7 +1,7 @@
 //! The seeded run of a network, whose trace is written as it goes.
 
 use cop_answers::Inputs;
-use cop_engine::{Fault, RunFault, none_passes, run_plan, text_status};
+use cop_engine::{Fault, RunFault, none_passes, plan_status, run_plan};
 use cop_files::{Failure, Use, file_failure, print, read_network};
 use cop_orders::{MOST_UNTIL, NetworkFiles};
 use cop_plan::{Outcome, Plan};
@@ -66,9 +66,9 @@ pub fn run(
     trace: &str,
     inputs: &mut Inputs,
 ) -> Result<u8, Failure> {
-    read_network(rt, &mut inputs.network, network)?;
-    let outcome = inputs.network.outcome(rt.alloc())?;
-    let text = run_outcome(rt, &outcome, drawn, trace)?;
-    print(rt, &text)?;
-    Ok(text_status(&text))
+    let tables = read_network(rt, &mut inputs.network, network)?;
+    let planned = inputs.network.planned(rt.alloc(), &tables)?;
+    let (_network, outcome) = planned.parts();
+    print(rt, &run_outcome(rt, outcome, drawn, trace)?)?;
+    Ok(plan_status(planned.is_planned()))
 }

@@ -81,9 +81,10 @@ pub fn watch_bus(
     form: Form,
     inputs: &mut Inputs,
 ) -> Result<u8, Failure> {
-    read_network(rt, &mut inputs.network, order.network)?;
-    let outcome = inputs.network.outcome(rt.alloc())?;
-    match &outcome {
+    let tables = read_network(rt, &mut inputs.network, order.network)?;
+    let planned = inputs.network.planned(rt.alloc(), &tables)?;
+    let (_network, outcome) = planned.parts();
+    match outcome {
         Outcome::Planned(plan) => watch_by(rt, order, form, plan),
         Outcome::Refused(_) => tell_no_plan(rt, form),
     }

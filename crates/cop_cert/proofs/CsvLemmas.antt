@@ -1,5 +1,5 @@
 -- What is written as a table is read as its records.
-use Rattle.std.proofs.Common.{◌≡◌, ℕ, zero, suc, ◌+◌, ◌<◌, ◌≤◌, List, [], ◌∷◌, ◌++◌, length, refl, ap, arith, length-append, Some, codes, lit<, map}
+use Rattle.std.proofs.Common.{◌≡◌, ℕ, zero, suc, ◌+◌, ◌<◌, ◌≤◌, Bool, true, false, if◌then◌else◌, bytes_eq, List, [], ◌∷◌, ◌++◌, length, refl, ap, arith, length-append, Some, codes, lit<, map}
 use Rattle.std.specs.List.{flat_map}
 use Rattle.csv.specs.Machine.{next_record}
 use Rattle.csv.specs.Reading.{records_from, default_config, strip_bom}
@@ -8,11 +8,12 @@ use Rattle.csv.specs.declared.parser.State.TheVariants as st
 use Rattle.csv.proofs.RoundTrip.{read-write-many}
 use Rattle.cop_table.specs.Records.{records_of}
 use Rattle.cop_frame.specs.declared.rates.Rate.{Rate}
-use Rattle.cop_cert.specs.Format.{Fields, line, lines, header, text_of, rows_of, refusal_rows, cause_rows, member_rows, long_word, late_word, evidence_rows, fields_of, version, version_of}
+use Rattle.cop_cert.specs.Format.{Fields, line, lines, header, text_of, rows_of, refusal_rows, cause_rows, member_rows, long_word, late_word, evidence_rows, fields_of, version, version_of, same_rows, member_rows_after, members_rows_after, shared_cause_rows, shared_refusal_rows, shared_text_of}
+use Rattle.cop_cert.specs.Evidence.{busy_list_of}
 use Rattle.cop_cert.specs.declared.entries.Side.{Side}
 use Rattle.cop_cert.specs.declared.entries.Side.TheVariants as sides
 use Rattle.cop_cert.specs.declared.entries.Version.{Version}
-use Rattle.cop_cert.specs.declared.entries.Version.TheVariants.{First, Second}
+use Rattle.cop_cert.specs.declared.entries.Version.TheVariants.{First, Second, Third}
 use Rattle.cop_cert.specs.declared.refusals.Cause.{Cause}
 use Rattle.cop_cert.specs.declared.refusals.Cause.TheVariants.{Places, Sync, Sdo}
 use Rattle.cop_cert.specs.declared.refusals.Evidence.{Evidence}
@@ -84,8 +85,42 @@ wide_refusals (r ∷ refusals) = wide_append _ _ (wide_cause r.rate r.cause) (wi
 wide_version : (v : Version) → 1 < length (version v)
 wide_version First = lit< tt
 wide_version Second = lit< tt
+wide_version Third = lit< tt
 
 -- the text of refusals has their records
 pub text_read : (refusals : List Refusal) → records_of (text_of refusals) ≡ rows_of refusals
 unfolding text_of
 text_read refusals = table_read (version (version_of refusals) ∷ flat_map refusal_rows refusals) (wide_version (version_of refusals), wide_refusals refusals)
+
+-- ---- the third version
+
+wide_same : (rate : Rate) (number : ℕ) (long late : List ℕ) (evidence : Evidence) → AreWide (same_rows rate number long late evidence)
+wide_same rate number long late (Long busy) = (lit< tt, (lit< tt, tt))
+wide_same rate number long late (Late q busy queue) = (lit< tt, (lit< tt, wide_mapped rate number (codes "queue") queue))
+
+wide_either : (b : Bool) (rows more : List Fields) → AreWide rows → AreWide more → AreWide (if b then rows else more)
+wide_either true rows more h k = h
+wide_either false rows more h k = k
+
+wide_after : (side : Side) (rate : Rate) (before : List ℕ) (members : List Member) → AreWide (members_rows_after side rate before members)
+wide_after side rate before [] = tt
+wide_after side rate before (m ∷ members) =
+    wide_append _ _
+    (wide_either (bytes_eq (busy_list_of m.evidence) before) _ _ (wide_same rate (m.pdo + 1) (long_word side) (late_word side) m.evidence)
+    (wide_evidence rate (m.pdo + 1) (long_word side) (late_word side) m.evidence))
+    (wide_after side rate (busy_list_of m.evidence) members)
+
+wide_shared : (rate : Rate) (cause : Cause) → AreWide (shared_cause_rows rate cause)
+wide_shared rate (Places members) = wide_after sides.Place rate [] members
+wide_shared rate (Sync busy) = wide_cause rate (Sync busy)
+wide_shared rate (Sdo up id evidence) =
+    wide_append _ _ (wide_after sides.Up rate [] up) (lit< tt, wide_evidence rate 0 (codes "long") (codes "late") evidence)
+
+wide_all_shared : (refusals : List Refusal) → AreWide (flat_map shared_refusal_rows refusals)
+wide_all_shared [] = tt
+wide_all_shared (r ∷ refusals) = wide_append _ _ (wide_shared r.rate r.cause) (wide_all_shared refusals)
+
+-- the text of the third version has its records
+pub shared_text_read : (refusals : List Refusal) → records_of (shared_text_of refusals) ≡ header ∷ version Third ∷ flat_map shared_refusal_rows refusals
+unfolding shared_text_of
+shared_text_read refusals = table_read (version Third ∷ flat_map shared_refusal_rows refusals) (wide_version Third, wide_all_shared refusals)

@@ -4,6 +4,10 @@ pub mod ReadingLemmas
 pub mod RowLemmas
 pub mod CsvLemmas
 pub mod RoundTrip
+pub mod SharedTrip
+pub mod ShortLemmas
+pub mod WithinLemmas
+pub mod FileLemmas
 pub mod AboveLemmas
 pub mod EvidenceLemmas
 pub mod SetLemmas
@@ -18,6 +22,7 @@ pub mod GapLemmas
 pub mod MadeLemmas
 pub mod TrialLemmas
 pub mod ReadableLemmas
+pub mod LastLemmas
 pub mod RangeLemmas
 pub mod LongSync
 pub mod CauseLemmas

@@ -8,11 +8,11 @@ use Rattle.cop_table.proofs.QuoteLemmas.{IsPlain, decimal_is_plain}
 use Rattle.cop_frame.specs.declared.rates.Rate.{Rate}
 use Rattle.cop_frame.specs.declared.rates.Rate.TheVariants.{Kbit10, Kbit20, Kbit50, Kbit125, Kbit250, Kbit500, Kbit800, Kbit1000}
 use Rattle.cop_frame.specs.Rate.{kbits_of}
-use Rattle.cop_cert.specs.Format.{fields_of, header, line, lines, version, version_of, refusal_rows, text_of}
+use Rattle.cop_cert.specs.Format.{fields_of, header, line, lines, version, version_of, refusal_rows, text_of, shared_refusal_rows, shared_text_of}
 use Rattle.cop_cert.specs.Writer.{Adds}
 use Rattle.cop_cert.specs.declared.refusals.Refusal.{Refusal}
 use Rattle.cop_cert.specs.declared.entries.Version.{Version}
-use Rattle.cop_cert.specs.declared.entries.Version.TheVariants.{First, Second}
+use Rattle.cop_cert.specs.declared.entries.Version.TheVariants.{First, Second, Third}
 
 -- a record of four fields that need no quotes
 four_are_line : (a b c d : List ℕ) → IsPlain a → IsPlain b → IsPlain c → IsPlain d
@@ -40,9 +40,20 @@ pub first_are_lines : (v : Version) → (codes "rate,pdo,what,value\n0,0,version
 unfolding line fields_text is_blank escaped
 first_are_lines First = refl
 first_are_lines Second = refl
+first_are_lines Third = refl
 
 pub text_is_lines : (refusals : List Refusal) (before after : List ℕ) → before ≡ lines (header ∷ version (version_of refusals) ∷ []) → Adds before after (flat_map refusal_rows refusals)
     → after ≡ text_of refusals
 unfolding text_of
 text_is_lines refusals before after h added =
     added.text ∙ rw h (sym (flat_map-append line (header ∷ version (version_of refusals) ∷ []) (flat_map refusal_rows refusals)))
+
+pub third_are_lines : codes "rate,pdo,what,value\n0,0,version,3\n" ≡ lines (header ∷ version Third ∷ [])
+unfolding line fields_text is_blank escaped
+third_are_lines = refl
+
+pub shared_is_lines : (refusals : List Refusal) (before after : List ℕ) → before ≡ lines (header ∷ version Third ∷ []) → Adds before after (flat_map shared_refusal_rows refusals)
+    → after ≡ shared_text_of refusals
+unfolding shared_text_of
+shared_is_lines refusals before after h added =
+    added.text ∙ rw h (sym (flat_map-append line (header ∷ version Third ∷ []) (flat_map shared_refusal_rows refusals)))

@@ -1,6 +1,6 @@
 -- What is read can be written: a draft keeps, record by record, what a file may hold.
 use Rattle.std.proofs.Common.{◌≡◌, ℕ, ◌+◌, ◌<◌, ◌≤◌, ◌^◌, ◌==◌, Bool, true, false, not, ◌&&◌, ◌⊎◌, inl, inr, ◌-◌, nat_lt, nat_le, List, [], ◌∷◌, ◌++◌, length, All, Result, Ok, Err, Option, Some, None, IfOk, refl, arith, cond, length-append}
-use Rattle.std.proofs.lemmas.List.Elements.{All-append}
+use Rattle.std.proofs.lemmas.List.Elements.{All-append, All-head, All-tail}
 use Rattle.std.proofs.lemmas.List.Quantifiers.{all_pairs_push}
 use Rattle.std.proofs.lemmas.Bool.{and_parts, or_cases, leb-true, not-true, not-false}
 use Rattle.std.proofs.lemmas.Bool.Decides.{nat_tests}
@@ -12,8 +12,9 @@ use Rattle.cop_frame.specs.declared.rates.Rate.{Rate}
 use Rattle.cop_cert.specs.Assignments.{IsSdo}
 use Rattle.cop_cert.specs.Format.{Fields}
 use Rattle.cop_cert.specs.Entries.{number_in, rate_in, least_number, pdo_number_in, word_of, or_rule, with_value, is_sdo, is_value_of, is_number_of, entry_in}
+use Rattle.cop_cert.specs.Evidence.{busy_list_of}
 use Rattle.cop_cert.specs.Faults.{placed}
-use Rattle.cop_cert.specs.Reading.{is_complete, longer, with_busy, with_queue, with_number, with_more, is_of_number, lengthened, is_same_side, stopped_by, missing, broken_after, unless_broken, begun, cause_of, refused_at, or_misplaced, closed, joined, begin, of_named, given, with_evidence, add, by_word, next, taken, finished, rows_in, after_version, refusals_of}
+use Rattle.cop_cert.specs.Reading.{is_complete, longer, with_busy, with_queue, with_number, with_more, is_of_number, lengthened, is_same_side, stopped_by, missing, broken_after, unless_broken, begun, cause_of, refused_at, or_misplaced, closed, joined, begin, of_named, given, with_evidence, add, last_busy, with_numbers, with_list, with_same, share, by_word, next, taken, finished, rows_in, after_version, refusals_of}
 use Rattle.cop_cert.specs.Writable.{IsWritableList, IsWritableEvidence, AreWritableMembers, IsWritableCause, IsWritableRefusal, AreWritable}
 use Rattle.cop_cert.specs.declared.drafts.Draft.{Draft}
 use Rattle.cop_cert.specs.declared.drafts.Part.{Part}
@@ -329,6 +330,50 @@ given_sound None d rate evidence sound fresh h = cc
 given_sound (Some before) d rate evidence sound fresh h =
     named_sound before d before.part evidence sound sound.part fresh (taken_where (kbits_of rate == kbits_of before.rate) (of_named before before.part evidence) d rules.Misplaced h).1
 
+-- ---- the busy list of the member before
+
+part_of : (e : Evidence) → IsWritableEvidence e → IsPart (busy_list_of e)
+part_of (Long busy) h = record { count = h.count; fit = h.fit }
+part_of (Late q busy queue) h = record { count = h.1.count; fit = h.1.fit }
+
+last_part : (members : List Member) → All (λ m. IsWritableEvidence m.evidence) members → IsPart (last_busy members)
+last_part [] h = nothing
+last_part (m ∷ []) h = part_of m.evidence (All-head (λ m. IsWritableEvidence m.evidence) m [] h)
+last_part (m ∷ n ∷ more) h = last_part (n ∷ more) (All-tail (λ m. IsWritableEvidence m.evidence) m (n ∷ more) h)
+
+list_given : (shared : List ℕ) (e more : Evidence) → IsPart shared → IsPartEvidence e → with_list shared e ≡ Ok more → IsPartEvidence more
+list_given shared (Long busy) more its part h =
+    let p = bound (with_numbers shared busy) _ more h in
+    let is : Long p.0 ≡ more = let e = p.2 in cc in
+    let same = (passed (length busy == 0) shared p.0 rules.Misplaced p.1).1 in
+    rw (← is) (rw same at its)
+list_given shared (Late q busy queue) more its part h =
+    let p = bound (with_numbers shared busy) _ more h in
+    let is : Late q p.0 queue ≡ more = let e = p.2 in cc in
+    let same = (passed (length busy == 0) shared p.0 rules.Misplaced p.1).1 in
+    rw (← is) (part.0, rw same at its, part.2)
+
+part_shared : (shared : List ℕ) (members : List Member) (part more : Part) → IsPart shared → IsSoundPart members part → with_same shared part ≡ Ok more → IsSoundPart members more
+unfolding IsSoundPart
+part_shared shared members (parts.Member side m) more its at h =
+    let n = not_held (length shared == 0) _ more rules.Misplaced h in
+    let p = bound (with_list shared m.evidence) _ more n.1 in
+    let is : parts.Member side (record { pdo = m.pdo; evidence = p.0 }) ≡ more = let e = p.2 in cc in
+    rw (← is) (at.0, at.1, list_given shared m.evidence p.0 its at.2 p.1)
+part_shared shared members (parts.Sync busy) more its at h = cc
+part_shared shared members (parts.Named id) more its at h = cc
+part_shared shared members (parts.Frame id evidence) more its at h = cc
+
+share_sound : (draft : Option Draft) (d : Draft) (e : Entry) → IsSoundIf draft → share draft e ≡ Ok d → IsSound d
+share_sound None d e sound h = cc
+share_sound (Some before) d e sound h =
+    let n = not_held (not (kbits_of e.rate == kbits_of before.rate)) _ d rules.Misplaced h in
+    let k = not_held (not (is_of_number before.part e.number)) _ d rules.Misplaced n.1 in
+    let p = bound (with_same (last_busy before.members) before.part) _ d k.1 in
+    let is : begun before.done before.rate before.members p.0 ≡ d = let e = p.2 in cc in
+    let shared = last_part before.members sound.members.evidence in
+    rw (← is) (record { done = sound.done; rates = sound.rates; members = sound.members; part = part_shared (last_busy before.members) before.members before.part p.0 shared sound.part p.1 })
+
 evidence_sound : (side : Side) (draft : Option Draft) (d : Draft) (e : Entry) (evidence : Evidence) → IsSoundIf draft → IsInRange e → IsPartEvidence evidence → with_evidence side draft e evidence ≡ Ok d → IsSound d
 unfolding IsSoundPart
 evidence_sound side draft d e evidence sound range fresh h = go (e.number == 0) refl h
@@ -378,6 +423,7 @@ next_sound : (word : Word) (draft : Option Draft) (d : Draft) (e : Entry) → e.
 next_sound (words.Long side) draft d e is sound range h = evidence_sound side draft d e (Long []) sound range nothing h
 next_sound (words.Late side) draft d e is sound range h = evidence_sound side draft d e (Late e.value [] []) sound range (range.value, nothing, nothing) h
 next_sound words.Sync draft d e is sound range h = begin_sound draft d e.rate (parts.Sync []) sound fresh_sync h
+next_sound words.Same draft d e is sound range h = share_sound draft d e sound h
 next_sound words.Sdo draft d e is sound range h =
     begin_sound draft d e.rate (parts.Named e.value) sound (fresh_named e.value (range.sdo is)) (taken_where (nat_lt e.value 65536) (begin draft e.rate (parts.Named e.value)) d rules.Number h).1
 next_sound (words.Number list) draft d e is sound range h = add_sound list draft d e sound range h

@@ -19,7 +19,7 @@ use Rattle.cop_cert.specs.declared.drafts.Part.TheVariants as parts
 use Rattle.cop_cert.specs.declared.entries.Side.{Side}
 use Rattle.cop_cert.specs.declared.entries.Side.TheVariants as sides
 use Rattle.cop_cert.specs.declared.entries.Version.{Version}
-use Rattle.cop_cert.specs.declared.entries.Version.TheVariants.{First, Second}
+use Rattle.cop_cert.specs.declared.entries.Version.TheVariants.{First, Second, Third}
 use Rattle.cop_cert.specs.declared.faults.Rule.{Rule}
 use Rattle.cop_cert.specs.declared.refusals.Cause.{Cause}
 use Rattle.cop_cert.specs.declared.refusals.Cause.TheVariants.{Places, Sync, Sdo}
@@ -39,11 +39,11 @@ module _ (v : Version) where
   pub record Leads (a : Option Draft) (rows : List Fields) (b : Option Draft) : Type 0 where
     pub leads : (place : ℕ) → rows_from (taken v) place a rows ≡ Ok b
 
-  leads_none : (a : Option Draft) → Leads a [] a
+  pub leads_none : (a : Option Draft) → Leads a [] a
   unfolding rows_from
   leads_none a = record { leads = λ place. refl }
 
-  leads_cons : (a b c : Option Draft) (row : Fields) (rows : List Fields) → ((place : ℕ) → taken v place a row ≡ Ok b) → Leads b rows c → Leads a (row ∷ rows) c
+  pub leads_cons : (a b c : Option Draft) (row : Fields) (rows : List Fields) → ((place : ℕ) → taken v place a row ≡ Ok b) → Leads b rows c → Leads a (row ∷ rows) c
   unfolding rows_from
   leads_cons a b c row rows h k = record { leads = λ place. rw (h place) (k.leads (place + 1)) }
 
@@ -60,7 +60,7 @@ module _ (v : Version) where
       rw e (appended (taken v place a row) (λ d. rows_from (taken v) (place + 1) d (rows ++ more)) (λ d. rows_from (taken v) (place + 1) d rows) (λ b. rows_from (taken v) (place + 1 + length rows) b more)
       (λ d. rows_from-append (place + 1) d rows more))
 
-  leads_append : (a b c : Option Draft) (rows more : List Fields) → Leads a rows b → Leads b more c → Leads a (rows ++ more) c
+  pub leads_append : (a b c : Option Draft) (rows more : List Fields) → Leads a rows b → Leads b more c → Leads a (rows ++ more) c
   leads_append a b c rows more h k = record { leads = λ place. rows_from-append place a rows more ∙ rw (h.leads place) (k.leads (place + length rows)) }
 
 -- ---- the numbers of a list
@@ -70,11 +70,13 @@ list_known First lists.Busy = refl
 list_known First lists.Queue = refl
 list_known Second lists.Busy = refl
 list_known Second lists.Queue = refl
+list_known Third lists.Busy = refl
+list_known Third lists.Queue = refl
 
-not_empty : (n : ℕ) → 0 < n → (n == 0) ≡ false
+pub not_empty : (n : ℕ) → 0 < n → (n == 0) ≡ false
 not_empty n h = ne_eqb n 0 (λ e. omega arith)
 
-complete_is : (evidence : Evidence) → IsWritableEvidence evidence → is_complete evidence ≡ true
+pub complete_is : (evidence : Evidence) → IsWritableEvidence evidence → is_complete evidence ≡ true
 complete_is (Long busy) h = rw (not_empty (length busy) h.some) refl
 complete_is (Late q busy queue) h = rw (not_empty (length busy) h.1.some, not_empty (length queue) h.2.some) refl
 
@@ -137,12 +139,20 @@ pub record KnowsSide (v : Version) (side : Side) : Type 0 where
   pub long : word_of v (long_word side) ≡ Some (words.Long side)
   pub late : word_of v (late_word side) ≡ Some (words.Late side)
 
-knows_place : (v : Version) → KnowsSide v sides.Place
+pub knows_place : (v : Version) → KnowsSide v sides.Place
 knows_place First = record { long = refl; late = refl }
 knows_place Second = record { long = refl; late = refl }
+knows_place Third = record { long = refl; late = refl }
 
-knows_up : KnowsSide Second sides.Up
-knows_up = record { long = refl; late = refl }
+-- a version has words for causes other than places
+pub record KnowsFrames (v : Version) : Type 0 where
+  pub none : least_number v ≡ 0
+  pub sync : word_of v (codes "sync") ≡ Some words.Sync
+  pub sdo : word_of v (codes "sdo") ≡ Some words.Sdo
+  pub up : KnowsSide v sides.Up
+
+knows_frames : KnowsFrames Second
+knows_frames = record { none = refl; sync = refl; sdo = refl; up = record { long = refl; late = refl } }
 
 placed_long : (side : Side) (pdo : ℕ) → is_number_of (words.Long side) (pdo + 1) ≡ true
 placed_long sides.Place pdo = refl
@@ -152,42 +162,59 @@ placed_late : (side : Side) (pdo : ℕ) → is_number_of (words.Late side) (pdo 
 placed_late sides.Place pdo = refl
 placed_late sides.Up pdo = le-leb 1 (pdo + 1) (omega arith)
 
-abbrev member_part : Side → ℕ → Evidence → Part
+abbrev pub member_part : Side → ℕ → Evidence → Part
 member_part side pdo evidence = parts.Member side (record { pdo = pdo; evidence = evidence })
 
 module _ (v : Version) (side : Side) (known : KnowsSide v side) (a : Option Draft) (done : List Refusal) (rate : Rate) (before : List Member) (pdo : ℕ) (small : pdo < 512)
     (begins : (evidence : Evidence) → begin a rate (member_part side pdo evidence) ≡ Ok (begun done rate before (member_part side pdo evidence))) where
-  member_leads : (evidence : Evidence) → IsWritableEvidence evidence
-      → Leads v a (evidence_rows rate (pdo + 1) (long_word side) (late_word side) evidence) (Some (begun done rate before (member_part side pdo evidence)))
+  abbrev begun_with : Evidence → Option Draft
+  begun_with evidence = Some (begun done rate before (member_part side pdo evidence))
+
+  pub long_begins : (place : ℕ) → taken v place a (fields_of rate (pdo + 1) (long_word side) 0) ≡ Ok (begun_with (Long []))
   unfolding next
-  member_leads =
+  long_begins place =
       let low : least_number v ≤ pdo + 1 = omega (arith, least_small v) in
       let some : (pdo + 1 == 0) ≡ false = not_empty (pdo + 1) (omega arith) in
+      let same : pdo + 1 - 1 ≡ pdo = omega arith in
+      rw (entry_is v rate (pdo + 1) 0 (long_word side) (words.Long side) low (omega arith) (omega arith) known.long refl (placed_long side pdo), some, same, begins (Long [])) refl
+
+  pub late_begins : (q : ℕ) → q < 2 ^ 64 → (place : ℕ) → taken v place a (fields_of rate (pdo + 1) (late_word side) q) ≡ Ok (begun_with (Late q [] []))
+  unfolding next
+  late_begins q fits place =
+      let low : least_number v ≤ pdo + 1 = omega (arith, least_small v) in
+      let some : (pdo + 1 == 0) ≡ false = not_empty (pdo + 1) (omega arith) in
+      let same : pdo + 1 - 1 ≡ pdo = omega arith in
+      rw (entry_is v rate (pdo + 1) q (late_word side) (words.Late side) low (omega arith) fits known.late refl (placed_late side pdo), some, same, begins (Late q [] [])) refl
+
+  pub member_leads : (evidence : Evidence) → IsWritableEvidence evidence
+      → Leads v a (evidence_rows rate (pdo + 1) (long_word side) (late_word side) evidence) (Some (begun done rate before (member_part side pdo evidence)))
+  member_leads =
+      let low : least_number v ≤ pdo + 1 = omega (arith, least_small v) in
       let same : pdo + 1 - 1 ≡ pdo = omega arith in
       evidence_leads v done rate before (pdo + 1) low (omega arith) a (long_word side) (late_word side) (member_part side pdo)
       (λ e. rw (lt-ltb 0 (pdo + 1) (omega arith), same, eq-eqb pdo pdo refl) refl)
       (λ list e x. refl)
-      (λ place. rw (entry_is v rate (pdo + 1) 0 (long_word side) (words.Long side) low (omega arith) (omega arith) known.long refl (placed_long side pdo), some, same, begins (Long [])) refl)
-      (λ q fits place. rw (entry_is v rate (pdo + 1) q (late_word side) (words.Late side) low (omega arith) fits known.late refl (placed_late side pdo), some, same, begins (Late q [] [])) refl)
+      long_begins
+      late_begins
 
 -- records lead to a draft of all these members, of which the last is at hand
-record MembersEnd (v : Version) (side : Side) (a : Option Draft) (rows : List Fields) (done : List Refusal) (rate : Rate) (all : List Member) : Type 0 where
-  before : List Member
-  last : Member
-  leads : Leads v a rows (Some (begun done rate before (parts.Member side last)))
-  complete : is_complete last.evidence ≡ true
-  all_are : before ++ last ∷ [] ≡ all
+pub record MembersEnd (v : Version) (side : Side) (a : Option Draft) (rows : List Fields) (done : List Refusal) (rate : Rate) (all : List Member) : Type 0 where
+  pub before : List Member
+  pub last : Member
+  pub leads : Leads v a rows (Some (begun done rate before (parts.Member side last)))
+  pub complete : is_complete last.evidence ≡ true
+  pub all_are : before ++ last ∷ [] ≡ all
 
 same_side : (side : Side) → is_same_side side side ≡ true
 same_side sides.Place = refl
 same_side sides.Up = refl
 
-next_member_begins : (side : Side) (done : List Refusal) (rate : Rate) (before : List Member) (m : Member) (pdo : ℕ) → is_complete m.evidence ≡ true → m.pdo < pdo → (evidence : Evidence)
+pub next_member_begins : (side : Side) (done : List Refusal) (rate : Rate) (before : List Member) (m : Member) (pdo : ℕ) → is_complete m.evidence ≡ true → m.pdo < pdo → (evidence : Evidence)
     → begin (Some (begun done rate before (parts.Member side m))) rate (member_part side pdo evidence) ≡ Ok (begun done rate (before ++ m ∷ []) (member_part side pdo evidence))
 next_member_begins side done rate before m pdo complete rises evidence =
     rw (le-ltb (kbits_of rate) (kbits_of rate) (omega arith), eq-eqb (kbits_of rate) (kbits_of rate) refl, same_side side, lt-leb pdo m.pdo rises, complete) refl
 
-pairs_on : {A : Type 0} (R : A → A → Type 0) (x : A) (rest : List A) → AllPairs R (x ∷ rest) → AllPairs R rest
+pub pairs_on : {A : Type 0} (R : A → A → Type 0) (x : A) (rest : List A) → AllPairs R (x ∷ rest) → AllPairs R rest
 pairs_on R x rest h = λ i j d lt below. h (suc i) (suc j) d (omega arith) (omega arith)
 
 module _ (v : Version) (side : Side) (known : KnowsSide v side) (done : List Refusal) (rate : Rate) where
@@ -228,11 +255,11 @@ module _ (v : Version) (side : Side) (known : KnowsSide v side) (done : List Ref
 -- ---- a refusal
 
 -- records lead to the draft of this refusal after those, and none of it is missing
-record Ends (v : Version) (a : Option Draft) (rows : List Fields) (done : List Refusal) (rate : Rate) (cause : Cause) : Type 0 where
-  members : List Member
-  part : Part
-  leads : Leads v a rows (Some (begun done rate members part))
-  whole : cause_of members part ≡ Some cause
+pub record Ends (v : Version) (a : Option Draft) (rows : List Fields) (done : List Refusal) (rate : Rate) (cause : Cause) : Type 0 where
+  pub members : List Member
+  pub part : Part
+  pub leads : Leads v a rows (Some (begun done rate members part))
+  pub whole : cause_of members part ≡ Some cause
 
 sdo_is : (id : ℕ) → IsSdo id → is_sdo id ≡ true
 sdo_is id (inl h) = rw (le-leb 0x581 id h.0, le-leb id 0x5FF h.1) refl
@@ -250,75 +277,90 @@ sdo_small id (inr h) = omega (arith, h.1)
 -- the versions that have words for a cause
 Knows : Version → Cause → Type 0
 Knows v (Places members) = Unit {0}
-Knows v (Sync busy) = v ≡ Second
-Knows v (Sdo up id evidence) = v ≡ Second
+Knows v (Sync busy) = KnowsFrames v
+Knows v (Sdo up id evidence) = KnowsFrames v
 
-module _ (a : Option Draft) (done : List Refusal) (rate : Rate) (begins : (part : Part) → begin a rate part ≡ Ok (begun done rate [] part)) where
-  sync_begins : (place : ℕ) → taken Second place a (fields_of rate 0 (codes "sync") 0) ≡ Ok (Some (begun done rate [] (parts.Sync [])))
+module _ (v : Version) (frames : KnowsFrames v) (a : Option Draft) (done : List Refusal) (rate : Rate) (begins : (part : Part) → begin a rate part ≡ Ok (begun done rate [] part)) where
+  least_is : least_number v ≤ 0
+  least_is = omega (arith, frames.none)
+
+  sync_begins : (place : ℕ) → taken v place a (fields_of rate 0 (codes "sync") 0) ≡ Ok (Some (begun done rate [] (parts.Sync [])))
   unfolding next
-  sync_begins place = rw (entry_is Second rate 0 0 (codes "sync") words.Sync (omega arith) (omega arith) (omega arith) refl refl refl, begins (parts.Sync [])) refl
+  sync_begins place = rw (entry_is v rate 0 0 (codes "sync") words.Sync least_is (omega arith) (omega arith) frames.sync refl refl, begins (parts.Sync [])) refl
 
-  sync_ends : (busy : List ℕ) → IsWritableList busy → Ends Second a (cause_rows rate (Sync busy)) done rate (Sync busy)
+  pub sync_ends : (busy : List ℕ) → IsWritableList busy → Ends v a (cause_rows rate (Sync busy)) done rate (Sync busy)
   sync_ends busy h = record {
     members = [];
     part = parts.Sync busy;
-    leads = leads_cons Second a (Some (begun done rate [] (parts.Sync []))) _ _ _ sync_begins
-        (all_numbers Second done rate [] 0 (omega arith) (omega arith) lists.Busy (λ xs. parts.Sync xs) (λ xs. refl) (λ xs x. refl) [] busy (omega (arith, h.count)) h.fit);
+    leads = leads_cons v a (Some (begun done rate [] (parts.Sync []))) _ _ _ sync_begins
+        (all_numbers v done rate [] 0 least_is (omega arith) lists.Busy (λ xs. parts.Sync xs) (λ xs. refl) (λ xs x. refl) [] busy (omega (arith, h.count)) h.fit);
     whole = rw (not_empty (length busy) h.some) refl;
   }
 
   -- the frame's record, from where a frame may be named
   module _ (b : Option Draft) (up : List Member) (id : ℕ) (sdo : IsSdo id) (names : begin b rate (parts.Named id) ≡ Ok (begun done rate up (parts.Named id))) where
-    frame_named : (place : ℕ) → taken Second place b (fields_of rate 0 (codes "sdo") id) ≡ Ok (Some (begun done rate up (parts.Named id)))
+    frame_named : (place : ℕ) → taken v place b (fields_of rate 0 (codes "sdo") id) ≡ Ok (Some (begun done rate up (parts.Named id)))
     unfolding next
     frame_named place =
-        rw (entry_is Second rate 0 id (codes "sdo") words.Sdo (omega arith) (omega arith) (let small = sdo_small id sdo in omega (arith, small)) refl (sdo_is id sdo) refl, lt-ltb id 65536 (sdo_small id sdo), names) refl
+        rw (entry_is v rate 0 id (codes "sdo") words.Sdo least_is (omega arith) (let small = sdo_small id sdo in omega (arith, small)) frames.sdo (sdo_is id sdo) refl, lt-ltb id 65536 (sdo_small id sdo), names) refl
 
-    frame_leads : (evidence : Evidence) → IsWritableEvidence evidence → Leads Second b (frame_rows rate id evidence) (Some (begun done rate up (parts.Frame id evidence)))
+    frame_leads : (evidence : Evidence) → IsWritableEvidence evidence → Leads v b (frame_rows rate id evidence) (Some (begun done rate up (parts.Frame id evidence)))
     unfolding next
     frame_leads evidence h =
         let named = Some (begun done rate up (parts.Named id)) in
         let same = eq-eqb (kbits_of rate) (kbits_of rate) refl in
-        leads_cons Second b named (Some (begun done rate up (parts.Frame id evidence))) _ _ frame_named
-        (evidence_leads Second done rate up 0 (omega arith) (omega arith) named (codes "long") (codes "late") (λ e. parts.Frame id e) (λ e. refl) (λ list e x. refl)
-        (λ place. rw (entry_is Second rate 0 0 (codes "long") (words.Long sides.Place) (omega arith) (omega arith) (omega arith) refl refl refl, same) refl)
-        (λ q fits place. rw (entry_is Second rate 0 q (codes "late") (words.Late sides.Place) (omega arith) (omega arith) fits refl refl refl, same) refl)
+        let known = knows_place v in
+        leads_cons v b named (Some (begun done rate up (parts.Frame id evidence))) _ _ frame_named
+        (evidence_leads v done rate up 0 least_is (omega arith) named (codes "long") (codes "late") (λ e. parts.Frame id e) (λ e. refl) (λ list e x. refl)
+        (λ place. rw (entry_is v rate 0 0 (codes "long") (words.Long sides.Place) least_is (omega arith) (omega arith) known.long refl refl, same) refl)
+        (λ q fits place. rw (entry_is v rate 0 q (codes "late") (words.Late sides.Place) least_is (omega arith) fits known.late refl refl, same) refl)
         evidence h)
 
   named_after : (before : List Member) (last : Member) (id : ℕ) → is_complete last.evidence ≡ true
       → begin (Some (begun done rate before (parts.Member sides.Up last))) rate (parts.Named id) ≡ Ok (begun done rate (before ++ last ∷ []) (parts.Named id))
   named_after before last id complete = rw (le-ltb (kbits_of rate) (kbits_of rate) (omega arith), eq-eqb (kbits_of rate) (kbits_of rate) refl, complete) refl
 
-  sdo_ends : (up : List Member) (id : ℕ) (evidence : Evidence) → AreWritableMembers up → IsSdo id → IsWritableEvidence evidence → Ends Second a (cause_rows rate (Sdo up id evidence)) done rate (Sdo up id evidence)
-  sdo_ends [] id evidence h sdo fine = record {
+  pub sdo_alone : (id : ℕ) (evidence : Evidence) → IsSdo id → IsWritableEvidence evidence → Ends v a (frame_rows rate id evidence) done rate (Sdo [] id evidence)
+  sdo_alone id evidence sdo fine = record {
     members = [];
     part = parts.Frame id evidence;
     leads = frame_leads a [] id sdo (begins (parts.Named id)) evidence fine;
     whole = rw (complete_is evidence fine) refl;
   }
-  sdo_ends (m ∷ rest) id evidence h sdo fine =
-      let up = first_members Second sides.Up knows_up done rate a m rest begins h in
+
+  -- below members that have to be up, whatever their records
+  pub sdo_below : (rows : List Fields) (members : List Member) (id : ℕ) (evidence : Evidence) → MembersEnd v sides.Up a rows done rate members → IsSdo id → IsWritableEvidence evidence
+      → Ends v a (rows ++ frame_rows rate id evidence) done rate (Sdo members id evidence)
+  sdo_below rows members id evidence up sdo fine =
       let at_last = Some (begun done rate up.before (parts.Member sides.Up up.last)) in
       let names = named_after up.before up.last id up.complete in
       let frame = frame_leads at_last (up.before ++ up.last ∷ []) id sdo names evidence fine in
       record {
-        members = m ∷ rest;
+        members = members;
         part = parts.Frame id evidence;
-        leads = leads_append Second a at_last _ (flat_map (member_rows sides.Up rate) (m ∷ rest)) (frame_rows rate id evidence) up.leads (rw up.all_are at frame);
+        leads = leads_append v a at_last _ rows (frame_rows rate id evidence) up.leads (rw up.all_are at frame);
         whole = rw (complete_is evidence fine) refl;
       }
 
+  sdo_ends : (up : List Member) (id : ℕ) (evidence : Evidence) → AreWritableMembers up → IsSdo id → IsWritableEvidence evidence → Ends v a (cause_rows rate (Sdo up id evidence)) done rate (Sdo up id evidence)
+  sdo_ends [] id evidence h sdo fine = sdo_alone id evidence sdo fine
+  sdo_ends (m ∷ rest) id evidence h sdo fine =
+      sdo_below (flat_map (member_rows sides.Up rate) (m ∷ rest)) (m ∷ rest) id evidence (first_members v sides.Up frames.up done rate a m rest begins h) sdo fine
+
+pub places_are : (v : Version) (a : Option Draft) (done : List Refusal) (rate : Rate) (rows : List Fields) (members : List Member) → MembersEnd v sides.Place a rows done rate members → Ends v a rows done rate (Places members)
+places_are v a done rate rows members all =
+    record { members = all.before; part = parts.Member sides.Place all.last; leads = all.leads; whole = rw (all.complete, all.all_are) refl }
+
+module _ (a : Option Draft) (done : List Refusal) (rate : Rate) (begins : (part : Part) → begin a rate part ≡ Ok (begun done rate [] part)) where
   places_end : (v : Version) (members : List Member) → 0 < length members → AreWritableMembers members → Ends v a (cause_rows rate (Places members)) done rate (Places members)
   places_end v [] some h = absurd (omega (arith, some))
-  places_end v (m ∷ rest) some h =
-      let all = first_members v sides.Place (knows_place v) done rate a m rest begins h in
-      record { members = all.before; part = parts.Member sides.Place all.last; leads = all.leads; whole = rw (all.complete, all.all_are) refl }
+  places_end v (m ∷ rest) some h = places_are v a done rate (flat_map (member_rows sides.Place rate) (m ∷ rest)) (m ∷ rest) (first_members v sides.Place (knows_place v) done rate a m rest begins h)
 
   refusal_ends : (v : Version) (cause : Cause) → Knows v cause → IsWritableCause cause → Ends v a (cause_rows rate cause) done rate cause
   unfolding Knows
   refusal_ends v (Places members) known h = places_end v members h.0 h.1
-  refusal_ends v (Sync busy) known h = rw known (sync_ends busy h)
-  refusal_ends v (Sdo up id evidence) known h = rw known (sdo_ends up id evidence h.0 h.1 h.2)
+  refusal_ends v (Sync busy) known h = sync_ends v known a done rate begins busy h
+  refusal_ends v (Sdo up id evidence) known h = sdo_ends v known a done rate begins up id evidence h.0 h.1 h.2
 
 next_rate_begins : (d : Draft) (rate : Rate) (cause : Cause) → cause_of d.members d.part ≡ Some cause → kbits_of d.rate < kbits_of rate → (part : Part)
     → begin (Some d) rate part ≡ Ok (begun (d.done ++ refused_at d.rate cause ∷ []) rate [] part)
@@ -333,37 +375,39 @@ record Reaches (v : Version) (a : Option Draft) (rows : List Fields) (found : Li
   leads : Leads v a rows (Some draft)
   closes : closed draft ≡ Ok found
 
-module _ (v : Version) where
+-- records that a version has for refusals of a kind
+module _ (v : Version) (Fine : Refusal → Type 0) (rows : Refusal → List Fields)
+    (ends : (r : Refusal) → Fine r → (a : Option Draft) (done : List Refusal) → ((part : Part) → begin a r.rate part ≡ Ok (begun done r.rate [] part)) → Ends v a (rows r) done r.rate r.cause) where
   refusals_reach : (d : Draft) (cause : Cause) (rs : List Refusal) → cause_of d.members d.part ≡ Some cause → AllPairs (λ r s. kbits_of r.rate < kbits_of s.rate) (refused_at d.rate cause ∷ rs)
-      → All (λ r. Knows v r.cause) rs → All IsWritableRefusal rs → Reaches v (Some d) (flat_map refusal_rows rs) (d.done ++ refused_at d.rate cause ∷ rs)
-  refusals_reach d cause [] whole rise known fine = record { draft = d; leads = leads_none v (Some d); closes = rw whole refl }
-  refusals_reach d cause (r ∷ rs) whole rise known fine =
+      → All Fine rs → Reaches v (Some d) (flat_map rows rs) (d.done ++ refused_at d.rate cause ∷ rs)
+  refusals_reach d cause [] whole rise fine = record { draft = d; leads = leads_none v (Some d); closes = rw whole refl }
+  refusals_reach d cause (r ∷ rs) whole rise fine =
       let rises : kbits_of d.rate < kbits_of r.rate = rise 0 1 r (lit< tt) (omega arith) in
       let done = d.done ++ refused_at d.rate cause ∷ [] in
-      let first = refusal_ends (Some d) done r.rate (next_rate_begins d r.rate cause whole rises) v r.cause (All-head (λ r. Knows v r.cause) r rs known) (All-head IsWritableRefusal r rs fine) in
+      let first = ends r (All-head Fine r rs fine) (Some d) done (next_rate_begins d r.rate cause whole rises) in
       let on = pairs_on (λ r s. kbits_of r.rate < kbits_of s.rate) (refused_at d.rate cause) (r ∷ rs) rise in
       let next = begun done r.rate first.members first.part in
-      let later = refusals_reach next r.cause rs first.whole on (All-tail (λ r. Knows v r.cause) r rs known) (All-tail IsWritableRefusal r rs fine) in
+      let later = refusals_reach next r.cause rs first.whole on (All-tail Fine r rs fine) in
       record {
         draft = later.draft;
-        leads = leads_append v (Some d) (Some next) (Some later.draft) (refusal_rows r) (flat_map refusal_rows rs) first.leads later.leads;
+        leads = leads_append v (Some d) (Some next) (Some later.draft) (rows r) (flat_map rows rs) first.leads later.leads;
         closes = later.closes ∙ rw (append_assoc d.done (refused_at d.rate cause ∷ []) (r ∷ rs)) refl;
       }
 
-  finish : (found : List Refusal) (rows : List Fields) (place last : ℕ) → Reaches v None rows found → (rows_from (taken v) place None rows >>= ended last) ≡ Ok found
+  finish : (found : List Refusal) (all : List Fields) (place last : ℕ) → Reaches v None all found → (rows_from (taken v) place None all >>= ended last) ≡ Ok found
   unfolding finished
-  finish found rows place last h = rw (h.leads.leads place, h.closes) refl
+  finish found all place last h = rw (h.leads.leads place, h.closes) refl
 
-  all_read : (rs : List Refusal) (place last : ℕ) → All (λ r. Knows v r.cause) rs → AreWritable rs → (rows_from (taken v) place None (flat_map refusal_rows rs) >>= ended last) ≡ Ok rs
+  pub all_read : (rs : List Refusal) (place last : ℕ) → All Fine rs → AllPairs (λ r s. kbits_of r.rate < kbits_of s.rate) rs → (rows_from (taken v) place None (flat_map rows rs) >>= ended last) ≡ Ok rs
   unfolding rows_from finished
-  all_read [] place last known h = refl
-  all_read (r ∷ rs) place last known h =
-      let first = refusal_ends None [] r.rate (λ part. refl) v r.cause (All-head (λ r. Knows v r.cause) r rs known) (All-head IsWritableRefusal r rs h.each) in
+  all_read [] place last fine rise = refl
+  all_read (r ∷ rs) place last fine rise =
+      let first = ends r (All-head Fine r rs fine) None [] (λ part. refl) in
       let next = begun [] r.rate first.members first.part in
-      let later = refusals_reach next r.cause rs first.whole h.rise (All-tail (λ r. Knows v r.cause) r rs known) (All-tail IsWritableRefusal r rs h.each) in
-      finish (r ∷ rs) (flat_map refusal_rows (r ∷ rs)) place last (record {
+      let later = refusals_reach next r.cause rs first.whole rise (All-tail Fine r rs fine) in
+      finish (r ∷ rs) (flat_map rows (r ∷ rs)) place last (record {
         draft = later.draft;
-        leads = leads_append v None (Some next) (Some later.draft) (refusal_rows r) (flat_map refusal_rows rs) first.leads later.leads;
+        leads = leads_append v None (Some next) (Some later.draft) (rows r) (flat_map rows rs) first.leads later.leads;
         closes = later.closes;
       })
 
@@ -372,8 +416,8 @@ module _ (v : Version) where
 knows_second : (cause : Cause) → Knows Second cause
 unfolding Knows
 knows_second (Places members) = tt
-knows_second (Sync busy) = refl
-knows_second (Sdo up id evidence) = refl
+knows_second (Sync busy) = knows_frames
+knows_second (Sdo up id evidence) = knows_frames
 
 knows_first : (cause : Cause) → is_by_places cause ≡ true → Knows First cause
 unfolding Knows
@@ -393,12 +437,20 @@ all_known rs = go (list_all (λ r. is_by_places r.cause) rs) refl
     go true e = λ k d below. knows_first (get_or rs k d).cause (all_at (λ (r : Refusal). is_by_places r.cause) rs e k d below)
     go false e = λ k d below. knows_second (get_or rs k d).cause
 
-version_read : (v : Version) (rows : List Fields) → after_version (version v ∷ rows) ≡ Ok (v, rows)
+pub version_read : (v : Version) (rows : List Fields) → after_version (version v ∷ rows) ≡ Ok (v, rows)
 version_read First rows = refl
 version_read Second rows = refl
+version_read Third rows = refl
+
+-- a refusal that a version has words for and that a file holds
+abbrev IsKnown : Version → Refusal → Type 0
+IsKnown v r = Knows v r.cause × IsWritableRefusal r
 
 -- the text of refusals that a file holds reads as these
 pub written_is_read : (rs : List Refusal) → AreWritable rs → refusals_of (text_of rs) ≡ Ok rs
 unfolding refusals_of
 written_is_read rs h =
-    rw (text_read rs, version_read (version_of rs) (flat_map refusal_rows rs)) (all_read (version_of rs) rs 2 (1 + length (flat_map refusal_rows rs)) (all_known rs) h)
+    let v = version_of rs in
+    rw (text_read rs, version_read (version_of rs) (flat_map refusal_rows rs))
+    (all_read v (IsKnown v) refusal_rows (λ r fine a done begins. refusal_ends a done r.rate begins v r.cause fine.0 fine.1) rs 2 (1 + length (flat_map refusal_rows rs))
+    (λ k d below. (all_known rs k d below, h.each k d below)) h.rise)

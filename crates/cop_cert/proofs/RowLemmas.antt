@@ -12,7 +12,7 @@ use Rattle.cop_frame.specs.Rate.{kbits_of}
 use Rattle.cop_cert.specs.Format.{fields_of}
 use Rattle.cop_cert.specs.Entries.{rate_of, least_number, word_of, is_value_of, is_number_of, entry_in}
 use Rattle.cop_cert.specs.declared.entries.Version.{Version}
-use Rattle.cop_cert.specs.declared.entries.Version.TheVariants.{First, Second}
+use Rattle.cop_cert.specs.declared.entries.Version.TheVariants.{First, Second, Third}
 use Rattle.cop_cert.specs.declared.entries.Word.{Word}
 
 pub all_digits : (ds : List ℕ) → AllDigits 10 ds → list_all (λ c. is_digit c 10) ds ≡ true
@@ -51,6 +51,7 @@ rate_small Kbit1000 = lit< tt
 pub least_small : (v : Version) → least_number v ≤ 1
 least_small First = omega arith
 least_small Second = omega arith
+least_small Third = omega arith
 
 pub entry_is : (v : Version) (rate : Rate) (number value : ℕ) (what : List ℕ) (word : Word) → least_number v ≤ number → number ≤ 512 → value < 2 ^ 64 → word_of v what ≡ Some word
     → is_value_of word value ≡ true → is_number_of word number ≡ true

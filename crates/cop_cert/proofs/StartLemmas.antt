@@ -7,7 +7,7 @@ use Rattle.cop_table.proofs.PlainLemmas.{plain_lines}
 use Rattle.cop_cert.specs.Format.{header, version}
 use Rattle.cop_cert.specs.Reading.{refusals_in, refusals_of}
 use Rattle.cop_cert.specs.Plain.{rows_of_text}
-use Rattle.cop_cert.specs.declared.entries.Version.TheVariants.{First, Second}
+use Rattle.cop_cert.specs.declared.entries.Version.TheVariants.{First, Second, Third}
 
 start_first : (rest : List ℕ) → plain_records (codes "rate,pdo,what,value\n0,0,version,1\n" ++ rest) ≡ header ∷ version First ∷ rows_of_text rest
 unfolding strip_bom
@@ -16,6 +16,10 @@ start_first rest = refl
 start_second : (rest : List ℕ) → plain_records (codes "rate,pdo,what,value\n0,0,version,2\n" ++ rest) ≡ header ∷ version Second ∷ rows_of_text rest
 unfolding strip_bom
 start_second rest = refl
+
+start_third : (rest : List ℕ) → plain_records (codes "rate,pdo,what,value\n0,0,version,3\n" ++ rest) ≡ header ∷ version Third ∷ rows_of_text rest
+unfolding strip_bom
+start_third rest = refl
 
 pub starts_first : (text left : List ℕ) → All (λ c. is_quote c ≡ false) text → text ≡ codes "rate,pdo,what,value\n0,0,version,1\n" ++ left → refusals_of text ≡ refusals_in First (rows_of_text left)
 unfolding refusals_of
@@ -27,4 +31,10 @@ pub starts_second : (text left : List ℕ) → All (λ c. is_quote c ≡ false) 
 unfolding refusals_of
 starts_second text left plain e =
     let rows : records_of text ≡ header ∷ version Second ∷ rows_of_text left = plain_lines text plain ∙ rw e (start_second left) in
+    rw rows refl
+
+pub starts_third : (text left : List ℕ) → All (λ c. is_quote c ≡ false) text → text ≡ codes "rate,pdo,what,value\n0,0,version,3\n" ++ left → refusals_of text ≡ refusals_in Third (rows_of_text left)
+unfolding refusals_of
+starts_third text left plain e =
+    let rows : records_of text ≡ header ∷ version Third ∷ rows_of_text left = plain_lines text plain ∙ rw e (start_third left) in
     rw rows refl

@@ -1,5 +1,5 @@
 -- Records added to a text, one after another.
-use Rattle.std.proofs.Common.{◌≡◌, ℕ, ◌+◌, ◌<◌, ◌≤◌, List, [], ◌∷◌, ◌++◌, length, take, get_or, sym, ◌∙◌, append_assoc, append-nil}
+use Rattle.std.proofs.Common.{◌≡◌, ℕ, ◌+◌, ◌<◌, ◌≤◌, List, [], ◌∷◌, ◌++◌, length, take, get_or, sym, ap, ◌∙◌, append_assoc, append-nil}
 use Rattle.std.specs.List.{flat_map}
 use Rattle.std.proofs.lemmas.Grind.{flat_map-append}
 use Rattle.std.proofs.lemmas.List.{take_more, take_all}
@@ -24,3 +24,15 @@ module _ {X : Type 0} (a b c : List ℕ) (xs : List X) (i : ℕ) (x : X) where
 
 pub all_each : {X : Type 0} (a b : List ℕ) (xs : List X) (i : ℕ) (f : X → List Fields) → length xs ≤ i → Adds a b (flat_map f (take i xs)) → Adds a b (flat_map f xs)
 all_each a b xs i f le h = rw (take_all i xs le) at h
+
+-- ---- records that are taken from the front of those that are left
+
+pub adds_front : (now next whole : List ℕ) (rows more : List Fields) → now ++ lines (rows ++ more) ≡ whole → Adds now next rows → next ++ lines more ≡ whole
+adds_front now next whole rows more h k =
+    let apart : lines (rows ++ more) ≡ lines rows ++ lines more = flat_map-append line rows more in
+    let first : next ++ lines more ≡ now ++ (lines rows ++ lines more) = ap (λ t. t ++ lines more) k.text ∙ append_assoc now (lines rows) (lines more) in
+    let all : now ++ (lines rows ++ lines more) ≡ whole = ap (λ t. now ++ t) (sym apart) ∙ h in
+    first ∙ all
+
+pub adds_whole : (old now : List ℕ) (rows : List Fields) → now ++ [] ≡ old ++ lines rows → Adds old now rows
+adds_whole old now rows h = record { text = sym (append-nil now) ∙ h }

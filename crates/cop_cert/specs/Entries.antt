@@ -15,7 +15,7 @@ use Rattle.cop_cert.specs.declared.entries.Word.TheVariants as words
 use Rattle.cop_cert.specs.declared.entries.Listed.TheVariants as lists
 use Rattle.cop_cert.specs.declared.entries.Side.TheVariants as sides
 use Rattle.cop_cert.specs.declared.entries.Version.{Version}
-use Rattle.cop_cert.specs.declared.entries.Version.TheVariants.{First, Second}
+use Rattle.cop_cert.specs.declared.entries.Version.TheVariants.{First, Second, Third}
 use Rattle.cop_cert.specs.declared.faults.Rule.{Rule}
 use Rattle.cop_cert.specs.declared.faults.Rule.TheVariants as rules
 
@@ -30,6 +30,7 @@ rate_of kbits = find (λ rate. kbits_of rate == kbits) rates
 abbrev pub least_number : Version → ℕ
 least_number First = 1
 least_number Second = 0
+least_number Third = 0
 
 abbrev pub or_rule : {A : Type 0} → Rule → Option A → Result A Rule
 or_rule rule None = Err rule
@@ -46,15 +47,20 @@ abbrev pub pdo_number_in : Version → List ℕ → Result ℕ Rule
 pdo_number_in version text = number_in text >>= λ number.
     if nat_le (least_number version) number && nat_le number 512 then Ok number else Err rules.Number
 
--- the words of the second version alone
-abbrev pub new_word_of : Version → List ℕ → Option Word
-new_word_of First text = None
-new_word_of Second text =
+-- the words that the first version has not and the second has
+abbrev pub second_word_of : List ℕ → Option Word
+second_word_of text =
     if bytes_eq text (codes "uplong") then Some (words.Long sides.Up)
     else if bytes_eq text (codes "uplate") then Some (words.Late sides.Up)
     else if bytes_eq text (codes "sync") then Some words.Sync
     else if bytes_eq text (codes "sdo") then Some words.Sdo
     else None
+
+-- the words that the first version has not: one more in the third
+abbrev pub new_word_of : Version → List ℕ → Option Word
+new_word_of First text = None
+new_word_of Second text = second_word_of text
+new_word_of Third text = if bytes_eq text (codes "same") then Some words.Same else second_word_of text
 
 abbrev pub word_of : Version → List ℕ → Option Word
 word_of version text =
@@ -68,21 +74,23 @@ word_of version text =
 abbrev pub is_sdo : ℕ → Bool
 is_sdo id = (nat_le 0x581 id && nat_le id 0x5FF) || (nat_le 0x601 id && nat_le id 0x67F)
 
--- `long`, `uplong` and `sync` have the value 0, `sdo` the identifier of an SDO frame
+-- `long`, `uplong`, `sync` and `same` have the value 0, `sdo` the identifier of an SDO frame
 abbrev pub is_value_of : Word → ℕ → Bool
 is_value_of (words.Long side) value = value == 0
 is_value_of (words.Late side) value = true
 is_value_of words.Sync value = value == 0
+is_value_of words.Same value = value == 0
 is_value_of words.Sdo value = is_sdo value
 is_value_of (words.Number list) value = true
 
--- `uplong` and `uplate` are of PDOs, `sync` and `sdo` of fixed frames
+-- `uplong`, `uplate` and `same` are of PDOs, `sync` and `sdo` of fixed frames
 abbrev pub is_number_of : Word → ℕ → Bool
 is_number_of (words.Long sides.Place) number = true
 is_number_of (words.Long sides.Up) number = nat_le 1 number
 is_number_of (words.Late sides.Place) number = true
 is_number_of (words.Late sides.Up) number = nat_le 1 number
 is_number_of words.Sync number = number == 0
+is_number_of words.Same number = nat_le 1 number
 is_number_of words.Sdo number = number == 0
 is_number_of (words.Number list) number = true
 
@@ -110,4 +118,5 @@ version_in row =
     if not (writes (field row 0) 0 && writes (field row 1) 0 && bytes_eq (field row 2) (codes "version")) then None
     else if writes (field row 3) 1 then Some First
     else if writes (field row 3) 2 then Some Second
+    else if writes (field row 3) 3 then Some Third
     else None

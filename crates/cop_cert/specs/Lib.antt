@@ -12,3 +12,4 @@ pub mod Rising
 pub mod Chains
 pub mod Causes
 pub mod Plain
+pub mod Short

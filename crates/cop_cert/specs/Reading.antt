@@ -7,6 +7,7 @@ use Rattle.cop_frame.specs.Rate.{kbits_of}
 use Rattle.cop_cert.specs.Format.{Fields, header}
 use Rattle.cop_cert.specs.Faults.{refuse, placed}
 use Rattle.cop_cert.specs.Entries.{entry_in, version_in}
+use Rattle.cop_cert.specs.Evidence.{busy_list_of}
 use Rattle.cop_cert.specs.declared.entries.Entry.{Entry}
 use Rattle.cop_cert.specs.declared.entries.Word.{Word}
 use Rattle.cop_cert.specs.declared.entries.Word.TheVariants as words
@@ -166,10 +167,43 @@ add list (Some d) e =
     if not (kbits_of e.rate == kbits_of d.rate) then Err rules.Misplaced
     else lengthened list d.part e.number e.value >>= λ part. Ok (begun d.done d.rate d.members part)
 
+-- the busy list of the last of some members, if there is one
+abbrev pub last_busy : List Member → List ℕ
+last_busy [] = []
+last_busy (m ∷ []) = busy_list_of m.evidence
+last_busy (m ∷ n ∷ more) = last_busy (n ∷ more)
+
+-- a list without numbers takes those of another
+abbrev pub with_numbers : List ℕ → List ℕ → Result (List ℕ) Rule
+with_numbers shared numbers = if length numbers == 0 then Ok shared else Err rules.Misplaced
+
+-- evidence takes a busy list that another has, before any number of its own
+abbrev pub with_list : List ℕ → Evidence → Result Evidence Rule
+with_list shared (Long busy) = with_numbers shared busy >>= λ busy. Ok (Long busy)
+with_list shared (Late q busy queue) = with_numbers shared busy >>= λ busy. Ok (Late q busy queue)
+
+-- a member takes that of the member before
+abbrev pub with_same : List ℕ → Part → Result Part Rule
+with_same shared (parts.Member side m) =
+    if length shared == 0 then Err rules.Misplaced
+    else with_list shared m.evidence >>= λ evidence. Ok (parts.Member side (record { pdo = m.pdo; evidence = evidence }))
+with_same shared (parts.Sync busy) = Err rules.Misplaced
+with_same shared (parts.Named id) = Err rules.Misplaced
+with_same shared (parts.Frame id evidence) = Err rules.Misplaced
+
+-- a record that gives the part at hand, whose rate and number it repeats, the busy list of the member before
+abbrev pub share : Option Draft → Entry → Result Draft Rule
+share None e = Err rules.Misplaced
+share (Some d) e =
+    if not (kbits_of e.rate == kbits_of d.rate) then Err rules.Misplaced
+    else if not (is_of_number d.part e.number) then Err rules.Misplaced
+    else with_same (last_busy d.members) d.part >>= λ part. Ok (begun d.done d.rate d.members part)
+
 abbrev pub by_word : Word → Option Draft → Entry → Result Draft Rule
 by_word (words.Long side) draft e = with_evidence side draft e (Long [])
 by_word (words.Late side) draft e = with_evidence side draft e (Late e.value [] [])
 by_word words.Sync draft e = begin draft e.rate (parts.Sync [])
+by_word words.Same draft e = share draft e
 by_word words.Sdo draft e = if nat_lt e.value 65536 then begin draft e.rate (parts.Named e.value) else Err rules.Number
 by_word (words.Number list) draft e = add list draft e
 

@@ -149,7 +149,13 @@ fn flag_members(members: &[Member], out: &mut [bool])
 }
 
 /// Flags what is above in the trial of the members.
-fn flag_trial(streams: &[Stream], pdos: usize, bound: u16, members: &[Member], out: &mut [bool])
+pub(crate) fn flag_trial(
+    streams: &[Stream],
+    pdos: usize,
+    bound: u16,
+    members: &[Member],
+    out: &mut [bool],
+)
     requires size { length out.old ≡ length streams.now }
     requires count { pdos ≤ length streams.now }
     requires inside { All (λ m. m < pdos) (pdos_of members.now) }

@@ -2,7 +2,7 @@
 
 ghost use Rattle.std.specs.Prelude.{◌≡◌, Some};
 ghost use Rattle.cop_table.specs.Reading.{Gives};
-ghost use Rattle.cop_cert.specs.Reading.{is_complete, longer, with_busy, with_queue, with_number, with_sync, begun, is_same_side, cause_of, or_misplaced, closed, stopped_by, missing, broken_after, joined, begin, given, with_evidence, is_of_number, lengthened, add, next, at_hand, finished};
+ghost use Rattle.cop_cert.specs.Reading.{is_complete, longer, with_busy, with_queue, with_number, with_sync, begun, is_same_side, cause_of, or_misplaced, closed, stopped_by, missing, broken_after, joined, begin, given, with_evidence, is_of_number, lengthened, add, last_busy, with_numbers, with_list, with_same, share, next, at_hand, finished};
 ghost use Rattle.cop_cert.specs.Steps.{rule_of};
 ghost use Rattle.cop_cert.specs.declared.drafts.StepFault.TheVariants.{OutOfMemory};
 
@@ -375,6 +375,82 @@ fn add(list: Listed, draft: &mut Option<Draft>, entry: Entry) -> Result<(), Step
     }
 }
 
+#[tactic(auto, using(crate::proofs::LastLemmas::last_is, crate::proofs::LastLemmas::none_last))]
+/// The busy list of the last of some members, if there is one.
+fn last_busy(members: &[Member]) -> &[u64]
+    ensures { result.now ≡ last_busy members.now }
+{
+    if members.is_empty() {
+        return &[];
+    }
+    members[members.len() - 1].evidence.busy()
+}
+
+/// Gives a list, which has no numbers of its own, those of another.
+fn give_numbers(alloc: Global, shared: &[u64], numbers: &mut Items<u64>) -> Result<(), StepFault>
+    ensures { Gives (λ _. numbers.new) rule_of result (with_numbers shared.now numbers.old) }
+{
+    if !numbers.as_slice().is_empty() {
+        return Err(StepFault::Broken(Rule::Misplaced));
+    }
+    *numbers = Items::copied(alloc, shared)?;
+    Ok(())
+}
+
+/// Gives evidence a busy list that another has, before any number of its own.
+fn give_list(alloc: Global, shared: &[u64], evidence: &mut Evidence) -> Result<(), StepFault>
+    ensures { Gives (λ _. evidence.new) rule_of result (with_list shared.now evidence.old) }
+{
+    match evidence {
+        Evidence::Long { busy } => give_numbers(alloc, shared, busy),
+        Evidence::Late { busy, .. } => give_numbers(alloc, shared, busy),
+    }
+}
+
+/// Gives a part, which is a member, the busy list of the member before, if there is one.
+fn give_same(alloc: Global, shared: &[u64], part: &mut Part) -> Result<(), StepFault>
+    ensures { Gives (λ _. part.new) rule_of result (with_same shared.now part.old) }
+{
+    match part {
+        Part::Member(_, member) => {
+            if shared.is_empty() {
+                return Err(StepFault::Broken(Rule::Misplaced));
+            }
+            give_list(alloc, shared, &mut member.evidence)
+        }
+        Part::Sync(_) | Part::Named(_) | Part::Frame(..) => {
+            Err(StepFault::Broken(Rule::Misplaced))
+        }
+    }
+}
+
+/// Gives the part at hand, whose rate and number the record repeats, the busy list of the member before.
+fn share_in(alloc: Global, draft: &mut Draft, entry: Entry) -> Result<(), StepFault>
+    ensures { Gives (λ _. draft.new) rule_of result (share (Some draft.old) entry) }
+{
+    if entry.rate.kbits() != draft.rate.kbits() {
+        return Err(StepFault::Broken(Rule::Misplaced));
+    }
+    if !is_of_number(&draft.part, entry.number) {
+        return Err(StepFault::Broken(Rule::Misplaced));
+    }
+    give_same(alloc, last_busy(draft.members.as_slice()), &mut draft.part)?;
+    Ok(())
+}
+
+/// A record that gives the part at hand the busy list of the member before.
+fn share(alloc: Global, draft: &mut Option<Draft>, entry: Entry) -> Result<(), StepFault>
+    ensures { Gives (λ _. draft.new) rule_of result (at_hand (share draft.old entry)) }
+{
+    match draft {
+        Some(draft) => {
+            share_in(alloc, draft, entry)?;
+            Ok(())
+        }
+        None => Err(StepFault::Broken(Rule::Misplaced)),
+    }
+}
+
 #[tactic(auto, unfolding(crate::specs::Reading::next))]
 /// Takes a record into the draft of those before it, if any. After an `Err` the draft is not to be used.
 pub(crate) fn take(alloc: Global, draft: &mut Option<Draft>, entry: Entry) -> Result<(), StepFault>
@@ -396,6 +472,7 @@ pub(crate) fn take(alloc: Global, draft: &mut Option<Draft>, entry: Entry) -> Re
             Ok(id) => begin(alloc, draft, entry.rate, Part::Named(id)),
             Err(_) => Err(StepFault::Broken(Rule::Number)),
         },
+        Word::Same => share(alloc, draft, entry),
         Word::Number(list) => add(list, draft, entry),
     }
 }

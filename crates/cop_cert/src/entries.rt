@@ -1,17 +1,18 @@
 //! The records of a refusal file, one by one.
 
 ghost use Rattle.std.specs.Prelude.{◌≡◌, ◌==◌, ◌<◌};
-ghost use Rattle.cop_cert.specs.Entries.{rate_of, number_in, rate_in, least_number, pdo_number_in, new_word_of, word_of, is_sdo, is_value_of, is_number_of, entry_in, writes, version_in};
+ghost use Rattle.cop_cert.specs.Entries.{rate_of, number_in, rate_in, least_number, pdo_number_in, second_word_of, new_word_of, word_of, is_sdo, is_value_of, is_number_of, entry_in, writes, version_in};
 
 use crate::faults::Rule;
 use cop_frame::Rate;
 use cop_table::{Record, number};
 
-/// The versions of the format: the first knows refusals by places alone.
+/// The versions of the format: the first knows refusals by places alone, and the third a busy list that is that of the member before.
 #[derive(Clone, Copy)]
 pub(crate) enum Version {
     First,
     Second,
+    Third,
 }
 
 /// Which PDOs a member is one of: those that cannot have the lowest place among them, or those that have to be up, above the SDO
@@ -33,6 +34,8 @@ pub(crate) enum Word {
     Sync,
     /// An SDO frame.
     Sdo,
+    /// The busy list of the member before.
+    Same,
     /// A number of a list.
     Number(Listed),
 }
@@ -81,7 +84,7 @@ pub(crate) fn least_number(version: Version) -> u64
 {
     match version {
         Version::First => 1,
-        Version::Second => 0,
+        Version::Second | Version::Third => 0,
     }
 }
 
@@ -96,18 +99,35 @@ fn pdo_number_in(version: Version, field: &[u8]) -> Result<usize, Rule>
     }
 }
 
+fn second_word_of(field: &[u8]) -> Option<Word>
+    ensures { result ≡ second_word_of field.now }
+{
+    if field == b"uplong".as_slice() {
+        Some(Word::Long(Side::Up))
+    } else if field == b"uplate".as_slice() {
+        Some(Word::Late(Side::Up))
+    } else if field == b"sync".as_slice() {
+        Some(Word::Sync)
+    } else if field == b"sdo".as_slice() {
+        Some(Word::Sdo)
+    } else {
+        None
+    }
+}
+
 fn new_word_of(version: Version, field: &[u8]) -> Option<Word>
     ensures { result ≡ new_word_of version field.now }
 {
     match version {
         Version::First => None,
-        Version::Second => match field {
-            b"uplong" => Some(Word::Long(Side::Up)),
-            b"uplate" => Some(Word::Late(Side::Up)),
-            b"sync" => Some(Word::Sync),
-            b"sdo" => Some(Word::Sdo),
-            _ => None,
-        },
+        Version::Second => second_word_of(field),
+        Version::Third => {
+            if field == b"same".as_slice() {
+                Some(Word::Same)
+            } else {
+                second_word_of(field)
+            }
+        }
     }
 }
 
@@ -129,23 +149,23 @@ fn is_sdo(id: u64) -> bool
     (id >= 0x581 && id <= 0x5FF) || (id >= 0x601 && id <= 0x67F)
 }
 
-/// Whether a word has the value: that of `long`, `uplong` and `sync` is 0, that of `sdo` an SDO frame's identifier.
+/// Whether a word has the value: that of `long`, `uplong`, `sync` and `same` is 0, that of `sdo` an SDO frame's identifier.
 fn is_value_of(word: Word, value: u64) -> bool
     ensures { result ≡ is_value_of word value }
 {
     match word {
-        Word::Long(_) | Word::Sync => value == 0,
+        Word::Long(_) | Word::Sync | Word::Same => value == 0,
         Word::Sdo => is_sdo(value),
         Word::Late(_) | Word::Number(_) => true,
     }
 }
 
-/// Whether a word may stand at a number: `uplong` and `uplate` are of PDOs, `sync` and `sdo` of fixed frames.
+/// Whether a word may stand at a number: `uplong`, `uplate` and `same` are of PDOs, `sync` and `sdo` of fixed frames.
 fn is_number_of(word: Word, number: usize) -> bool
     ensures { result ≡ is_number_of word number }
 {
     match word {
-        Word::Long(Side::Up) | Word::Late(Side::Up) => number >= 1,
+        Word::Long(Side::Up) | Word::Late(Side::Up) | Word::Same => number >= 1,
         Word::Sync | Word::Sdo => number == 0,
         Word::Long(Side::Place) | Word::Late(Side::Place) | Word::Number(_) => true,
     }
@@ -201,6 +221,8 @@ pub(crate) fn version_in(row: &Record) -> Option<Version>
         Some(Version::First)
     } else if writes(row.field(3), 2) {
         Some(Version::Second)
+    } else if writes(row.field(3), 3) {
+        Some(Version::Third)
     } else {
         None
     }

@@ -1,6 +1,6 @@
 //! What holds of refusals, whatever the streams are.
 
-ghost use Rattle.std.specs.Prelude.{◌≡◌, ℕ, ◌<◌, ◌≤◌, true, Bool, List, length, Ok};
+ghost use Rattle.std.specs.Prelude.{◌≡◌, ℕ, ◌<◌, ◌≤◌, true, Bool, List, length, Ok, All, map};
 ghost use Rattle.cop_frame.specs.declared.rates.Rate.{Rate};
 ghost use Rattle.cop_rta.specs.declared.streams.Stream.{Stream};
 ghost use Rattle.cop_rta.specs.Ranges.{first_range};
@@ -11,8 +11,9 @@ ghost use Rattle.cop_cert.specs.Assignments.{AllPass, IsAssignment, NoAssignment
 ghost use Rattle.cop_cert.specs.Causes.{IsSyncLong, IsRefusal};
 ghost use Rattle.cop_cert.specs.Chains.{IsMade};
 ghost use Rattle.cop_cert.specs.Evidence.{IsEvidence};
-ghost use Rattle.cop_cert.specs.Format.{text_of};
+ghost use Rattle.cop_cert.specs.Format.{shared_text_of, text_of};
 ghost use Rattle.cop_cert.specs.Reading.{refusals_of};
+ghost use Rattle.cop_cert.specs.Short.{filed, file_of, shortened};
 ghost use Rattle.cop_cert.specs.Sets.{IsStuckSet, IsRefusalSet};
 ghost use Rattle.cop_cert.specs.Writable.{IsWritableRefusal, AreWritable};
 
@@ -58,4 +59,21 @@ pub fn made_refusals_are_writable()
 /// Refusals that a file holds are read from the text that is written of them.
 pub fn written_refusals_are_read()
     ensures { (refusals : List Refusal) → AreWritable refusals → refusals_of (text_of refusals) ≡ Ok refusals }
+{}
+
+/// They are also read from the text of the third version.
+pub fn shared_refusals_are_read()
+    ensures { (refusals : List Refusal) → AreWritable refusals → refusals_of (shared_text_of refusals) ≡ Ok refusals }
+{}
+
+/// The short form of a refusal that holds holds.
+pub fn short_refusals_hold()
+    ensures { (streams : List Stream) (pdos : ℕ) (r : Refusal) → IsRefusal streams pdos r → IsRefusal streams pdos (shortened streams pdos r) }
+{}
+
+/// The file of refusals that it can hold, and that hold, is read as refusals of the same rates that hold.
+pub fn files_hold()
+    ensures read { (streams : List Stream) (pdos : ℕ) (refusals : List Refusal) → AreWritable refusals → refusals_of (file_of streams pdos refusals) ≡ Ok (filed streams pdos refusals) }
+    ensures hold { (streams : List Stream) (pdos : ℕ) (refusals : List Refusal) → All (IsRefusal streams pdos) refusals → All (IsRefusal streams pdos) (filed streams pdos refusals) }
+    ensures rates { (streams : List Stream) (pdos : ℕ) (refusals : List Refusal) → map (λ r. r.rate) (filed streams pdos refusals) ≡ map (λ r. r.rate) refusals }
 {}

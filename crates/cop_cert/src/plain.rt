@@ -203,7 +203,7 @@ pub(crate) fn refusals_in_text(
     }
 }
 
-#[tactic(auto, using(crate::proofs::StartLemmas::starts_first, crate::proofs::StartLemmas::starts_second))]
+#[tactic(auto, using(crate::proofs::StartLemmas::starts_first, crate::proofs::StartLemmas::starts_second, crate::proofs::StartLemmas::starts_third))]
 /// The version of a text in which no quote stands and that begins as it is written, and what comes behind the version's record.
 pub(crate) fn start_of(text: &[u8]) -> Option<(Version, &[u8])>
     ensures start { IfSome result (λ r. refusals_of text.now ≡ refusals_in r.0 (rows_of_text r.1.now)) }
@@ -215,6 +215,9 @@ pub(crate) fn start_of(text: &[u8]) -> Option<(Version, &[u8])>
     if let Some(left) = behind_start(b"rate,pdo,what,value\n0,0,version,1\n", text) {
         return Some((Version::First, left));
     }
-    let left = behind_start(b"rate,pdo,what,value\n0,0,version,2\n", text)?;
-    Some((Version::Second, left))
+    if let Some(left) = behind_start(b"rate,pdo,what,value\n0,0,version,2\n", text) {
+        return Some((Version::Second, left));
+    }
+    let left = behind_start(b"rate,pdo,what,value\n0,0,version,3\n", text)?;
+    Some((Version::Third, left))
 }

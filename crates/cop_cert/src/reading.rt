@@ -2,7 +2,7 @@
 
 ghost use Rattle.std.specs.Prelude.{◌≡◌, ◌≤◌, ◌+◌, ◌<◌, ◌^◌, length, IfOk, OnOk, List, Ok};
 ghost use Rattle.cop_cert.specs.declared.refusals.Refusal.{Refusal};
-ghost use Rattle.cop_cert.specs.Format.{text_of};
+ghost use Rattle.cop_cert.specs.Format.{shared_text_of, text_of};
 ghost use Rattle.cop_cert.specs.Writable.{AreWritable};
 ghost use Rattle.cop_table.specs.Reading.{Gives};
 ghost use Rattle.cop_cert.specs.Faults.{breach_of};
@@ -113,6 +113,10 @@ pub fn read(alloc: Global, bytes: &[u8]) -> Result<Vec<Refusal>, CertFault>
 
     // What `write` wrote is read again.
     ensures written { (refusals : List Refusal) → AreWritable refusals → bytes.now ≡ text_of refusals
+        → Gives (λ refusals. refusals.items) breach_of result (Ok refusals) }
+
+    // So is what `write_shared` wrote.
+    ensures shared { (refusals : List Refusal) → AreWritable refusals → bytes.now ≡ shared_text_of refusals
         → Gives (λ refusals. refusals.items) breach_of result (Ok refusals) }
 {
     refusals_of(alloc, bytes)

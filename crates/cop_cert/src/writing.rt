@@ -40,7 +40,7 @@ pub(crate) fn head_of(
 }
 
 /// A record for each number of a list.
-fn write_numbers(
+pub(crate) fn write_numbers(
     alloc: Global,
     text: &mut Vec<u8>,
     rate: Rate,
@@ -64,7 +64,7 @@ fn write_numbers(
     Ok(())
 }
 
-fn write_record(
+pub(crate) fn write_record(
     alloc: Global,
     text: &mut Vec<u8>,
     rate: Rate,
@@ -81,7 +81,7 @@ fn write_record(
 }
 
 /// The words of evidence, by which members it is of.
-fn long_word(side: Side) -> &'static [u8]
+pub(crate) fn long_word(side: Side) -> &'static [u8]
     ensures word { result.now ≡ long_word side }
     ensures short { length result.now ≤ 8 }
     ensures plain { needs_quotes default_writer result.now ≡ false }
@@ -92,7 +92,7 @@ fn long_word(side: Side) -> &'static [u8]
     }
 }
 
-fn late_word(side: Side) -> &'static [u8]
+pub(crate) fn late_word(side: Side) -> &'static [u8]
     ensures word { result.now ≡ late_word side }
     ensures short { length result.now ≤ 8 }
     ensures plain { needs_quotes default_writer result.now ≡ false }
@@ -104,7 +104,7 @@ fn late_word(side: Side) -> &'static [u8]
 }
 
 #[tactic(auto, using(crate::proofs::WriterLemmas::adds_more))]
-fn write_evidence(
+pub(crate) fn write_evidence(
     alloc: Global,
     text: &mut Vec<u8>,
     rate: Rate,
@@ -146,7 +146,7 @@ fn write_members(
 }
 
 #[tactic(auto, using(crate::proofs::WriterLemmas::adds_more))]
-fn write_frame(
+pub(crate) fn write_frame(
     alloc: Global,
     text: &mut Vec<u8>,
     rate: Rate,
@@ -160,7 +160,11 @@ fn write_frame(
 }
 
 #[tactic(auto, using(crate::proofs::WriterLemmas::adds_more))]
-fn write_refusal(alloc: Global, text: &mut Vec<u8>, refusal: &Refusal) -> Result<(), AllocError>
+pub(crate) fn write_refusal(
+    alloc: Global,
+    text: &mut Vec<u8>,
+    refusal: &Refusal,
+) -> Result<(), AllocError>
     ensures { OnOk result (Adds text.old.items text.new.items (refusal_rows refusal.now)) }
 {
     let rate = refusal.rate;
@@ -195,7 +199,7 @@ fn is_by_places(cause: &Cause) -> bool
 
 #[tactic(auto, using(std::proofs::lemmas::List::Folds::list_all_at, std::proofs::lemmas::List::Folds::list_all_more, std::proofs::lemmas::List::take_all))]
 /// The number of the first version that has words for all causes.
-fn version_number(refusals: &[Refusal]) -> &'static [u8]
+pub(crate) fn version_number(refusals: &[Refusal]) -> &'static [u8]
     ensures { result.now ≡ get_or (version (version_of refusals.now)) 3 [] }
 {
     for refusal in refusals {

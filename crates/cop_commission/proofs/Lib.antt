@@ -1,4 +1,6 @@
 pub mod CommissioningLemmas
+pub mod PlannedLemmas
 pub mod RefrainingLemmas
 pub mod MeantLemmas
 pub mod ToldLemmas
+pub mod FailureLemmas

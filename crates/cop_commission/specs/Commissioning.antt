@@ -29,7 +29,8 @@ use Rattle.cop_commission.specs.Heartbeats.{awaited_of, attendance_text}
 use Rattle.cop_commission.specs.Identities.{questions_of, identity_text}
 use Rattle.cop_commission.specs.Senders.{own_senders}
 use Rattle.cop_commission.specs.Readings.{settings_questions, storing_questions, standing_text}
-use Rattle.cop_commission.specs.Sessions.{Way, awaited_if, BootsAndCloses, HasStarted, IsWhole, IsRefrained, IsUnopened, IsMistaken}
+use Rattle.cop_readback.specs.Session.{ReadBackStops}
+use Rattle.cop_commission.specs.Sessions.{Way, awaited_if, BootsAndCloses, HasStarted, IsWhole, IsRefrained, IsUnopened, IsMistaken, ClosingFails, SessionFails, SessionStops}
 use Rattle.cop_commission.specs.Told.{off_questions, told_manager}
 use Rattle.cop_commission.specs.Unended.{unended_text}
 
@@ -185,3 +186,77 @@ pub record IsCommissioning {P : Type 0} (reads writes : ByteStep P) (asks : Cloc
   pub outcome : Outcome
   pub network : IsPlannedNetwork asked nodes pdos eds outcome
   pub met : IsCommissionedFor reads writes asks network.net outcome approach p q ended
+
+-- what holds of the text where the port failed
+abbrev pub if_failed : Commissioned → (List ℕ → Type 0) → Type 0
+if_failed (Failed text) claim = claim text.items
+if_failed (Ended text ready started operational at) claim = Unit {0}
+if_failed (Running runner) claim = Unit {0}
+if_failed (Garbled lines) claim = Unit {0}
+if_failed (Erroneous flags at) claim = Unit {0}
+if_failed (Unopened command at) claim = Unit {0}
+if_failed (Others text all) claim = Unit {0}
+if_failed Absent claim = Unit {0}
+if_failed NonePasses claim = Unit {0}
+
+-- a boot over an open adapter gave out, and the text tells where its manager stood, and of the start
+abbrev pub BootingFails : {P : Type 0} → ByteStep P → ByteStep P → ClockStep P → ByteStep P → Way → Managing → List ℕ → List Question → P → P → List ℕ → Type 0
+BootingFails reads writes asks fails way m nodes settings p q text = (later : Managing) × (started : Bool) × (text ≡ unended_text later nodes started) × ClosingFails reads writes asks fails way m nodes settings p later started q
+
+-- there was no memory for what a boot over an open adapter is told by: it stopped at a question, or it ended and was closed, or it gave out
+abbrev pub BootingStops : {P : Type 0} → ByteStep P → ByteStep P → ClockStep P → ByteStep P → Way → Managing → List ℕ → List Question → P → P → Type 0
+BootingStops reads writes asks fails way m nodes settings p q =
+    ReadBackStops reads writes asks way.reach.only m nodes settings p q
+    ⊎ (((back : ReadBack) × (heartbeats : Heartbeats) × (later : Managing) × BootsAndCloses reads writes asks way m nodes settings p back heartbeats later q)
+    ⊎ ((later : Managing) × (started : Bool) × ClosingFails reads writes asks fails way m nodes settings p later started q))
+
+-- the boot of some nodes by a plan gave out: before the settings were begun, and there is no text; or later
+abbrev pub MeetingFails : {P : Type 0} → ByteStep P → ByteStep P → ClockStep P → ByteStep P → Net → List ℕ → List ℕ → Way → Bool → Bool → P → P → List ℕ → Type 0
+MeetingFails {P} reads writes asks fails net ids nodes way identify store p q text =
+    ((text ≡ []) × SessionFails reads writes asks fails way nodes (questions_for identify net nodes) (off_questions net ids nodes) p q)
+    ⊎ ((told : List Exchange) × (free : P) × IsWhole reads writes asks way nodes (questions_for identify net nodes) (off_questions net ids nodes) p told free × BootingFails reads writes asks fails way (told_manager net ids told nodes) nodes (settings_for store net ids told nodes) free q text)
+
+-- there was no memory for more: nothing was done yet; or the devices were asked first, some of what they are to be asked; or some device was found to be
+-- another one; or all was asked first, and the boot was not begun, or stopped
+abbrev pub MeetingStops : {P : Type 0} → ByteStep P → ByteStep P → ClockStep P → ByteStep P → Net → List ℕ → List ℕ → Way → Bool → Bool → P → P → Type 0
+MeetingStops {P} reads writes asks fails net ids nodes way identify store p q =
+    (p ≡ q)
+    ⊎ (SessionStops reads writes asks way nodes (questions_for identify net nodes) (off_questions net ids nodes) p q
+    ⊎ (((all : List Exchange) × IsMistaken reads writes asks way (questions_for identify net nodes) all p q)
+    ⊎ ((told : List Exchange) × (free : P) × IsWhole reads writes asks way nodes (questions_for identify net nodes) (off_questions net ids nodes) p told free × ((free ≡ q) ⊎ BootingStops reads writes asks fails way (told_manager net ids told nodes) nodes (settings_for store net ids told nodes) free q))))
+
+-- and so the boot of the nodes of a network that are meant
+abbrev pub CommissionFails : {P : Type 0} → ByteStep P → ByteStep P → ClockStep P → ByteStep P → Net → Rate → List ℕ → Approach → P → P → List ℕ → Type 0
+CommissionFails reads writes asks fails net rate ids approach p q text =
+    MeetingFails reads writes asks fails net ids (meant_nodes net approach.reach.only) (way_of net rate ids (meant_nodes net approach.reach.only) approach) approach.identify approach.store p q text
+
+abbrev pub CommissionStops : {P : Type 0} → ByteStep P → ByteStep P → ClockStep P → ByteStep P → Net → Rate → List ℕ → Approach → P → P → Type 0
+CommissionStops reads writes asks fails net rate ids approach p q =
+    MeetingStops reads writes asks fails net ids (meant_nodes net approach.reach.only) (way_of net rate ids (meant_nodes net approach.reach.only) approach) approach.identify approach.store p q
+
+-- by what the planner answers
+abbrev pub FailsFor : {P : Type 0} → ByteStep P → ByteStep P → ClockStep P → ByteStep P → Net → Outcome → Approach → P → P → List ℕ → Type 0
+FailsFor reads writes asks fails net (Planned plan) approach p q text = CommissionFails reads writes asks fails net plan.rate plan.ids approach p q text
+FailsFor reads writes asks fails net (Refused refusals) approach p q text = ⊥
+
+abbrev pub StopsFor : {P : Type 0} → ByteStep P → ByteStep P → ClockStep P → ByteStep P → Net → Outcome → Approach → P → P → Type 0
+StopsFor reads writes asks fails net (Planned plan) approach p q = CommissionStops reads writes asks fails net plan.rate plan.ids approach p q
+StopsFor reads writes asks fails net (Refused refusals) approach p q = ⊥
+
+abbrev pub FailsBy : {P : Type 0} → ByteStep P → ByteStep P → ClockStep P → ByteStep P → Choice → Net → Approach → P → P → List ℕ → Type 0
+FailsBy reads writes asks fails choice net approach p q text = (outcome : Outcome) × IsOutcome net.equipment.rates net.set (length net.rows) outcome × IsChosenBy choice outcome × FailsFor reads writes asks fails net outcome approach p q text
+
+abbrev pub StopsBy : {P : Type 0} → ByteStep P → ByteStep P → ClockStep P → ByteStep P → Choice → Net → Approach → P → P → Type 0
+StopsBy reads writes asks fails choice net approach p q = (outcome : Outcome) × IsOutcome net.equipment.rates net.set (length net.rows) outcome × IsChosenBy choice outcome × StopsFor reads writes asks fails net outcome approach p q
+
+-- the boot of the network that the tables and the EDS files say gave out
+pub record CommissioningFails {P : Type 0} (reads writes : ByteStep P) (asks : ClockStep P) (fails : ByteStep P) (asked : Asked) (nodes pdos : List ℕ) (eds : List File) (approach : Approach) (p q : P) (text : List ℕ) : Type 0 where
+  pub outcome : Outcome
+  pub network : IsPlannedNetwork asked nodes pdos eds outcome
+  pub failed : FailsFor reads writes asks fails network.net outcome approach p q text
+
+-- a rule was broken, or there was no memory: nothing was done at the port, or so much of that network's boot
+pub record CommissioningStops {P : Type 0} (reads writes : ByteStep P) (asks : ClockStep P) (fails : ByteStep P) (asked : Asked) (nodes pdos : List ℕ) (eds : List File) (approach : Approach) (p q : P) : Type 0 where
+  pub outcome : Outcome
+  pub network : IsPlannedNetwork asked nodes pdos eds outcome
+  pub stops : StopsFor reads writes asks fails network.net outcome approach p q

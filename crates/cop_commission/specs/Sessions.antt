@@ -1,5 +1,5 @@
 -- A boot by a manager over a port, from the opening of the adapter to its closing.
-use Rattle.std.specs.Prelude.{ℕ, List, [], ◌∷◌, Bool, true, false, ◌≡◌, if◌then◌else◌}
+use Rattle.std.specs.Prelude.{ℕ, List, [], ◌∷◌, Bool, true, false, ◌≡◌, ◌⊎◌, if◌then◌else◌}
 use Rattle.cop_frame.specs.declared.rates.Rate.{Rate}
 use Rattle.cop_boot.specs.Manager.{Managing}
 use Rattle.cop_live.specs.Log.{ByteStep, ClockStep}
@@ -7,19 +7,19 @@ use Rattle.cop_live.specs.declared.listening.Sender.{Sender}
 use Rattle.cop_live.specs.declared.listening.Found.{Found}
 use Rattle.cop_live.specs.declared.listening.Found.TheVariants as found
 use Rattle.cop_live.specs.Nodes.{nobody}
-use Rattle.cop_live.specs.Approach.{Approached, Looked}
+use Rattle.cop_live.specs.Approach.{Approached, Looked, ApproachFails}
 use Rattle.cop_live.specs.declared.opening.Command.{Command}
-use Rattle.cop_live.specs.Session.{Closed}
+use Rattle.cop_live.specs.Session.{Closed, CloseFails}
 use Rattle.cop_heartbeats.specs.declared.attending.Awaited.{Awaited}
 use Rattle.cop_heartbeats.specs.declared.attending.Heartbeats.{Heartbeats}
-use Rattle.cop_heartbeats.specs.Attending.{Attended}
+use Rattle.cop_heartbeats.specs.Attending.{Attended, AttendFails}
 use Rattle.cop_identity.specs.declared.questions.Question.{Question}
 use Rattle.cop_identity.specs.declared.asking.Exchange.{Exchange}
-use Rattle.cop_identity.specs.Asking.{AskedAll, has_other}
-use Rattle.cop_identity.specs.Telling.{WereTold}
+use Rattle.cop_identity.specs.Asking.{AskedAll, AskingFails, AskedSome, has_other}
+use Rattle.cop_identity.specs.Telling.{WereTold, TellFails, ToldSome}
 use Rattle.cop_readback.specs.declared.session.Reach.{Reach}
 use Rattle.cop_readback.specs.declared.session.ReadBack.{ReadBack}
-use Rattle.cop_readback.specs.Session.{ReadsBack}
+use Rattle.cop_readback.specs.Session.{ReadsBack, ReadBackFails}
 use Rattle.cop_commission.specs.declared.sessions.Session.{Session}
 use Rattle.cop_commission.specs.declared.sessions.Session.TheVariants as sessions
 use Rattle.cop_commission.specs.declared.sessions.Closing.{Closing}
@@ -159,3 +159,72 @@ GoesOn reads writes asks way nodes questions offs p q (sessions.Erroneous flags)
 GoesOn reads writes asks way nodes questions offs p q (sessions.Unopened command) = ⊥
 GoesOn reads writes asks way nodes questions offs p q (sessions.Others all) = FindsOther reads writes asks questions all.items p q
 GoesOn reads writes asks way nodes questions offs p q sessions.Failed = Unit {0}
+
+-- the heartbeats that are awaited gave out, if there are such
+abbrev pub WatchFails : {P : Type 0} → ByteStep P → ByteStep P → ClockStep P → ByteStep P → List Awaited → P → P → Type 0
+WatchFails reads writes asks fails [] p q = ⊥
+WatchFails reads writes asks fails (one ∷ rest) p q = AttendFails reads writes asks fails p q
+
+-- a boot's settings were read back, and by then the nodes were started or not; and then the heartbeats gave out, or the closing of the adapter
+pub record EndFails {P : Type 0} (reads writes : ByteStep P) (asks : ClockStep P) (fails : ByteStep P) (way : Way) (m : Managing) (nodes : List ℕ) (settings : List Question) (p : P) (later : Managing) (started : Bool) (q : P) : Type 0 where
+  pub back : ReadBack
+  pub booted : P
+  pub boots : ReadsBack reads writes asks way.reach m nodes settings p back.exchanges.items back.booted back.ready back.started later booted
+  pub tells : started ≡ back.started
+  pub failed : WatchFails reads writes asks fails (awaited_if back.started way.awaited) booted q
+      ⊎ ((heartbeats : Heartbeats) × (watched : P) × IsWatched reads writes asks (awaited_if back.started way.awaited) way.limit booted heartbeats watched × CloseFails reads writes fails watched q)
+
+-- a boot over an open adapter gave out, and it is said whether the nodes were started: they were not, unless their start itself broke off; or they were, or
+-- not, as its end says
+abbrev pub ClosingFails : {P : Type 0} → ByteStep P → ByteStep P → ClockStep P → ByteStep P → Way → Managing → List ℕ → List Question → P → Managing → Bool → P → Type 0
+ClosingFails reads writes asks fails way m nodes settings p later started q =
+    ((started ≡ false) × ReadBackFails reads writes asks fails way.reach m nodes settings p later q) ⊎ EndFails reads writes asks fails way m nodes settings p later started q
+
+-- what holds where the port failed in a boot
+abbrev pub if_unclosed : Closing → (Bool → Type 0) → Type 0
+if_unclosed (closings.Closed back heartbeats) claim = Unit {0}
+if_unclosed (closings.Failed started) claim = claim started
+
+-- what was found keeps a session from sending
+abbrev pub is_kept_off : Found → Bool
+is_kept_off found.Nobody = false
+is_kept_off found.Silence = false
+is_kept_off (found.Running runner) = true
+is_kept_off (found.Garbled lines) = true
+is_kept_off (found.Erroneous flags) = true
+is_kept_off (found.Refused command) = true
+is_kept_off found.Failed = false
+
+-- what the devices are asked first gave out: who they are; or the closing of the adapter where one is another one; or which COB-IDs they have
+abbrev pub AskFirstFails : {P : Type 0} → ByteStep P → ByteStep P → ClockStep P → ByteStep P → Way → List ℕ → List Question → List Question → P → P → Type 0
+AskFirstFails {P} reads writes asks fails way nodes questions offs p q =
+    AskingFails reads writes asks fails questions p q
+    ⊎ (((all : List Exchange) × (known : P) × AskedAll reads writes asks questions p all known × (has_other all ≡ true) × CloseFails reads writes fails known q)
+    ⊎ ((known : P) × AreRight reads writes asks questions p known × TellFails reads writes asks fails way.reach.only nodes offs known q))
+
+-- and so much of it was done where there was no memory for more
+abbrev pub AskFirstStops : {P : Type 0} → ByteStep P → ByteStep P → ClockStep P → Way → List ℕ → List Question → List Question → P → P → Type 0
+AskFirstStops {P} reads writes asks way nodes questions offs p q =
+    AskedSome reads writes asks questions p q ⊎ ((known : P) × AreRight reads writes asks questions p known × ToldSome reads writes asks way.reach.only nodes offs known q)
+
+-- a session gave out before the boot: the approach; or the closing of the adapter, by what was found; or what the devices are asked first. No start
+-- was written, nor a part of it.
+abbrev pub SessionFails : {P : Type 0} → ByteStep P → ByteStep P → ClockStep P → ByteStep P → Way → List ℕ → List Question → List Question → P → P → Type 0
+SessionFails {P} reads writes asks fails way nodes questions offs p q =
+    ApproachFails reads writes asks fails way.rate way.senders way.reach.only way.take_over p q
+    ⊎ (((f : Found) × (heard : P) × (is_kept_off f ≡ true) × IsApproached reads writes asks way p f heard × CloseFails reads writes fails heard q)
+    ⊎ ((free : P) × IsFree reads writes asks way p free × AskFirstFails reads writes asks fails way nodes questions offs free q))
+
+-- and so much of it was done where there was no memory for more
+abbrev pub SessionStops : {P : Type 0} → ByteStep P → ByteStep P → ClockStep P → Way → List ℕ → List Question → List Question → P → P → Type 0
+SessionStops {P} reads writes asks way nodes questions offs p q = (free : P) × IsFree reads writes asks way p free × AskFirstStops reads writes asks way nodes questions offs free q
+
+-- what holds where the port failed before the boot
+abbrev pub if_failed : Session → Type 0 → Type 0
+if_failed (sessions.Told told) claim = Unit {0}
+if_failed (sessions.Running runner) claim = Unit {0}
+if_failed (sessions.Garbled lines) claim = Unit {0}
+if_failed (sessions.Erroneous flags) claim = Unit {0}
+if_failed (sessions.Unopened command) claim = Unit {0}
+if_failed (sessions.Others all) claim = Unit {0}
+if_failed sessions.Failed claim = claim

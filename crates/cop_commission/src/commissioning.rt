@@ -1,6 +1,6 @@
 //! The boot of a planned network over a port.
 
-ghost use Rattle.std.specs.Prelude.{◌≡◌, length, IfOk, MatchResult};
+ghost use Rattle.std.specs.Prelude.{◌≡◌, ◌⊎◌, length, IfOk, OnErr, MatchResult};
 ghost use Rattle.cop_net.specs.Devices.{handed_in};
 ghost use Rattle.cop_net.specs.Network.{IsNetwork};
 ghost use Rattle.cop_plan.specs.Plans.{IsPlan};
@@ -8,6 +8,7 @@ ghost use Rattle.cop_engine.specs.Networks.{ExplainsNetwork};
 ghost use Rattle.cop_heartbeats.specs.Attending.{are_all_operational};
 ghost use Rattle.cop_commission.specs.Sessions.{awaited_if};
 ghost use Rattle.cop_commission.specs.Commissioning.{senders_of, questions_for, settings_for, meant_nodes, is_meant_device, awaited_for, way_of, ended_text, IsBooting, IsMet, IsCommissioned, IsCommissionedBy, IsCommissioning};
+ghost use Rattle.cop_commission.specs.Commissioning.{if_failed, BootingFails, BootingStops, MeetingFails, MeetingStops, CommissionFails, CommissionStops, FailsBy, StopsBy, CommissioningFails, CommissioningStops};
 
 use crate::heartbeats::{attendance_text, awaited_of};
 use crate::identities::{identity_text, questions_of};
@@ -240,7 +241,9 @@ fn boot_nodes<P: Port>(
     bus: &Bus,
     port: &mut P,
 ) -> Result<Commissioned, AllocError>
-    ensures { IfOk result (λ ended. IsBooting P.reads P.writes P.asks bus.now manager.old nodes.now settings.now port.old port.new ended) }
+    ensures booting { IfOk result (λ ended. IsBooting P.reads P.writes P.asks bus.now manager.old nodes.now settings.now port.old port.new ended) }
+    ensures failed { IfOk result (λ ended. if_failed ended (BootingFails P.reads P.writes P.asks P.fails bus.now manager.old nodes.now settings.now port.old port.new)) }
+    ensures short { OnErr result (BootingStops P.reads P.writes P.asks P.fails bus.now manager.old nodes.now settings.now port.old port.new) }
 {
     match boot_and_close(alloc, manager, nodes, settings, bus, port)? {
         Closing::Closed { back, heartbeats } => Ok(Commissioned::Ended {
@@ -268,7 +271,9 @@ fn commission_nodes<P: Port>(
     requires network { IsNetwork network.now }
     requires planned { IsPlan network.now.equipment.rates network.now.set (length network.now.rows) plan.now }
     requires meant { nodes.now ≡ meant_nodes network.now approach.reach.only }
-    ensures { IfOk result (λ ended. IsMet P.reads P.writes P.asks network.now plan.now.rate plan.now.ids nodes.now approach port.old port.new ended) }
+    ensures met { IfOk result (λ ended. IsMet P.reads P.writes P.asks network.now plan.now.rate plan.now.ids nodes.now approach port.old port.new ended) }
+    ensures failed { IfOk result (λ ended. if_failed ended (MeetingFails P.reads P.writes P.asks P.fails network.now plan.now.ids nodes.now (way_of network.now plan.now.rate plan.now.ids nodes.now approach) approach.identify approach.store port.old port.new)) }
+    ensures short { OnErr result (MeetingStops P.reads P.writes P.asks P.fails network.now plan.now.ids nodes.now (way_of network.now plan.now.rate plan.now.ids nodes.now approach) approach.identify approach.store port.old port.new) }
 {
     let bus = bus_of(alloc, network, plan, nodes, approach)?;
     let questions = Questions {
@@ -311,7 +316,9 @@ fn commission_planned<P: Port>(
 ) -> Result<Commissioned, AllocError>
     requires network { IsNetwork network.now }
     requires planned { IsPlan network.now.equipment.rates network.now.set (length network.now.rows) plan.now }
-    ensures { IfOk result (λ ended. IsCommissioned P.reads P.writes P.asks network.now plan.now.rate plan.now.ids approach port.old port.new ended) }
+    ensures commissioned { IfOk result (λ ended. IsCommissioned P.reads P.writes P.asks network.now plan.now.rate plan.now.ids approach port.old port.new ended) }
+    ensures failed { IfOk result (λ ended. if_failed ended (CommissionFails P.reads P.writes P.asks P.fails network.now plan.now.rate plan.now.ids approach port.old port.new)) }
+    ensures short { OnErr result (CommissionStops P.reads P.writes P.asks P.fails network.now plan.now.rate plan.now.ids approach port.old port.new) }
 {
     let nodes = meant_nodes(alloc, network, approach.reach.only)?;
     if nodes.is_empty() {
@@ -330,7 +337,9 @@ fn commission_network<P: Port>(
     port: &mut P,
 ) -> Result<Commissioned, AllocError>
     requires { IsNetwork network.now }
-    ensures { IfOk result (λ ended. IsCommissionedBy P.reads P.writes P.asks choice network.now approach port.old port.new ended) }
+    ensures commissioned { IfOk result (λ ended. IsCommissionedBy P.reads P.writes P.asks choice network.now approach port.old port.new ended) }
+    ensures failed { IfOk result (λ ended. if_failed ended (FailsBy P.reads P.writes P.asks P.fails choice network.now approach port.old port.new)) }
+    ensures short { OnErr result ((port.old ≡ port.new) ⊎ StopsBy P.reads P.writes P.asks P.fails choice network.now approach port.old port.new) }
 {
     match plan(alloc, network, choice)? {
         Outcome::Planned(plan) => commission_planned(alloc, network, &plan, approach, port),
@@ -355,9 +364,11 @@ pub fn commission<P: Port>(
     approach: Approach,
     port: &mut P,
 ) -> Result<Commissioned, Fault>
-    ensures { MatchResult result
+    ensures commissioned { MatchResult result
         (λ ended. IsCommissioning P.reads P.writes P.asks asked.now nodes.now pdos.now (handed_in eds_files.now) approach port.old port.new ended)
         (λ fault. ExplainsNetwork asked.now.rates nodes.now pdos.now (handed_in eds_files.now) fault) }
+    ensures failed { IfOk result (λ ended. if_failed ended (CommissioningFails P.reads P.writes P.asks P.fails asked.now nodes.now pdos.now (handed_in eds_files.now) approach port.old port.new)) }
+    ensures short { OnErr result ((port.old ≡ port.new) ⊎ CommissioningStops P.reads P.writes P.asks P.fails asked.now nodes.now pdos.now (handed_in eds_files.now) approach port.old port.new) }
 {
     let nodes = read_nodes(alloc, nodes)?;
     let pdos = read_pdos(alloc, pdos)?;

@@ -1,7 +1,10 @@
 //! A boot by a manager over a port, from the opening of the adapter to its closing: what goes before it, and the boot itself.
 
-ghost use Rattle.std.specs.Prelude.{◌≡◌, IfOk, IfSome};
+ghost use Rattle.std.specs.Prelude.{◌≡◌, true, IfOk, IfSome, IfNone, OnErr};
+ghost use Rattle.cop_live.specs.Session.{CloseFails};
+ghost use Rattle.cop_readback.specs.Session.{ReadBackStops};
 ghost use Rattle.cop_commission.specs.Sessions.{awaited_if, IsWatched, IsClosing, Refrains, GoesOn, IsSession};
+ghost use Rattle.cop_commission.specs.Sessions.{WatchFails, ClosingFails, if_unclosed, is_kept_off, AskFirstFails, AskFirstStops, SessionFails, SessionStops, if_failed};
 
 use cop_boot::Manager;
 use cop_frame::Rate;
@@ -60,7 +63,8 @@ pub enum Session {
 
 // Awaits heartbeats, if there are any to be awaited, and gives what was heard of their nodes.
 fn watch<P: Port>(awaited: &[Awaited], limit: u64, port: &mut P) -> Option<Heartbeats>
-    ensures { IfSome result (λ heartbeats. IsWatched P.reads P.writes P.asks awaited.now limit port.old heartbeats port.new) }
+    ensures watched { IfSome result (λ heartbeats. IsWatched P.reads P.writes P.asks awaited.now limit port.old heartbeats port.new) }
+    ensures failed { IfNone result (WatchFails P.reads P.writes P.asks P.fails awaited.now port.old port.new) }
 {
     match awaited {
         [] => Some(Heartbeats::new()),
@@ -100,7 +104,9 @@ pub fn boot_and_close<P: Port>(
     bus: &Bus,
     port: &mut P,
 ) -> Result<Closing, AllocError>
-    ensures { IfOk result (λ closing. IsClosing P.reads P.writes P.asks bus.now manager.old nodes.now settings.now port.old manager.new port.new closing) }
+    ensures closes { IfOk result (λ closing. IsClosing P.reads P.writes P.asks bus.now manager.old nodes.now settings.now port.old manager.new port.new closing) }
+    ensures failed { IfOk result (λ closing. if_unclosed closing (λ started. ClosingFails P.reads P.writes P.asks P.fails bus.now manager.old nodes.now settings.now port.old manager.new started port.new)) }
+    ensures short { OnErr result (ReadBackStops P.reads P.writes P.asks bus.now.reach.only manager.old nodes.now settings.now port.old port.new) }
 {
     let Some(back) = boot_and_read_back(alloc, manager, nodes, settings, bus.reach, port)? else {
         return Ok(Closing::Failed { started: false });
@@ -118,7 +124,8 @@ pub fn boot_and_close<P: Port>(
 
 // Closes an adapter over which nothing is to be sent, for what was found.
 fn refrain<P: Port>(found: Found, port: &mut P) -> Session
-    ensures { Refrains P.reads P.writes found port.old result port.new }
+    ensures refrains { Refrains P.reads P.writes found port.old result port.new }
+    ensures failed { if_failed result (is_kept_off found ≡ true → CloseFails P.reads P.writes P.fails port.old port.new) }
 {
     if !close(port) {
         return Session::Failed;
@@ -140,7 +147,9 @@ fn ask_first<P: Port>(
     bus: &Bus,
     port: &mut P,
 ) -> Result<Session, AllocError>
-    ensures { IfOk result (λ session. GoesOn P.reads P.writes P.asks bus.now nodes.now questions.now.identity.items questions.now.offs.items port.old port.new session) }
+    ensures goes_on { IfOk result (λ session. GoesOn P.reads P.writes P.asks bus.now nodes.now questions.now.identity.items questions.now.offs.items port.old port.new session) }
+    ensures failed { IfOk result (λ session. if_failed session (AskFirstFails P.reads P.writes P.asks P.fails bus.now nodes.now questions.now.identity.items questions.now.offs.items port.old port.new)) }
+    ensures short { OnErr result (AskFirstStops P.reads P.writes P.asks bus.now nodes.now questions.now.identity.items questions.now.offs.items port.old port.new) }
 {
     let Some(exchanges) = ask_all(alloc, &questions.identity, port)? else {
         return Ok(Session::Failed);
@@ -168,7 +177,9 @@ pub fn run_session<P: Port>(
     questions: &Questions,
     port: &mut P,
 ) -> Result<Session, AllocError>
-    ensures { IfOk result (λ session. IsSession P.reads P.writes P.asks bus.now nodes.now questions.now.identity.items questions.now.offs.items port.old port.new session) }
+    ensures session { IfOk result (λ session. IsSession P.reads P.writes P.asks bus.now nodes.now questions.now.identity.items questions.now.offs.items port.old port.new session) }
+    ensures failed { IfOk result (λ session. if_failed session (SessionFails P.reads P.writes P.asks P.fails bus.now nodes.now questions.now.identity.items questions.now.offs.items port.old port.new)) }
+    ensures short { OnErr result (SessionStops P.reads P.writes P.asks bus.now nodes.now questions.now.identity.items questions.now.offs.items port.old port.new) }
 {
     let (only, take_over) = (bus.reach.only, bus.take_over);
     match approach(bus.rate, &bus.senders, only, take_over, port) {

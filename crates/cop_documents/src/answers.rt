@@ -1,8 +1,11 @@
 //! Answers that are told line by line.
 
+use crate::faults::number_if;
 use crate::objects::{Object, text_of};
-use crate::values::{identifier, number, number_in, time_of};
+use crate::values::{identifier, number, number_in, time_if};
+use cop_cert::Refusal;
 use cop_logbook::abort_words;
+use cop_rta::Verdict;
 use serde_json::Value;
 use std::alloc::{AllocError, Global};
 use std::str;
@@ -12,30 +15,30 @@ fn lines_of(text: &[u8]) -> &str {
     str::from_utf8(text).unwrap_or("")
 }
 
-/// What the test says of a stream: `181h pass 8000`, `183h late 1 14000` or `183h long`.
-fn stream_of(alloc: Global, line: &str) -> Result<Value, AllocError> {
-    let mut words = line.split(' ');
-    let id = identifier(words.next().unwrap_or(""));
-    let verdict = words.next().unwrap_or("");
-    let instance = if verdict == "late" {
-        number(words.next().unwrap_or(""))
-    } else {
-        Value::Null
+/// What the test says of the stream of an identifier.
+fn stream_of(alloc: Global, id: u16, verdict: Verdict) -> Result<Value, AllocError> {
+    let (word, instance, response) = match verdict {
+        Verdict::Pass { response } => ("pass", None, Some(response)),
+        Verdict::Late { q, response } => ("late", Some(q), Some(response)),
+        Verdict::Long => ("long", None, None),
     };
-    let response = time_of(alloc, words.next().unwrap_or(""));
     Object::new(alloc)
         .plain("id", id)
-        .text("verdict", verdict)
-        .plain("instance", instance)
-        .with("response", response)
+        .text("verdict", word)
+        .plain("instance", number_if(instance))
+        .with("response", time_if(alloc, response))
         .end()
 }
 
-/// The answer of the test at a rate in kbit/s.
-pub fn test_document(alloc: Global, kbits: u32, text: &[u8]) -> Result<String, AllocError> {
+/// The answer of the test at a rate in kbit/s: what it says of each stream.
+pub fn test_document(
+    alloc: Global,
+    kbits: u32,
+    verdicts: &[(u16, Verdict)],
+) -> Result<String, AllocError> {
     let mut streams = Vec::new(alloc);
-    for line in lines_of(text).lines() {
-        streams.push(stream_of(alloc, line)?)?;
+    for (id, verdict) in verdicts {
+        streams.push(stream_of(alloc, *id, *verdict)?)?;
     }
     let document = Object::new(alloc)
         .text("command", "test")
@@ -45,26 +48,27 @@ pub fn test_document(alloc: Global, kbits: u32, text: &[u8]) -> Result<String, A
     document.to_string(alloc)
 }
 
-/// What is said of a refusal: `250 holds`.
-fn refusal_of(alloc: Global, line: &str) -> Result<Value, AllocError> {
-    let mut words = line.split(' ');
-    let rate = number(words.next().unwrap_or(""));
-    let holds = words.next().unwrap_or("") == "holds";
+/// What is said of a refusal.
+fn refusal_of(alloc: Global, refusal: &Refusal, holds: bool) -> Result<Value, AllocError> {
     Object::new(alloc)
-        .plain("rate", rate)
+        .plain("rate", refusal.rate.kbits())
         .plain("holds", holds)
         .end()
 }
 
-/// The answer of a check.
-pub fn check_document(alloc: Global, text: &[u8]) -> Result<String, AllocError> {
-    let mut refusals = Vec::new(alloc);
-    for line in lines_of(text).lines() {
-        refusals.push(refusal_of(alloc, line)?)?;
+/// The answer of a check: refusals, and whether each holds.
+pub fn check_document(
+    alloc: Global,
+    refusals: &[Refusal],
+    answers: &[bool],
+) -> Result<String, AllocError> {
+    let mut told = Vec::new(alloc);
+    for (refusal, holds) in refusals.iter().zip(answers) {
+        told.push(refusal_of(alloc, refusal, *holds)?)?;
     }
     let document = Object::new(alloc)
         .text("command", "check")
-        .plain("refusals", Value::Array(refusals))
+        .plain("refusals", Value::Array(told))
         .end()?;
     document.to_string(alloc)
 }
@@ -149,23 +153,13 @@ pub fn boot_document(alloc: Global, text: &[u8]) -> Result<String, AllocError> {
     document.to_string(alloc)
 }
 
-/// How many transfers an answer tells; null where it tells none.
-fn transfers_of(text: &[u8]) -> Value {
-    for line in lines_of(text).lines() {
-        if let Some(word) = line.strip_prefix("transfers ") {
-            return number(word);
-        }
-    }
-    Value::Null
-}
-
-/// The answer of a judgement.
-pub fn judge_document(alloc: Global, text: &[u8]) -> Result<String, AllocError> {
+/// The answer of a judgement: how many transfers start, none of which is late; nothing if no rate passes.
+pub fn judge_document(alloc: Global, transfers: Option<u64>) -> Result<String, AllocError> {
     let document = Object::new(alloc)
         .text("command", "judge")
-        .plain("planned", !has_line(text, "no rate passes"))
-        .plain("on_time", has_line(text, "on time"))
-        .plain("transfers", transfers_of(text))
+        .plain("planned", transfers.is_some())
+        .plain("on_time", transfers.is_some())
+        .plain("transfers", number_if(transfers))
         .end()?;
     document.to_string(alloc)
 }

@@ -12,6 +12,9 @@ pub struct Told<'a> {
     pub table: Option<&'a str>,
     pub record: Option<u64>,
     pub column: Option<&'a str>,
+    /// The file in which the rule is broken, and the line there.
+    pub file: Option<&'a str>,
+    pub file_line: Option<u64>,
     pub line: &'a str,
     pub words: &'a str,
 }
@@ -42,6 +45,8 @@ pub fn fault_document(alloc: Global, told: Told<'_>) -> Result<String, AllocErro
         .with("table", text_if(alloc, told.table))
         .plain("record", number_if(told.record))
         .with("column", text_if(alloc, told.column))
+        .with("file", text_if(alloc, told.file))
+        .plain("file_line", number_if(told.file_line))
         .text("line", told.line)
         .plain("words", Value::Array(words))
         .end();

@@ -191,6 +191,10 @@ fn breach_of(alloc: Global, breach: &Breach) -> Result<Value, AllocError> {
                 "transfers",
                 time(alloc, u64::try_from(ticks).unwrap_or(u64::MAX)),
             ),
+        Broken::Fallen { from, by } => told
+            .text("kind", "fallen")
+            .plain("from_line", from)
+            .with("fall", micros(alloc, by)),
     }
     .end()
 }
@@ -215,6 +219,14 @@ fn clock_of(alloc: Global, book: &Logbook<'_>) -> Result<Value, AllocError> {
         .end()
 }
 
+/// The number of the last line, which was left out, if it has no end.
+fn unended_of(book: &Logbook<'_>) -> Value {
+    match book.unended() {
+        Some(line) => Value::from(line),
+        None => Value::Null,
+    }
+}
+
 /// The answer of a watch: what a log shows by a plan, once all its lines were taken; none where no rate passes.
 pub fn watch_document(alloc: Global, book: Option<&Logbook<'_>>) -> Result<String, AllocError> {
     let document = Object::new(alloc)
@@ -234,6 +246,8 @@ pub fn watch_document(alloc: Global, book: Option<&Logbook<'_>>) -> Result<Strin
         .with("unknown", strangers_of(alloc, book))
         .with("late_heartbeats", heartbeats_of(alloc, book))
         .with("noticed", notices_of(alloc, book.notices()))
+        .with("unended", Ok(unended_of(book)))
+        .plain("may_be_distances", book.may_be_distances())
         .plain("keeps", book.breaches() == 0)
         .with("breaches", breaches_of(alloc, book))
         .end()?

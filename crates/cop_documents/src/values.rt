@@ -62,8 +62,3 @@ pub(crate) fn identifier(word: &str) -> Value {
         None => Value::Null,
     }
 }
-
-/// The time that a word is in ticks; null where it is none.
-pub(crate) fn time_of(alloc: Global, word: &str) -> Result<Value, AllocError> {
-    time_if(alloc, number_in(word, 10))
-}

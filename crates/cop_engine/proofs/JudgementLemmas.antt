@@ -1,9 +1,7 @@
 -- A judged trace has no late instance.
-use Rattle.std.proofs.Common.{◌≡◌, ℕ, ◌+◌, Bool, cond, inl, inr, List, [], ◌∷◌, length, get_or, Option, None, Some, IfSome, Ok, Err, Result, IfOk, MatchResult, All, refl, sym, subst, ap, ◌∙◌, arith}
+use Rattle.std.proofs.Common.{◌≡◌, ℕ, ◌+◌, Bool, cond, List, [], ◌∷◌, length, get_or, Option, None, Some, IfSome, Ok, Err, Result, MatchResult, All, refl, sym, subst, ap, ◌∙◌, arith}
 use Rattle.std.specs.Prelude.{fold}
 use Rattle.std.proofs.lemmas.Option.{slice_get-get_or}
-use Rattle.std.specs.Global.{Vec}
-use Rattle.std.specs.Result.{result_ok}
 use Rattle.cop_frame.specs.Rate.{ticks_of}
 use Rattle.cop_frame.specs.declared.rates.Rate.{Rate}
 use Rattle.cop_rta.specs.declared.streams.Stream.{Stream}
@@ -25,7 +23,8 @@ use Rattle.cop_engine.specs.Networks.{ExplainsNetwork, IsPlannedNetwork}
 use Rattle.cop_watch.specs.Knowing.{is_a_start, sent}
 use Rattle.cop_watch.specs.Reading.{IsLawful}
 use Rattle.cop_table.specs.Pieces.{HoldsOfAll}
-use Rattle.cop_engine.specs.Judgements.{IsJudged, IsCleared, IsJudgedBy, ExplainsTrace, IsJudgement, ExplainsJudgement, SaysOnTime, is_start, judged_text, transfers_in}
+use Rattle.cop_engine.specs.declared.judgements.Judgement.{Judgement}
+use Rattle.cop_engine.specs.Judgements.{IsJudged, IsCleared, IsJudgedBy, ExplainsTrace, IsJudgement, ExplainsJudgement, SaysOnTime, is_start, judged_text, transfers_in, said_of}
 use Rattle.cop_engine.proofs.GuaranteeLemmas.{all_kept}
 
 module _ (asked : Asked) (nodes pdos : List ℕ) (eds : List File) (plan : PlanValue) (n : IsPlannedNetwork asked nodes pdos eds (Planned plan)) where
@@ -82,37 +81,24 @@ lawful_cleared rate streams trace text count legal w is = record {
 }
 
 -- the same of all that a reader has left
-cleared_with : (rate : Rate) (streams : List Stream) (left : Option (List ℕ)) (count : ℕ) → ((until : ℕ) (xs : List Step) → first_broken (ticks_of rate) streams until xs ≡ None → IsLegalTrace (ticks_of rate) streams until xs)
+pub cleared_with : (rate : Rate) (streams : List Stream) (left : Option (List ℕ)) (count : ℕ) → ((until : ℕ) (xs : List Step) → first_broken (ticks_of rate) streams until xs ≡ None → IsLegalTrace (ticks_of rate) streams until xs)
     → HoldsOfAll left (λ trace. IsLawful (ticks_of rate) streams trace count) → (text : List ℕ) → text ≡ judged_text count None → HoldsOfAll left (λ trace. IsCleared rate streams trace text)
 cleared_with rate streams left count legal h text is = record { bytes = h.bytes; all = h.all; holds = lawful_cleared rate streams h.bytes text count legal h.holds is }
 
-pub lawful_gives : {E : Type 0} (rate : Rate) (streams : List Stream) (left : Option (List ℕ)) (count : ℕ) (r : Result (Vec ℕ) E) (o : Option (Vec ℕ))
-    → ((until : ℕ) (xs : List Step) → first_broken (ticks_of rate) streams until xs ≡ None → IsLegalTrace (ticks_of rate) streams until xs)
-    → HoldsOfAll left (λ trace. IsLawful (ticks_of rate) streams trace count) → o ≡ result_ok r → IfOk r (λ text. text.items ≡ judged_text count None)
-    → IfSome o (λ text. HoldsOfAll left (λ trace. IsCleared rate streams trace text.items))
-lawful_gives rate streams left count (Ok text) o legal h e is = rw e (cleared_with rate streams left count legal h text.items is)
-lawful_gives rate streams left count (Err fault) o legal h e is = rw e tt
-
-pub cleared_gives : (plan : PlanValue) (left : Option (List ℕ)) (r : Option (Vec ℕ)) → IfSome r (λ text. HoldsOfAll left (λ trace. IsCleared plan.rate plan.streams trace text.items))
-    → IfSome r (λ text. (asked : Asked) (nodes pdos : List ℕ) (eds : List File) → IsPlannedNetwork asked nodes pdos eds (Planned plan) → HoldsOfAll left (λ trace. IsJudgement asked nodes pdos eds trace text.items))
+pub cleared_gives : (plan : PlanValue) (left : Option (List ℕ)) (r : Option Judgement) → IfSome r (λ j. HoldsOfAll left (λ trace. IsCleared plan.rate plan.streams trace (said_of j)))
+    → IfSome r (λ j. (asked : Asked) (nodes pdos : List ℕ) (eds : List File) → IsPlannedNetwork asked nodes pdos eds (Planned plan) → HoldsOfAll left (λ trace. IsJudgement asked nodes pdos eds trace (said_of j)))
 cleared_gives plan left None h = h
-cleared_gives plan left (Some text) h = λ asked nodes pdos eds n. record {
+cleared_gives plan left (Some j) h = λ asked nodes pdos eds n. record {
   bytes = h.bytes;
   all = h.all;
-  holds = record { outcome = Planned plan; network = n; judged = cleared_judged asked nodes pdos eds plan n h.bytes text.items h.holds };
+  holds = record { outcome = Planned plan; network = n; judged = cleared_judged asked nodes pdos eds plan n h.bytes (said_of j) h.holds };
 }
 
 -- what is said of every trace
-said_of_all : (outcome : Outcome) (left : Option (List ℕ)) (text : List ℕ) → ((trace : List ℕ) → IsJudgedBy outcome trace text)
+pub said_of_all : (outcome : Outcome) (left : Option (List ℕ)) (text : List ℕ) → ((trace : List ℕ) → IsJudgedBy outcome trace text)
     → (asked : Asked) (nodes pdos : List ℕ) (eds : List File) → IsPlannedNetwork asked nodes pdos eds outcome → HoldsOfAll left (λ trace. IsJudgement asked nodes pdos eds trace text)
 said_of_all outcome None text j asked nodes pdos eds n = record { bytes = []; all = tt; holds = record { outcome = outcome; network = n; judged = j [] } }
 said_of_all outcome (Some xs) text j asked nodes pdos eds n = record { bytes = xs; all = refl; holds = record { outcome = outcome; network = n; judged = j xs } }
-
-pub said_gives : {E : Type 0} (outcome : Outcome) (said : List ℕ) (left : Option (List ℕ)) (r : Result (Vec ℕ) E) (o : Option (Vec ℕ)) → ((trace : List ℕ) → IsJudgedBy outcome trace said)
-    → o ≡ result_ok r → IfOk r (λ text. text.items ≡ said)
-    → IfSome o (λ text. (asked : Asked) (nodes pdos : List ℕ) (eds : List File) → IsPlannedNetwork asked nodes pdos eds outcome → HoldsOfAll left (λ trace. IsJudgement asked nodes pdos eds trace text.items))
-said_gives outcome said left (Ok text) o j e is = rw e (said_of_all outcome left text.items (λ trace. subst (IsJudgedBy outcome trace) (sym is) (j trace)))
-said_gives outcome said left (Err fault) o j e is = rw e tt
 
 -- where it is known what a reader has left
 pub of_known : (xs : List ℕ) (holds_of : List ℕ → Type 0) → HoldsOfAll (Some xs) holds_of → holds_of xs
@@ -121,21 +107,23 @@ of_known xs holds_of h = subst holds_of h.all h.holds
 -- ---- what each reading gives
 
 pub of_network : (asked : Asked) (nodes pdos : List ℕ) (files : List File) (trace : List ℕ) (fault : Fault) → ExplainsNetwork asked.rates nodes pdos files fault → ExplainsJudgement asked nodes pdos files trace fault
-of_network asked nodes pdos files trace (faults.Refused number place) e = inl e
+of_network asked nodes pdos files trace (faults.Network r) e = e
+of_network asked nodes pdos files trace (faults.Refused number place) e = absurd e
 of_network asked nodes pdos files trace faults.Simulation e = e
 of_network asked nodes pdos files trace (faults.File name) e = e
 of_network asked nodes pdos files trace faults.Usage e = e
 of_network asked nodes pdos files trace faults.Memory e = tt
 
 module _ (asked : Asked) (nodes pdos : List ℕ) (files : List File) (trace : List ℕ) where
-  pub judged_gives : (plan : PlanValue) (r : Result (Vec ℕ) Fault) → IsPlannedNetwork asked nodes pdos files (Planned plan)
-      → MatchResult r (λ text. IsCleared plan.rate plan.streams trace text.items) (λ fault. ExplainsTrace plan.rate plan.streams trace fault)
-      → MatchResult r (λ text. IsJudgement asked nodes pdos files trace text.items) (λ fault. ExplainsJudgement asked nodes pdos files trace fault)
-  judged_gives plan (Ok text) n h = record { outcome = Planned plan; network = n; judged = cleared_judged asked nodes pdos files plan n trace text.items h }
+  pub judged_gives : (plan : PlanValue) (r : Result Judgement Fault) → IsPlannedNetwork asked nodes pdos files (Planned plan)
+      → MatchResult r (λ j. IsCleared plan.rate plan.streams trace (said_of j)) (λ fault. ExplainsTrace plan.rate plan.streams trace fault)
+      → MatchResult r (λ j. IsJudgement asked nodes pdos files trace (said_of j)) (λ fault. ExplainsJudgement asked nodes pdos files trace fault)
+  judged_gives plan (Ok j) n h = record { outcome = Planned plan; network = n; judged = cleared_judged asked nodes pdos files plan n trace (said_of j) h }
   judged_gives plan (Err fault) n h = go fault h
     where
       go : (fault : Fault) → ExplainsTrace plan.rate plan.streams trace fault → ExplainsJudgement asked nodes pdos files trace fault
-      go (faults.Refused number place) h = inr (plan, n, h)
+      go (faults.Network r) h = absurd h
+      go (faults.Refused number place) h = (plan, n, h)
       go faults.Simulation h = h
       go (faults.File name) h = h
       go faults.Usage h = h

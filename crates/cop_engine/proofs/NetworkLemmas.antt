@@ -1,5 +1,5 @@
 -- What the files say, from what each reading gives.
-use Rattle.std.proofs.Common.{◌≡◌, ℕ, zero, suc, ◌<◌, ◌≤◌, List, [], ◌∷◌, length, slice_get, Some, Ok, Err, Result, IfSome, MatchResult, Bool, inl, inr, refl, sym, subst, arith}
+use Rattle.std.proofs.Common.{◌≡◌, ℕ, zero, suc, ◌<◌, ◌≤◌, List, [], ◌∷◌, length, slice_get, Some, Ok, Err, Result, IfSome, MatchResult, Bool, refl, sym, subst, arith}
 use Rattle.cop_frame.specs.declared.rates.Rate.{Rate}
 use Rattle.cop_rta.specs.declared.streams.Stream.{Stream}
 use Rattle.cop_cert.proofs.CauseLemmas.{refusal_rules_out}
@@ -16,9 +16,7 @@ use Rattle.cop_net.specs.Faults.{refusal}
 use Rattle.cop_net.specs.Tables.{in_table}
 use Rattle.cop_net.specs.Network.{Net, Accepted, IsNetwork, accepted, network_of}
 use Rattle.cop_engine.specs.declared.faults.Fault.{Fault}
-use Rattle.cop_plan.specs.declared.assigning.Outcome.{Outcome}
 use Rattle.cop_plan.specs.declared.choices.Asked.{Asked}
-use Rattle.cop_plan.specs.Plans.{IsOutcome, IsChosenBy}
 use Rattle.cop_engine.specs.declared.plans.Files.{Files}
 use Rattle.cop_cert.specs.declared.faults.CertFault.{CertFault}
 use Rattle.cop_cert.specs.declared.faults.CertFault.TheVariants as cert
@@ -28,7 +26,8 @@ use Rattle.cop_cert.specs.Reading.{refusals_of}
 use Rattle.cop_engine.specs.Checks.{AreChecked, AreLinesOf, RuleOut, IsCheckOf, ExplainsCheck}
 use Rattle.cop_engine.specs.Faults.{fault_of, fault_of_refusals}
 use Rattle.cop_engine.specs.Networks.{network_in, ExplainsNetwork, IsNetworkIn, IsPlannedNetwork}
-use Rattle.cop_engine.specs.Plans.{AreFilesOfNetwork, AreFilesOf}
+use Rattle.cop_engine.specs.PlannedNetworks.{Planning, IsPlanningOf}
+use Rattle.cop_engine.specs.Plans.{AreFilesFor, AreFilesOf}
 
 -- what holds of the fault that is answered
 pub err_is : {X : Type 0} (r : Result X Fault) (A : X → Type 0) (B : Fault → Type 0) (fault : Fault) → IsErrAnd r (λ f. f ≡ fault) → B fault → MatchResult r A B
@@ -45,21 +44,21 @@ module _ (wanted : List Rate) (nodes pdos : List ℕ) (files : List File) where
   -- the table of nodes is refused
   pub nodes_explain : (fault : PlanFault) → IfSome (refusal fault) (λ r. in_table Nodes (nodes_of nodes) ≡ Err r) → ExplainsNetwork wanted nodes pdos files (fault_of fault)
   unfolding network_in
-  nodes_explain (Refused r) e = (r, rw e refl, refl, refl)
+  nodes_explain (Refused r) e = rw e refl
   nodes_explain Memory e = tt
 
   -- that of PDOs is
   pub pdos_explain : (n : NodeLists) (fault : PlanFault) → in_table Nodes (nodes_of nodes) ≡ Ok n → IfSome (refusal fault) (λ r. in_table Pdos (pdos_of pdos) ≡ Err r)
       → ExplainsNetwork wanted nodes pdos files (fault_of fault)
   unfolding network_in
-  pdos_explain n (Refused r) read e = (r, rw (read, e) refl, refl, refl)
+  pdos_explain n (Refused r) read e = rw (read, e) refl
   pdos_explain n Memory read e = tt
 
   -- the network is
   pub network_explains : (n : NodeLists) (rows : List PdoRow) (fault : PlanFault) → in_table Nodes (nodes_of nodes) ≡ Ok n → in_table Pdos (pdos_of pdos) ≡ Ok rows
       → IfSome (refusal fault) (λ r. network_of wanted n rows files ≡ Err r) → ExplainsNetwork wanted nodes pdos files (fault_of fault)
   unfolding network_in
-  network_explains n rows (Refused r) read also e = (r, rw (read, also, e) refl, refl, refl)
+  network_explains n rows (Refused r) read also e = rw (read, also, e) refl
   network_explains n rows Memory read also e = tt
 
   -- the network that is made of the tables is the one that they and the files say
@@ -74,13 +73,13 @@ module _ (wanted : List Rate) (nodes pdos : List ℕ) (files : List File) where
 
   -- a fault of the network explains why there is no check
   pub of_network : (text : List ℕ) (fault : PlanFault) → ExplainsNetwork wanted nodes pdos files (fault_of fault) → ExplainsCheck wanted nodes pdos files text (fault_of fault)
-  of_network text (Refused r) e = inl e
+  of_network text (Refused r) e = e
   of_network text Memory e = tt
 
   -- one of the refusal file does
   pub refusals_explain : (text : List ℕ) (made : Accepted) (fault : CertFault) → network_in wanted nodes pdos files ≡ Ok made → IfSome (breach_of fault) (λ b. refusals_of text ≡ Err b)
       → ExplainsCheck wanted nodes pdos files text (fault_of_refusals fault)
-  refusals_explain text made (cert.Refused b) read e = inr (made, read, b, e, refl, refl)
+  refusals_explain text made (cert.Refused b) read e = (made, read, b, e, refl, refl)
   refusals_explain text made cert.Memory read e = tt
 
   -- what holds rules out
@@ -101,16 +100,13 @@ module _ (wanted : List Rate) (nodes pdos : List ℕ) (files : List File) where
     rules_out = rule_out network.set (length network.rows) refusals answered.answers is.network.streams.count answered.checked;
   }
 
-module _ (asked : Asked) (nodes pdos : List ℕ) (files : List File) (n : NodeLists) (rows : List PdoRow) (network : Net) where
-  -- the plan of the network that was read
-  unfoldable pub planned_network : (outcome : Outcome) → in_table Nodes (nodes_of nodes) ≡ Ok n → in_table Pdos (pdos_of pdos) ≡ Ok rows → network_of asked.rates n rows files ≡ Ok (accepted network)
-      → network.nodes ≡ n → network.rows ≡ rows → IsNetwork network → IsOutcome network.equipment.rates network.set (length network.rows) outcome → IsChosenBy asked.choice outcome
-      → IsPlannedNetwork asked nodes pdos files outcome
-  planned_network outcome read also e of same is planned chosen =
-      record { net = network; said = network_is asked.rates nodes pdos files n rows network read also e of same is; planned = planned; chosen = chosen }
+module _ (asked : Asked) (nodes pdos : List ℕ) (files : List File) (n : NodeLists) (rows : List PdoRow) (p : Planning) where
+  -- what is answered for the network of the tables that were read is the plan of the files
+  unfoldable pub planning_is : in_table Nodes (nodes_of nodes) ≡ Ok n → in_table Pdos (pdos_of pdos) ≡ Ok rows → IsPlanningOf asked n rows files p → IsPlannedNetwork asked nodes pdos files p.outcome
+  planning_is read also i = record { net = p.net; said = network_is asked.rates nodes pdos files n rows p.net read also i.made i.nodes_are i.rows_are i.is.network; planned = i.is.planned; chosen = i.chosen }
 
   -- its files are those of the files
-  pub files_are : (made : Files) → in_table Nodes (nodes_of nodes) ≡ Ok n → in_table Pdos (pdos_of pdos) ≡ Ok rows → network_of asked.rates n rows files ≡ Ok (accepted network)
-      → network.nodes ≡ n → network.rows ≡ rows → IsNetwork network → AreFilesOfNetwork asked.choice files network made → AreFilesOf asked nodes pdos files made
-  unfolding planned_network
-  files_are made read also e of same is f = record { outcome = f.0; network = planned_network f.0 read also e of same is f.1 f.2; written = f.3 }
+  pub files_are : (made : Files) → in_table Nodes (nodes_of nodes) ≡ Ok n → in_table Pdos (pdos_of pdos) ≡ Ok rows → IsPlanningOf asked n rows files p → AreFilesFor files p.net p.outcome made
+      → AreFilesOf asked nodes pdos files made
+  unfolding planning_is
+  files_are made read also i f = record { outcome = p.outcome; network = planning_is read also i; written = f }

@@ -1,5 +1,5 @@
 -- What `plan` writes of refusals is what `check` reads, and all of them hold.
-use Rattle.std.proofs.Common.{◌≡◌, ℕ, ◌+◌, ◌<◌, ◌≤◌, inl, inr, Bool, true, false, List, [], ◌∷◌, length, get_or, slice_get, All, Some, Ok, Err, Result, refl, subst, arith, length-append}
+use Rattle.std.proofs.Common.{◌≡◌, ℕ, ◌+◌, ◌<◌, ◌≤◌, Bool, true, false, List, [], ◌∷◌, length, get_or, slice_get, All, Some, Ok, Err, Result, refl, sym, subst, arith, length-append}
 use Rattle.std.proofs.lemmas.Option.{slice_get-get_or}
 use Rattle.cop_frame.specs.declared.rates.Rate.{Rate}
 use Rattle.cop_rta.specs.declared.streams.Stream.{Stream}
@@ -7,7 +7,9 @@ use Rattle.cop_table.specs.Rows.{rows_from}
 use Rattle.cop_cert.specs.declared.refusals.Refusal.{Refusal}
 use Rattle.cop_cert.specs.Writable.{AreWritable}
 use Rattle.cop_cert.specs.Reading as cert
-use Rattle.cop_cert.proofs.RoundTrip.{written_is_read}
+use Rattle.cop_cert.specs.Causes.{IsRefusal}
+use Rattle.cop_cert.specs.Short.{filed}
+use Rattle.cop_cert.proofs.FileLemmas.{file_read, filed_hold}
 use Rattle.cop_rows.specs.declared.pdo_table.PdoRow.{PdoRow}
 use Rattle.cop_rows.specs.declared.refusals.Refusal as rows
 use Rattle.cop_rows.specs.declared.refusals.Rule.{Rule}
@@ -70,13 +72,17 @@ outcome_holds : (rates : List Rate) (streams : List Stream) (pdos : ℕ) (o : Ou
 outcome_holds rates streams pdos (Planned plan) h = h.refused.each
 outcome_holds rates streams pdos (Refused refusals) h = h.refused.each
 
+-- those of its file hold
+filed_holds : (rates : List Rate) (streams : List Stream) (pdos : ℕ) (o : Outcome) → IsOutcome rates streams pdos o → All (IsRefusal streams pdos) (filed streams pdos (refusals_of o))
+filed_holds rates streams pdos o h = filed_hold streams pdos (refusals_of o) (λ k d below. (outcome_holds rates streams pdos o h k d below).holds)
+
 all_answered : (streams : List Stream) (pdos : ℕ) (refusals : List Refusal) (answers : List Bool) → AreChecked streams pdos refusals answers (length refusals)
-    → All (IsGreatestRefusal streams pdos) refusals → All (λ answer. answer ≡ true) answers
+    → All (IsRefusal streams pdos) refusals → All (λ answer. answer ≡ true) answers
 all_answered streams pdos [] answers checked all = λ k d below. absurd (omega (arith, below, checked.length_is))
 all_answered streams pdos (r ∷ rs) answers checked all = λ k d below.
     let inside : k < length (r ∷ rs) = omega (arith, below, checked.length_is) in
     let here : slice_get (r ∷ rs) k ≡ Some (get_or (r ∷ rs) k r) = slice_get-get_or (r ∷ rs) k r inside in
-    let its : get_or answers k false ≡ true = (checked.each k inside (get_or (r ∷ rs) k r) here).1 (all k r inside).holds in
+    let its : get_or answers k false ≡ true = (checked.each k inside (get_or (r ∷ rs) k r) here).1 (all k r inside) in
     any_default answers k d below its
   where
     any_default : (answers : List Bool) (k : ℕ) (d : Bool) → k < length answers → get_or answers k false ≡ true → get_or answers k d ≡ true
@@ -89,26 +95,29 @@ module _ (asked : Asked) (nodes pdos : List ℕ) (eds : List File) (files : File
   few_rows : length net.rows ≤ 512
   few_rows = table_few pdos net.rows (was_in_table Pdos (pdos_of pdos) net.rows f.network.said.pdo_table)
 
-  -- the refusal file is read as the refusals of the outcome
-  pub read_again : cert.refusals_of files.refusals.items ≡ Ok (refusals_of f.outcome)
+  abbrev written : List Refusal
+  written = filed net.set (length net.rows) (refusals_of f.outcome)
+
+  -- the refusal file is read as the refusals of the outcome, in the form that the file has
+  pub read_again : cert.refusals_of files.refusals.items ≡ Ok written
   read_again =
-      rw f.written.refusals
-      (written_is_read (refusals_of f.outcome) (outcome_writable net.equipment.rates net.set (length net.rows) f.outcome f.network.said.network.streams.count few_rows f.network.planned))
+      subst (λ (text : List ℕ). cert.refusals_of text ≡ Ok written) (sym f.written.refusals)
+      (file_read net.set (length net.rows) (refusals_of f.outcome) (outcome_writable net.equipment.rates net.set (length net.rows) f.outcome f.network.said.network.streams.count few_rows f.network.planned))
 
   pub all_hold : (lines : List ℕ) (all : Bool) → IsCheckOf asked.rates nodes pdos eds files.refusals.items lines all → all ≡ true
   all_hold lines all c =
       let same : net ≡ c.net = network_once asked.rates nodes pdos eds net c.net f.network.said c.said in
-      let refusals : refusals_of f.outcome ≡ c.refusals = ok_once (cert.refusals_of files.refusals.items) _ c.refusals read_again c.refusals_are in
-      let hold : All (IsGreatestRefusal net.set (length net.rows)) (refusals_of f.outcome) = outcome_holds net.equipment.rates net.set (length net.rows) f.outcome f.network.planned in
-      let there : All (IsGreatestRefusal c.net.set (length c.net.rows)) (refusals_of f.outcome) = subst (λ (n : Net). All (IsGreatestRefusal n.set (length n.rows)) (refusals_of f.outcome)) same hold in
-      let mine : All (IsGreatestRefusal c.net.set (length c.net.rows)) c.refusals = subst (λ (rs : List Refusal). All (IsGreatestRefusal c.net.set (length c.net.rows)) rs) refusals there in
+      let refusals : written ≡ c.refusals = ok_once (cert.refusals_of files.refusals.items) _ c.refusals read_again c.refusals_are in
+      let hold : All (IsRefusal net.set (length net.rows)) written = filed_holds net.equipment.rates net.set (length net.rows) f.outcome f.network.planned in
+      let there : All (IsRefusal c.net.set (length c.net.rows)) written = subst (λ (n : Net). All (IsRefusal n.set (length n.rows)) written) same hold in
+      let mine : All (IsRefusal c.net.set (length c.net.rows)) c.refusals = subst (λ (rs : List Refusal). All (IsRefusal c.net.set (length c.net.rows)) rs) refusals there in
       c.answered.all_hold.1 (all_answered c.net.set (length c.net.rows) c.refusals c.answered.answers c.answered.checked mine)
 
   -- nothing but want of memory keeps the check from reading it
   pub only_memory : (fault : Fault) → ExplainsCheck asked.rates nodes pdos eds files.refusals.items fault → fault ≡ faults.Memory
-  only_memory (faults.Refused number place) (inl h) = let r = h in let clash = r.1 in
+  only_memory (faults.Network r) h = let clash = h in
       let read = network_read asked.rates nodes pdos eds net.nodes net.rows (accepted net) f.network.said.node_table f.network.said.pdo_table f.network.said.made in cc
-  only_memory (faults.Refused number place) (inr h) = let b = h in let clash = b.3 in let read = read_again in cc
+  only_memory (faults.Refused number place) h = let b = h in let clash = b.3 in let read = read_again in cc
   only_memory (faults.File name) h = absurd h
   only_memory faults.Usage h = absurd h
   only_memory faults.Simulation h = absurd h

@@ -1,5 +1,5 @@
 -- The boot of a planned network by drawn turns, and what is said of it.
-use Rattle.std.specs.Prelude.{◌≡◌, ℕ, zero, suc, List, [], ◌∷◌, ◌++◌, map, false, true, codes, decimal, length, Option, Some, None, is_some, unwrap_or, if◌then◌else◌, Bool, ◌^◌, ◌-◌}
+use Rattle.std.specs.Prelude.{◌≡◌, ℕ, zero, suc, List, [], ◌∷◌, ◌++◌, map, false, true, codes, decimal, Option, Some, None, is_some, unwrap_or, if◌then◌else◌, Bool, ◌^◌, ◌-◌}
 use Rattle.std.specs.List.{flat_map}
 use Rattle.std.specs.Fmt.{digits, padded_integral, format_spec}
 use Rattle.cop_nmt.specs.declared.states.NodeState.TheVariants.{PreOperational}
@@ -9,10 +9,8 @@ use Rattle.cop_dict.specs.Dict.{initial}
 use Rattle.cop_net.specs.Devices.{File}
 use Rattle.cop_net.specs.Network.{Net}
 use Rattle.cop_plan.specs.declared.assigning.Outcome.{Outcome}
-use Rattle.cop_plan.specs.declared.choices.Choice.{Choice}
 use Rattle.cop_plan.specs.declared.choices.Asked.{Asked}
 use Rattle.cop_plan.specs.declared.assigning.Outcome.TheVariants.{Planned, Refused}
-use Rattle.cop_plan.specs.Plans.{IsOutcome, IsChosenBy}
 use Rattle.cop_dcf.specs.Settings.{dictionary_of, node_settings}
 use Rattle.cop_boot.specs.declared.«end».End.{End}
 use Rattle.cop_boot.specs.declared.«end».End.TheVariants.{Ready, Aborted, Silent, Restarting}
@@ -93,10 +91,6 @@ pub record IsBooted (seed : ℕ) (net : Net) (ids text : List ℕ) : Type 0 wher
 abbrev pub IsBootedBy : ℕ → Net → Outcome → List ℕ → Type 0
 IsBootedBy seed net (Planned plan) text = IsBooted seed net plan.ids text
 IsBootedBy seed net (Refused refusals) text = text ≡ none_passes
-
--- the boot of a network by what the planner answers for it
-abbrev pub IsBootOfNetwork : Choice → ℕ → Net → List ℕ → Type 0
-IsBootOfNetwork choice seed net text = (outcome : Outcome) × IsOutcome net.equipment.rates net.set (length net.rows) outcome × IsChosenBy choice outcome × IsBootedBy seed net outcome text
 
 -- the boot of the network that the tables and the EDS files say, by its plan
 pub record IsBootOf (asked : Asked) (seed : ℕ) (nodes pdos : List ℕ) (eds : List File) (text : List ℕ) : Type 0 where

@@ -1,5 +1,5 @@
 -- The check of a refusal file.
-use Rattle.std.specs.Prelude.{◌≡◌, ◌↔◌, ℕ, ◌<◌, ◌⊎◌, List, [], ◌++◌, Bool, true, false, codes, decimal, length, get_or, slice_get, All, IsTrue, Ok, Err, Some}
+use Rattle.std.specs.Prelude.{◌≡◌, ◌↔◌, ℕ, ◌<◌, List, [], ◌++◌, Bool, true, false, codes, decimal, length, get_or, slice_get, All, IsTrue, Ok, Err, Some}
 use Rattle.std.specs.Option.{option_map_or}
 use Rattle.cop_frame.specs.declared.rates.Rate.{Rate}
 use Rattle.cop_frame.specs.Rate.{kbits_of}
@@ -10,9 +10,7 @@ use Rattle.cop_cert.specs.Assignments.{NoAssignmentPasses}
 use Rattle.cop_cert.specs.Causes.{IsRefusal}
 use Rattle.cop_cert.specs.Faults as breaches
 use Rattle.cop_cert.specs.Reading.{refusals_of}
-use Rattle.cop_net.specs.declared.faults.Refusal as broken
 use Rattle.cop_net.specs.Devices.{File}
-use Rattle.cop_net.specs.Faults.{number_of_rule}
 use Rattle.cop_net.specs.Network.{Net, Accepted}
 use Rattle.cop_engine.specs.declared.faults.Fault.{Fault}
 use Rattle.cop_engine.specs.declared.faults.Fault.TheVariants as faults
@@ -58,9 +56,9 @@ pub record IsCheckOf (wanted : List Rate) (nodes pdos : List ℕ) (eds : List Fi
 
 -- why there is none: the network, or else the refusal file
 abbrev pub ExplainsCheck : List Rate → List ℕ → List ℕ → List File → List ℕ → Fault → Type 0
+ExplainsCheck wanted nodes pdos files text (faults.Network r) = network_in wanted nodes pdos files ≡ Err r
 ExplainsCheck wanted nodes pdos files text (faults.Refused number place) =
-    ((r : broken.Refusal) × (network_in wanted nodes pdos files ≡ Err r) × (number ≡ number_of_rule r.rule) × (place ≡ r.place))
-    ⊎ ((made : Accepted) × (network_in wanted nodes pdos files ≡ Ok made) × (b : Breach) × (refusals_of text ≡ Err b) × (number ≡ breaches.number_of_rule b.rule) × (place ≡ b.place))
+    (made : Accepted) × (network_in wanted nodes pdos files ≡ Ok made) × (b : Breach) × (refusals_of text ≡ Err b) × (number ≡ breaches.number_of_rule b.rule) × (place ≡ b.place)
 ExplainsCheck wanted nodes pdos files text faults.Simulation = ⊥
 ExplainsCheck wanted nodes pdos files text (faults.File name) = ⊥
 ExplainsCheck wanted nodes pdos files text faults.Usage = ⊥

@@ -9,21 +9,21 @@ use Rattle.cop_cert.specs.declared.faults.CertFault.TheVariants as cert
 use Rattle.cop_cert.specs.Faults as breaches
 use Rattle.cop_net.specs.declared.faults.PlanFault.{PlanFault}
 use Rattle.cop_net.specs.declared.faults.PlanFault.TheVariants as plans
-use Rattle.cop_net.specs.Faults.{number_of_rule}
 
--- what is refused keeps its number and its place
+-- what is refused of a network is kept whole
 abbrev pub fault_of : PlanFault → Fault
-fault_of (plans.Refused r) = faults.Refused (number_of_rule r.rule) r.place
+fault_of (plans.Refused r) = faults.Network r
 fault_of plans.Memory = faults.Memory
 
 abbrev pub status_of : Fault → ℕ
+status_of (faults.Network r) = 3
 status_of (faults.Refused number place) = 3
 status_of faults.Simulation = 3
 status_of (faults.File name) = 5
 status_of faults.Usage = 2
 status_of faults.Memory = 6
 
--- the same of a refusal file
+-- what is refused of a refusal file keeps its number and its place
 abbrev pub fault_of_refusals : CertFault → Fault
 fault_of_refusals (cert.Refused b) = faults.Refused (breaches.number_of_rule b.rule) b.place
 fault_of_refusals cert.Memory = faults.Memory

@@ -9,13 +9,13 @@ use Rattle.cop_bus.specs.Trace.{IsLegalTrace}
 use Rattle.cop_bus.specs.Judge.{first_broken}
 use Rattle.cop_bus.specs.Late.{first_late}
 use Rattle.cop_bus.specs.Reading.{Told, trace_of}
-use Rattle.cop_net.specs.declared.faults.Refusal as net
 use Rattle.cop_net.specs.Devices.{File}
-use Rattle.cop_net.specs.Faults.{number_of_rule}
 use Rattle.cop_plan.specs.Values.{PlanValue}
 use Rattle.cop_plan.specs.declared.assigning.Outcome.{Outcome}
 use Rattle.cop_plan.specs.declared.choices.Asked.{Asked}
 use Rattle.cop_plan.specs.declared.assigning.Outcome.TheVariants.{Planned, Refused}
+use Rattle.cop_engine.specs.declared.judgements.Judgement.{Judgement}
+use Rattle.cop_engine.specs.declared.judgements.Judgement.TheVariants as judgements
 use Rattle.cop_engine.specs.declared.faults.Fault.{Fault}
 use Rattle.cop_engine.specs.declared.faults.Fault.TheVariants as faults
 use Rattle.cop_engine.specs.Networks.{network_in, IsPlannedNetwork}
@@ -40,6 +40,11 @@ judged_text transfers late = codes "transfers " ++ decimal transfers ++ codes "\
 abbrev pub none_passes : List ℕ
 none_passes = codes "no rate passes\n"
 
+-- the text of a judgement
+abbrev pub said_of : Judgement → List ℕ
+said_of judgements.NonePasses = none_passes
+said_of (judgements.OnTime transfers) = judged_text transfers None
+
 -- the text is of a legal trace in which all streams obey, and this is said of it
 pub record IsJudged (rate : Rate) (streams : List Stream) (trace text : List ℕ) : Type 0 where
   pub told : Told
@@ -56,6 +61,7 @@ pub record IsCleared (rate : Rate) (streams : List Stream) (trace text : List �
 
 -- it is none, or its first step that breaks a rule is this
 abbrev pub ExplainsTrace : Rate → List Stream → List ℕ → Fault → Type 0
+ExplainsTrace rate streams trace (faults.Network r) = ⊥
 ExplainsTrace rate streams trace (faults.Refused number place) =
     (trace_of trace ≡ Err (place, number)) ⊎ ((told : Told) × (trace_of trace ≡ Ok told) × (first_broken (ticks_of rate) streams told.until told.steps ≡ Some (place, number)))
 ExplainsTrace rate streams trace faults.Simulation = ⊥
@@ -76,9 +82,9 @@ pub record IsJudgement (asked : Asked) (nodes pdos : List ℕ) (eds : List File)
 
 -- why there is none: the network, or else the trace
 abbrev pub ExplainsJudgement : Asked → List ℕ → List ℕ → List File → List ℕ → Fault → Type 0
+ExplainsJudgement asked nodes pdos files trace (faults.Network r) = network_in asked.rates nodes pdos files ≡ Err r
 ExplainsJudgement asked nodes pdos files trace (faults.Refused number place) =
-    ((r : net.Refusal) × (network_in asked.rates nodes pdos files ≡ Err r) × (number ≡ number_of_rule r.rule) × (place ≡ r.place))
-    ⊎ ((plan : PlanValue) × IsPlannedNetwork asked nodes pdos files (Planned plan) × ExplainsTrace plan.rate plan.streams trace (faults.Refused number place))
+    (plan : PlanValue) × IsPlannedNetwork asked nodes pdos files (Planned plan) × ExplainsTrace plan.rate plan.streams trace (faults.Refused number place)
 ExplainsJudgement asked nodes pdos files trace faults.Simulation = ⊥
 ExplainsJudgement asked nodes pdos files trace (faults.File name) = ⊥
 ExplainsJudgement asked nodes pdos files trace faults.Usage = ⊥

@@ -1,11 +1,10 @@
 -- What the program says of a fault, its status, and the words of the command line that it reads.
 use Rattle.std.specs.Prelude.{◌≡◌, ℕ, List, ◌++◌, Bool, codes, decimal, Some, if◌then◌else◌}
 use Rattle.std.specs.String.{string_bytes}
-use Rattle.std.specs.Str.{bytes_eq}
 use Rattle.cop_frame.specs.declared.rates.Rate.{Rate}
 use Rattle.cop_frame.specs.Rate.{kbits_of}
 use Rattle.cop_table.specs.Numbers.{number_of}
-use Rattle.cop_engine.specs.Judgements.{none_passes}
+use Rattle.cop_net.specs.Faults.{number_of_rule}
 use Rattle.cop_engine.specs.declared.faults.Fault.{Fault}
 use Rattle.cop_engine.specs.declared.faults.Fault.TheVariants as faults
 
@@ -19,6 +18,7 @@ file_message name = codes "canplan: file " ++ (name ++ codes "\n")
 
 -- the first line on standard error
 abbrev pub message_of : Fault → List ℕ
+message_of (faults.Network r) = refusal_message (number_of_rule r.rule) r.place
 message_of (faults.Refused number place) = refusal_message number place
 message_of faults.Simulation = codes "canplan: simulation refused\n"
 message_of (faults.File name) = file_message (string_bytes name)
@@ -40,10 +40,6 @@ check_status_of all_hold = if all_hold then 0 else 3
 -- the status after a check that wants a refusal of each rate which the plan refuses: 3 where some refusal fails, 4 where one is wanting
 abbrev pub strict_check_status_of : Bool → Bool → ℕ
 strict_check_status_of all_hold covers = if all_hold then plan_status_of covers else check_status_of all_hold
-
--- the status after a text of an answer: 4 where it says that no rate passes
-abbrev pub text_status_of : List ℕ → ℕ
-text_status_of text = if bytes_eq text none_passes then 4 else 0
 
 -- a word of at most 4 digits that write a rate in kbit/s
 abbrev pub IsRateWord : List ℕ → Rate → Type 0

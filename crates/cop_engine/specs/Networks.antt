@@ -8,7 +8,6 @@ use Rattle.cop_net.specs.declared.faults.Refusal.{Refusal}
 use Rattle.cop_net.specs.declared.faults.Table.TheVariants.{Nodes, Pdos}
 use Rattle.cop_net.specs.Devices.{File}
 use Rattle.cop_net.specs.Tables.{in_table}
-use Rattle.cop_net.specs.Faults.{number_of_rule}
 use Rattle.cop_net.specs.Network.{Net, Accepted, IsNetwork, accepted, network_of}
 use Rattle.cop_plan.specs.declared.assigning.Outcome.{Outcome}
 use Rattle.cop_plan.specs.declared.choices.Asked.{Asked}
@@ -26,8 +25,8 @@ network_in wanted nodes pdos files = do
 
 -- why there is no network
 abbrev pub ExplainsNetwork : List Rate → List ℕ → List ℕ → List File → Fault → Type 0
-ExplainsNetwork wanted nodes pdos files (faults.Refused number place) =
-    (r : Refusal) × (network_in wanted nodes pdos files ≡ Err r) × (number ≡ number_of_rule r.rule) × (place ≡ r.place)
+ExplainsNetwork wanted nodes pdos files (faults.Network r) = network_in wanted nodes pdos files ≡ Err r
+ExplainsNetwork wanted nodes pdos files (faults.Refused number place) = ⊥
 ExplainsNetwork wanted nodes pdos files faults.Simulation = ⊥
 ExplainsNetwork wanted nodes pdos files (faults.File name) = ⊥
 ExplainsNetwork wanted nodes pdos files faults.Usage = ⊥

@@ -1,15 +1,13 @@
 -- The files of a plan.
 use Rattle.std.specs.Prelude.{◌≡◌, ℕ, List, length}
 use Rattle.cop_rta.specs.declared.verdicts.Verdict.{Verdict}
-use Rattle.cop_cert.specs.Format.{text_of}
+use Rattle.cop_cert.specs.Short.{file_of}
 use Rattle.cop_rows.specs.declared.pdo_table.PdoRow.{PdoRow}
 use Rattle.cop_net.specs.Devices.{File}
 use Rattle.cop_net.specs.Network.{Net}
 use Rattle.cop_plan.specs.declared.assigning.Outcome.{Outcome}
-use Rattle.cop_plan.specs.declared.choices.Choice.{Choice}
 use Rattle.cop_plan.specs.declared.choices.Asked.{Asked}
 use Rattle.cop_plan.specs.declared.assigning.Outcome.TheVariants.{Planned, Refused}
-use Rattle.cop_plan.specs.Plans.{IsOutcome, IsChosenBy}
 use Rattle.cop_plan.specs.Values.{PlanValue}
 use Rattle.cop_engine.specs.declared.plans.Files.{Files}
 use Rattle.cop_engine.specs.Tests.{AreVerdicts}
@@ -33,13 +31,8 @@ pub record AreFilesFor (eds : List File) (net : Net) (outcome : Outcome) (files 
   pub judged : ArePlanVerdicts outcome verdicts (length net.rows)
   pub is_plan : files.planned ≡ is_planned outcome
   pub plan : files.plan.items ≡ plan_text net.rows verdicts outcome
-  pub refusals : files.refusals.items ≡ text_of (refusals_of outcome)
+  pub refusals : files.refusals.items ≡ file_of net.set (length net.rows) (refusals_of outcome)
   pub dcf : files.dcf ≡ dcfs_of eds net outcome
-
--- the files of what the planner answers for a network
-abbrev pub AreFilesOfNetwork : Choice → List File → Net → Files → Type 0
-AreFilesOfNetwork choice eds net files =
-    (outcome : Outcome) × IsOutcome net.equipment.rates net.set (length net.rows) outcome × IsChosenBy choice outcome × AreFilesFor eds net outcome files
 
 -- the files of what is asked of the network that the tables and the EDS files say
 pub record AreFilesOf (asked : Asked) (nodes pdos : List ℕ) (eds : List File) (files : Files) : Type 0 where

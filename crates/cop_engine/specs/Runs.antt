@@ -58,7 +58,8 @@ pub record IsNetworkRun (asked : Asked) (nodes pdos : List ℕ) (eds : List File
 
 -- why there is none: the network, or else its run
 abbrev pub ExplainsNetworkRun : Asked → List ℕ → List ℕ → List File → ℕ → ℕ → Fault → Type 0
-ExplainsNetworkRun asked nodes pdos files seed until (faults.Refused number place) = ExplainsNetwork asked.rates nodes pdos files (faults.Refused number place)
+ExplainsNetworkRun asked nodes pdos files seed until (faults.Network r) = ExplainsNetwork asked.rates nodes pdos files (faults.Network r)
+ExplainsNetworkRun asked nodes pdos files seed until (faults.Refused number place) = ⊥
 ExplainsNetworkRun asked nodes pdos files seed until faults.Simulation = (plan : PlanValue) × IsPlannedNetwork asked nodes pdos files (Planned plan) × IsBacklogged plan seed until
 ExplainsNetworkRun asked nodes pdos files seed until (faults.File name) = ⊥
 ExplainsNetworkRun asked nodes pdos files seed until faults.Usage = ⊥

@@ -10,16 +10,17 @@ ghost use Rattle.cop_plan.specs.Plans.{IsPlan};
 ghost use Rattle.cop_dcf.specs.Settings.{dictionary_of};
 ghost use Rattle.cop_boot.specs.Member.{unheard};
 ghost use Rattle.cop_engine.specs.Networks.{ExplainsNetwork};
-ghost use Rattle.cop_engine.specs.Boots.{device_nodes, managed, manager_of, device_at, boot_text, node_line, IsBooted, IsBootOf, IsBootOfNetwork};
+ghost use Rattle.cop_engine.specs.Boots.{device_nodes, managed, manager_of, device_at, boot_text, node_line, IsBooted, IsBootedBy, IsBootOf};
 
 use crate::faults::Fault;
 use crate::judgements::none_passes;
+use crate::planned_networks::{PlannedNetwork, planned};
 use crate::turns::boot_by_drawn;
 use cop_boot::{Device, End, Manager};
 use cop_dcf::{Setting, settings};
 use cop_dict::{Dictionary, Object};
-use cop_net::{Network, network, read_nodes, read_pdos};
-use cop_plan::{Asked, Choice, Outcome, Plan, plan};
+use cop_net::{Network, read_nodes, read_pdos};
+use cop_plan::{Asked, Outcome, Plan};
 use std::alloc::{AllocError, Global};
 use std::collections::BTreeMap;
 
@@ -174,18 +175,17 @@ fn booted(
     boot_text(alloc, &manager, &nodes)
 }
 
-/// The boot of a network by what the planner answers for it.
-fn boot_of(
+/// The boot of a network by what the planner answers for it, by the turns that a seed draws.
+pub fn boot_of(
     alloc: Global,
     seed: u64,
-    network: &Network<'_>,
-    choice: Choice,
+    planned: &PlannedNetwork<'_>,
 ) -> Result<Vec<u8>, AllocError>
-    requires { IsNetwork network.now }
-    ensures { IfOk result (λ text. IsBootOfNetwork choice seed network.now text.items) }
+    ensures { IfOk result (λ text. IsBootedBy seed planned.now.net planned.now.outcome text.items) }
 {
-    match plan(alloc, network, choice)? {
-        Outcome::Planned(plan) => booted(alloc, seed, network, &plan),
+    let (network, outcome) = planned.parts();
+    match outcome {
+        Outcome::Planned(plan) => booted(alloc, seed, network, plan),
         Outcome::Refused(_) => none_passes(alloc),
     }
 }
@@ -206,6 +206,6 @@ pub fn boot_bytes(
 {
     let nodes = read_nodes(alloc, nodes)?;
     let pdos = read_pdos(alloc, pdos)?;
-    let network = network(alloc, &asked.rates, &nodes, &pdos, eds_files)?;
-    Ok(boot_of(alloc, seed, &network, asked.choice)?)
+    let planned = planned(alloc, asked, &nodes, &pdos, eds_files)?;
+    Ok(boot_of(alloc, seed, &planned)?)
 }

@@ -1,9 +1,9 @@
 //! The check of a refusal file against a network.
 
-ghost use Rattle.std.specs.Prelude.{◌≡◌, ◌≤◌, ◌↔◌, ◌++◌, true, length, OnOk, IfOk, IsTrue, MatchResult, All};
+ghost use Rattle.std.specs.Prelude.{◌≡◌, ◌≤◌, ◌↔◌, ◌++◌, true, false, get_or, length, OnOk, IfOk, IsTrue, MatchResult, All};
 ghost use Rattle.cop_net.specs.Devices.{handed_in};
 ghost use Rattle.cop_engine.specs.Reports.{lines_below};
-ghost use Rattle.cop_engine.specs.Checks.{said, check_line, check_line_at, AreChecked, AreLinesOf, IsCheckOf, ExplainsCheck};
+ghost use Rattle.cop_engine.specs.Checks.{said, check_line, check_line_at, AreChecked, IsCheckOf, ExplainsCheck};
 
 use crate::faults::Fault;
 use crate::reports::push_number;
@@ -32,14 +32,27 @@ fn push_check(text: &mut Vec<u8>, refusal: &Refusal, holds: bool) -> Result<(), 
     push_said(text, holds)
 }
 
-/// The line of each refusal.
-fn checks_text(alloc: Global, refusals: &[Refusal], answers: &[bool]) -> Result<Vec<u8>, AllocError>
-    requires { length answers.now ≡ length refusals.now }
+/// Whether the refusal at a place holds.
+fn holds_at(answers: &[bool], place: usize) -> bool
+    ensures { result ≡ get_or answers.now place false }
+{
+    match answers.get(place) {
+        Some(holds) => *holds,
+        None => false,
+    }
+}
+
+/// A line for each refusal: its rate, and whether it holds.
+pub fn checks_text(
+    alloc: Global,
+    refusals: &[Refusal],
+    answers: &[bool],
+) -> Result<Vec<u8>, AllocError>
     ensures { IfOk result (λ text. text.items ≡ lines_below (check_line_at refusals.now answers.now) (length refusals.now)) }
 {
     let mut text = Vec::new(alloc);
     for (k, refusal) in refusals.iter().enumerate() {
-        push_check(&mut text, refusal, answers[k])?;
+        push_check(&mut text, refusal, holds_at(answers, k))?;
     }
     Ok(text)
 }
@@ -61,24 +74,22 @@ fn check_each(
     Ok(answers)
 }
 
-/// Whether all hold.
-fn all_hold(answers: &[bool]) -> bool
+/// Whether all refusals hold.
+pub fn all_hold(answers: &[bool]) -> bool
     ensures { IsTrue result ↔ All (λ answer. answer ≡ true) answers.now }
 {
     answers.iter().all(|answer| *answer)
 }
 
-/// What is said of refusals against a network, and whether all hold.
-fn checked(
+/// Whether each refusal holds against a network.
+pub fn checked(
     alloc: Global,
     network: &Network<'_>,
     refusals: &[Refusal],
-) -> Result<(Vec<u8>, bool), AllocError>
-    ensures { IfOk result (λ found. AreLinesOf network.now.set (length network.now.rows) refusals.now found.0.items found.1) }
+) -> Result<Vec<bool>, AllocError>
+    ensures { IfOk result (λ answers. AreChecked network.now.set (length network.now.rows) refusals.now answers.items (length refusals.now)) }
 {
-    let answers = check_each(alloc, network.set(), network.pdos(), refusals)?;
-    let text = checks_text(alloc, refusals, &answers)?;
-    Ok((text, all_hold(&answers)))
+    check_each(alloc, network.set(), network.pdos(), refusals)
 }
 
 /// The check of a refusal file against the network of some tables and EDS files: a line for each refusal, and whether all
@@ -98,5 +109,6 @@ pub fn check_bytes(
     let pdos = read_pdos(alloc, pdos)?;
     let network = network(alloc, wanted, &nodes, &pdos, eds_files)?;
     let refusals = read(alloc, refusals)?;
-    Ok(checked(alloc, &network, &refusals)?)
+    let answers = checked(alloc, &network, &refusals)?;
+    Ok((checks_text(alloc, &refusals, &answers)?, all_hold(&answers)))
 }

@@ -7,13 +7,17 @@ ghost use Rattle.cop_rta.specs.declared.tables.TableFault.TheVariants as table;
 
 use cop_bus::BusFault;
 use cop_cert::CertFault;
-use cop_net::PlanFault;
+use cop_net::{PlanFault, Refusal};
 use std::alloc::{AllocError, AllocFailed};
 use thiserror::Error;
 
 /// Why an order is not carried out.
 #[derive(Debug, Drop, Error)]
 pub enum Fault {
+    /// The first rule that a network breaks, and where.
+    #[error("refused {} {}", .0.rule.number(), .0.place)]
+    Network(Refusal),
+    /// A rule that another input breaks, by its number, and the place there.
     #[error("refused {number} {place}")]
     Refused { number: u8, place: u64 },
     /// The simulation of a run is given up: too many instances of a fixed frame wait.
@@ -48,10 +52,7 @@ impl From<PlanFault> for Fault {
 
     fn from(fault: PlanFault) -> Fault {
         match fault {
-            PlanFault::Refused(refusal) => Fault::Refused {
-                number: refusal.rule.number(),
-                place: refusal.place,
-            },
+            PlanFault::Refused(refusal) => Fault::Network(refusal),
             PlanFault::Memory => Fault::Memory,
         }
     }
@@ -90,7 +91,7 @@ pub fn status(fault: &Fault) -> u8
     ensures { result ≡ status_of fault.now }
 {
     match fault {
-        Fault::Refused { .. } => 3,
+        Fault::Network(_) | Fault::Refused { .. } => 3,
         Fault::Simulation => 3,
         Fault::File(_) => 5,
         Fault::Usage => 2,

@@ -5,7 +5,7 @@ ghost use Rattle.cop_net.specs.Devices.{File, handed_in};
 ghost use Rattle.cop_plan.specs.declared.choices.Asked.{Asked};
 ghost use Rattle.cop_table.specs.Pieces.{HoldsOfAll};
 ghost use Rattle.cop_engine.specs.Networks.{IsPlannedNetwork};
-ghost use Rattle.cop_engine.specs.Judgements.{transfers_in, judged_text, none_passes, IsCleared, ExplainsTrace, IsJudgement, ExplainsJudgement};
+ghost use Rattle.cop_engine.specs.Judgements.{transfers_in, judged_text, none_passes, said_of, IsCleared, ExplainsTrace, IsJudgement, ExplainsJudgement};
 
 use crate::faults::Fault;
 use crate::reports::push_number;
@@ -15,6 +15,27 @@ use cop_plan::{Asked, Outcome, Plan};
 use cop_watch::sent_if_lawful;
 use std::alloc::{AllocError, Global};
 use std::io::Read;
+
+/// What is said of a trace by what the planner answers for a network.
+#[derive(Clone, Copy, PartialEq, Eq, Debug)]
+pub enum Judgement {
+    /// No rate passes, so that the trace is not looked at.
+    NonePasses,
+    /// So many transfers start, and no instance is late.
+    OnTime { transfers: u64 },
+}
+
+impl Judgement {
+    /// Its text. Otherwise want of memory.
+    pub fn text(self, alloc: Global) -> Result<Vec<u8>, AllocError>
+        ensures { IfOk result (λ text. text.items ≡ said_of self) }
+    {
+        match self {
+            Judgement::NonePasses => none_passes(alloc),
+            Judgement::OnTime { transfers } => on_time_text(alloc, transfers),
+        }
+    }
+}
 
 /// How many transfers start.
 fn transfers_in(steps: &[Step]) -> usize
@@ -49,50 +70,67 @@ pub fn none_passes(alloc: Global) -> Result<Vec<u8>, AllocError>
 
 /// The judgement of the trace that a reader has left, by a plan, if it is seen while it is read that it breaks no rule. No instance of
 /// such a trace is late, which the plan guarantees, so none is looked for.
-fn cleared<R: Read + Drop>(alloc: Global, plan: &Plan, reader: R) -> Option<Vec<u8>>
-    ensures { IfSome result (λ text. HoldsOfAll (R.remaining reader) (λ trace. IsCleared plan.now.rate plan.now.streams trace text.items)) }
+fn cleared<R: Read + Drop>(alloc: Global, plan: &Plan, reader: R) -> Option<Judgement>
+    ensures { IfSome result (λ judgement. HoldsOfAll (R.remaining reader) (λ trace. IsCleared plan.now.rate plan.now.streams trace (said_of judgement))) }
 {
     let streams = plan.streams();
     let _distinct = streams.streams();
     clean_is_legal();
     let transfers = sent_if_lawful(alloc, streams, plan.rate(), reader)?;
-    on_time_text(alloc, transfers).ok()
+    Some(Judgement::OnTime { transfers })
 }
 
 /// The judgement of a trace by a plan. Its steps are kept, and the first that breaks a rule is named.
-fn judged(alloc: Global, plan: &Plan, trace: &[u8]) -> Result<Vec<u8>, Fault>
-    ensures { MatchResult result (λ text. IsCleared plan.now.rate plan.now.streams trace.now text.items) (λ fault. ExplainsTrace plan.now.rate plan.now.streams trace.now fault) }
+fn judged(alloc: Global, plan: &Plan, trace: &[u8]) -> Result<Judgement, Fault>
+    ensures { MatchResult result (λ judgement. IsCleared plan.now.rate plan.now.streams trace.now (said_of judgement)) (λ fault. ExplainsTrace plan.now.rate plan.now.streams trace.now fault) }
 {
     let streams = plan.streams();
     let _distinct = streams.streams();
     clean_is_legal();
     let trace = read_trace(alloc, trace)?;
     let run = judge(alloc, streams, plan.rate(), &trace)?;
-    Ok(on_time_text(alloc, transfers_in(&run.trace.steps) as u64)?)
+    Ok(Judgement::OnTime {
+        transfers: transfers_in(&run.trace.steps) as u64,
+    })
 }
 
 /// The judgement of the trace that a reader has left, by what the planner answers for a network, if it is seen while it is read in
 /// pieces that it breaks no rule. Memory does not grow with the trace. Where there is none, nothing is known of the trace:
 /// a rule may be broken, or it cannot be read, or it has what is rare in a trace, and [`judge_outcome`] judges it.
-pub fn judge_pieces<R: Read + Drop>(alloc: Global, outcome: &Outcome, reader: R) -> Option<Vec<u8>>
-    ensures { IfSome result (λ text. (asked : Asked) (nodes pdos : List ℕ) (eds : List File) → IsPlannedNetwork asked nodes pdos eds outcome.now
-        → HoldsOfAll (R.remaining reader) (λ trace. IsJudgement asked nodes pdos eds trace text.items)) }
+pub fn judge_pieces<R: Read + Drop>(
+    alloc: Global,
+    outcome: &Outcome,
+    reader: R,
+) -> Option<Judgement>
+    ensures { IfSome result (λ judgement. (asked : Asked) (nodes pdos : List ℕ) (eds : List File) → IsPlannedNetwork asked nodes pdos eds outcome.now
+        → HoldsOfAll (R.remaining reader) (λ trace. IsJudgement asked nodes pdos eds trace (said_of judgement))) }
 {
     match outcome {
         Outcome::Planned(plan) => cleared(alloc, plan, reader),
-        Outcome::Refused(_) => none_passes(alloc).ok(),
+        Outcome::Refused(_) => Some(Judgement::NonePasses),
     }
 }
 
 /// The judgement of a trace by what the planner answers for a network, as [`judge_bytes`] gives it of the network's files. The steps of
 /// the trace are kept.
-pub fn judge_outcome(alloc: Global, outcome: &Outcome, trace: &[u8]) -> Result<Vec<u8>, Fault>
+pub fn judge_outcome(alloc: Global, outcome: &Outcome, trace: &[u8]) -> Result<Judgement, Fault>
     ensures { (asked : Asked) (nodes pdos : List ℕ) (eds : List File) → IsPlannedNetwork asked nodes pdos eds outcome.now
-        → MatchResult result (λ text. IsJudgement asked nodes pdos eds trace.now text.items) (λ fault. ExplainsJudgement asked nodes pdos eds trace.now fault) }
+        → MatchResult result (λ judgement. IsJudgement asked nodes pdos eds trace.now (said_of judgement)) (λ fault. ExplainsJudgement asked nodes pdos eds trace.now fault) }
 {
     match outcome {
         Outcome::Planned(plan) => judged(alloc, plan, trace),
-        Outcome::Refused(_) => Ok(none_passes(alloc)?),
+        Outcome::Refused(_) => Ok(Judgement::NonePasses),
+    }
+}
+
+/// The same of the bytes of a trace. Its steps are kept only if it is not seen while it is read that it breaks no rule.
+pub fn judged_bytes(alloc: Global, outcome: &Outcome, trace: &[u8]) -> Result<Judgement, Fault>
+    ensures { (asked : Asked) (nodes pdos : List ℕ) (eds : List File) → IsPlannedNetwork asked nodes pdos eds outcome.now
+        → MatchResult result (λ judgement. IsJudgement asked nodes pdos eds trace.now (said_of judgement)) (λ fault. ExplainsJudgement asked nodes pdos eds trace.now fault) }
+{
+    match judge_pieces(alloc, outcome, trace) {
+        Some(judgement) => Ok(judgement),
+        None => judge_outcome(alloc, outcome, trace),
     }
 }
 
@@ -112,8 +150,5 @@ pub fn judge_bytes(
         (λ fault. ExplainsJudgement asked.now nodes.now pdos.now (handed_in eds_files.now) trace.now fault) }
 {
     let outcome = outcome_of(alloc, nodes, pdos, eds_files, asked)?;
-    match judge_pieces(alloc, &outcome, trace) {
-        Some(text) => Ok(text),
-        None => judge_outcome(alloc, &outcome, trace),
-    }
+    Ok(judged_bytes(alloc, &outcome, trace)?.text(alloc)?)
 }

@@ -3,7 +3,7 @@
 ghost use Rattle.std.specs.Prelude.{◌≡◌, MatchOption, IfOk};
 ghost use Rattle.std.specs.String.{string_bytes};
 ghost use Rattle.cop_frame.specs.declared.rates.Rate.{Rate};
-ghost use Rattle.cop_engine.specs.Messages.{refusal_message, message_of, plan_status_of, test_status_of, check_status_of, strict_check_status_of, text_status_of, IsRateWord};
+ghost use Rattle.cop_engine.specs.Messages.{refusal_message, message_of, plan_status_of, test_status_of, check_status_of, strict_check_status_of, IsRateWord};
 
 use crate::faults::Fault;
 use cop_frame::Rate;
@@ -22,6 +22,7 @@ pub fn message(alloc: Global, fault: &Fault) -> Result<String, AllocError>
     ensures { IfOk result (λ line. string_bytes line ≡ message_of fault.now) }
 {
     match fault {
+        Fault::Network(refusal) => refusal_message(alloc, refusal.rule.number(), refusal.place),
         Fault::Refused { number, place } => refusal_message(alloc, *number, *place),
         Fault::Simulation => String::from_str(alloc, "canplan: simulation refused\n"),
         Fault::File(name) => format!(in alloc; "canplan: file {name}\n"),
@@ -60,17 +61,6 @@ pub fn strict_check_status(all_hold: bool, covers: bool) -> u8
         plan_status(covers)
     } else {
         check_status(all_hold)
-    }
-}
-
-/// The status after a text of an answer: 4 where it says that no rate passes, else 0.
-pub fn text_status(text: &[u8]) -> u8
-    ensures { result ≡ text_status_of text.now }
-{
-    if text == b"no rate passes\n".as_slice() {
-        4
-    } else {
-        0
     }
 }
 

@@ -1,23 +1,24 @@
 //! The plan of a network, from its files to the files of the plan.
 
 ghost use Rattle.std.specs.Prelude.{List, length, IfOk, All, MatchResult};
+ghost use Rattle.cop_cert.specs.Causes.{IsRefusal};
 ghost use Rattle.cop_net.specs.Devices.{File, handed_in};
-ghost use Rattle.cop_net.specs.Network.{Net};
-ghost use Rattle.cop_plan.specs.Plans.{IsPlan};
+ghost use Rattle.cop_plan.specs.Plans.{IsPlan, IsOutcome};
 ghost use Rattle.cop_plan.specs.declared.assigning.Outcome.TheVariants.{Planned, Refused};
 ghost use Rattle.cop_engine.specs.Networks.{ExplainsNetwork};
 ghost use Rattle.cop_engine.specs.Dcfs.{HaveTexts};
 ghost use Rattle.cop_engine.specs.PlanTexts.{HasIdentifier};
-ghost use Rattle.cop_engine.specs.Plans.{AreFilesFor, AreFilesOfNetwork, IsPlanText};
+ghost use Rattle.cop_engine.specs.Plans.{AreFilesFor, IsPlanText};
 ghost use Rattle.cop_engine.specs.Guarantee.{AreGuaranteedFiles};
 
 use crate::dcfs::{DcfFile, dcf_files};
 use crate::faults::Fault;
 use crate::plan_texts::{planned_text, refused_text};
+use crate::planned_networks::planned_with_files;
 use crate::tests_of_streams::judge_first;
-use cop_cert::{Items, Refusal, write};
-use cop_net::{EdsFiles, Network, network_of_files, read_nodes, read_pdos};
-use cop_plan::{Asked, Choice, Outcome, Plan, plan};
+use cop_cert::{Items, Refusal, write_file};
+use cop_net::{EdsFiles, Network, read_nodes, read_pdos};
+use cop_plan::{Asked, Outcome, Plan};
 use std::alloc::{AllocError, Global};
 
 /// What `plan` gives: the text of the plan, the refusal file, and the DCF file of each device.
@@ -54,41 +55,46 @@ fn planned_files(
     Ok(Files {
         planned: true,
         plan: plan_text(alloc, network, plan)?,
-        refusals: write(alloc, plan.refusals())?,
+        refusals: write_file(alloc, network.set(), network.pdos(), plan.refusals())?,
         dcf: dcf_files(alloc, network, plan, eds_files)?,
     })
 }
 
 /// The files where no rate passes.
-fn refused_files(alloc: Global, refusals: &[Refusal]) -> Result<Files, AllocError>
-    requires { All (λ r. HasIdentifier r.cause) refusals.now }
-    ensures { (eds : List File) (net : Net) → IfOk result (AreFilesFor eds net (Refused refusals.now)) }
+fn refused_files(
+    alloc: Global,
+    network: &Network<'_>,
+    refusals: &[Refusal],
+) -> Result<Files, AllocError>
+    requires named { All (λ r. HasIdentifier r.cause) refusals.now }
+    requires hold { All (IsRefusal network.now.set (length network.now.rows)) refusals.now }
+    ensures { (eds : List File) → IfOk result (AreFilesFor eds network.now (Refused refusals.now)) }
 {
     Ok(Files {
         planned: false,
         plan: refused_text(alloc, refusals)?,
-        refusals: write(alloc, refusals)?,
+        refusals: write_file(alloc, network.set(), network.pdos(), refusals)?,
         dcf: Items::new(alloc),
     })
 }
 
 /// The files of what the planner answers for a network.
-fn files_of(
+pub(crate) fn outcome_files(
     alloc: Global,
     network: &Network<'_>,
+    outcome: &Outcome,
     eds_files: &EdsFiles<'_>,
-    choice: Choice,
 ) -> Result<Files, AllocError>
-    requires { HaveTexts eds_files.now network.now.nodes.devices }
-    ensures { IfOk result (AreFilesOfNetwork choice eds_files.now network.now) }
+    requires outcome { IsOutcome network.now.equipment.rates network.now.set (length network.now.rows) outcome.now }
+    requires texts { HaveTexts eds_files.now network.now.nodes.devices }
+    ensures { IfOk result (AreFilesFor eds_files.now network.now outcome.now) }
 {
-    match plan(alloc, network, choice)? {
-        Outcome::Planned(plan) => planned_files(alloc, network, &plan, eds_files),
-        Outcome::Refused(refusals) => refused_files(alloc, refusals.as_slice()),
+    match outcome {
+        Outcome::Planned(plan) => planned_files(alloc, network, plan, eds_files),
+        Outcome::Refused(refusals) => refused_files(alloc, network, refusals.as_slice()),
     }
 }
 
-#[tactic(auto, using(crate::proofs::DcfLemmas::have_texts))]
 /// The plan that is asked of a network, from its tables and its EDS files: a table of nodes, a table of PDOs, and the EDS
 /// files by the names that the devices give. Otherwise the first rule that they break, or want of memory.
 ///
@@ -105,7 +111,6 @@ pub fn plan_bytes(
 {
     let nodes = read_nodes(alloc, nodes)?;
     let pdos = read_pdos(alloc, pdos)?;
-    let eds_files = EdsFiles::new(alloc, eds_files)?;
-    let network = network_of_files(alloc, &asked.rates, &nodes, &pdos, &eds_files)?;
-    Ok(files_of(alloc, &network, &eds_files, asked.choice)?)
+    let planned = planned_with_files(alloc, asked, &nodes, &pdos, eds_files)?;
+    Ok(planned.1)
 }

@@ -7,9 +7,10 @@ ghost use Rattle.cop_engine.specs.Runs.{fault_of_run, IsNetworkRun, ExplainsNetw
 
 use crate::faults::Fault;
 use crate::judgements::none_passes;
+use crate::planned_networks::planned;
 use crate::seeded_runs::{RunFault, run_plan};
-use cop_net::{network, read_nodes, read_pdos};
-use cop_plan::{Asked, Outcome, plan};
+use cop_net::{read_nodes, read_pdos};
+use cop_plan::{Asked, Outcome};
 use std::alloc::Global;
 
 impl From<RunFault> for Fault {
@@ -37,8 +38,8 @@ pub fn outcome_of(
 {
     let nodes = read_nodes(alloc, nodes)?;
     let pdos = read_pdos(alloc, pdos)?;
-    let network = network(alloc, &asked.rates, &nodes, &pdos, eds_files)?;
-    Ok(plan(alloc, &network, asked.choice)?)
+    let planned = planned(alloc, asked, &nodes, &pdos, eds_files)?;
+    Ok(planned.into_outcome())
 }
 
 /// The text and the trace of the seeded run of a network up to so many microseconds. Where no rate passes that is said,

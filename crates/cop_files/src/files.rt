@@ -1,7 +1,8 @@
 //! The files that the program writes.
 
 use crate::failures::{Failure, Use, file_failure};
-use cop_engine::{Fault, Outlet};
+use cop_engine::Outlet;
+use std::alloc::AllocError;
 use std::fs;
 use std::io::{self, ErrorKind, Write};
 
@@ -19,7 +20,7 @@ pub fn print_document(rt: &HostRuntime, document: &str) -> Result<(), Failure> {
 }
 
 /// Says what is to be said of an answer, where there was memory for it.
-pub fn tell(rt: &HostRuntime, notes: Result<Vec<u8>, Fault>) {
+pub fn tell(rt: &HostRuntime, notes: Result<Vec<u8>, AllocError>) {
     if let Ok(words) = notes {
         let _ = rt.stderr().write_all(&words);
     }

@@ -1,7 +1,7 @@
 //! What is read for an order.
 
 use crate::failures::{Failure, Use, file_failure};
-use cop_answers::{Texts, beside};
+use cop_answers::{Tables, Texts, beside};
 use cop_engine::read_all;
 use cop_net::{NodeTable, read_nodes};
 use cop_orders::NetworkFiles;
@@ -77,7 +77,7 @@ fn read_each(
     Ok(files)
 }
 
-/// Reads the two tables of a network.
+/// Reads the bytes of the two tables of a network.
 pub fn read_tables(
     rt: &HostRuntime,
     texts: &mut Texts,
@@ -92,23 +92,23 @@ pub fn read_tables(
     Ok(())
 }
 
-/// Reads the EDS files of the devices of a network, once its tables are read.
+/// Reads the EDS files of the devices of a network, once the bytes of its tables are read, and gives these tables.
 pub fn read_eds_files(
     rt: &HostRuntime,
     texts: &mut Texts,
     files: NetworkFiles<'_>,
-) -> Result<(), Failure> {
+) -> Result<Tables, Failure> {
     let nodes = read_nodes(rt.alloc(), &texts.nodes)?;
     texts.eds_files = read_each(rt, files.nodes, &nodes)?;
-    Ok(())
+    Ok(texts.tables(rt.alloc(), nodes)?)
 }
 
-/// Reads the tables and the EDS files of a network.
+/// Reads the tables and the EDS files of a network, and gives its tables.
 pub fn read_network(
     rt: &HostRuntime,
     texts: &mut Texts,
     files: NetworkFiles<'_>,
-) -> Result<(), Failure> {
+) -> Result<Tables, Failure> {
     read_tables(rt, texts, files)?;
     read_eds_files(rt, texts, files)
 }

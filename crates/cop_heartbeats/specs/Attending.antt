@@ -3,7 +3,7 @@ use Rattle.std.specs.Prelude.{◌≡◌, ◌≤◌, ◌<◌, ℕ, ◌-◌, Bool,
 use Rattle.std.specs.List.{AllByRecursion, list_all}
 use Rattle.cop_slcan.specs.Meaning.{Told, Heard, Done, Refused, Other}
 use Rattle.cop_slcan.specs.Reading.{said_from, left_from}
-use Rattle.cop_live.specs.Log.{ByteStep, ClockStep, Doing, Asked, Read, DidAll}
+use Rattle.cop_live.specs.Log.{ByteStep, ClockStep, Doing, Asked, Read, DidAll, GaveUp}
 use Rattle.cop_live.specs.Nodes.{nobody, with_node, has_node}
 use Rattle.cop_live.specs.Listening.{beat_of}
 use Rattle.cop_live.specs.Session.{noting}
@@ -99,3 +99,7 @@ pub record Attended {P : Type 0} (reads writes : ByteStep P) (asks : ClockStep P
   pub reaches : limit ≤ last.0 - began
   pub heard_are : heartbeats.heard ≡ (attended awaited (beginning began) (early ++ last ∷ [])).heard
   pub late_are : heartbeats.late ≡ (attended awaited (beginning began) (early ++ last ∷ [])).late
+
+-- nodes were not attended to for so long: the look at the clock gave out, or the turns
+abbrev pub AttendFails : {P : Type 0} → ByteStep P → ByteStep P → ClockStep P → ByteStep P → P → P → Type 0
+AttendFails reads writes asks fails p q = (began : ℕ) × (turns : List (ℕ × List ℕ)) × GaveUp reads writes asks fails turns p (Asked began ∷ attending_log turns) q

@@ -1,10 +1,10 @@
 //! The heartbeats of nodes are awaited.
 
-ghost use Rattle.std.specs.Prelude.{◌≡◌, option_to_list, IfSome};
+ghost use Rattle.std.specs.Prelude.{◌≡◌, option_to_list, IfSome, IfNone};
 ghost use Rattle.cop_slcan.specs.Meaning.{told_of};
 ghost use Rattle.cop_slcan.specs.Reading.{said_from, left_from, taken};
 ghost use Rattle.cop_live.specs.Nodes.{nobody};
-ghost use Rattle.cop_heartbeats.specs.Attending.{beat_at, beats_in, heard_at, heard_in, late_if, late_at, turned, presence_of, are_all_operational, Attended};
+ghost use Rattle.cop_heartbeats.specs.Attending.{beat_at, beats_in, heard_at, heard_in, late_if, late_at, turned, presence_of, are_all_operational, Attended, AttendFails};
 
 use cop_live::{NodeSet, Port, beat_of};
 use cop_slcan::{Reader, Said};
@@ -187,7 +187,8 @@ fn heartbeats_of(attendance: Attendance) -> Heartbeats
 /// Listens for so many ticks at least, and gives which nodes said by a heartbeat that they are operational, and which were late: a node is,
 /// once its time passes in which no heartbeat of it says operational. Nothing is written. `None` if the port or its clock fails.
 pub fn attend<P: Port>(awaited: &[Awaited], limit: u64, port: &mut P) -> Option<Heartbeats>
-    ensures { IfSome result (λ heartbeats. Attended P.reads P.writes P.asks awaited.now limit port.old heartbeats port.new) }
+    ensures attended { IfSome result (λ heartbeats. Attended P.reads P.writes P.asks awaited.now limit port.old heartbeats port.new) }
+    ensures failed { IfNone result (AttendFails P.reads P.writes P.asks P.fails port.old port.new) }
 {
     let Some(began) = port.now() else {
         return None;
@@ -197,7 +198,7 @@ pub fn attend<P: Port>(awaited: &[Awaited], limit: u64, port: &mut P) -> Option<
         heartbeats: Heartbeats::new(),
         reader: Reader::new(),
     };
-    for _ in 0..u64::MAX {
+    for _turn in 0..u64::MAX {
         let mut buffer = [0; 256];
         let Some(count) = port.read(&mut buffer) else {
             return None;

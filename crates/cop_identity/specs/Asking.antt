@@ -1,11 +1,11 @@
 -- Devices are asked over a port, question after question.
-use Rattle.std.specs.Prelude.{◌≡◌, ◌<◌, ◌≤◌, ℕ, ◌-◌, Bool, true, false, List, [], ◌∷◌, map, ◌==◌, Option, Some, None}
+use Rattle.std.specs.Prelude.{◌≡◌, ◌<◌, ◌≤◌, ℕ, ◌-◌, Bool, true, false, List, [], ◌∷◌, ◌++◌, map, ◌==◌, Option, Some, None}
 use Rattle.std.specs.Option.{option_or, option_map_or}
 use Rattle.std.specs.List.{AllByRecursion, list_any}
 use Rattle.cop_slcan.specs.Meaning.{Told, Heard, Done, Refused, Other}
 use Rattle.cop_slcan.specs.Reading.{said_from, left_from}
 use Rattle.cop_live.specs.Log as log
-use Rattle.cop_live.specs.Log.{ByteStep, ClockStep, DidAll}
+use Rattle.cop_live.specs.Log.{ByteStep, ClockStep, DidAll, GaveUp}
 use Rattle.cop_live.specs.Listening.{listening_log}
 use Rattle.cop_identity.specs.declared.questions.Question.{Question}
 use Rattle.cop_identity.specs.declared.questions.Answer.{Answer}
@@ -71,6 +71,38 @@ WereAsked {P} reads writes asks silent p (asked ∷ rest) q =
 -- these questions were asked, each once
 pub record AskedAll {P : Type 0} (reads writes : ByteStep P) (asks : ClockStep P) (questions : List Question) (p : P) (all : List Exchange) (q : P) : Type 0 where
   pub each : map (λ asked. asked.question) all ≡ questions
+  pub were : WereAsked reads writes asks None p all q
+
+-- a question gave out: the look at the clock, the request, or the turns in which its answer was awaited
+abbrev pub AskFails : {P : Type 0} → ByteStep P → ByteStep P → ClockStep P → ByteStep P → Question → P → P → Type 0
+AskFails reads writes asks fails question p q =
+    (began : ℕ) × (turns : List (ℕ × List ℕ)) × GaveUp reads writes asks fails turns p (log.Asked began ∷ log.Sent (request_of question) ∷ listening_log turns) q
+
+-- and so did the next one, which is not left out
+abbrev pub NextFails : {P : Type 0} → ByteStep P → ByteStep P → ClockStep P → ByteStep P → Bool → Question → P → P → Type 0
+NextFails reads writes asks fails true question p q = ⊥
+NextFails reads writes asks fails false question p q = AskFails reads writes asks fails question p q
+
+-- the node that was silent last, after some questions
+abbrev pub silent_by : Option ℕ → List Exchange → Option ℕ
+silent_by silent [] = silent
+silent_by silent (asked ∷ rest) = silent_by (silent_after silent asked.question.node asked.outcome) rest
+
+-- the first ones of these questions were asked, each once, and the next one gave out
+pub record AskingFails {P : Type 0} (reads writes : ByteStep P) (asks : ClockStep P) (fails : ByteStep P) (questions : List Question) (p q : P) : Type 0 where
+  pub all : List Exchange
+  pub next : Question
+  pub rest : List Question
+  pub between : P
+  pub each : map (λ asked. asked.question) all ++ next ∷ rest ≡ questions
+  pub were : WereAsked reads writes asks None p all between
+  pub failed : NextFails reads writes asks fails (is_silent (silent_by None all) next.node) next between q
+
+-- the first ones of these questions were asked, each once
+pub record AskedSome {P : Type 0} (reads writes : ByteStep P) (asks : ClockStep P) (questions : List Question) (p q : P) : Type 0 where
+  pub all : List Exchange
+  pub rest : List Question
+  pub each : map (λ asked. asked.question) all ++ rest ≡ questions
   pub were : WereAsked reads writes asks None p all q
 
 -- a device answered with another value

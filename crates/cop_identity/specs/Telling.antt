@@ -1,17 +1,17 @@
 -- What devices tell once they have been reset.
-use Rattle.std.specs.Prelude.{◌≡◌, ℕ, Bool, ◌&&◌, List, [], ◌∷◌, filter, ◌==◌, Option, Some, None, if◌then◌else◌}
+use Rattle.std.specs.Prelude.{◌≡◌, ◌⊎◌, ℕ, Bool, ◌&&◌, List, [], ◌∷◌, filter, ◌==◌, Option, Some, None, if◌then◌else◌}
 use Rattle.std.specs.Option.{option_or}
 use Rattle.cop_sdo.specs.declared.address.Address.{Address}
 use Rattle.cop_live.specs.Log.{ByteStep, ClockStep}
 use Rattle.cop_live.specs.Nodes.{has_node}
-use Rattle.cop_live.specs.Awaiting.{Awoke}
+use Rattle.cop_live.specs.Awaiting.{Awoke, AwaitFails}
 use Rattle.cop_identity.specs.declared.questions.Question.{Question}
 use Rattle.cop_identity.specs.declared.questions.Answer.{Answer}
 use Rattle.cop_identity.specs.declared.questions.Answer.TheVariants.{Wanted, Other, Aborted}
 use Rattle.cop_identity.specs.declared.asking.Outcome.{Outcome}
 use Rattle.cop_identity.specs.declared.asking.Outcome.TheVariants.{Answered, Silent, Unasked}
 use Rattle.cop_identity.specs.declared.asking.Exchange.{Exchange}
-use Rattle.cop_identity.specs.Asking.{AskedAll}
+use Rattle.cop_identity.specs.Asking.{AskedAll, AskingFails, AskedSome}
 
 -- of questions those to nodes that booted up
 abbrev pub of_booted : List Bool → List Question → List Question
@@ -28,6 +28,18 @@ pub record AreTold {P : Type 0} (reads writes : ByteStep P) (asks : ClockStep P)
 abbrev pub WereTold : {P : Type 0} → ByteStep P → ByteStep P → ClockStep P → Option ℕ → List ℕ → List Question → P → List Exchange → P → Type 0
 WereTold reads writes asks only nodes [] p all q = (all ≡ []) × (p ≡ q)
 WereTold reads writes asks only nodes (question ∷ rest) p all q = AreTold reads writes asks only nodes (question ∷ rest) p all q
+
+-- the reset gave out, or the boot-ups that were awaited; or a question to those that booted up
+abbrev pub TellFails : {P : Type 0} → ByteStep P → ByteStep P → ClockStep P → ByteStep P → Option ℕ → List ℕ → List Question → P → P → Type 0
+TellFails reads writes asks fails only nodes [] p q = ⊥
+TellFails {P} reads writes asks fails only nodes (question ∷ rest) p q =
+    AwaitFails reads writes asks fails only p q ⊎ ((booted : List Bool) × (awake : P) × Awoke reads writes asks only nodes p booted awake × AskingFails reads writes asks fails (of_booted booted (question ∷ rest)) awake q)
+
+-- the boot-ups were awaited, and the first ones of the questions to those that booted up were asked
+abbrev pub ToldSome : {P : Type 0} → ByteStep P → ByteStep P → ClockStep P → Option ℕ → List ℕ → List Question → P → P → Type 0
+ToldSome reads writes asks only nodes [] p q = ⊥
+ToldSome {P} reads writes asks only nodes (question ∷ rest) p q =
+    (booted : List Bool) × (awake : P) × Awoke reads writes asks only nodes p booted awake × AskedSome reads writes asks (of_booted booted (question ∷ rest)) awake q
 
 -- the value that an answer tells
 abbrev pub answer_tells : ℕ → Answer → Option ℕ

@@ -1,9 +1,10 @@
 //! Devices are asked over a port, question after question.
 
-ghost use Rattle.std.specs.Prelude.{◌≡◌, None, IfSome, IfOk, option_to_list};
+ghost use Rattle.std.specs.Prelude.{◌≡◌, None, IfSome, IfNone, IfOk, OnErr, option_to_list};
 ghost use Rattle.cop_slcan.specs.Meaning.{told_of};
 ghost use Rattle.cop_slcan.specs.Reading.{said_from, left_from, taken};
 ghost use Rattle.cop_identity.specs.Asking.{answer_told, first_answer, WasAsked, WasNext, AskedAll, is_silent, silent_after, is_other, has_other};
+ghost use Rattle.cop_identity.specs.Asking.{AskFails, NextFails, AskingFails, AskedSome};
 
 use crate::questions::{Answer, Question, limit_of, request_of};
 use cop_live::{Port, send};
@@ -65,7 +66,8 @@ pub fn answer_from(question: &Question, reader: &mut Reader, bytes: &[u8]) -> Op
 
 /// Asks a question, and waits for the answer, as long as `limit_of` says. `None` where the port or its clock fails.
 pub fn ask<P: Port>(question: &Question, port: &mut P) -> Option<Outcome>
-    ensures { IfSome result (λ outcome. WasAsked P.reads P.writes P.asks question.now port.old outcome port.new) }
+    ensures asked { IfSome result (λ outcome. WasAsked P.reads P.writes P.asks question.now port.old outcome port.new) }
+    ensures failed { IfNone result (AskFails P.reads P.writes P.asks P.fails question.now port.old port.new) }
 {
     let Some(began) = port.now() else {
         return None;
@@ -75,7 +77,7 @@ pub fn ask<P: Port>(question: &Question, port: &mut P) -> Option<Outcome>
     }
     let limit = limit_of(question.demand);
     let mut reader = Reader::new();
-    for _ in 0..u64::MAX {
+    for _turn in 0..u64::MAX {
         let Some(now) = port.now() else {
             return None;
         };
@@ -115,7 +117,8 @@ fn silent_after(silent: Option<u8>, node: u8, outcome: Outcome) -> Option<u8>
 
 // Asks a question, unless its node was silent.
 fn ask_next<P: Port>(silent: Option<u8>, question: &Question, port: &mut P) -> Option<Outcome>
-    ensures { IfSome result (λ outcome. WasNext P.reads P.writes P.asks (is_silent silent question.now.node) question.now port.old outcome port.new) }
+    ensures asked { IfSome result (λ outcome. WasNext P.reads P.writes P.asks (is_silent silent question.now.node) question.now port.old outcome port.new) }
+    ensures failed { IfNone result (NextFails P.reads P.writes P.asks P.fails (is_silent silent question.now.node) question.now port.old port.new) }
 {
     if is_silent(silent, question.node) {
         Some(Outcome::Unasked)
@@ -131,7 +134,9 @@ pub fn ask_all<P: Port>(
     questions: &[Question],
     port: &mut P,
 ) -> Result<Option<Vec<Exchange>>, AllocError>
-    ensures { IfOk result (λ asked. IfSome asked (λ all. AskedAll P.reads P.writes P.asks questions.now port.old all.items port.new)) }
+    ensures asked { IfOk result (λ asked. IfSome asked (λ all. AskedAll P.reads P.writes P.asks questions.now port.old all.items port.new)) }
+    ensures failed { IfOk result (λ asked. IfNone asked (AskingFails P.reads P.writes P.asks P.fails questions.now port.old port.new)) }
+    ensures short { OnErr result (AskedSome P.reads P.writes P.asks questions.now port.old port.new) }
 {
     let mut all = Vec::new(alloc);
     let mut silent = None;

@@ -1,7 +1,7 @@
 //! What devices tell once they have been reset.
 
-ghost use Rattle.std.specs.Prelude.{◌≡◌, IfSome, IfOk};
-ghost use Rattle.cop_identity.specs.Telling.{of_booted, WereTold, told_by, told_of, told_at};
+ghost use Rattle.std.specs.Prelude.{◌≡◌, IfSome, IfNone, IfOk, OnErr};
+ghost use Rattle.cop_identity.specs.Telling.{of_booted, WereTold, TellFails, ToldSome, told_by, told_of, told_at};
 
 use crate::asking::{Exchange, Outcome, ask_all};
 use crate::questions::{Answer, Question};
@@ -33,7 +33,9 @@ pub fn reset_and_ask<P: Port>(
     questions: &[Question],
     port: &mut P,
 ) -> Result<Option<Vec<Exchange>>, AllocError>
-    ensures { IfOk result (λ told. IfSome told (λ all. WereTold P.reads P.writes P.asks only nodes.now questions.now port.old all.items port.new)) }
+    ensures told { IfOk result (λ told. IfSome told (λ all. WereTold P.reads P.writes P.asks only nodes.now questions.now port.old all.items port.new)) }
+    ensures failed { IfOk result (λ told. IfNone told (TellFails P.reads P.writes P.asks P.fails only nodes.now questions.now port.old port.new)) }
+    ensures short { OnErr result (ToldSome P.reads P.writes P.asks only nodes.now questions.now port.old port.new) }
 {
     match questions {
         [] => Ok(Some(Vec::new(alloc))),

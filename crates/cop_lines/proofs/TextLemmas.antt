@@ -1,19 +1,14 @@
 -- The lines of a text that comes in pieces.
-use Rattle.std.proofs.Common.{◌≡◌, ◌∙◌, ℕ, ◌+◌, ◌-◌, ◌<◌, ◌≤◌, List, [], ◌∷◌, ◌++◌, suc, zero, length, take, drop, refl, sym, ap, subst, arith, append_assoc, append-nil, length-append, Bool, true, false, cond}
+use Rattle.std.proofs.Common.{◌≡◌, ◌∙◌, ℕ, ◌+◌, ◌<◌, ◌≤◌, List, [], ◌∷◌, ◌++◌, suc, zero, length, take, drop, refl, sym, ap, subst, arith, append_assoc, append-nil, length-append, Bool, true, false, cond}
 use Rattle.std.specs.Prelude.{◌==◌, slice_index}
 use Rattle.std.specs.List.{concat}
 use Rattle.cop_lines.specs.Words.{place_in, front, back}
-use Rattle.cop_lines.specs.Texts.{begun, lines_of, last_line, lines_behind, GoesOn, Ends, IsCut, AreCut, all_of}
+use Rattle.cop_lines.specs.Texts.{begun, lines_of, lines_behind, GoesOn, Ends, IsCut, AreCut, all_of}
 
 -- what was kept before some lines
 abbrev kept_before : List ℕ → List (List ℕ) → List (List ℕ)
 kept_before [] ls = ls
 kept_before (c ∷ kept) ls = begun c (kept_before kept ls)
-
-before_none : (kept : List ℕ) → kept_before kept [] ≡ last_line kept
-before_none [] = refl
-before_none (c ∷ []) = refl
-before_none (c ∷ d ∷ kept) = ap (begun c) (before_none (d ∷ kept))
 
 before_line : (kept : List ℕ) (ls : List (List ℕ)) → kept_before kept ([] ∷ ls) ≡ kept ∷ ls
 before_line [] ls = refl
@@ -24,7 +19,7 @@ before_more [] c ls = refl
 before_more (d ∷ kept) c ls = ap (begun d) (before_more kept c ls)
 
 behind_is : (kept text : List ℕ) → lines_behind kept text ≡ kept_before kept (lines_of text)
-behind_is kept [] = sym (before_none kept)
+behind_is kept [] = sym (before_line kept [])
 behind_is kept (c ∷ text) = go (c == 10) (behind_is [] text) (behind_is (kept ++ c ∷ []) text)
   where
     go : (b : Bool) → lines_behind [] text ≡ lines_of text → lines_behind (kept ++ c ∷ []) text ≡ kept_before (kept ++ c ∷ []) (lines_of text)
@@ -78,14 +73,14 @@ cut_lines : (kept piece now more : List ℕ) (ls : List (List ℕ)) → IsCut ke
 cut_lines kept piece now more [] e = line_goes_on kept piece now more e
 cut_lines kept piece now more (l ∷ ls) (left, e, next) = line_ends kept piece l left more e ∙ ap (λ xs. l ∷ xs) (cut_lines [] left now more ls next)
 
-pub pieces_lines : (pieces : List (List ℕ)) (lines : List (List (List ℕ))) (kept now : List ℕ) → AreCut kept pieces lines now → lines_behind kept (concat pieces) ≡ all_of lines ++ last_line now
-pieces_lines [] [] kept now e = ap last_line (sym e)
+pub pieces_lines : (pieces : List (List ℕ)) (lines : List (List (List ℕ))) (kept now : List ℕ) → AreCut kept pieces lines now → lines_behind kept (concat pieces) ≡ all_of lines ++ now ∷ []
+pieces_lines [] [] kept now e = ap (λ xs. xs ∷ []) (sym e)
 pieces_lines [] (ls ∷ more) kept now e = absurd e
 pieces_lines (p ∷ ps) [] kept now e = absurd e
 pieces_lines (p ∷ ps) (ls ∷ more) kept now (between, cut, rest) =
-    cut_lines kept p between (concat ps) ls cut ∙ (ap (λ xs. ls ++ xs) (pieces_lines ps more between now rest) ∙ sym (append_assoc ls (all_of more) (last_line now)))
+    cut_lines kept p between (concat ps) ls cut ∙ (ap (λ xs. ls ++ xs) (pieces_lines ps more between now rest) ∙ sym (append_assoc ls (all_of more) (now ∷ [])))
 
-pub whole_lines : (pieces : List (List ℕ)) (lines : List (List (List ℕ))) (kept : List ℕ) → AreCut [] pieces lines kept → lines_of (concat pieces) ≡ all_of lines ++ last_line kept
+pub whole_lines : (pieces : List (List ℕ)) (lines : List (List (List ℕ))) (kept : List ℕ) → AreCut [] pieces lines kept → lines_of (concat pieces) ≡ all_of lines ++ kept ∷ []
 whole_lines pieces lines kept e = sym (behind_nothing (concat pieces)) ∙ pieces_lines pieces lines [] kept e
 
 -- where a search finds the end of a line
@@ -122,39 +117,35 @@ pub left_shorter : (kept piece line left : List ℕ) → Ends kept piece line le
 left_shorter kept piece line left e = subst (λ (xs : List ℕ). length xs < length piece) (sym e.rest) (back_shorter piece e.has_end)
 
 -- a line that was kept is at least as long in the end
-pub kept_long : (kept more : List ℕ) → 0 < length kept → (l : List ℕ) × (ls : List (List ℕ)) × (lines_behind kept more ≡ l ∷ ls) × (length kept ≤ length l)
-kept_long [] [] some = absurd (omega arith)
-kept_long (k ∷ kept) [] some = (k ∷ kept, [], refl, omega arith)
-kept_long kept (c ∷ more) some = go (c == 10) (kept_long (kept ++ c ∷ []) more)
+pub kept_long : (kept more : List ℕ) → (l : List ℕ) × (ls : List (List ℕ)) × (lines_behind kept more ≡ l ∷ ls) × (length kept ≤ length l)
+kept_long kept [] = (kept, [], refl, omega arith)
+kept_long kept (c ∷ more) = go (c == 10) (kept_long (kept ++ c ∷ []) more)
   where
     longer : length (kept ++ c ∷ []) ≡ length kept + 1
     longer = length-append kept (c ∷ [])
 
-    go : (b : Bool) → (0 < length (kept ++ c ∷ []) → (l : List ℕ) × (ls : List (List ℕ)) × (lines_behind (kept ++ c ∷ []) more ≡ l ∷ ls) × (length (kept ++ c ∷ []) ≤ length l))
+    go : (b : Bool) → (l : List ℕ) × (ls : List (List ℕ)) × (lines_behind (kept ++ c ∷ []) more ≡ l ∷ ls) × (length (kept ++ c ∷ []) ≤ length l)
         → (l : List ℕ) × (ls : List (List ℕ)) × (cond b (kept ∷ lines_behind [] more) (lines_behind (kept ++ c ∷ []) more) ≡ l ∷ ls) × (length kept ≤ length l)
     go true next = (kept, lines_behind [] more, refl, omega arith)
     go false next =
         let n = longer in
-        let (l, ls, e, least) = next (omega (arith, n)) in
+        let (l, ls, e, least) = next in
         (l, ls, e, omega (arith, n, least))
 
-pub piece_long : (kept piece more : List ℕ) → 0 < length kept + length (front 10 piece)
-    → (l : List ℕ) × (ls : List (List ℕ)) × (lines_behind kept (piece ++ more) ≡ l ∷ ls) × (length kept + length (front 10 piece) ≤ length l)
-piece_long kept [] more some = let (l, ls, e, least) = kept_long kept more (omega arith) in (l, ls, e, omega (arith, least))
-piece_long kept (c ∷ piece) more some = go (c == 10) some (piece_long (kept ++ c ∷ []) piece more)
+pub piece_long : (kept piece more : List ℕ) → (l : List ℕ) × (ls : List (List ℕ)) × (lines_behind kept (piece ++ more) ≡ l ∷ ls) × (length kept + length (front 10 piece) ≤ length l)
+piece_long kept [] more = let (l, ls, e, least) = kept_long kept more in (l, ls, e, omega (arith, least))
+piece_long kept (c ∷ piece) more = go (c == 10) (piece_long (kept ++ c ∷ []) piece more)
   where
     longer : length (kept ++ c ∷ []) ≡ length kept + 1
     longer = length-append kept (c ∷ [])
 
-    go : (b : Bool) → 0 < length kept + length (take (cond b 0 (suc (place_in 10 piece))) (c ∷ piece))
-        → (0 < length (kept ++ c ∷ []) + length (front 10 piece)
-        → (l : List ℕ) × (ls : List (List ℕ)) × (lines_behind (kept ++ c ∷ []) (piece ++ more) ≡ l ∷ ls) × (length (kept ++ c ∷ []) + length (front 10 piece) ≤ length l))
+    go : (b : Bool) → (l : List ℕ) × (ls : List (List ℕ)) × (lines_behind (kept ++ c ∷ []) (piece ++ more) ≡ l ∷ ls) × (length (kept ++ c ∷ []) + length (front 10 piece) ≤ length l)
         → (l : List ℕ) × (ls : List (List ℕ)) × (cond b (kept ∷ lines_behind [] (piece ++ more)) (lines_behind (kept ++ c ∷ []) (piece ++ more)) ≡ l ∷ ls)
         × (length kept + length (take (cond b 0 (suc (place_in 10 piece))) (c ∷ piece)) ≤ length l)
-    go true some next = (kept, lines_behind [] (piece ++ more), refl, omega arith)
-    go false some next =
+    go true next = (kept, lines_behind [] (piece ++ more), refl, omega arith)
+    go false next =
         let n = longer in
-        let (l, ls, e, least) = next (omega (arith, n)) in
+        let (l, ls, e, least) = next in
         (l, ls, e, omega (arith, n, least))
 
 pub front_short : (piece : List ℕ) → length (front 10 piece) ≤ length piece
@@ -164,7 +155,3 @@ front_short (c ∷ piece) = go (c == 10) (front_short piece)
     go : (b : Bool) → length (front 10 piece) ≤ length piece → length (take (cond b 0 (suc (place_in 10 piece))) (c ∷ piece)) ≤ suc (length piece)
     go true h = omega arith
     go false h = omega arith
-
-pub last_is : (kept : List ℕ) → 0 < length kept → last_line kept ≡ kept ∷ []
-last_is [] some = absurd (omega arith)
-last_is (c ∷ kept) some = refl

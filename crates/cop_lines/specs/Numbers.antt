@@ -89,8 +89,8 @@ content_in base len text = bytes_in base len text >>= (λ bytes. Ok (content_wit
 
 -- what is seen of a frame with data, of a remote frame, to whose identifier bit 30 is put, and of an error frame
 abbrev pub message_of : ℕ → ℕ → Option Content → Message
-message_of at id (Some content) = record { entry = record { at = at; id = id; len = content.len }; body = content.body }
-message_of at id None = record { entry = record { at = at; id = bit_or id (2 ^ 30); len = 0 }; body = replicate 8 0 }
+message_of at id (Some content) = record { entry = record { line = 0; at = at; id = id; len = content.len }; body = content.body }
+message_of at id None = record { entry = record { line = 0; at = at; id = bit_or id (2 ^ 30); len = 0 }; body = replicate 8 0 }
 
 abbrev pub error_frame : ℕ → Message
-error_frame at = record { entry = record { at = at; id = 2 ^ 29; len = 0 }; body = replicate 8 0 }
+error_frame at = record { entry = record { line = 0; at = at; id = 2 ^ 29; len = 0 }; body = replicate 8 0 }

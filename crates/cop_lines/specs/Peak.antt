@@ -34,12 +34,17 @@ layout_in text =
 abbrev pub first_layout : Layout
 first_layout = record { stamp = 1; kind = None; bus = None; id = 2; len = 3 }
 
+abbrev pub layout_with : ℕ → Option ℕ → ℕ → ℕ → Layout
+layout_with kind bus id len = record { stamp = 1; kind = Some kind; bus = bus; id = id; len = len }
+
 unfoldable pub layout_of_version : List ℕ → Result Layout LineFault
 layout_of_version text =
     if bytes_eq text (codes "1.0") then Ok first_layout else
-    if bytes_eq text (codes "1.1") then Ok (record { stamp = 1; kind = Some 2; bus = None; id = 3; len = 4 }) else
-    if bytes_eq text (codes "2.0") then Ok (record { stamp = 1; kind = Some 2; bus = None; id = 3; len = 5 }) else
-    if bytes_eq text (codes "2.1") then Ok (record { stamp = 1; kind = Some 2; bus = Some 3; id = 4; len = 7 }) else Err fault.Form
+    if bytes_eq text (codes "1.1") then Ok (layout_with 2 None 3 4) else
+    if bytes_eq text (codes "1.2") then Ok (layout_with 3 (Some 2) 4 5) else
+    if bytes_eq text (codes "1.3") then Ok (layout_with 3 (Some 2) 4 6) else
+    if bytes_eq text (codes "2.0") then Ok (layout_with 2 None 3 5) else
+    if bytes_eq text (codes "2.1") then Ok (layout_with 2 (Some 3) 4 7) else Err fault.Form
 
 -- what a line that begins with ";" says of the columns
 unfoldable pub header_in : Layout → List ℕ → Result Layout LineFault

@@ -1,4 +1,5 @@
--- The lines of a text, which end by LF (byte 10); the last one may lack it. A text may come in pieces.
+-- The lines of a text, which end by LF (byte 10). The last one has no end: it is what stands behind the last LF, and may be empty. A text
+-- may come in pieces.
 use Rattle.std.specs.Prelude.{◌≡◌, ℕ, ◌+◌, ◌≤◌, ◌<◌, List, [], ◌∷◌, ◌++◌, length, ◌==◌, if◌then◌else◌}
 use Rattle.cop_lines.specs.Words.{place_in, front, back}
 use Rattle.cop_lines.specs.declared.cutter.CutFault.{CutFault}
@@ -10,17 +11,12 @@ begun c [] = (c ∷ []) ∷ []
 begun c (l ∷ ls) = (c ∷ l) ∷ ls
 
 abbrev pub lines_of : List ℕ → List (List ℕ)
-lines_of [] = []
+lines_of [] = [] ∷ []
 lines_of (c ∷ text) = if c == 10 then [] ∷ lines_of text else begun c (lines_of text)
-
--- a line that has no end, if it has a byte
-abbrev pub last_line : List ℕ → List (List ℕ)
-last_line [] = []
-last_line (c ∷ line) = (c ∷ line) ∷ []
 
 -- the lines of a text, the first of which begins with what was kept
 abbrev pub lines_behind : List ℕ → List ℕ → List (List ℕ)
-lines_behind kept [] = last_line kept
+lines_behind kept [] = kept ∷ []
 lines_behind kept (c ∷ text) = if c == 10 then kept ∷ lines_behind [] text else lines_behind (kept ++ c ∷ []) text
 
 -- the greatest length of a line, without its end

@@ -17,6 +17,8 @@ pub enum LineFault {
     Data,
     #[error("the line is longer than 4096 bytes")]
     Long,
+    #[error("the distance is not below an hour, or the first one is not 0")]
+    Distance,
 }
 
 impl LineFault {
@@ -32,6 +34,7 @@ impl LineFault {
             LineFault::Identifier => 92,
             LineFault::Data => 93,
             LineFault::Long => 95,
+            LineFault::Distance => 96,
         }
     }
 }

@@ -99,7 +99,8 @@ pub(crate) fn hexadecimal(text: &[u8]) -> Option<u32>
     Some(n)
 }
 
-fn hexadecimal_id(text: &[u8]) -> Result<u32, LineFault>
+/// The number that one to eight hexadecimal digits write.
+pub(crate) fn hexadecimal_id(text: &[u8]) -> Result<u32, LineFault>
     ensures { result ≡ hexadecimal_id text.now }
 {
     if text.is_empty() {
@@ -239,6 +240,7 @@ pub(crate) fn message_of(at: u64, id: u32, content: Option<Content>) -> Message
             let body = content.body;
             Message {
                 entry: Entry {
+                    line: 0,
                     at,
                     id,
                     len: content.len,
@@ -248,6 +250,7 @@ pub(crate) fn message_of(at: u64, id: u32, content: Option<Content>) -> Message
         }
         None => Message {
             entry: Entry {
+                line: 0,
                 at,
                 id: id | 1 << 30,
                 len: 0,
@@ -263,6 +266,7 @@ pub(crate) fn error_frame(at: u64) -> Message
 {
     Message {
         entry: Entry {
+            line: 0,
             at,
             id: 1 << 29,
             len: 0,

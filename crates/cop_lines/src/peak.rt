@@ -1,7 +1,7 @@
 //! Lines of logs in PEAK's form .trc.
 
 ghost use Rattle.std.specs.Prelude.{◌≡◌, ◌≤◌};
-ghost use Rattle.cop_lines.specs.Peak.{column_of, or_column, layout_in, first_layout, layout_of_version, header_in, is_data, is_error, is_status, kind_of, kind_by, kind_in, id_in, data_in, data_frame, remote_frame, frame_in, line_in};
+ghost use Rattle.cop_lines.specs.Peak.{column_of, or_column, layout_in, first_layout, layout_with, layout_of_version, header_in, is_data, is_error, is_status, kind_of, kind_by, kind_in, id_in, data_in, data_frame, remote_frame, frame_in, line_in};
 
 use crate::entries::{Content, Message};
 use crate::faults::LineFault;
@@ -75,6 +75,19 @@ pub(crate) fn first_layout() -> Layout
     }
 }
 
+// The layout of a log that has a column for the kind. Stamps stand behind the number.
+fn layout_with(kind: usize, bus: Option<usize>, id: usize, len: usize) -> Layout
+    ensures { result ≡ layout_with kind bus id len }
+{
+    Layout {
+        stamp: 1,
+        kind: Some(kind),
+        bus,
+        id,
+        len,
+    }
+}
+
 #[tactic(auto, unfolding(crate::specs::Peak::layout_of_version))]
 fn layout_of_version(text: &[u8]) -> Result<Layout, LineFault>
     ensures { result ≡ layout_of_version text.now }
@@ -83,31 +96,19 @@ fn layout_of_version(text: &[u8]) -> Result<Layout, LineFault>
         return Ok(first_layout());
     }
     if text == b"1.1".as_slice() {
-        return Ok(Layout {
-            stamp: 1,
-            kind: Some(2),
-            bus: None,
-            id: 3,
-            len: 4,
-        });
+        return Ok(layout_with(2, None, 3, 4));
+    }
+    if text == b"1.2".as_slice() {
+        return Ok(layout_with(3, Some(2), 4, 5));
+    }
+    if text == b"1.3".as_slice() {
+        return Ok(layout_with(3, Some(2), 4, 6));
     }
     if text == b"2.0".as_slice() {
-        return Ok(Layout {
-            stamp: 1,
-            kind: Some(2),
-            bus: None,
-            id: 3,
-            len: 5,
-        });
+        return Ok(layout_with(2, None, 3, 5));
     }
     if text == b"2.1".as_slice() {
-        return Ok(Layout {
-            stamp: 1,
-            kind: Some(2),
-            bus: Some(3),
-            id: 4,
-            len: 7,
-        });
+        return Ok(layout_with(2, Some(3), 4, 7));
     }
     Err(LineFault::Form)
 }

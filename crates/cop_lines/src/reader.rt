@@ -1,7 +1,7 @@
 //! A log that is read line by line.
 
 ghost use Rattle.std.specs.Prelude.{◌≡◌, ◌+◌};
-ghost use Rattle.cop_lines.specs.Reader.{begun, knowing, with_moment, nothing, is_of_vector, is_in_columns, form_of_candump, form_of, with_form, moment_of, without_cr, log_step, column_step, event_step, vector_step, peak_step, step_by, step, message_in, reader_behind, bus_in, channel_by};
+ghost use Rattle.cop_lines.specs.Reader.{begun, knowing, with_moment, nothing, is_of_vector, is_in_columns, form_of_candump, form_of, without_mark, moment_of, moment_behind, without_cr, has_words, is_first, first_step, log_step, column_step, event_step, vector_step, peak_step, step_by, step, message_in, reader_behind, bus_in, channel_by};
 
 use crate::entries::Message;
 use crate::faults::LineFault;
@@ -53,40 +53,39 @@ fn form_of_candump(line: &[u8]) -> Form
 
 // The form that a line tells.
 #[tactic(auto, unfolding(crate::specs::Reader::form_of))]
-fn form_of(line: &[u8]) -> Form
+fn form_of(line: &[u8]) -> Result<Form, LineFault>
     ensures { result ≡ form_of line.now }
 {
     let first = word(line);
     if first.is_empty() {
-        return Form::Unknown;
+        return Ok(Form::Unknown);
     }
     if begins(b";", first) {
-        return Form::Peak {
+        return Ok(Form::Peak {
             layout: peak::first_layout(),
-        };
+        });
     }
     if is_of_vector(first) {
-        return Form::Vector {
+        return Ok(Form::Vector {
             base: Base::Hexadecimal,
             are_distances: false,
-        };
+        });
     }
     if begins(b"(", first) {
-        return form_of_candump(line);
+        return Ok(form_of_candump(line));
     }
-    Form::Log
+    Err(LineFault::Form)
 }
 
-fn with_form(form: Form, reader: LineReader, line: &[u8]) -> LineReader
-    ensures { result ≡ with_form form reader line.now }
+// A text without the mark of UTF-8, which may stand in front of it.
+#[tactic(auto, unfolding(crate::specs::Reader::without_mark))]
+fn without_mark(text: &[u8]) -> &[u8]
+    ensures { result.now ≡ without_mark text.now }
 {
-    match form {
-        Form::Unknown => LineReader {
-            form: form_of(line),
-            are_distances: reader.are_distances,
-            at: reader.at,
-        },
-        Form::Log | Form::Columns | Form::Vector { .. } | Form::Peak { .. } => reader,
+    if begins(&[0xEF, 0xBB, 0xBF], text) {
+        &text[3..]
+    } else {
+        text
     }
 }
 
@@ -131,6 +130,20 @@ fn moment_of(are_distances: bool, before: u64, stamp: u64) -> Result<u64, LineFa
     }
 }
 
+// The moment of a line by its stamp, which may be a distance, that is below an hour.
+#[tactic(auto, unfolding(crate::specs::Reader::moment_behind))]
+fn moment_behind(are_distances: bool, before: u64, stamp: u64) -> Result<u64, LineFault>
+    ensures { result ≡ moment_behind are_distances before stamp }
+{
+    if !are_distances {
+        return Ok(stamp);
+    }
+    if stamp >= 3_600_000_000 {
+        return Err(LineFault::Distance);
+    }
+    moment(u128::from(before) + u128::from(stamp))
+}
+
 // A CR at the end belongs to the end of the line.
 fn without_cr(line: &[u8]) -> &[u8]
     ensures { result.now ≡ without_cr line.now }
@@ -146,6 +159,9 @@ fn without_cr(line: &[u8]) -> &[u8]
 fn log_step(reader: LineReader, line: &[u8]) -> Result<Reading, LineFault>
     ensures { result ≡ log_step reader line.now }
 {
+    if word(line).is_empty() {
+        return Ok(nothing(reader));
+    }
     let message = logged_in(without_cr(line))?;
     Ok(Reading {
         reader,
@@ -153,16 +169,23 @@ fn log_step(reader: LineReader, line: &[u8]) -> Result<Reading, LineFault>
     })
 }
 
+// With -e the words of an error frame stand behind it, each behind a tab in a line of its own.
+fn has_words(line: &[u8]) -> bool
+    ensures { result ≡ has_words line.now }
+{
+    begins(b"\t", line)
+}
+
 #[tactic(auto, unfolding(crate::specs::Reader::column_step))]
 fn column_step(reader: LineReader, line: &[u8]) -> Result<Reading, LineFault>
     ensures { result ≡ column_step reader line.now }
 {
     let first = word(line);
-    if first.is_empty() {
+    if first.is_empty() || has_words(line) {
         return Ok(nothing(reader));
     }
     let stamp = stamp_in(first)?;
-    let at = moment_of(reader.are_distances, reader.at, stamp)?;
+    let at = moment_behind(reader.are_distances, reader.at, stamp)?;
     let message = columns::frame_in(at, columns::from_id(line))?;
     Ok(Reading {
         reader: with_moment(reader, at),
@@ -240,13 +263,41 @@ fn step_by(form: Form, reader: LineReader, line: &[u8]) -> Result<Reading, LineF
     }
 }
 
+// The first distance is 0, since no line stands before it.
+fn is_first(form: Form, reader: LineReader) -> bool
+    ensures { result ≡ is_first form reader }
+{
+    match form {
+        Form::Columns => !reader.are_distances || reader.at == 0,
+        Form::Unknown | Form::Log | Form::Vector { .. } | Form::Peak { .. } => true,
+    }
+}
+
+// What the line that tells the form makes of a reader.
+#[tactic(auto, unfolding(crate::specs::Reader::first_step))]
+fn first_step(reader: LineReader, line: &[u8]) -> Result<Reading, LineFault>
+    ensures { result ≡ first_step reader line.now }
+{
+    let form = form_of(line)?;
+    let reading = step_by(form, knowing(reader, form), line)?;
+    if is_first(form, reading.reader) {
+        Ok(reading)
+    } else {
+        Err(LineFault::Distance)
+    }
+}
+
 // What a line makes of a reader.
 #[tactic(auto, unfolding(crate::specs::Reader::step))]
 fn step(reader: LineReader, line: &[u8]) -> Result<Reading, LineFault>
     ensures { result ≡ step reader line.now }
 {
-    let reader = with_form(reader.form, reader, line);
-    step_by(reader.form, reader, line)
+    match reader.form {
+        Form::Unknown => first_step(reader, without_mark(line)),
+        Form::Log | Form::Columns | Form::Vector { .. } | Form::Peak { .. } => {
+            step_by(reader.form, reader, line)
+        }
+    }
 }
 
 fn bus_in(column: Option<usize>, line: &[u8]) -> &[u8]
@@ -265,7 +316,8 @@ fn channel_by(form: Form, line: &[u8]) -> &[u8]
     match form {
         Form::Unknown => &[],
         Form::Log => front(b' ', back(b' ', line)),
-        Form::Columns | Form::Vector { .. } => field(1, line),
+        Form::Columns => field(1, line),
+        Form::Vector { .. } => vector::bus_in(line),
         Form::Peak { layout } => bus_in(layout.bus, line),
     }
 }

@@ -1,5 +1,5 @@
 -- Boot-ups that are being awaited.
-use Rattle.std.proofs.Common.{◌≡◌, ℕ, ◌-◌, ◌<◌, ◌≤◌, List, [], ◌∷◌, ◌++◌, Bool, true, false, Option, refl, sym, ◌∙◌, ap, subst, inl, inr}
+use Rattle.std.proofs.Common.{◌≡◌, ℕ, ◌+◌, ◌-◌, ◌<◌, ◌≤◌, length, List, [], ◌∷◌, ◌++◌, Bool, true, false, Option, refl, sym, ◌∙◌, ap, subst, arith, inl, inr}
 use Rattle.cop_sdo.specs.Message.{Message}
 use Rattle.cop_slcan.specs.Reading.{said_from, left_from}
 use Rattle.cop_live.specs.Log.{ByteStep, ClockStep, Asked, Sent, Read, DidAll}
@@ -7,7 +7,7 @@ use Rattle.cop_live.specs.Nodes.{nobody}
 use Rattle.cop_live.specs.Listening.{listening_log}
 use Rattle.cop_live.specs.Session.{noted, reset_of}
 use Rattle.cop_live.specs.Awaiting.{have_booted, booted_by, AreAwaited, Awaits, Awoke}
-use Rattle.cop_live.proofs.Sessions.{did_both}
+use Rattle.cop_live.proofs.Sessions.{did_both, one_longer}
 use Rattle.cop_live.proofs.ListeningLemmas.{left_turns, left_more, log_more}
 
 booted_more : (pending : List ℕ) (booted : List Bool) (turns : List (ℕ × List ℕ)) (now : ℕ) (bytes : List ℕ)
@@ -20,21 +20,22 @@ awaited_more : (nodes : List ℕ) (began : ℕ) (pending : List ℕ) (booted : L
 awaited_more nodes began pending booted [] now bytes a out early = (out, (early, tt))
 awaited_more nodes began pending booted ((at, got) ∷ turns) now bytes a out early = (a.0, (a.1.0, awaited_more nodes began (left_from pending got) (noted booted (said_from pending got)) turns now bytes a.1.1 out early))
 
--- boot-ups that were awaited so far
-pub record Waits {P : Type 0} (reads writes : ByteStep P) (asks : ClockStep P) (only : Option ℕ) (nodes : List ℕ) (began : ℕ) (p : P) (pending : List ℕ) (booted : List Bool) (q : P) : Type 0 where
+-- boot-ups that were awaited so far, in at least so many turns
+pub record Waits {P : Type 0} (reads writes : ByteStep P) (asks : ClockStep P) (only : Option ℕ) (nodes : List ℕ) (began : ℕ) (p : P) (k : ℕ) (pending : List ℕ) (booted : List Bool) (q : P) : Type 0 where
   pub turns : List (ℕ × List ℕ)
   pub waits : Awaits reads writes asks only nodes began p turns booted q
   pub left : pending ≡ left_turns [] turns
+  pub many : k ≤ length turns
 
 module _ {P : Type 0} (reads writes : ByteStep P) (asks : ClockStep P) (only : Option ℕ) (nodes : List ℕ) (began : ℕ) (p : P) where
-  pub waits_first : (pending : List ℕ) (booted : List Bool) (m q : P) (frame : Message) → asks p began m → frame ≡ reset_of only → DidAll reads writes asks m (Sent frame ∷ []) q → pending ≡ [] → booted ≡ nobody
-      → Waits reads writes asks only nodes began p pending booted q
-  waits_first pending booted m q frame asked is sent ep eb =
-      record { turns = []; waits = record { did = (m, asked, subst (λ f. DidAll reads writes asks m (Sent f ∷ []) q) is sent); each = tt; noted_are = eb }; left = ep }
+  pub waits_first : (k : ℕ) (pending : List ℕ) (booted : List Bool) (m q : P) (frame : Message) → asks p began m → frame ≡ reset_of only → DidAll reads writes asks m (Sent frame ∷ []) q → pending ≡ [] → booted ≡ nobody → k ≡ 0
+      → Waits reads writes asks only nodes began p k pending booted q
+  waits_first k pending booted m q frame asked is sent ep eb ek =
+      record { turns = []; waits = record { did = (m, asked, subst (λ f. DidAll reads writes asks m (Sent f ∷ []) q) is sent); each = tt; noted_are = eb }; left = ep; many = omega (arith, ek) }
 
-  pub waits_on : (pending left : List ℕ) (booted more : List Bool) (q a r : P) (now : ℕ) (bytes : List ℕ) → Waits reads writes asks only nodes began p pending booted q → have_booted booted nodes ≡ false
-      → asks q now a → reads a bytes r → now - began < 20000000 → left ≡ left_from pending bytes → more ≡ noted booted (said_from pending bytes) → Waits reads writes asks only nodes began p left more r
-  waits_on pending left booted more q a r now bytes h out asked got early el em = record {
+  pub waits_on : (k : ℕ) (pending left : List ℕ) (booted more : List Bool) (q a r : P) (now : ℕ) (bytes : List ℕ) → Waits reads writes asks only nodes began p k pending booted q → have_booted booted nodes ≡ false
+      → asks q now a → reads a bytes r → now - began < 20000000 → left ≡ left_from pending bytes → more ≡ noted booted (said_from pending bytes) → Waits reads writes asks only nodes began p (k + 1) left more r
+  waits_on k pending left booted more q a r now bytes h out asked got early el em = record {
     turns = h.turns ++ (now, bytes) ∷ [];
     waits = record {
       did = subst (λ log. DidAll reads writes asks p (Asked began ∷ Sent (reset_of only) ∷ log) r) (sym (log_more h.turns now bytes))
@@ -44,11 +45,12 @@ module _ {P : Type 0} (reads writes : ByteStep P) (asks : ClockStep P) (only : O
           ∙ sym (booted_more [] nobody h.turns now bytes);
     };
     left = el ∙ ap (λ (l : List ℕ). left_from l bytes) h.left ∙ sym (left_more [] h.turns now bytes);
+    many = one_longer k h.turns (now, bytes) h.many;
   }
 
-  pub all_awoke : (pending : List ℕ) (booted : List Bool) (q : P) → Waits reads writes asks only nodes began p pending booted q → have_booted booted nodes ≡ true → Awoke reads writes asks only nodes p booted q
-  all_awoke pending booted q h all = inl (began, h.turns, h.waits, all)
+  pub all_awoke : (k : ℕ) (pending : List ℕ) (booted : List Bool) (q : P) → Waits reads writes asks only nodes began p k pending booted q → have_booted booted nodes ≡ true → Awoke reads writes asks only nodes p booted q
+  all_awoke k pending booted q h all = inl (began, h.turns, h.waits, all)
 
-  pub time_is_over : (pending : List ℕ) (booted : List Bool) (q r : P) (now : ℕ) → Waits reads writes asks only nodes began p pending booted q → have_booted booted nodes ≡ false → asks q now r → 20000000 ≤ now - began
+  pub time_is_over : (k : ℕ) (pending : List ℕ) (booted : List Bool) (q r : P) (now : ℕ) → Waits reads writes asks only nodes began p k pending booted q → have_booted booted nodes ≡ false → asks q now r → 20000000 ≤ now - began
       → Awoke reads writes asks only nodes p booted r
-  time_is_over pending booted q r now h out asked late = inr (began, h.turns, q, now, h.waits, out, asked, late)
+  time_is_over k pending booted q r now h out asked late = inr (began, h.turns, q, now, h.waits, out, asked, late)

@@ -8,9 +8,9 @@ use Rattle.cop_live.specs.declared.opening.Reply.{Reply}
 use Rattle.cop_live.specs.declared.opening.Command.{Command}
 use Rattle.cop_live.specs.declared.opening.Reply.TheVariants as answers
 use Rattle.cop_live.specs.Log.{ByteStep, ClockStep}
-use Rattle.cop_live.specs.Opening.{Opened, Unopened, OpenedToListen, UnopenedToListen}
-use Rattle.cop_live.specs.Flags.{FlagsAsked, error_in}
-use Rattle.cop_live.specs.Listening.{Listened}
+use Rattle.cop_live.specs.Opening.{Opened, Unopened, OpenedToListen, UnopenedToListen, OpenFails, OpenToListenFails}
+use Rattle.cop_live.specs.Flags.{FlagsAsked, error_in, FlagsFail}
+use Rattle.cop_live.specs.Listening.{Listened, ListenFails}
 
 -- what came of an opening to send
 abbrev pub TakenOver : {P : Type 0} → ByteStep P → ByteStep P → Rate → P → Found → P → Type 0
@@ -56,7 +56,7 @@ pub record Sounded {P : Type 0} (reads writes : ByteStep P) (asks : ClockStep P)
   pub flags_asked : FlagsAsked reads writes p flags told
   pub goes_on : SoundsBy reads writes asks rate senders only answer (error_in flags) told f q
 
--- a port or its clock may fail, of which nothing is said
+-- a port or its clock may fail, of which other clauses speak
 abbrev pub unless_failed : Found → Type 0 → Type 0
 unless_failed founds.Nobody claim = claim
 unless_failed founds.Silence claim = claim
@@ -118,3 +118,36 @@ Looked reads writes asks rate senders only p f q = unless_failed f (IsUnopened r
 abbrev pub Approached : {P : Type 0} → ByteStep P → ByteStep P → ClockStep P → Rate → List Sender → Option ℕ → Bool → P → Found → P → Type 0
 Approached reads writes asks rate senders only true p f q = TakenOver reads writes rate p f q
 Approached reads writes asks rate senders only false p f q = Looked reads writes asks rate senders only p f q
+
+-- the adapter was not opened to send, or it was and was not listened by to the end
+abbrev pub HearAgainFails : {P : Type 0} → ByteStep P → ByteStep P → ClockStep P → ByteStep P → Rate → P → P → Type 0
+HearAgainFails {P} reads writes asks fails rate p q = OpenFails reads writes fails rate p q ⊎ ((m : P) × Opened reads writes rate p m × ListenFails reads writes asks fails m q)
+
+-- what failed once nobody was heard to run, by the adapter's answer to listen only
+abbrev pub GoOnFails : {P : Type 0} → ByteStep P → ByteStep P → ClockStep P → ByteStep P → Rate → Reply → P → P → Type 0
+GoOnFails reads writes asks fails rate answers.Taken p q = OpenFails reads writes fails rate p q
+GoOnFails reads writes asks fails rate answers.Silent p q = HearAgainFails reads writes asks fails rate p q
+GoOnFails reads writes asks fails rate answers.Refused p q = ⊥
+
+-- what failed once nothing was heard: to ask for the flags; or they told of no errors, and it failed then
+abbrev pub SoundFails : {P : Type 0} → ByteStep P → ByteStep P → ClockStep P → ByteStep P → Rate → Reply → P → P → Type 0
+SoundFails {P} reads writes asks fails rate answer p q =
+    FlagsFail reads writes fails p q ⊎ ((flags : Option ℕ) × (m : P) × FlagsAsked reads writes p flags m × (error_in flags ≡ None) × GoOnFails reads writes asks fails rate answer m q)
+
+-- what failed by an adapter that gave this answer to listen only: to listen; or nobody was heard to run, or nothing, and it failed then
+abbrev pub HearFails : {P : Type 0} → ByteStep P → ByteStep P → ClockStep P → ByteStep P → Rate → List Sender → Option ℕ → Reply → P → P → Type 0
+HearFails {P} reads writes asks fails rate senders only answer p q =
+    ListenFails reads writes asks fails p q
+    ⊎ (((m : P) × Listened reads writes asks senders only p founds.Nobody m × GoOnFails reads writes asks fails rate answer m q)
+    ⊎ ((m : P) × Listened reads writes asks senders only p founds.Silence m × SoundFails reads writes asks fails rate answer m q))
+
+-- what failed of a look at the bus: to open the adapter to listen; or it was open, and it failed then
+abbrev pub LookFails : {P : Type 0} → ByteStep P → ByteStep P → ClockStep P → ByteStep P → Rate → List Sender → Option ℕ → P → P → Type 0
+LookFails {P} reads writes asks fails rate senders only p q =
+    OpenToListenFails reads writes fails rate p q ⊎ ((answer : Reply) × (m : P) × OpenedToListen reads writes rate answer p m × HearFails reads writes asks fails rate senders only answer m q)
+
+-- what failed of an approach: where the bus is not taken over the command that opens the adapter to send is written only once nobody was heard to
+-- run, or it refused to listen only
+abbrev pub ApproachFails : {P : Type 0} → ByteStep P → ByteStep P → ClockStep P → ByteStep P → Rate → List Sender → Option ℕ → Bool → P → P → Type 0
+ApproachFails reads writes asks fails rate senders only true p q = OpenFails reads writes fails rate p q
+ApproachFails reads writes asks fails rate senders only false p q = LookFails reads writes asks fails rate senders only p q

@@ -2,7 +2,7 @@
 use Rattle.std.specs.Prelude.{◌≡◌, ◌<◌, ◌≤◌, ◌⊎◌, ℕ, ◌-◌, Bool, true, false, List, [], ◌∷◌, Option}
 use Rattle.std.specs.List.{list_all}
 use Rattle.cop_slcan.specs.Reading.{said_from, left_from}
-use Rattle.cop_live.specs.Log.{ByteStep, ClockStep, Asked, Sent, DidAll}
+use Rattle.cop_live.specs.Log.{ByteStep, ClockStep, Asked, Sent, DidAll, GaveUp}
 use Rattle.cop_live.specs.Nodes.{nobody, has_node}
 use Rattle.cop_live.specs.Listening.{listening_log}
 use Rattle.cop_live.specs.Session.{noted, reset_of}
@@ -34,3 +34,7 @@ Awoke {P} reads writes asks only nodes p booted q =
     ((began : ℕ) × (turns : List (ℕ × List ℕ)) × Awaits reads writes asks only nodes began p turns booted q × (have_booted booted nodes ≡ true))
     ⊎ ((began : ℕ) × (turns : List (ℕ × List ℕ)) × (m : P) × (until : ℕ) × Awaits reads writes asks only nodes began p turns booted m × (have_booted booted nodes ≡ false)
     × asks m until q × (20000000 ≤ until - began))
+
+-- the look at the clock, the reset, or the turns gave out in which boot-ups were awaited
+abbrev pub AwaitFails : {P : Type 0} → ByteStep P → ByteStep P → ClockStep P → ByteStep P → Option ℕ → P → P → Type 0
+AwaitFails reads writes asks fails only p q = (began : ℕ) × (turns : List (ℕ × List ℕ)) × GaveUp reads writes asks fails turns p (Asked began ∷ Sent (reset_of only) ∷ listening_log turns) q

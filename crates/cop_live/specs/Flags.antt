@@ -1,5 +1,5 @@
 -- The status flags of an adapter (the text protocol of Lawicel's CAN232: `F`, and two digits in answer).
-use Rattle.std.specs.Prelude.{◌≡◌, ℕ, zero, suc, ◌+◌, ◌*◌, ◌/◌, ◌%◌, Bool, ◌||◌, List, [], ◌∷◌, ◌==◌, Option, Some, None, if◌then◌else◌}
+use Rattle.std.specs.Prelude.{◌≡◌, ◌⊎◌, ℕ, zero, suc, ◌+◌, ◌*◌, ◌/◌, ◌%◌, Bool, ◌||◌, List, [], ◌∷◌, ◌==◌, Option, Some, None, if◌then◌else◌}
 use Rattle.hex.specs.Hex.{hex_digit_value}
 use Rattle.cop_live.specs.declared.flags.FlagLine.{FlagLine}
 use Rattle.cop_live.specs.declared.flags.FlagLine.TheVariants.{Begun, Letter, First, Second, Other}
@@ -64,6 +64,16 @@ pub record FlagsAsked {P : Type 0} (reads writes : ByteStep P) (p : P) (flags : 
   pub written : P
   pub writes_command : writes p flags_command written
   pub answers : FlagsRead reads 4 Begun written flags q
+
+-- a read failed before flags were told, of so many reads at most
+unfoldable pub FlagsUnread : {P : Type 0} → ByteStep P → ByteStep P → ℕ → FlagLine → P → P → Type 0
+FlagsUnread reads fails zero line p q = ⊥
+FlagsUnread {P} reads fails (suc more) line p q =
+    fails p [] q ⊎ ((bytes : List ℕ) × (m : P) × reads p bytes m × if_told (flags_in line bytes).1 ⊥ (FlagsUnread reads fails more (flags_in line bytes).0 m q))
+
+-- the adapter was not asked for its flags, or its answer was not read
+abbrev pub FlagsFail : {P : Type 0} → ByteStep P → ByteStep P → ByteStep P → P → P → Type 0
+FlagsFail {P} reads writes fails p q = fails p flags_command q ⊎ ((m : P) × writes p flags_command m × FlagsUnread reads fails 4 Begun m q)
 
 -- a flag tells of errors on the bus: a warning (bit 2), the passive state (bit 5), or a bus error (bit 7)
 abbrev pub is_erroneous : ℕ → Bool

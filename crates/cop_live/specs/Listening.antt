@@ -9,7 +9,7 @@ use Rattle.cop_live.specs.declared.listening.Runner.{Runner}
 use Rattle.cop_live.specs.declared.listening.Tally.{Tally}
 use Rattle.cop_live.specs.declared.listening.Found.{Found}
 use Rattle.cop_live.specs.declared.listening.Found.TheVariants as founds
-use Rattle.cop_live.specs.Log.{ByteStep, ClockStep, Doing, Asked, Read, DidAll}
+use Rattle.cop_live.specs.Log.{ByteStep, ClockStep, Doing, Asked, Read, DidAll, GaveUp}
 
 -- the node whose heartbeat (701h to 77Fh, one byte) says operational (05h)
 abbrev pub beat_of : Message → Option ℕ
@@ -109,3 +109,17 @@ Listened reads writes asks senders only p (founds.Running runner) q = (began : �
 Listened reads writes asks senders only p (founds.Erroneous flags) q = ⊥
 Listened reads writes asks senders only p (founds.Refused command) q = ⊥
 Listened reads writes asks senders only p founds.Failed q = Unit {0}
+
+-- it was not listened to the end: the look at the clock or the turns gave out
+abbrev pub ListenFails : {P : Type 0} → ByteStep P → ByteStep P → ClockStep P → ByteStep P → P → P → Type 0
+ListenFails reads writes asks fails p q = (began : ℕ) × (turns : List (ℕ × List ℕ)) × GaveUp reads writes asks fails turns p (Asked began ∷ listening_log turns) q
+
+-- what holds where the port failed
+abbrev pub if_failed : Found → Type 0 → Type 0
+if_failed founds.Nobody claim = Unit {0}
+if_failed founds.Silence claim = Unit {0}
+if_failed (founds.Running runner) claim = Unit {0}
+if_failed (founds.Garbled lines) claim = Unit {0}
+if_failed (founds.Erroneous flags) claim = Unit {0}
+if_failed (founds.Refused command) claim = Unit {0}
+if_failed founds.Failed claim = claim

@@ -1,5 +1,5 @@
 -- What is done at a port, and what came by it.
-use Rattle.std.specs.Prelude.{◌≡◌, ℕ, ◌-◌, List, [], ◌∷◌, ◌++◌}
+use Rattle.std.specs.Prelude.{◌≡◌, ◌≤◌, ◌⊎◌, ℕ, ◌-◌, List, [], ◌∷◌, ◌++◌, length}
 use Rattle.cop_sdo.specs.Message.{Message}
 use Rattle.cop_boot.specs.Manager.{Meeting, Heard, Moment}
 use Rattle.cop_slcan.specs.Lines.{line_of}
@@ -31,6 +31,21 @@ Did reads writes asks p (Read bytes) q = reads p bytes q
 abbrev pub DidAll : {P : Type 0} → ByteStep P → ByteStep P → ClockStep P → P → List Doing → P → Type 0
 DidAll reads writes asks p [] q = p ≡ q
 DidAll {P} reads writes asks p (doing ∷ log) q = (m : P) × Did reads writes asks p doing m × DidAll reads writes asks m log q
+
+-- the bytes that one of these writes
+abbrev pub written_by : Doing → List ℕ
+written_by (Asked now) = []
+written_by (Sent frame) = line_of frame
+written_by (Read bytes) = []
+
+-- a log broke off: what stands in it before one of its acts was done, that act failed, and nothing was done then
+abbrev pub BrokeOff : {P : Type 0} → ByteStep P → ByteStep P → ClockStep P → ByteStep P → P → List Doing → P → Type 0
+BrokeOff reads writes asks fails p [] q = ⊥
+BrokeOff {P} reads writes asks fails p (doing ∷ log) q = fails p (written_by doing) q ⊎ ((m : P) × Did reads writes asks p doing m × BrokeOff reads writes asks fails m log q)
+
+-- a log of turns broke off; or it was done, and has so many turns (2 ^ 64 - 1) that no more are taken
+abbrev pub GaveUp : {P : Type 0} → ByteStep P → ByteStep P → ClockStep P → ByteStep P → List (ℕ × List ℕ) → P → List Doing → P → Type 0
+GaveUp reads writes asks fails turns p log q = BrokeOff reads writes asks fails p log q ⊎ (DidAll reads writes asks p log q × (18446744073709551615 ≤ length turns))
 
 -- the frames that were sent
 abbrev pub sent_in : List Doing → List Message

@@ -1,5 +1,5 @@
 -- Opening an adapter: to listen only, or to send (the text protocol of Lawicel's CAN232).
-use Rattle.std.specs.Prelude.{◌≡◌, ℕ, zero, suc, Bool, true, false, List, [], ◌∷◌, ◌==◌, unwrap_or, Option, Some, None, if◌then◌else◌}
+use Rattle.std.specs.Prelude.{◌≡◌, ◌⊎◌, ℕ, zero, suc, Bool, true, false, List, [], ◌∷◌, ◌==◌, unwrap_or, Option, Some, None, if◌then◌else◌}
 use Rattle.cop_frame.specs.declared.rates.Rate.{Rate}
 use Rattle.cop_slcan.specs.Lines.{rate_digit}
 use Rattle.cop_live.specs.declared.opening.Reply.{Reply}
@@ -156,3 +156,45 @@ ListensBy reads writes p openings.Passive q = Commanded reads writes listen_comm
 ListensBy reads writes p openings.Untold q = Commanded reads writes listen_command p answers.Silent q
 ListensBy reads writes p (openings.Refused command) q = SwitchedInstead reads writes p (openings.Refused command) q
 ListensBy reads writes p openings.Failed q = Unit {0}
+
+-- no answer was read: the first read failed, or the second, where the first had no answer
+abbrev pub ReplyFails : {P : Type 0} → ByteStep P → ByteStep P → P → P → Type 0
+ReplyFails {P} reads fails p q = fails p [] q ⊎ ((bytes : List ℕ) × (m : P) × reads p bytes m × (reply_in bytes ≡ None) × fails m [] q)
+
+-- a command was not given: its write failed, or no answer was read
+abbrev pub CommandFails : {P : Type 0} → ByteStep P → ByteStep P → ByteStep P → List ℕ → P → P → Type 0
+CommandFails {P} reads writes fails text p q = fails p text q ⊎ ((m : P) × writes p text m × ReplyFails reads fails m q)
+
+-- a read failed before there was one without bytes, of so many reads at most
+unfoldable pub DropFails : {P : Type 0} → ByteStep P → ByteStep P → ℕ → P → P → Type 0
+DropFails reads fails zero p q = ⊥
+DropFails {P} reads fails (suc more) p q = fails p [] q ⊎ ((bytes : List ℕ) × (m : P) × reads p bytes m × if_none bytes ⊥ (DropFails reads fails more m q))
+
+-- the adapter was not closed, and what it says dropped
+abbrev pub ShutFails : {P : Type 0} → ByteStep P → ByteStep P → ByteStep P → P → P → Type 0
+ShutFails {P} reads writes fails p q = fails p close_commands q ⊎ ((m : P) × writes p close_commands m × DropFails reads fails 64 m q)
+
+-- its rate was not set: it was not closed, or the rate not given
+abbrev pub SetFails : {P : Type 0} → ByteStep P → ByteStep P → ByteStep P → Rate → P → P → Type 0
+SetFails {P} reads writes fails rate p q = ShutFails reads writes fails p q ⊎ ((m : P) × IsShut reads writes p m × CommandFails reads writes fails (rate_command rate) m q)
+
+-- it was not opened to send: its rate was not set; or it was, and the command to open it not given
+abbrev pub OpenFails : {P : Type 0} → ByteStep P → ByteStep P → ByteStep P → Rate → P → P → Type 0
+OpenFails {P} reads writes fails rate p q = SetFails reads writes fails rate p q ⊎ ((m : P) × IsSet reads writes rate p true m × CommandFails reads writes fails open_command m q)
+
+-- the command to listen only was not given; or it was refused, and that to open it not given
+abbrev pub ListensFail : {P : Type 0} → ByteStep P → ByteStep P → ByteStep P → P → P → Type 0
+ListensFail {P} reads writes fails p q =
+    CommandFails reads writes fails listen_command p q ⊎ ((m : P) × Commanded reads writes listen_command p answers.Refused m × CommandFails reads writes fails open_command m q)
+
+-- it was not opened to listen: its rate was not set, or these commands not given
+abbrev pub OpenToListenFails : {P : Type 0} → ByteStep P → ByteStep P → ByteStep P → Rate → P → P → Type 0
+OpenToListenFails {P} reads writes fails rate p q = SetFails reads writes fails rate p q ⊎ ((m : P) × IsSet reads writes rate p true m × ListensFail reads writes fails m q)
+
+-- what holds where the port failed
+abbrev pub if_failed : Opening → Type 0 → Type 0
+if_failed openings.Active claim = Unit {0}
+if_failed openings.Passive claim = Unit {0}
+if_failed openings.Untold claim = Unit {0}
+if_failed (openings.Refused command) claim = Unit {0}
+if_failed openings.Failed claim = claim

@@ -1,5 +1,5 @@
 -- A boot over a port: what is done there, and what is true of it. The start of the nodes is held back.
-use Rattle.std.specs.Prelude.{◌≡◌, ℕ, ◌-◌, Bool, not, ◌&&◌, ◌==◌, List, [], ◌∷◌, ◌++◌, map, filter, slice_index, nat_lt, unwrap_or, Option, Some, None, option_and_then, if◌then◌else◌}
+use Rattle.std.specs.Prelude.{◌≡◌, ◌⊎◌, ℕ, ◌-◌, Bool, not, ◌&&◌, ◌==◌, List, [], ◌∷◌, ◌++◌, map, filter, slice_index, nat_lt, unwrap_or, Option, Some, None, option_and_then, if◌then◌else◌}
 use Rattle.cop_sdo.specs.Message.{Message}
 use Rattle.cop_boot.specs.declared.«end».End.TheVariants.{Ready}
 use Rattle.cop_boot.specs.Node.{Node}
@@ -7,7 +7,7 @@ use Rattle.cop_boot.specs.Manager.{Managing, Managed, heard, passed, and_then, b
 use Rattle.cop_boot.specs.Ends.{events, end_of, IsConfigured}
 use Rattle.cop_slcan.specs.Meaning.{Told, Heard, Done, Refused, Other}
 use Rattle.cop_slcan.specs.Reading.{said_from, left_from}
-use Rattle.cop_live.specs.Log.{ByteStep, ClockStep, Doing, Asked, Sent, Read, DidAll, came}
+use Rattle.cop_live.specs.Log.{ByteStep, ClockStep, Doing, Asked, Sent, Read, DidAll, BrokeOff, GaveUp, came}
 use Rattle.cop_live.specs.Nodes.{with_node}
 
 -- `C` closes the adapter
@@ -23,6 +23,12 @@ pub record Closed {P : Type 0} (reads writes : ByteStep P) (p q : P) : Type 0 wh
   pub reads_once : reads p first once
   pub reads_again : reads once second twice
   pub writes_command : writes twice closing q
+
+-- the adapter was not closed: a read failed, or the write
+abbrev pub CloseFails : {P : Type 0} → ByteStep P → ByteStep P → ByteStep P → P → P → Type 0
+CloseFails {P} reads writes fails p q =
+    fails p [] q
+    ⊎ ((first : List ℕ) × (once : P) × reads p first once × (fails once [] q ⊎ ((second : List ℕ) × (twice : P) × reads once second twice × fails twice closing q)))
 
 -- a manager, and the bytes of a line that is begun
 pub record State : Type 0 where
@@ -82,6 +88,10 @@ turn_state began s now bytes = record {
   pending = left_from s.pending bytes;
 }
 
+-- a turn broke off
+abbrev pub TurnFails : {P : Type 0} → ByteStep P → ByteStep P → ClockStep P → ByteStep P → ℕ → State → P → P → Type 0
+TurnFails reads writes asks fails began s p q = (now : ℕ) × (bytes : List ℕ) × BrokeOff reads writes asks fails p (turn_log began s now bytes) q
+
 -- a step: a turn with its moment and its bytes, or a frame of another than the manager
 pub data Step : Type 0 where
   Turn : (now : ℕ) (bytes : List ℕ) → Step
@@ -137,3 +147,7 @@ pub record Booted {P : Type 0} (reads writes : ByteStep P) (asks : ClockStep P) 
   pub did : DidAll reads writes asks asked (boot_log only m began (turns taken)) q
   pub state : s ≡ steps_state began (first_state m) (turns taken)
   pub is : IsDriven m began (boot_log only m began (turns taken)) s.manager
+
+-- a boot over a port gave out before it had ended: the look at the clock, the reset, or the turns
+abbrev pub BootFails : {P : Type 0} → ByteStep P → ByteStep P → ClockStep P → ByteStep P → Option ℕ → Managing → P → P → Type 0
+BootFails reads writes asks fails only m p q = (began : ℕ) × (taken : List (ℕ × List ℕ)) × GaveUp reads writes asks fails taken p (Asked began ∷ boot_log only m began (turns taken)) q

@@ -1,6 +1,9 @@
 //! How a bus is approached: the adapter is opened, and it is listened first unless the bus is taken over.
 
+ghost use Rattle.cop_live.specs.Opening.{OpenFails};
+ghost use Rattle.cop_live.specs.Listening.{if_failed};
 ghost use Rattle.cop_live.specs.Approach.{TakenOver, HeardAgain, GoesOnBy, Sounds, Heard, Looked, Approached};
+ghost use Rattle.cop_live.specs.Approach.{HearAgainFails, GoOnFails, SoundFails, HearFails, LookFails, ApproachFails};
 
 use crate::flags::{ask_flags, error_in};
 use crate::listening::{Found, Sender, listen};
@@ -10,7 +13,8 @@ use cop_frame::Rate;
 
 // Opens the adapter to send.
 fn take_over<P: Port>(port: &mut P, rate: Rate) -> Found
-    ensures { TakenOver P.reads P.writes rate port.old result port.new }
+    ensures taken { TakenOver P.reads P.writes rate port.old result port.new }
+    ensures failed { if_failed result (OpenFails P.reads P.writes P.fails rate port.old port.new) }
 {
     match open(port, rate) {
         Opening::Active => Found::Nobody,
@@ -21,7 +25,8 @@ fn take_over<P: Port>(port: &mut P, rate: Rate) -> Found
 
 // Opens the adapter to send, and listens by it.
 fn listen_again<P: Port>(rate: Rate, senders: &[Sender], only: Option<u8>, port: &mut P) -> Found
-    ensures { HeardAgain P.reads P.writes P.asks rate senders.now only port.old result port.new }
+    ensures heard { HeardAgain P.reads P.writes P.asks rate senders.now only port.old result port.new }
+    ensures failed { if_failed result (HearAgainFails P.reads P.writes P.asks P.fails rate port.old port.new) }
 {
     match open(port, rate) {
         Opening::Active => listen(senders, only, port),
@@ -38,7 +43,8 @@ fn go_on<P: Port>(
     only: Option<u8>,
     port: &mut P,
 ) -> Found
-    ensures { GoesOnBy P.reads P.writes P.asks rate senders.now only answer port.old result port.new }
+    ensures goes_on { GoesOnBy P.reads P.writes P.asks rate senders.now only answer port.old result port.new }
+    ensures failed { if_failed result (GoOnFails P.reads P.writes P.asks P.fails rate answer port.old port.new) }
 {
     match answer {
         Reply::Taken => take_over(port, rate),
@@ -55,7 +61,8 @@ fn sound<P: Port>(
     only: Option<u8>,
     port: &mut P,
 ) -> Found
-    ensures { Sounds P.reads P.writes P.asks rate senders.now only answer port.old result port.new }
+    ensures sounds { Sounds P.reads P.writes P.asks rate senders.now only answer port.old result port.new }
+    ensures failed { if_failed result (SoundFails P.reads P.writes P.asks P.fails rate answer port.old port.new) }
 {
     let Some(flags) = ask_flags(port) else {
         return Found::Failed;
@@ -74,7 +81,8 @@ fn hear<P: Port>(
     only: Option<u8>,
     port: &mut P,
 ) -> Found
-    ensures { Heard P.reads P.writes P.asks rate senders.now only answer port.old result port.new }
+    ensures heard { Heard P.reads P.writes P.asks rate senders.now only answer port.old result port.new }
+    ensures failed { if_failed result (HearFails P.reads P.writes P.asks P.fails rate senders.now only answer port.old port.new) }
 {
     match listen(senders, only, port) {
         Found::Nobody => go_on(answer, rate, senders, only, port),
@@ -87,7 +95,8 @@ fn hear<P: Port>(
 
 // Listens, by an adapter that listens only if it can, and leaves it open to send where nobody is heard to run.
 fn look<P: Port>(rate: Rate, senders: &[Sender], only: Option<u8>, port: &mut P) -> Found
-    ensures { Looked P.reads P.writes P.asks rate senders.now only port.old result port.new }
+    ensures looked { Looked P.reads P.writes P.asks rate senders.now only port.old result port.new }
+    ensures failed { if_failed result (LookFails P.reads P.writes P.asks P.fails rate senders.now only port.old port.new) }
 {
     match open_to_listen(port, rate) {
         Opening::Passive => hear(Reply::Taken, rate, senders, only, port),
@@ -110,7 +119,8 @@ pub fn approach<P: Port>(
     is_taken_over: bool,
     port: &mut P,
 ) -> Found
-    ensures { Approached P.reads P.writes P.asks rate senders.now only is_taken_over port.old result port.new }
+    ensures approached { Approached P.reads P.writes P.asks rate senders.now only is_taken_over port.old result port.new }
+    ensures failed { if_failed result (ApproachFails P.reads P.writes P.asks P.fails rate senders.now only is_taken_over port.old port.new) }
 {
     if is_taken_over {
         take_over(port, rate)

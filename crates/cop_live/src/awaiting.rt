@@ -1,9 +1,9 @@
 //! A reset, and the boot-ups that are awaited after it.
 
-ghost use Rattle.std.specs.Prelude.{◌≡◌, IfSome, option_to_list};
+ghost use Rattle.std.specs.Prelude.{◌≡◌, IfSome, IfNone, option_to_list};
 ghost use Rattle.cop_slcan.specs.Reading.{taken, said_from, left_from};
 ghost use Rattle.cop_live.specs.Session.{noted};
-ghost use Rattle.cop_live.specs.Awaiting.{have_booted, Awoke};
+ghost use Rattle.cop_live.specs.Awaiting.{have_booted, Awoke, AwaitFails};
 
 use crate::nodes::NodeSet;
 use crate::port::Port;
@@ -48,7 +48,8 @@ fn note_bytes(booted: &mut NodeSet, reader: &mut Reader, bytes: &[u8])
 /// Resets the communication of one node alone, or of all, and reads until each of some nodes has booted up, or for 5 s: gives the nodes that
 /// did. What else comes is dropped. `None` where the port or its clock fails.
 pub fn reset_and_await<P: Port>(nodes: &[u8], only: Option<u8>, port: &mut P) -> Option<NodeSet>
-    ensures { IfSome result (λ booted. Awoke P.reads P.writes P.asks only nodes.now port.old booted port.new) }
+    ensures awoke { IfSome result (λ booted. Awoke P.reads P.writes P.asks only nodes.now port.old booted port.new) }
+    ensures failed { IfNone result (AwaitFails P.reads P.writes P.asks P.fails only port.old port.new) }
 {
     let Some(began) = port.now() else {
         return None;
@@ -58,7 +59,7 @@ pub fn reset_and_await<P: Port>(nodes: &[u8], only: Option<u8>, port: &mut P) ->
     }
     let mut reader = Reader::new();
     let mut booted = NodeSet::new();
-    for _ in 0..u64::MAX {
+    for _turn in 0..u64::MAX {
         if have_booted(&booted, nodes) {
             return Some(booted);
         }

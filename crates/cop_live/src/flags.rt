@@ -1,8 +1,8 @@
 //! The status flags of an adapter.
 
-ghost use Rattle.std.specs.Prelude.{◌≡◌, IfSome};
+ghost use Rattle.std.specs.Prelude.{◌≡◌, IfSome, IfNone};
 ghost use Rattle.hex.specs.Hex.{hex_digit_value};
-ghost use Rattle.cop_live.specs.Flags.{line_after, flags_told, flagged, flags_in, FlagsRead, FlagsAsked, is_erroneous, error_in};
+ghost use Rattle.cop_live.specs.Flags.{line_after, flags_told, flagged, flags_in, FlagsRead, FlagsAsked, FlagsUnread, FlagsFail, is_erroneous, error_in};
 
 use crate::port::Port;
 
@@ -86,7 +86,8 @@ fn flags_in(line: FlagLine, bytes: &[u8]) -> (FlagLine, Option<u16>)
 
 // Reads until flags are told, at most so many times.
 fn read_flags<P: Port>(port: &mut P, line: FlagLine, reads: u8) -> Option<Option<u16>>
-    ensures { IfSome result (λ flags. FlagsRead P.reads reads line port.old flags port.new) }
+    ensures told { IfSome result (λ flags. FlagsRead P.reads reads line port.old flags port.new) }
+    ensures failed { IfNone result (FlagsUnread P.reads P.fails reads line port.old port.new) }
 {
     if reads == 0 {
         return Some(None);
@@ -103,7 +104,8 @@ fn read_flags<P: Port>(port: &mut P, line: FlagLine, reads: u8) -> Option<Option
 
 /// Asks an adapter for its flags. It may not tell them.
 pub fn ask_flags<P: Port>(port: &mut P) -> Option<Option<u16>>
-    ensures { IfSome result (λ flags. FlagsAsked P.reads P.writes port.old flags port.new) }
+    ensures told { IfSome result (λ flags. FlagsAsked P.reads P.writes port.old flags port.new) }
+    ensures failed { IfNone result (FlagsFail P.reads P.writes P.fails port.old port.new) }
 {
     if port.write(b"F\r") {
         read_flags(port, FlagLine::Begun, AWAITED)

@@ -4,7 +4,7 @@ ghost use Rattle.std.specs.Prelude.{◌≡◌, None, option_to_list};
 ghost use Rattle.cop_sdo.specs.Message.{message_of};
 ghost use Rattle.cop_slcan.specs.Meaning.{told_of};
 ghost use Rattle.cop_slcan.specs.Reading.{said_from, left_from, taken};
-ghost use Rattle.cop_live.specs.Listening.{beat_of, sender_of, is_of_machine, known_of, is_meant, runner_of, runner_by, runner_told, first_runner, tallying, tallied, found_through, Listened};
+ghost use Rattle.cop_live.specs.Listening.{beat_of, sender_of, is_of_machine, known_of, is_meant, runner_of, runner_by, runner_told, first_runner, tallying, tallied, found_through, Listened, ListenFails, if_failed};
 
 use crate::opening::Command;
 use crate::port::Port;
@@ -220,7 +220,8 @@ fn found_through(tally: &Tally) -> Found
 /// node alone is meant, that one's heartbeat and PDOs count alone. Nothing is written. `Garbled` where lines came and none of them is a
 /// frame; `Silence` where none came but answers of the adapter; `Failed` where the port or its clock fails.
 pub fn listen<P: Port>(senders: &[Sender], only: Option<u8>, port: &mut P) -> Found
-    ensures { Listened P.reads P.writes P.asks senders.now only port.old result port.new }
+    ensures listened { Listened P.reads P.writes P.asks senders.now only port.old result port.new }
+    ensures failed { if_failed result (ListenFails P.reads P.writes P.asks P.fails port.old port.new) }
 {
     let mut hearing = Hearing {
         reader: Reader::new(),
@@ -232,7 +233,7 @@ pub fn listen<P: Port>(senders: &[Sender], only: Option<u8>, port: &mut P) -> Fo
     let Some(began) = port.now() else {
         return Found::Failed;
     };
-    for _ in 0..u64::MAX {
+    for _turn in 0..u64::MAX {
         let Some(now) = port.now() else {
             return Found::Failed;
         };

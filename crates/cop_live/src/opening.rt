@@ -1,7 +1,8 @@
 //! Opening an adapter: to listen only, or to send.
 
-ghost use Rattle.std.specs.Prelude.{◌≡◌, true, None, IfSome};
+ghost use Rattle.std.specs.Prelude.{◌≡◌, [], true, false, None, IfSome, IfNone};
 ghost use Rattle.cop_live.specs.Opening.{reply_in, RepliedThen, Replied, Commanded, is_obeyed, Obeys, Dropped, IsShut, IsSet, SwitchedOn, ListensBy, OpenedBy, OpenedToListenBy};
+ghost use Rattle.cop_live.specs.Opening.{ReplyFails, CommandFails, DropFails, ShutFails, SetFails, open_command, OpenFails, ListensFail, OpenToListenFails, if_failed};
 
 use crate::port::Port;
 use cop_frame::Rate;
@@ -62,7 +63,8 @@ fn reply_in(bytes: &[u8]) -> Option<Reply>
 
 // A second read, where the first had no answer.
 fn late_reply<P: Port>(port: &mut P) -> Option<Reply>
-    ensures { IfSome result (λ reply. RepliedThen P.reads None port.old reply port.new) }
+    ensures told { IfSome result (λ reply. RepliedThen P.reads None port.old reply port.new) }
+    ensures failed { IfNone result (P.fails port.old [] port.new) }
 {
     let mut buffer = [0; 256];
     let Some(count) = port.read(&mut buffer) else {
@@ -76,7 +78,8 @@ fn late_reply<P: Port>(port: &mut P) -> Option<Reply>
 
 // The answer to a command.
 fn reply_at<P: Port>(port: &mut P) -> Option<Reply>
-    ensures { IfSome result (λ reply. Replied P.reads port.old reply port.new) }
+    ensures told { IfSome result (λ reply. Replied P.reads port.old reply port.new) }
+    ensures failed { IfNone result (ReplyFails P.reads P.fails port.old port.new) }
 {
     let mut buffer = [0; 256];
     let Some(count) = port.read(&mut buffer) else {
@@ -90,7 +93,8 @@ fn reply_at<P: Port>(port: &mut P) -> Option<Reply>
 
 // Gives a command, and awaits its answer.
 fn give<P: Port>(port: &mut P, command: &[u8]) -> Option<Reply>
-    ensures { IfSome result (λ reply. Commanded P.reads P.writes command.now port.old reply port.new) }
+    ensures given { IfSome result (λ reply. Commanded P.reads P.writes command.now port.old reply port.new) }
+    ensures failed { IfNone result (CommandFails P.reads P.writes P.fails command.now port.old port.new) }
 {
     if port.write(command) {
         reply_at(port)
@@ -111,7 +115,8 @@ fn is_obeyed(reply: Reply) -> bool
 
 // Gives a command, and says whether it is taken.
 fn order<P: Port>(port: &mut P, command: &[u8]) -> Option<bool>
-    ensures { IfSome result (λ taken. Obeys P.reads P.writes command.now port.old taken port.new) }
+    ensures given { IfSome result (λ taken. Obeys P.reads P.writes command.now port.old taken port.new) }
+    ensures failed { IfNone result (CommandFails P.reads P.writes P.fails command.now port.old port.new) }
 {
     match give(port, command) {
         Some(reply) => Some(is_obeyed(reply)),
@@ -121,7 +126,8 @@ fn order<P: Port>(port: &mut P, command: &[u8]) -> Option<bool>
 
 // What is said is read and dropped, until nothing is said, in at most so many reads.
 fn drop_said<P: Port>(port: &mut P, reads: u8) -> bool
-    ensures { result ≡ true → Dropped P.reads reads port.old port.new }
+    ensures dropped { result ≡ true → Dropped P.reads reads port.old port.new }
+    ensures failed { result ≡ false → DropFails P.reads P.fails reads port.old port.new }
 {
     if reads == 0 {
         return true;
@@ -136,14 +142,16 @@ fn drop_said<P: Port>(port: &mut P, reads: u8) -> bool
 
 // Ends a line that is begun, closes the adapter, and drops what it says.
 fn shut<P: Port>(port: &mut P) -> bool
-    ensures { result ≡ true → IsShut P.reads P.writes port.old port.new }
+    ensures shut { result ≡ true → IsShut P.reads P.writes port.old port.new }
+    ensures failed { result ≡ false → ShutFails P.reads P.writes P.fails port.old port.new }
 {
     port.write(b"\r\rC\r") && drop_said(port, DROPPED)
 }
 
 // Closes the adapter and sets its rate.
 fn set<P: Port>(port: &mut P, rate: Rate) -> Option<bool>
-    ensures { IfSome result (λ taken. IsSet P.reads P.writes rate port.old taken port.new) }
+    ensures set { IfSome result (λ taken. IsSet P.reads P.writes rate port.old taken port.new) }
+    ensures failed { IfNone result (SetFails P.reads P.writes P.fails rate port.old port.new) }
 {
     if shut(port) {
         order(port, &[b'S', rate_digit(rate), b'\r'])
@@ -154,7 +162,8 @@ fn set<P: Port>(port: &mut P, rate: Rate) -> Option<bool>
 
 // Opens an adapter whose rate is set.
 fn switch_on<P: Port>(port: &mut P) -> Opening
-    ensures { SwitchedOn P.reads P.writes port.old result port.new }
+    ensures switched { SwitchedOn P.reads P.writes port.old result port.new }
+    ensures failed { if_failed result (CommandFails P.reads P.writes P.fails open_command port.old port.new) }
 {
     match order(port, b"O\r") {
         Some(true) => Opening::Active,
@@ -167,7 +176,8 @@ fn switch_on<P: Port>(port: &mut P) -> Opening
 
 /// Opens the adapter at a rate to send: ends a line that is begun, closes it, sets the rate, opens it; and drops what it says.
 pub fn open<P: Port>(port: &mut P, rate: Rate) -> Opening
-    ensures { OpenedBy P.reads P.writes rate port.old result port.new }
+    ensures opened { OpenedBy P.reads P.writes rate port.old result port.new }
+    ensures failed { if_failed result (OpenFails P.reads P.writes P.fails rate port.old port.new) }
 {
     match set(port, rate) {
         Some(true) => switch_on(port),
@@ -180,7 +190,8 @@ pub fn open<P: Port>(port: &mut P, rate: Rate) -> Opening
 
 // Has an adapter whose rate is set listen only, or opens it where it cannot.
 fn listen_only<P: Port>(port: &mut P) -> Opening
-    ensures { ListensBy P.reads P.writes port.old result port.new }
+    ensures listens { ListensBy P.reads P.writes port.old result port.new }
+    ensures failed { if_failed result (ListensFail P.reads P.writes P.fails port.old port.new) }
 {
     match give(port, b"L\r") {
         Some(Reply::Taken) => Opening::Passive,
@@ -192,7 +203,8 @@ fn listen_only<P: Port>(port: &mut P) -> Opening
 
 /// Opens the adapter at a rate to listen only, by `L`. Where it refuses that, it is opened by `O`, which acknowledges what it hears.
 pub fn open_to_listen<P: Port>(port: &mut P, rate: Rate) -> Opening
-    ensures { OpenedToListenBy P.reads P.writes rate port.old result port.new }
+    ensures opened { OpenedToListenBy P.reads P.writes rate port.old result port.new }
+    ensures failed { if_failed result (OpenToListenFails P.reads P.writes P.fails rate port.old port.new) }
 {
     match set(port, rate) {
         Some(true) => listen_only(port),

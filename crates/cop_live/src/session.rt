@@ -1,13 +1,13 @@
 //! A boot over a port. The start of the nodes is held back.
 
-ghost use Rattle.std.specs.Prelude.{◌≡◌, ◌≤◌, ◌∷◌, [], true, map, take, is_some, option_to_list, IfSome};
+ghost use Rattle.std.specs.Prelude.{◌≡◌, ◌≤◌, ◌∷◌, [], ℕ, true, false, map, take, is_some, option_to_list, IfSome, IfNone};
 ghost use Rattle.std.specs.List.{list_all};
 ghost use Rattle.cop_sdo.specs.Message.{message_of};
 ghost use Rattle.cop_boot.specs.Manager.{passed, heard, end_at};
 ghost use Rattle.cop_slcan.specs.Meaning.{told_of};
 ghost use Rattle.cop_slcan.specs.Reading.{taken, said_from, left_from};
-ghost use Rattle.cop_live.specs.Log.{Sent, DidAll};
-ghost use Rattle.cop_live.specs.Session.{State, told, told_all, is_start, held, boot_up_of, boot_up_told, noting, noted, turn_log, turn_state, command_to, reset_of, start_of, Closed, Booted};
+ghost use Rattle.cop_live.specs.Log.{Asked, Sent, DidAll, BrokeOff};
+ghost use Rattle.cop_live.specs.Session.{State, told, told_all, is_start, held, boot_up_of, boot_up_told, noting, noted, turn_log, turn_state, command_to, reset_of, start_of, Closed, Booted, CloseFails, TurnFails, BootFails};
 
 use crate::nodes::NodeSet;
 use crate::port::Port;
@@ -18,7 +18,8 @@ use cop_slcan::{Reader, Said, line_of};
 
 /// Sends a frame. `false` where the port fails.
 pub fn send<P: Port>(port: &mut P, frame: &Frame) -> bool
-    ensures { result ≡ true → DidAll P.reads P.writes P.asks port.old (Sent (message_of frame.now) ∷ []) port.new }
+    ensures sent { result ≡ true → DidAll P.reads P.writes P.asks port.old (Sent (message_of frame.now) ∷ []) port.new }
+    ensures failed { result ≡ false → BrokeOff P.reads P.writes P.asks P.fails port.old (Sent (message_of frame.now) ∷ []) port.new }
 {
     port.write(&line_of(frame))
 }
@@ -32,7 +33,8 @@ fn is_start(frame: &Frame) -> bool
 
 // Sends a frame of the manager, unless it is the start.
 fn send_held<P: Port>(port: &mut P, frame: &Frame) -> bool
-    ensures { result ≡ true → DidAll P.reads P.writes P.asks port.old (map Sent (held (message_of frame.now ∷ []))) port.new }
+    ensures sent { result ≡ true → DidAll P.reads P.writes P.asks port.old (map Sent (held (message_of frame.now ∷ []))) port.new }
+    ensures failed { result ≡ false → BrokeOff P.reads P.writes P.asks P.fails port.old (map Sent (held (message_of frame.now ∷ []))) port.new }
 {
     is_start(frame) || send(port, frame)
 }
@@ -41,6 +43,7 @@ fn send_held<P: Port>(port: &mut P, frame: &Frame) -> bool
 fn pass<P: Port>(manager: &mut Manager, port: &mut P, now: u64) -> bool
     ensures manager { result ≡ true → manager.new ≡ (passed manager.old now).manager }
     ensures sent { result ≡ true → DidAll P.reads P.writes P.asks port.old (map Sent (held (passed manager.old now).frames)) port.new }
+    ensures failed { result ≡ false → BrokeOff P.reads P.writes P.asks P.fails port.old (map Sent (held (passed manager.old now).frames)) port.new }
 {
     match manager.on_moment(now) {
         Some(frame) => {
@@ -58,6 +61,7 @@ fn pass<P: Port>(manager: &mut Manager, port: &mut P, now: u64) -> bool
 fn hear_frame<P: Port>(manager: &mut Manager, port: &mut P, frame: &Frame) -> bool
     ensures manager { result ≡ true → manager.new ≡ (heard manager.old (message_of frame.now) manager.old.clock).manager }
     ensures sent { result ≡ true → DidAll P.reads P.writes P.asks port.old (map Sent (held (heard manager.old (message_of frame.now) manager.old.clock).frames)) port.new }
+    ensures failed { result ≡ false → BrokeOff P.reads P.writes P.asks P.fails port.old (map Sent (held (heard manager.old (message_of frame.now) manager.old.clock).frames)) port.new }
 {
     let now = manager.clock();
     match manager.on_frame(frame, now) {
@@ -70,6 +74,7 @@ fn hear_frame<P: Port>(manager: &mut Manager, port: &mut P, frame: &Frame) -> bo
 fn tell<P: Port>(manager: &mut Manager, port: &mut P, said: &Said) -> bool
     ensures manager { result ≡ true → manager.new ≡ (told manager.old (told_of said.now)).manager }
     ensures sent { result ≡ true → DidAll P.reads P.writes P.asks port.old (map Sent (held (told manager.old (told_of said.now)).frames)) port.new }
+    ensures failed { result ≡ false → BrokeOff P.reads P.writes P.asks P.fails port.old (map Sent (held (told manager.old (told_of said.now)).frames)) port.new }
 {
     match said {
         Said::Heard(frame) => hear_frame(manager, port, frame),
@@ -123,6 +128,7 @@ fn take_byte<P: Port>(manager: &mut Manager, boot: &mut Boot, port: &mut P, byte
     ensures booted { boot.new.booted ≡ noted boot.old.booted (option_to_list (taken boot.old.reader byte).1) }
     ensures manager { result ≡ true → manager.new ≡ (told_all manager.old (option_to_list (taken boot.old.reader byte).1)).manager }
     ensures sent { result ≡ true → DidAll P.reads P.writes P.asks port.old (map Sent (held (told_all manager.old (option_to_list (taken boot.old.reader byte).1)).frames)) port.new }
+    ensures failed { result ≡ false → BrokeOff P.reads P.writes P.asks P.fails port.old (map Sent (held (told_all manager.old (option_to_list (taken boot.old.reader byte).1)).frames)) port.new }
 {
     match boot.reader.take(byte) {
         Some(said) => {
@@ -140,6 +146,7 @@ fn take_bytes<P: Port>(manager: &mut Manager, boot: &mut Boot, port: &mut P, byt
     ensures booted { result ≡ true → boot.new.booted ≡ noted boot.old.booted (said_from boot.old.reader bytes.now) }
     ensures manager { result ≡ true → manager.new ≡ (told_all manager.old (said_from boot.old.reader bytes.now)).manager }
     ensures sent { result ≡ true → DidAll P.reads P.writes P.asks port.old (map Sent (held (told_all manager.old (said_from boot.old.reader bytes.now)).frames)) port.new }
+    ensures failed { result ≡ false → BrokeOff P.reads P.writes P.asks P.fails port.old (map Sent (held (told_all manager.old (said_from boot.old.reader bytes.now)).frames)) port.new }
 {
     match bytes {
         [] => true,
@@ -180,6 +187,7 @@ pub fn take_turn<P: Port>(
     ensures did { IfSome result (λ turn. DidAll P.reads P.writes P.asks port.old (turn_log boot.old.began (record { manager = manager.old; pending = boot.old.reader }) turn.now (take turn.count buffer.new)) port.new) }
     ensures booted { IfSome result (λ turn. boot.new.booted ≡ noted boot.old.booted (said_from boot.old.reader (take turn.count buffer.new))) }
     ensures state { IfSome result (λ turn. (let later : State = record { manager = manager.new; pending = boot.new.reader } in later) ≡ turn_state boot.old.began (record { manager = manager.old; pending = boot.old.reader }) turn.now (take turn.count buffer.new)) }
+    ensures failed { IfNone result (TurnFails P.reads P.writes P.asks P.fails boot.old.began (record { manager = manager.old; pending = boot.old.reader }) port.old port.new) }
 {
     let Some(now) = port.now() else {
         return None;
@@ -199,7 +207,8 @@ pub fn take_turn<P: Port>(
 
 /// Closes the adapter, once it has had time to send what it took.
 pub fn close<P: Port>(port: &mut P) -> bool
-    ensures { result ≡ true → Closed P.reads P.writes port.old port.new }
+    ensures closed { result ≡ true → Closed P.reads P.writes port.old port.new }
+    ensures failed { result ≡ false → CloseFails P.reads P.writes P.fails port.old port.new }
 {
     let mut buffer = [0; 256];
     port.read(&mut buffer).is_some() && port.read(&mut buffer).is_some() && port.write(b"C\r")
@@ -232,7 +241,8 @@ pub fn start_of(only: Option<u8>) -> Frame
 
 // Asks the clock when the boot begins, and resets the communication of one node alone, or of all.
 fn begin<P: Port>(manager: &mut Manager, only: Option<u8>, port: &mut P) -> Option<Boot>
-    ensures { IfSome result (λ boot. Booted P.reads P.writes P.asks only manager.old port.old boot.began (record { manager = manager.new; pending = boot.reader }) port.new) }
+    ensures booted { IfSome result (λ boot. Booted P.reads P.writes P.asks only manager.old port.old boot.began (record { manager = manager.new; pending = boot.reader }) port.new) }
+    ensures failed { IfNone result ((began : ℕ) × BrokeOff P.reads P.writes P.asks P.fails port.old (Asked began ∷ Sent (reset_of only) ∷ []) port.new) }
 {
     let Some(began) = port.now() else {
         return None;
@@ -260,12 +270,13 @@ pub fn boot_over<P: Port>(
 ) -> Option<Boot>
     ensures booted { IfSome result (λ boot. Booted P.reads P.writes P.asks only manager.old port.old boot.began (record { manager = manager.new; pending = boot.reader }) port.new) }
     ensures ended { IfSome result (λ boot. list_all (λ node. is_some (end_at manager.new.nodes node)) nodes.now ≡ true) }
+    ensures failed { IfNone result (BootFails P.reads P.writes P.asks P.fails only manager.old port.old port.new) }
 {
     let Some(mut boot) = begin(manager, only, port) else {
         return None;
     };
     let mut buffer = [0; 256];
-    for _ in 0..u64::MAX {
+    for _turn in 0..u64::MAX {
         if have_ended(manager, nodes) {
             return Some(boot);
         }

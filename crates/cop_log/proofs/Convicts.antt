@@ -12,7 +12,7 @@ use Rattle.cop_bus.specs.Spread.{IsSpread}
 use Rattle.cop_bus.proofs.Sound.{in_streams}
 use Rattle.cop_lines.specs.declared.entries.Entry.{Entry}
 use Rattle.cop_log.specs.declared.findings.Finding.{Finding}
-use Rattle.cop_log.specs.declared.findings.Finding.TheVariants.{Unknown, Length, Soon, Crowded}
+use Rattle.cop_log.specs.declared.findings.Finding.TheVariants.{Unknown, Length, Soon, Crowded, Fallen}
 use Rattle.cop_log.specs.Log.{Terms, entry_at, IsOf, HasLog, AreBounded, IsRunWith, count_of, least_of, Lane, IsLaneOf, IsNear, IsSoon, stamp, IsEvidence}
 use Rattle.cop_log.proofs.Counted.{count-next, count-own, least-next}
 use Rattle.cop_bus.proofs.Bounded as Bounded
@@ -149,3 +149,8 @@ module _ (t : Terms) (until : ℕ) (run : List Instance) (log : List Entry) (bou
       let sum = w.counted in
       let full = w.full in
       omega (arith, sum, full, f, slow)
+  convicts (Fallen i j) h =
+      let slow = has.not_slow i j h.ordered h.within in
+      let order = has.in_order i j h.ordered h.within in
+      let lower = h.lower in
+      omega (arith, lower, order, slow)

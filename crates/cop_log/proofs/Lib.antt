@@ -4,10 +4,12 @@ pub mod Convicts
 pub mod Kept
 pub mod Watched
 pub mod Piled
+pub mod Risen
 pub mod Named
 pub mod Stepped
 pub mod Sought
 pub mod Taken
+pub mod Restarted
 pub mod Answered
 pub mod BoundLemmas
 pub mod ReadLemmas

@@ -1,5 +1,5 @@
 -- Streams by identifier, and how what was said of names goes on with the next entry.
-use Rattle.std.proofs.Common.{◌≡◌, ◌∙◌, ℕ, ◌<◌, inl, inr, List, [], ◌∷◌, suc, length, get_or, refl, sym, ap, subst, arith, Bool, true, false, cond, Option, Some, None}
+use Rattle.std.proofs.Common.{◌≡◌, ◌∙◌, ℕ, ◌≤◌, ◌<◌, inl, inr, List, [], ◌∷◌, suc, length, get_or, refl, sym, ap, subst, arith, Bool, true, false, cond, Option, Some, None}
 use Rattle.std.specs.Prelude.{◌==◌, ◌≢◌, ◌&&◌, option_map, All, Any, is_none}
 use Rattle.std.specs.Option.{ForSome, option_map_or}
 use Rattle.std.specs.List.{AllByRecursion as Each}
@@ -28,6 +28,15 @@ place_none (s ∷ ss) id e = go (s.id == id) refl (place_of_id ss id) refl e (pl
     go true t o p f r = absurd (cc)
     go false t (Some n) p f r = absurd (cc)
     go false t None p f r = (grind (arith, nat_tests), r p)
+
+-- identifiers of streams are small
+pub place_far : (ss : List Stream) (id : ℕ) → 2048 ≤ id → place_of_id ss id ≡ None
+place_far [] id h = refl
+place_far (s ∷ ss) id h = go (s.id == id) refl (place_far ss id h)
+  where
+    go : (b : Bool) → (s.id == id) ≡ b → place_of_id ss id ≡ None → cond b (Some 0) (option_map (λ k. suc k) (place_of_id ss id)) ≡ None
+    go true t r = let e : s.id ≡ id = grind (arith, nat_tests) in let small = s.id_in_range in absurd (omega (arith, e, small, h))
+    go false t r = ap (option_map (λ k. suc k)) r
 
 pub nowhere : (ss : List Stream) (id : ℕ) → place_of_id ss id ≡ None → All (λ k. k.id ≢ id) ss
 nowhere ss id e = All-from_recursion (λ k. k.id ≢ id) ss (place_none ss id e)

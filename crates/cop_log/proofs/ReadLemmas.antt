@@ -1,19 +1,19 @@
 -- A reader of a log in pieces.
-use Rattle.std.proofs.Common.{◌≡◌, ◌∙◌, ℕ, ◌+◌, ◌^◌, ◌<◌, ◌≤◌, List, [], ◌∷◌, ◌++◌, suc, length, refl, sym, ap, subst, arith, append_assoc, append-nil, length-append, true, false, cond}
+use Rattle.std.proofs.Common.{◌≡◌, ◌∙◌, ℕ, ◌+◌, ◌^◌, ◌<◌, ◌≤◌, List, [], ◌∷◌, ◌++◌, suc, length, sym, ap, subst, arith, append_assoc, append-nil, length-append, true, false, cond}
 use Rattle.std.proofs.lemmas.Bool.Decides.{nat_tests}
-use Rattle.std.specs.Prelude.{nat_lt, ◌==◌, MatchResult, Option, None, Some, Result, Ok, Err, IfSome, IsErrAnd}
+use Rattle.std.specs.Prelude.{nat_lt, Option, None, Some, Result, Ok, Err, IfSome, IsErrAnd}
 use Rattle.cop_table.specs.Reading.{◌>>=◌, Gives}
 use Rattle.cop_lines.specs.declared.entries.Entry.{Entry}
 use Rattle.cop_lines.specs.declared.entries.Message.{Message}
 use Rattle.cop_lines.specs.declared.faults.LineFault.TheVariants as wrong
 use Rattle.cop_lines.specs.declared.reader.LineReader.{LineReader}
 use Rattle.cop_lines.specs.Words.{front}
-use Rattle.cop_lines.specs.Texts.{lines_of, lines_behind, last_line, most_line, GoesOn, Ends}
-use Rattle.cop_lines.proofs.TextLemmas.{behind_nothing, line_ends, line_goes_on, left_shorter, piece_long, front_short, last_is}
+use Rattle.cop_lines.specs.Texts.{lines_of, lines_behind, most_line, GoesOn, Ends}
+use Rattle.cop_lines.proofs.TextLemmas.{behind_nothing, line_ends, line_goes_on, left_shorter, kept_long, piece_long, front_short}
 use Rattle.cop_log.specs.declared.faults.LogFault.{LogFault}
 use Rattle.cop_log.specs.declared.faults.LogFault.TheVariants.{Line}
 use Rattle.cop_log.specs.declared.reader.LogReader.{LogReader}
-use Rattle.cop_log.specs.Reading.{Wanted, Taken, line_taken, numbered, line_at, entries_with, log_from, log_in, fault_of_text, name_of, HasRead, Reads, Refuses, EndsWith, EndsWrong, TakesLine, IsWrong}
+use Rattle.cop_log.specs.Reading.{Wanted, Taken, line_taken, numbered, line_at, entries_with, log_from, log_in, fault_of_text, name_of, HasRead, Reads, Refuses, IsWhole, TakesLine, IsWrong}
 
 -- what is true of a fault of the text
 pub for_fault : (o : Option LogFault) (P Q : LogFault → Type 0) → ((f : LogFault) → P f → Q f) → IfSome o P → IfSome o Q
@@ -37,20 +37,29 @@ not_longer n l = grind (arith, nat_tests)
 is_longer : (n : ℕ) → most_line < n → nat_lt most_line n ≡ true
 is_longer n l = grind (arith, nat_tests)
 
-line_at_is : (n : ℕ) (r : LineReader) (c : Option (List ℕ)) (line : List ℕ) → length line ≤ most_line → line_at n r c line ≡ numbered n (line_taken r c line)
-line_at_is n r c line l = ap (λ b. cond b (Err (Line n wrong.Long)) (numbered n (line_taken r c line))) (not_longer (length line) l)
+line_at_is : (n : ℕ) (r : LineReader) (c : Option (List ℕ)) (line : List ℕ) → length line ≤ most_line → line_at n r c line ≡ numbered n (line_taken n r c line)
+line_at_is n r c line l = ap (λ b. cond b (Err (Line n wrong.Long)) (numbered n (line_taken n r c line))) (not_longer (length line) l)
 
 line_too_long : (n : ℕ) (r : LineReader) (c : Option (List ℕ)) (line : List ℕ) → most_line < length line → line_at n r c line ≡ Err (Line n wrong.Long)
-line_too_long n r c line l = ap (λ b. cond b (Err (Line n wrong.Long)) (numbered n (line_taken r c line))) (is_longer (length line) l)
+line_too_long n r c line l = ap (λ b. cond b (Err (Line n wrong.Long)) (numbered n (line_taken n r c line))) (is_longer (length line) l)
 
 -- a line that is read, or that is wrong, and others behind it
-first_read : (n : ℕ) (r : LineReader) (c : Option (List ℕ)) (log : List Entry) (line : List ℕ) (ls : List (List ℕ)) (x : Taken) → length line ≤ most_line → line_taken r c line ≡ Ok x
-    → log_from n r c log (line ∷ ls) ≡ log_from (suc n) x.reader x.channel (entries_with log x.message) ls
-first_read n r c log line ls x l e =
-    ap (λ t. t >>= (λ x. log_from (suc n) x.reader x.channel (entries_with log x.message) ls)) (line_at_is n r c line l ∙ ap (numbered n) e)
+first_read : (n : ℕ) (r : LineReader) (c : Option (List ℕ)) (log : List Entry) (line kept text : List ℕ) (x : Taken) → length line ≤ most_line → line_taken n r c line ≡ Ok x
+    → log_from n r c log (line ∷ lines_behind kept text) ≡ log_from (suc n) x.reader x.channel (entries_with log x.message) (lines_behind kept text)
+first_read n r c log line kept text x l e =
+    let (m, ms, is, least) = kept_long kept text in
+    ap (λ ls. log_from n r c log (line ∷ ls)) is
+    ∙ (ap (λ t. t >>= (λ x. log_from (suc n) x.reader x.channel (entries_with log x.message) (m ∷ ms))) (line_at_is n r c line l ∙ ap (numbered n) e)
+    ∙ ap (log_from (suc n) x.reader x.channel (entries_with log x.message)) (sym is))
 
-first_wrong : (n : ℕ) (r : LineReader) (c : Option (List ℕ)) (log : List Entry) (line : List ℕ) (ls : List (List ℕ)) (f : LogFault) → line_at n r c line ≡ Err f → log_from n r c log (line ∷ ls) ≡ Err f
-first_wrong n r c log line ls f e = ap (λ t. t >>= (λ x. log_from (suc n) x.reader x.channel (entries_with log x.message) ls)) e
+first_wrong : (n : ℕ) (r : LineReader) (c : Option (List ℕ)) (log : List Entry) (line kept text : List ℕ) (f : LogFault) → line_at n r c line ≡ Err f → log_from n r c log (line ∷ lines_behind kept text) ≡ Err f
+first_wrong n r c log line kept text f e =
+    let (m, ms, is, least) = kept_long kept text in
+    ap (λ ls. log_from n r c log (line ∷ ls)) is ∙ ap (λ t. t >>= (λ x. log_from (suc n) x.reader x.channel (entries_with log x.message) (m ∷ ms))) e
+
+first_long : (n : ℕ) (r : LineReader) (c : Option (List ℕ)) (log : List Entry) (line : List ℕ) (ls : List (List ℕ)) → most_line < length line → log_from n r c log (line ∷ ls) ≡ Err (Line n wrong.Long)
+first_long n r c log line [] l = ap (λ b. cond b (Err (Line n wrong.Long)) (Ok log)) (is_longer (length line) l)
+first_long n r c log line (m ∷ ms) l = ap (λ t. t >>= (λ x. log_from (suc n) x.reader x.channel (entries_with log x.message) (m ∷ ms))) (line_too_long n r c line l)
 
 -- a piece in which the line does not end
 pub piece_kept : (r m : LogReader) (piece : List ℕ) → GoesOn r.cutter piece m.cutter → IsSame r m → Reads r piece m [] None
@@ -87,7 +96,8 @@ line_read r m s piece left message e same t = λ w text log small h.
           h.goes_on more
           ∙ (ap (log_from (suc r.line) r.reader (name_of r.channel) log) (line_ends r.cutter piece m.cutter left more e)
           ∙ (same_log (suc r.line) (suc m.line) r.reader m.reader (name_of r.channel) (name_of m.channel) log (m.cutter ∷ lines_behind [] (left ++ more)) (ap suc same.line) same.reader (ap name_of same.channel)
-          ∙ (first_read (suc m.line) m.reader (name_of m.channel) log m.cutter (lines_behind [] (left ++ more)) (record { reader = s.reader; channel = name_of s.channel; message = message }) e.short t.taken
+          ∙ (first_read (suc m.line) m.reader (name_of m.channel) log m.cutter [] (left ++ more) (record { reader = s.reader; channel = name_of s.channel; message = message }) e.short
+          (subst (λ k. line_taken k m.reader (name_of m.channel) m.cutter ≡ Ok (record { reader = s.reader; channel = name_of s.channel; message = message })) next t.taken)
           ∙ (ap (λ k. log_from k s.reader (name_of s.channel) (entries_with log message) (lines_behind [] (left ++ more))) (ap suc (sym next))
           ∙ ap (λ k. log_from (suc s.line) s.reader (name_of s.channel) (entries_with log message) (lines_behind k (left ++ more))) (sym t.next)))));
       few = omega (arith, few, next, line, shorter, empty);
@@ -104,7 +114,7 @@ line_wrong r m piece left fault e same = for_fault (fault_of_text fault) _ _ (λ
     h.goes_on more
     ∙ (ap (log_from (suc r.line) r.reader (name_of r.channel) log) (line_ends r.cutter piece m.cutter left more e)
     ∙ (same_log (suc r.line) (suc m.line) r.reader m.reader (name_of r.channel) (name_of m.channel) log (m.cutter ∷ lines_behind [] (left ++ more)) (ap suc same.line) same.reader (ap name_of same.channel)
-    ∙ first_wrong (suc m.line) m.reader (name_of m.channel) log m.cutter (lines_behind [] (left ++ more)) f
+    ∙ first_wrong (suc m.line) m.reader (name_of m.channel) log m.cutter [] (left ++ more) f
     (line_at_is (suc m.line) m.reader (name_of m.channel) m.cutter e.short ∙ is (omega (arith, few, line, shorter))))))
 
 -- a line that is too long
@@ -112,10 +122,10 @@ pub long_line : (r : LogReader) (piece : List ℕ) (number : ℕ) → (r.line + 
 long_line r piece number is long = λ w text log small h more.
     let few = h.few in
     let part = front_short piece in
-    let (l, ls, e, least) = piece_long r.cutter piece more (omega (arith, long)) in
+    let (l, ls, e, least) = piece_long r.cutter piece more in
     h.goes_on more
     ∙ (ap (log_from (suc r.line) r.reader (name_of r.channel) log) e
-    ∙ (first_wrong (suc r.line) r.reader (name_of r.channel) log l ls (Line (suc r.line) wrong.Long) (line_too_long (suc r.line) r.reader (name_of r.channel) l (omega (arith, long, least)))
+    ∙ (first_long (suc r.line) r.reader (name_of r.channel) log l ls (omega (arith, long, least))
     ∙ ap (λ n. Err (Line n wrong.Long)) (sym (is (omega (arith, few, part, long))))))
 
 -- one step after another
@@ -130,33 +140,12 @@ pub ends_shorter : (r m : LogReader) (rest left : List ℕ) (n : ℕ) → Ends r
 ends_shorter r m rest left n e l = let shorter = left_shorter r.cutter rest m.cutter left e in omega (arith, shorter)
 
 -- the end of the text
-whole : (r : LogReader) (w : Wanted) (text : List ℕ) (log : List Entry) → HasRead w text [] r log → log_in w text ≡ log_from (suc r.line) r.reader (name_of r.channel) log (last_line r.cutter)
-whole r w text log h = ap (log_in w) (sym (append-nil text)) ∙ h.goes_on []
-
-pub end_with_none : (r : LogReader) → length r.cutter ≡ 0 → EndsWith r None
-end_with_none r none = λ w text log small h. (
-  whole r w text log h ∙ ap (log_from (suc r.line) r.reader (name_of r.channel) log) (no_last r.cutter none),
+pub whole : (r : LogReader) → IsWhole r
+whole r = λ w text log h. (
+  ap (log_in w) (sym (append-nil text))
+      ∙ (h.goes_on [] ∙ ap (λ b. cond b (Err (Line (suc r.line) wrong.Long)) (Ok log)) (not_longer (length r.cutter) h.short)),
   let few = h.few in let each = h.each in omega (arith, few, each),
 )
-  where
-    no_last : (kept : List ℕ) → length kept ≡ 0 → last_line kept ≡ []
-    no_last [] e = refl
-    no_last (c ∷ kept) e = absurd (omega arith)
-
-pub end_with_line : (r s : LogReader) (message : Option Message) → 0 < length r.cutter → TakesLine r s message → EndsWith r message
-end_with_line r s message some t = λ w text log small h. (
-  whole r w text log h
-      ∙ (ap (log_from (suc r.line) r.reader (name_of r.channel) log) (last_is r.cutter some)
-      ∙ first_read (suc r.line) r.reader (name_of r.channel) log r.cutter [] (record { reader = s.reader; channel = name_of s.channel; message = message }) h.short t.taken),
-  let few = h.few in let each = h.each in let one = one_more log message in omega (arith, few, each, one, some),
-)
-
-pub end_wrong : (r : LogReader) (fault : LogFault) → 0 < length r.cutter → IsWrong r fault → EndsWrong r fault
-end_wrong r fault some = for_fault (fault_of_text fault) _ _ (λ f is w text log small h.
-    let few = h.few in
-    whole r w text log h
-    ∙ (ap (log_from (suc r.line) r.reader (name_of r.channel) log) (last_is r.cutter some)
-    ∙ first_wrong (suc r.line) r.reader (name_of r.channel) log r.cutter [] f (line_at_is (suc r.line) r.reader (name_of r.channel) r.cutter h.short ∙ is (omega (arith, few)))))
 
 -- nothing was read
 pub same_lines : (r : LineReader) (c : Option (List ℕ)) (text : List ℕ) → log_from 1 r c [] (lines_of text) ≡ log_from 1 r c [] (lines_behind [] text)
@@ -178,17 +167,3 @@ err_is view (Err f) e reading is h = subst (λ f. IfSome (fault_of_text f) (λ g
 
 pub refused_text : (w : Wanted) (text left : List ℕ) (r : LogReader) (log : List Entry) (e : LogFault) → length text < 2 ^ 64 → HasRead w text left r log → Refuses r left e → IfSome (fault_of_text e) (λ f. log_in w text ≡ Err f)
 refused_text w text left r log e small h = for_fault (fault_of_text e) _ _ (λ f is. ap (log_in w) (sym (append-nil text)) ∙ is w text log small h [])
-
-pub wrong_end : (w : Wanted) (text : List ℕ) (r : LogReader) (log : List Entry) (e : LogFault) → length text < 2 ^ 64 → HasRead w text [] r log → EndsWrong r e → IfSome (fault_of_text e) (λ f. log_in w text ≡ Err f)
-wrong_end w text r log e small h = for_fault (fault_of_text e) _ _ (λ f is. is w text log small h)
-
--- a line that is taken, at the end of the text
-pub end_of_text : (r s : LogReader) (x : Result (Option Message) LogFault) → 0 < length r.cutter → MatchResult x (TakesLine r s) (IsWrong r) → MatchResult x (EndsWith r) (EndsWrong r)
-end_of_text r s (Ok message) some t = end_with_line r s message some t
-end_of_text r s (Err fault) some t = end_wrong r fault some t
-
-pub is_zero : (n : ℕ) → (n == 0) ≡ true → n ≡ 0
-is_zero n e = grind (arith, nat_tests)
-
-pub not_zero : (n : ℕ) → (n == 0) ≡ false → 0 < n
-not_zero n e = grind (arith, nat_tests)

@@ -15,7 +15,7 @@ use Rattle.cop_log.specs.Watchers.{HasNoLane}
 use Rattle.cop_log.proofs.Watched.{skip, left_true, weaken as lower}
 
 pub weaken : (t : Terms) (log : List Entry) (i : ℕ) (anchors : List (Option Anchor)) (c d : Bool) → (d ≡ true → c ≡ true) → AreWatched t log i anchors c → AreWatched t log i anchors d
-weaken t log i anchors c d h w = record { count = w.count; lanes = λ p k o. let v = w.lanes p k o in record { anchored = v.anchored; strictest = λ e. v.strictest (h e); none_soon = λ e. v.none_soon (h e) } }
+weaken t log i anchors c d h w = record { count = w.count; lanes = λ p k o. lower k log i (slice_index_or anchors p None) c d h (w.lanes p k o) }
 
 -- an entry of no stream with a bound
 pub skip_all : (t : Terms) (log : List Entry) (i : ℕ) → i < length log → (anchors : List (Option Anchor)) (clean : Bool) → HasNoLane t (entry_at log i).id → AreWatched t log i anchors clean → AreWatched t log (suc i) anchors clean

@@ -1,14 +1,17 @@
 -- A watcher that takes one entry after another.
-use Rattle.std.proofs.Common.{◌≡◌, ◌∙◌, ◌+◌, ◌^◌, ◌<◌, List, [], ◌∷◌, ◌++◌, length, refl, sym, ap, subst, arith, append_assoc, append-nil, length-append, true}
-use Rattle.std.specs.Prelude.{◌&&◌, All}
+use Rattle.std.proofs.Common.{◌≡◌, ◌∙◌, ℕ, ◌+◌, ◌^◌, ◌<◌, List, [], ◌∷◌, ◌++◌, length, refl, sym, ap, subst, arith, append_assoc, append-nil, length-append, true}
+use Rattle.std.specs.Prelude.{◌&&◌, All, Some}
 use Rattle.std.proofs.lemmas.List.Elements.{All-nil}
 use Rattle.cop_lines.specs.declared.entries.Entry.{Entry}
 use Rattle.cop_log.specs.declared.findings.Finding.{Finding}
+use Rattle.cop_log.specs.declared.findings.Finding.TheVariants.{Unknown, Length}
+use Rattle.cop_log.specs.declared.naming.Naming.{Naming}
+use Rattle.cop_log.specs.declared.naming.Naming.TheVariants as naming
 use Rattle.cop_log.specs.declared.told.Told.{Told}
 use Rattle.cop_log.specs.declared.watcher.Watcher.{Watcher}
 use Rattle.cop_log.specs.Log.{Terms, IsEvidence, IsAnswer, entry_at}
-use Rattle.cop_log.specs.Watching.{IsTold, Stands, tells_nothing}
-use Rattle.cop_log.specs.Watchers.{terms_of, IsKept, HasWatched, findings_of}
+use Rattle.cop_log.specs.Watching.{IsTold, IsRising, Stands, tells_nothing}
+use Rattle.cop_log.specs.Watchers.{terms_of, IsKept, HasWatched, findings_of, named_by}
 use Rattle.cop_log.proofs.Answered.{noted, still_clean, answer}
 
 -- none was taken
@@ -21,7 +24,7 @@ watched_none t w e begins kept = record {
   clean = λ none. begins.1;
 }
 
-entry_here : (log more : List Entry) (e : Entry) → entry_at (log ++ e ∷ more) (length log) ≡ e
+pub entry_here : (log more : List Entry) (e : Entry) → entry_at (log ++ e ∷ more) (length log) ≡ e
 entry_here [] more e = refl
 entry_here (x ∷ log) more e = entry_here log more e
 
@@ -53,6 +56,15 @@ pub watched_answer : (t : Terms) (log : List Entry) (w : Watcher) (found : List 
 watched_answer t log w found small h =
     let same = append-nil log in
     let bound : length (log ++ []) < 2 ^ 64 = subst (λ (xs : List Entry). length xs < 2 ^ 64) (sym same) small in
-    answer t log w.anchors.items w.pile w.is_clean found (subst (λ (xs : List Entry). All (IsEvidence t xs) found) same (h.evident [] bound)) h.clean
+    let kept = subst (IsKept w) same (h.kept [] bound) in
+    answer t log w.anchors.items w.pile w.top w.is_clean found (subst (λ (xs : List Entry). All (IsEvidence t xs) found) same (h.evident [] bound)) h.clean
     (subst (λ t. Stands t log (length log) w.anchors.items w.pile w.is_clean) h.terms
-    (subst (λ n. Stands (terms_of w) log n w.anchors.items w.pile w.is_clean) h.number (subst (IsKept w) same (h.kept [] bound))))
+    (subst (λ n. Stands (terms_of w) log n w.anchors.items w.pile w.is_clean) h.number kept.stands))
+    (subst (λ (t : Terms). IsRising t.clock log (length log) w.top w.is_clean) h.terms
+    (subst (λ n. IsRising w.clock log n w.top w.is_clean) h.number kept.rising))
+
+-- what is told of an entry by its name
+pub named_is : (naming : Naming) (i : ℕ) (f : Finding) (P : Finding → Type 0) → P (Unknown i) → P (Length i) → named_by naming i ≡ Some f → P f
+named_is naming.Known i f P unknown long q = absurd (cc)
+named_is naming.Unknown i f P unknown long q = let p : Unknown i ≡ f = cc in subst P p unknown
+named_is naming.Length i f P unknown long q = let p : Length i ≡ f = cc in subst P p long

@@ -14,7 +14,11 @@ left_true true b e = refl
 left_true false b e = absurd (cc)
 
 pub weaken : (k : Lane) (log : List Entry) (i : ℕ) (anchor : Option Anchor) (c d : Bool) → (d ≡ true → c ≡ true) → IsWatched k log i anchor c → IsWatched k log i anchor d
-weaken k log i anchor c d h w = record { anchored = w.anchored; strictest = λ e. w.strictest (h e); none_soon = λ e. w.none_soon (h e) }
+weaken k log i anchor c d h w = record { anchored = weaker anchor w.anchored; strictest = λ e. w.strictest (h e); none_soon = λ e. w.none_soon (h e) }
+  where
+    weaker : (anchor : Option Anchor) → IsAnchored k log i anchor c → IsAnchored k log i anchor d
+    weaker None g = λ e. g (h e)
+    weaker (Some a) g = g
 
 -- the anchor's count is small
 pub few : (k : Lane) (log : List Entry) (i : ℕ) (a : Anchor) (clean : Bool) → IsWatched k log i (Some a) clean → a.count ≤ i
@@ -22,11 +26,11 @@ few k log i a clean w = w.anchored.few
 
 module _ (k : Lane) (log : List Entry) (i : ℕ) (l : i < length log) (clean : Bool) where
   -- an entry of another stream changes nothing
-  still : (anchor : Option Anchor) → (entry_at log i).id ≢ k.stream.id → IsAnchored k log i anchor → IsAnchored k log (suc i) anchor
-  still None o h = λ a m e. elim (cases_lt a i) [ inl s ↦ h a s e | inr s ↦ (let q : a ≡ i = omega arith in o (subst (λ a. (entry_at log a).id ≡ k.stream.id) q e)) ]
+  still : (anchor : Option Anchor) → (entry_at log i).id ≢ k.stream.id → IsAnchored k log i anchor clean → IsAnchored k log (suc i) anchor clean
+  still None o h = λ c a m e. elim (cases_lt a i) [ inl s ↦ h c a s e | inr s ↦ (let q : a ≡ i = omega arith in o (subst (λ a. (entry_at log a).id ≡ k.stream.id) q e)) ]
   still (Some a) o h = record {
     inside = (let m = h.inside in omega arith);
-    stamped = h.stamped;
+    is = h.is;
     own = h.own;
     few = (let m = h.few in omega arith);
     counted = h.counted ∙ sym (count-other k.stream.id log i l o);
@@ -43,23 +47,29 @@ module _ (k : Lane) (log : List Entry) (i : ℕ) (l : i < length log) (clean : B
   }
 
   -- the strictest entry is too near wherever another one is
-  strict : (a : Anchor) → IsAnchor k log i a → IsStrictest k log i a.from → (b n : ℕ) → IsSoon k log b i n → IsNear k a.at (stamp log i) a.count
+  strict : (a : Anchor) → IsAnchor k log i a → IsStrictest k log i a.from → (b n : ℕ) → IsSoon k log b i n → IsNear k a.entry.at (stamp log i) a.count
   strict a h s b n soon =
       let t = s b soon.ordered soon.first in
       let p : (n + count_of k.stream.id log b) * k.stream.period ≡ count_of k.stream.id log i * k.stream.period = ap (λ c. c * k.stream.period) soon.counted in
       let q : (a.count + count_of k.stream.id log a.from) * k.stream.period ≡ count_of k.stream.id log i * k.stream.period = ap (λ c. c * k.stream.period) h.counted in
       let near = soon.near in
-      let e : most k.clock a.at ≡ most k.clock (stamp log a.from) = ap (most k.clock) h.stamped in
+      let e : most k.clock a.entry.at ≡ most k.clock (stamp log a.from) = ap (λ (e : Entry). most k.clock e.at) h.is in
       omega (arith, near, t, p, q, e)
 
-  module _ (own : (entry_at log i).id ≡ k.stream.id) (at : ℕ) (stamped : at ≡ stamp log i) where
+  module _ (own : (entry_at log i).id ≡ k.stream.id) (entry : Entry) (is : entry ≡ entry_at log i) where
+    abbrev at : ℕ
+    at = entry.at
+
+    stamped : at ≡ stamp log i
+    stamped = ap (λ (e : Entry). e.at) is
+
     abbrev fresh : Anchor
-    fresh = record { from = i; at = at; count = 1 }
+    fresh = record { from = i; entry = entry; count = 1 }
 
     fresh-anchor : IsAnchor k log (suc i) fresh
     fresh-anchor = record {
       inside = omega arith;
-      stamped = stamped;
+      is = is;
       own = own;
       few = omega arith;
       counted = (let c = count-own k.stream.id log i l own in omega arith);
@@ -75,18 +85,18 @@ module _ (k : Lane) (log : List Entry) (i : ℕ) (l : i < length log) (clean : B
     pub first : IsWatched k log i None clean → IsStep k log i clean fresh None
     first w = shows_nothing fresh (record {
       anchored = fresh-anchor;
-      strictest = λ e a s. let q : i ≡ a.from = ap (λ (o : Option Anchor). from_of o) s in subst (IsStrictest k log (suc i)) q (λ b m g. elim (cases_lt b i) [ inl t ↦ absurd (w.anchored b t g) | inr t ↦ (let r : i ≡ b = omega arith in subst (λ b. most k.clock (stamp log b) + 1000000 * (count_of k.stream.id log i * k.stream.period) ≤ most k.clock (stamp log i) + 1000000 * (count_of k.stream.id log b * k.stream.period)) r (omega arith)) ]);
-      none_soon = λ e a b n m soon. elim (cases_lt b i) [ inl s ↦ w.none_soon e a b n s soon | inr s ↦ (let q : b ≡ i = omega arith in w.anchored a (let o = soon.ordered in omega arith) soon.first) ];
+      strictest = λ e a s. let q : i ≡ a.from = ap (λ (o : Option Anchor). from_of o) s in subst (IsStrictest k log (suc i)) q (λ b m g. elim (cases_lt b i) [ inl t ↦ absurd (w.anchored e b t g) | inr t ↦ (let r : i ≡ b = omega arith in subst (λ b. most k.clock (stamp log b) + 1000000 * (count_of k.stream.id log i * k.stream.period) ≤ most k.clock (stamp log i) + 1000000 * (count_of k.stream.id log b * k.stream.period)) r (omega arith)) ]);
+      none_soon = λ e a b n m soon. elim (cases_lt b i) [ inl s ↦ w.none_soon e a b n s soon | inr s ↦ (let q : b ≡ i = omega arith in w.anchored e a (let o = soon.ordered in omega arith) soon.first) ];
     })
       where
         from_of : Option Anchor → ℕ
         from_of None = i
         from_of (Some a) = a.from
 
-    pub told : (a : Anchor) → IsWatched k log i (Some a) clean → IsNear k a.at at a.count → IsStep k log i clean fresh (Some (Soon a.from i a.count))
+    pub told : (a : Anchor) → IsWatched k log i (Some a) clean → IsNear k a.entry.at at a.count → IsStep k log i clean fresh (Some (Soon a.from i a.count))
     told a w near =
         let h = w.anchored in
-        let there : IsNear k (stamp log a.from) (stamp log i) a.count = subst (λ f. IsNear k f (stamp log i) a.count) h.stamped (subst (λ t. IsNear k a.at t a.count) stamped near) in
+        let there : IsNear k (stamp log a.from) (stamp log i) a.count = subst (λ f. IsNear k f (stamp log i) a.count) (ap (λ (e : Entry). e.at) h.is) (subst (λ t. IsNear k a.entry.at t a.count) stamped near) in
         let soon : IsSoon k log a.from i a.count = record { ordered = h.inside; within = l; first = h.own; second = own; counted = h.counted; near = there } in
         record {
           evident = λ f e t p o. let q : Soon a.from i a.count ≡ f = cc in subst (IsEvidence t log) q (p, k, o, soon);
@@ -102,23 +112,23 @@ module _ (k : Lane) (log : List Entry) (i : ℕ) (l : i < length log) (clean : B
         never false e = cc
 
     -- where the strictest is not too near, nothing is
-    fine : (a : Anchor) → IsWatched k log i (Some a) clean → (IsNear k a.at at a.count → ⊥) → clean ≡ true → (b c n : ℕ) → c < suc i → IsSoon k log b c n → ⊥
+    fine : (a : Anchor) → IsWatched k log i (Some a) clean → (IsNear k a.entry.at at a.count → ⊥) → clean ≡ true → (b c n : ℕ) → c < suc i → IsSoon k log b c n → ⊥
     fine a w far e b c n m soon = elim (cases_lt c i) [
       | inl s ↦ w.none_soon e b c n s soon
       | inr s ↦ (let q : c ≡ i = omega arith in
           let here = subst (λ c. IsSoon k log b c n) q soon in
-          far (subst (λ t. IsNear k a.at t a.count) (sym stamped) (strict a w.anchored (w.strictest e a refl) b n here)))
+          far (subst (λ t. IsNear k a.entry.at t a.count) (sym stamped) (strict a w.anchored (w.strictest e a refl) b n here)))
     ]
 
-    pub goes_on : (a : Anchor) (count : ℕ) → count ≡ a.count + 1 → IsWatched k log i (Some a) clean → (IsNear k a.at at a.count → ⊥) →
-        most k.clock at ≤ most k.clock a.at + 1000000 * (a.count * k.stream.period) →
-        IsStep k log i clean (record { from = a.from; at = a.at; count = count }) None
+    pub goes_on : (a : Anchor) (count : ℕ) → count ≡ a.count + 1 → IsWatched k log i (Some a) clean → (IsNear k a.entry.at at a.count → ⊥) →
+        most k.clock at ≤ most k.clock a.entry.at + 1000000 * (a.count * k.stream.period) →
+        IsStep k log i clean (record { from = a.from; entry = a.entry; count = count }) None
     goes_on a count more w far behind =
         let h = w.anchored in
-        shows_nothing (record { from = a.from; at = a.at; count = count }) (record {
+        shows_nothing (record { from = a.from; entry = a.entry; count = count }) (record {
           anchored = record {
             inside = (let m = h.inside in omega arith);
-            stamped = h.stamped;
+            is = h.is;
             own = h.own;
             few = (let m = h.few in omega arith);
             counted = (let c = count-own k.stream.id log i l own in let d = h.counted in omega arith);
@@ -127,15 +137,15 @@ module _ (k : Lane) (log : List Entry) (i : ℕ) (l : i < length log) (clean : B
             | inl t ↦ w.strictest e a refl c t g
             | inr t ↦ (let r : i ≡ c = omega arith in
                 let p : (a.count + count_of k.stream.id log a.from) * k.stream.period ≡ count_of k.stream.id log i * k.stream.period = ap (λ c. c * k.stream.period) h.counted in
-                let u : most k.clock a.at ≡ most k.clock (stamp log a.from) = ap (most k.clock) h.stamped in
+                let u : most k.clock a.entry.at ≡ most k.clock (stamp log a.from) = ap (λ (e : Entry). most k.clock e.at) h.is in
                 let v : most k.clock at ≡ most k.clock (stamp log i) = ap (most k.clock) stamped in
                 subst (λ c. most k.clock (stamp log c) + 1000000 * (count_of k.stream.id log a.from * k.stream.period) ≤ most k.clock (stamp log a.from) + 1000000 * (count_of k.stream.id log c * k.stream.period)) r (omega (arith, p, u, v, behind)))
           ]);
           none_soon = λ e b c n m soon. fine a w far e b c n m soon;
         })
 
-    pub starts_again : (a : Anchor) → IsWatched k log i (Some a) clean → (IsNear k a.at at a.count → ⊥) →
-        most k.clock a.at + 1000000 * (a.count * k.stream.period) < most k.clock at →
+    pub starts_again : (a : Anchor) → IsWatched k log i (Some a) clean → (IsNear k a.entry.at at a.count → ⊥) →
+        most k.clock a.entry.at + 1000000 * (a.count * k.stream.period) < most k.clock at →
         IsStep k log i clean fresh None
     starts_again a w far ahead =
         let h = w.anchored in
@@ -144,7 +154,7 @@ module _ (k : Lane) (log : List Entry) (i : ℕ) (l : i < length log) (clean : B
           strictest = λ e b s. let q : i ≡ b.from = cc in subst (IsStrictest k log (suc i)) q (λ c m g. elim (cases_lt c i) [
             | inl t ↦ (let z = w.strictest e a refl c t g in
                 let p : (a.count + count_of k.stream.id log a.from) * k.stream.period ≡ count_of k.stream.id log i * k.stream.period = ap (λ c. c * k.stream.period) h.counted in
-                let u : most k.clock a.at ≡ most k.clock (stamp log a.from) = ap (most k.clock) h.stamped in
+                let u : most k.clock a.entry.at ≡ most k.clock (stamp log a.from) = ap (λ (e : Entry). most k.clock e.at) h.is in
                 let v : most k.clock at ≡ most k.clock (stamp log i) = ap (most k.clock) stamped in
                 omega (arith, p, u, v, ahead, z))
             | inr t ↦ (let r : i ≡ c = omega arith in
@@ -155,7 +165,7 @@ module _ (k : Lane) (log : List Entry) (i : ℕ) (l : i < length log) (clean : B
 
 pub begins : (k : Lane) (log : List Entry) (clean : Bool) → IsWatched k log 0 None clean
 begins k log clean = record {
-  anchored = λ a m. absurd (omega arith);
+  anchored = λ c a m. absurd (omega arith);
   strictest = λ e a s. absurd (cc);
   none_soon = λ e a b n m. absurd (omega arith);
 }

@@ -10,10 +10,10 @@ use Rattle.cop_bus.specs.Run.{Instance, IsLegal, IsObeying, least_bits}
 use Rattle.cop_lines.specs.declared.entries.Entry.{Entry}
 use Rattle.cop_log.specs.declared.clocks.Clock.{Clock}
 use Rattle.cop_log.specs.declared.findings.Finding.{Finding}
-use Rattle.cop_log.specs.declared.findings.Finding.TheVariants.{Unknown, Length, Soon, Crowded}
+use Rattle.cop_log.specs.declared.findings.Finding.TheVariants.{Unknown, Length, Soon, Crowded, Fallen}
 
 abbrev pub no_entry : Entry
-no_entry = record { at = 0; id = 0; len = 0 }
+no_entry = record { line = 0; at = 0; id = 0; len = 0 }
 
 abbrev pub entry_at : List Entry → ℕ → Entry
 entry_at log i = slice_index_or log i no_entry
@@ -132,6 +132,16 @@ pub record IsCrowded (tau : ℕ) (clock : Clock) (log : List Entry) (i j ticks :
   pub counted : ticks + least_of tau log (suc i) ≡ least_of tau log (suc j)
   pub full : IsFull clock (stamp log i) (stamp log j) ticks
 
+-- a stamp is lower than an earlier one, by more than both may be wrong
+abbrev pub IsLower : Clock → ℕ → ℕ → Type 0
+IsLower clock from to = most clock to + slack clock < most clock from
+
+-- the clock falls from an entry to another one
+pub record IsFallen (clock : Clock) (log : List Entry) (i j : ℕ) : Type 0 where
+  pub ordered : i < j
+  pub within : j < length log
+  pub lower : IsLower clock (stamp log i) (stamp log j)
+
 -- an entry's identifier is none of the streams'; or a stream has it, and another number of bytes
 abbrev pub IsStrange : List Stream → Entry → Type 0
 IsStrange streams e = All (λ k. k.id ≢ e.id) streams
@@ -145,6 +155,7 @@ IsEvidence t log (Unknown i) = (i < length log) × IsStrange t.streams (entry_at
 IsEvidence t log (Length i) = (i < length log) × IsMisshapen t.streams (entry_at log i)
 IsEvidence t log (Soon i j n) = (p : ℕ) × (k : Lane) × IsLaneOf t p k × IsSoon k log i j n
 IsEvidence t log (Crowded i j) = (ticks : ℕ) × IsCrowded (ticks_of t.rate) t.clock log i j ticks
+IsEvidence t log (Fallen i j) = IsFallen t.clock log i j
 
 -- the number of the last entry of which a finding speaks
 abbrev pub last_of : Finding → ℕ
@@ -152,6 +163,7 @@ last_of (Unknown i) = i
 last_of (Length i) = i
 last_of (Soon i j n) = j
 last_of (Crowded i j) = j
+last_of (Fallen i j) = j
 
 -- Everything that is evident was looked for: what was found is evident, and where nothing was, nothing is.
 pub record IsAnswer (t : Terms) (log : List Entry) (found : List Finding) : Type 0 where

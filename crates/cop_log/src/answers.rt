@@ -27,6 +27,7 @@ fn note(finding: Option<Finding>, found: &mut Vec<Finding>) -> Result<(), AllocE
 fn note_all(told: &Told, found: &mut Vec<Finding>) -> Result<(), AllocError>
     ensures { OnOk result (found.new.items ≡ found.old.items ++ findings_of told.now) }
 {
+    note(told.fallen, found)?;
     note(told.named, found)?;
     note(told.soon, found)?;
     note(told.crowded, found)

@@ -1,9 +1,12 @@
 //! Watching whether transfers fit between their ends.
 
-ghost use Rattle.std.specs.Prelude.{◌≡◌, ◌+◌, ◌*◌, ◌^◌, ◌≤◌, ◌<◌, ◌↔◌, IsTrue, Bool, length, List};
+ghost use Rattle.std.specs.Prelude.{◌≡◌, ◌+◌, ◌*◌, ◌^◌, ◌≤◌, ◌<◌, ◌↔◌, IsTrue, Bool, length, List, Option};
 ghost use Rattle.cop_frame.specs.Rate.{ticks_of};
 ghost use Rattle.cop_bus.specs.Run.{least_bits};
 ghost use Rattle.cop_lines.specs.declared.entries.Entry.{Entry as Seen};
+ghost use Rattle.std.specs.Option.{ForSome};
+ghost use Rattle.cop_log.specs.declared.anchors.Pile.{Pile as Piled};
+ghost use Rattle.cop_log.specs.declared.findings.Finding.TheVariants.{Crowded};
 ghost use Rattle.cop_log.specs.Log.{most, IsFull, entry_at};
 ghost use Rattle.cop_log.specs.Watching.{IsHeld, IsLoaded};
 
@@ -42,16 +45,16 @@ fn is_full(clock: Clock, from: u64, to: u64, ticks: u128) -> bool
 // Whether an entry asks for less of those to come than the pile does.
 fn is_lower(clock: Clock, pile: Pile, at: u64) -> bool
     requires { pile.ticks ≤ 2 ^ 85 }
-    ensures { IsTrue result ↔ (most clock at ≤ most clock pile.at + 1000000 * pile.ticks) }
+    ensures { IsTrue result ↔ (most clock at ≤ most clock pile.entry.at + 1000000 * pile.ticks) }
 {
-    most(clock, at) <= most(clock, pile.at) + 1_000_000 * pile.ticks
+    most(clock, at) <= most(clock, pile.entry.at) + 1_000_000 * pile.ticks
 }
 
 // The pile with the transfer of one entry more.
 fn grown(pile: Pile, own: u128) -> Pile
     requires { own ≤ 2 ^ 20 }
     ensures from { result.from ≡ pile.from }
-    ensures at { result.at ≡ pile.at }
+    ensures entry { result.entry ≡ pile.entry }
     ensures ticks { pile.ticks + own ≤ 2 ^ 85 → result.ticks ≡ pile.ticks + own }
     ensures few { result.ticks ≤ 2 ^ 85 }
 {
@@ -62,7 +65,7 @@ fn grown(pile: Pile, own: u128) -> Pile
     };
     Pile {
         from: pile.from,
-        at: pile.at,
+        entry: pile.entry,
         ticks,
     }
 }
@@ -75,13 +78,13 @@ pub(crate) fn load_next(
     number: u64,
     pile: Option<Pile>,
 ) -> Load
-    ensures { (log : List Seen) (clean : Bool) → number < length log → length log < 2 ^ 64 → entry_at log number ≡ entry.now
+    ensures shown { ForSome result.crowded (λ f. (x : Piled) × (pile ≡ Option.Some x) × (f ≡ Crowded x.from number)) }
+    ensures loaded { (log : List Seen) (clean : Bool) → number < length log → length log < 2 ^ 64 → entry_at log number ≡ entry.now
         → IsHeld (ticks_of rate) clock log number pile clean → IsLoaded (ticks_of rate) clock log number clean result.pile result.crowded }
 {
-    let at = entry.at;
     let fresh = Pile {
         from: number,
-        at,
+        entry: *entry,
         ticks: 0,
     };
     let Some(pile) = pile else {
@@ -91,7 +94,7 @@ pub(crate) fn load_next(
         };
     };
     let more = grown(pile, least_ticks(rate, entry.len));
-    if is_full(clock, more.at, at, more.ticks) {
+    if is_full(clock, more.entry.at, entry.at, more.ticks) {
         let (from, to) = (more.from, number);
         return Load {
             pile: fresh,
@@ -99,7 +102,7 @@ pub(crate) fn load_next(
         };
     }
     Load {
-        pile: if is_lower(clock, more, at) {
+        pile: if is_lower(clock, more, entry.at) {
             more
         } else {
             fresh

@@ -11,4 +11,6 @@ pub enum Finding {
     Soon { from: u64, to: u64, count: u64 },
     /// The transfers after the first entry, up to the second, do not fit between them.
     Crowded { from: u64, to: u64 },
+    /// The clock of the log falls from the first entry to the second by more than it may be wrong.
+    Fallen { from: u64, to: u64 },
 }

@@ -3,10 +3,10 @@
 ghost use Rattle.std.specs.Prelude.{◌≡◌, ◌<◌, [], length, Option, IfOk, MatchOption, MatchResult};
 ghost use Rattle.cop_table.specs.Reading.{Gives};
 ghost use Rattle.cop_lines.specs.Texts.{GoesOn, Ends};
-ghost use Rattle.cop_log.specs.Reading.{channel_with, counts, fault_of_text, line_taken, name_of, numbered, HasRead, Reads, Refuses, EndsWith, EndsWrong, TakesLine, IsWrong};
+ghost use Rattle.cop_log.specs.Reading.{at_line, channel_with, counts, fault_of_text, line_taken, name_of, numbered, unended, HasRead, Reads, Refuses, IsWhole, TakesLine, IsWrong};
 
 use crate::faults::LogFault;
-use cop_lines::{CutFault, LineCutter, LineFault, LineReader, Message};
+use cop_lines::{CutFault, Entry, LineCutter, LineFault, LineReader, Message};
 use std::alloc::{AllocError, Global};
 
 /// A frame of a log, and what the piece has behind its line.
@@ -41,6 +41,23 @@ fn is_wanted(alloc: Global, channel: &mut Option<Vec<u8>>, own: &[u8]) -> Result
     Ok(true)
 }
 
+// A frame of the line of a number.
+fn at_line(number: u64, message: Message) -> Message
+    ensures { result ≡ at_line number message }
+{
+    let Entry { at, id, len, .. } = message.entry;
+    let body = message.body;
+    Message {
+        entry: Entry {
+            line: number,
+            at,
+            id,
+            len,
+        },
+        body,
+    }
+}
+
 // The frame of a line that has a number, if it counts.
 fn frame_in(
     alloc: Global,
@@ -50,7 +67,7 @@ fn frame_in(
     line: &[u8],
 ) -> Result<Option<Message>, LogFault>
     ensures { Gives (λ message. record { reader = reader.new; channel = name_of channel.new; message = message }) fault_of_text result
-        (numbered number (line_taken reader.old (name_of channel.old) line.now)) }
+        (numbered number (line_taken number reader.old (name_of channel.old) line.now)) }
 {
     let read = match reader.read(line) {
         Ok(read) => read,
@@ -60,7 +77,7 @@ fn frame_in(
         return Ok(None);
     };
     match is_wanted(alloc, channel, reader.channel_in(line)) {
-        Ok(true) => Ok(Some(message)),
+        Ok(true) => Ok(Some(at_line(number, message))),
         Ok(false) => Ok(None),
         Err(_) => Err(LogFault::Memory),
     }
@@ -111,14 +128,15 @@ impl LogReader {
         }
     }
 
-    /// Reads the last line, where it lacks its end, once all pieces were read; its frame, if it is of the channel.
-    pub fn end(&mut self) -> Result<Option<Message>, LogFault>
-        ensures { MatchResult result (EndsWith self.old) (EndsWrong self.old) }
+    /// Once all pieces were read: the number of the last line, where it has no end. It may be cut, and was not read.
+    pub fn unended(&self) -> Option<u64>
+        ensures number { result ≡ unended self.now }
+        ensures whole { IsWhole self.now }
     {
         if self.cutter.line().is_empty() {
-            return Ok(None);
+            return None;
         }
-        self.take_line()
+        Some(self.line.saturating_add(1))
     }
 
     // Reads on to the end of a line, and tells what is left behind it.

@@ -22,7 +22,7 @@ fn note(message: Option<Message>, log: &mut Vec<Entry>) -> Result<(), LogFault>
 }
 
 /// The entries of a channel in a log of any form, or the first line that is wrong, or want of memory. [`LogReader::new`] says what the
-/// channel and `are_distances` are.
+/// channel and `are_distances` are. A last line that has no end is left out.
 pub fn read_log(
     alloc: Global,
     channel: Option<Vec<u8>>,
@@ -38,7 +38,5 @@ pub fn read_log(
         note(Some(found.message), &mut log)?;
         rest = found.rest;
     }
-    let last = reader.end()?;
-    note(last, &mut log)?;
     Ok(log)
 }

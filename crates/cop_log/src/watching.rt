@@ -1,7 +1,10 @@
 //! Watching the entries of a stream.
 
-ghost use Rattle.std.specs.Prelude.{◌≡◌, ◌+◌, ◌*◌, ◌^◌, ◌≤◌, ◌<◌, ◌↔◌, IsTrue, Bool, length, List};
-ghost use Rattle.cop_lines.specs.declared.entries.Entry.{Entry};
+ghost use Rattle.std.specs.Prelude.{◌≡◌, ◌+◌, ◌*◌, ◌^◌, ◌≤◌, ◌<◌, ◌↔◌, IsTrue, Bool, length, List, Option};
+ghost use Rattle.cop_lines.specs.declared.entries.Entry.{Entry as Seen};
+ghost use Rattle.std.specs.Option.{ForSome};
+ghost use Rattle.cop_log.specs.declared.anchors.Anchor.{Anchor as Counted};
+ghost use Rattle.cop_log.specs.declared.findings.Finding.TheVariants.{Soon};
 ghost use Rattle.cop_log.specs.Log.{most, IsNear, entry_at};
 ghost use Rattle.cop_log.specs.Watching.{lane_of, IsWatched, IsStep};
 
@@ -10,6 +13,7 @@ use crate::findings::Finding;
 use crate::measures::{most, slack};
 use crate::watches::Watch;
 use cop_frame::least_bits;
+use cop_lines::Entry;
 use cop_rta::Stream;
 
 /// What the next entry of a stream makes of its anchor, and what it shows.
@@ -40,21 +44,22 @@ fn is_near(watch: &Watch, from: u64, to: u64, count: u64) -> bool
 
 // Whether an entry asks for less of those to come than the anchor does.
 fn is_behind(watch: &Watch, anchor: Anchor, at: u64) -> bool
-    ensures { IsTrue result ↔ (most watch.now.clock at ≤ most watch.now.clock anchor.at + 1000000 * (anchor.count * watch.now.stream.period)) }
+    ensures { IsTrue result ↔ (most watch.now.clock at ≤ most watch.now.clock anchor.entry.at + 1000000 * (anchor.count * watch.now.stream.period)) }
 {
     most(watch.clock, at)
-        <= most(watch.clock, anchor.at) + 1_000_000 * span(&watch.stream, anchor.count)
+        <= most(watch.clock, anchor.entry.at) + 1_000_000 * span(&watch.stream, anchor.count)
 }
 
 /// Watches the next entry of the stream, which has a number among all entries. As long as nothing was shown, the anchor is the
 /// entry that asks for most.
-pub(crate) fn watch_next(watch: &Watch, at: u64, number: u64, anchor: Option<Anchor>) -> Next
-    ensures { (log : List Entry) (clean : Bool) → number < length log → length log < 2 ^ 64 → at ≡ (entry_at log number).at → (entry_at log number).id ≡ watch.now.stream.id
+pub(crate) fn watch_next(watch: &Watch, entry: Entry, number: u64, anchor: Option<Anchor>) -> Next
+    ensures shown { ForSome result.soon (λ f. (a : Counted) × (anchor ≡ Option.Some a) × (f ≡ Soon a.from number a.count)) }
+    ensures step { (log : List Seen) (clean : Bool) → number < length log → length log < 2 ^ 64 → entry ≡ entry_at log number → (entry_at log number).id ≡ watch.now.stream.id
         → IsWatched (lane_of watch.now) log number anchor clean → IsStep (lane_of watch.now) log number clean result.anchor result.soon }
 {
     let fresh = Anchor {
         from: number,
-        at,
+        entry,
         count: 1,
     };
     let Some(anchor) = anchor else {
@@ -63,19 +68,15 @@ pub(crate) fn watch_next(watch: &Watch, at: u64, number: u64, anchor: Option<Anc
             soon: None,
         };
     };
-    let Anchor {
-        from,
-        at: start,
-        count,
-    } = anchor;
-    if is_near(watch, start, at, count) {
+    let (from, count) = (anchor.from, anchor.count);
+    if is_near(watch, anchor.entry.at, entry.at, count) {
         let to = number;
         return Next {
             anchor: fresh,
             soon: Some(Finding::Soon { from, to, count }),
         };
     }
-    if is_behind(watch, anchor, at) {
+    if is_behind(watch, anchor, entry.at) {
         let count = count.saturating_add(1);
         return Next {
             anchor: Anchor { count, ..anchor },

@@ -1,2 +1,5 @@
+pub mod ToldLemmas
+pub mod WordLemmas
+pub mod ShownLemmas
 pub mod BookLemmas
 pub mod PieceLemmas

@@ -1,2 +1,4 @@
+pub mod Told
+pub mod Words
 pub mod Books
 pub mod Pieces

@@ -1,11 +1,23 @@
 //! The breaches that a log shows, and their words.
 
-ghost use Rattle.std.specs.Prelude.{◌≡◌, ◌+◌, ◌-◌, ◌*◌, IfOk, OnOk};
-ghost use Rattle.cop_logbook.specs.Books.{counted, count_with};
+ghost use Rattle.std.specs.Prelude.{◌≡◌, ◌+◌, ◌-◌, ◌*◌, ◌^◌, ◌≤◌, ◌<◌, ◌++◌, ◌∷◌, [], List, Option, IfOk, OnOk, length, set, slice_index_or};
+ghost use Rattle.std.specs.Option.{ForSome};
+ghost use Rattle.cop_frame.specs.Rate.{ticks_of};
+ghost use Rattle.cop_bus.specs.Run.{least_bits};
+ghost use Rattle.cop_lines.specs.declared.entries.Entry.{Entry as Seen};
+ghost use Rattle.cop_log.specs.declared.anchors.Anchor.{Anchor as Counted};
+ghost use Rattle.cop_log.specs.declared.anchors.Pile.{Pile as Piled};
+ghost use Rattle.cop_log.specs.declared.anchors.Top.{Top as Highest};
+ghost use Rattle.cop_log.specs.Log.{Terms};
+ghost use Rattle.cop_logbook.specs.declared.breaches.Broken.TheVariants as broken;
+ghost use Rattle.cop_logbook.specs.declared.breaches.Breach.{Breach as Told};
+ghost use Rattle.std.specs.String.{string_bytes};
+ghost use Rattle.cop_logbook.specs.Words.{is_error, has_error, premise_of, IsLine, AreLines};
+ghost use Rattle.cop_logbook.specs.Told.{broken_by, breach_by, kind_of, kept_of, bytes_with, or_zero, nearest_with, all_with, HasKept, Shows};
 
 use cop_frame::{Rate, least_bits};
 use cop_lines::Entry;
-use cop_log::{Anchor, Clock, Finding, Pile};
+use cop_log::{Clock, Finding, Scene};
 use cop_rta::Stream;
 use std::alloc::{AllocError, Global};
 
@@ -58,6 +70,11 @@ pub enum Broken {
         since: u64,
         ticks: u128,
     },
+    /// The clock of the log does not fall: the frame's stamp is so many microseconds lower than that of an earlier line.
+    Fallen {
+        from: u64,
+        by: u64,
+    },
 }
 
 /// A breach: the line that shows it, what stands there, and what it breaks.
@@ -68,22 +85,6 @@ pub struct Breach {
     pub broken: Broken,
 }
 
-/// What is known of a breach beside its finding.
-#[derive(Clone, Copy)]
-pub struct Scene<'a> {
-    pub line: u64,
-    pub entry: &'a Entry,
-    pub rate: Rate,
-    /// The stream of the identifier, if there is one, and its bound in ticks.
-    pub stream: Option<Stream>,
-    pub bound: Option<u64>,
-    /// The anchor and the pile before the entry, and the lines where they stand.
-    pub anchor: Option<Anchor>,
-    pub anchor_line: u64,
-    pub pile: Option<Pile>,
-    pub pile_line: u64,
-}
-
 /// The breaches so far: how many of each identifier, and the first of them.
 #[derive(Drop)]
 pub struct Breaches {
@@ -92,62 +93,146 @@ pub struct Breaches {
     told: Vec<Breach>,
 }
 
-/// How near frames of the stream can be that are so many instances apart.
-fn nearest_of(scene: &Scene<'_>, count: u64) -> Option<Nearest> {
-    let stream = scene.stream?;
-    let bit = u64::from(scene.rate.ticks_per_bit());
-    Some(Nearest {
-        count,
-        period: stream.period,
-        response: scene.bound.unwrap_or(0),
-        transfer: u64::from(least_bits(stream.bytes)) * bit,
-        bit,
-    })
-}
-
-fn soon(scene: &Scene<'_>, count: u64) -> Broken {
-    let since = match scene.anchor {
-        Some(anchor) => scene.entry.at.saturating_sub(anchor.at),
+/// The bound, or 0.
+fn or_zero(bound: Option<u64>) -> u64
+    ensures { result ≡ or_zero bound }
+{
+    match bound {
+        Some(bound) => bound,
         None => 0,
-    };
-    Broken::Soon {
-        from: scene.anchor_line,
-        since,
-        nearest: nearest_of(scene, count),
     }
 }
 
-fn crowded(scene: &Scene<'_>) -> Broken {
-    let (since, before) = match scene.pile {
-        Some(pile) => (scene.entry.at.saturating_sub(pile.at), pile.ticks),
-        None => (0, 0),
-    };
-    let own = (47 + 8 * u128::from(scene.entry.len)) * u128::from(scene.rate.ticks_per_bit());
-    Broken::Crowded {
-        from: scene.pile_line,
-        since,
-        ticks: before.saturating_add(own),
+/// How near frames of the stream can be that are so many instances apart.
+fn nearest_of(scene: &Scene, count: u64) -> Option<Nearest>
+    ensures { result ≡ nearest_with scene.now.rate scene.now.stream scene.now.bound count }
+{
+    match scene.stream {
+        Some(stream) => {
+            let bit = u64::from(scene.rate.ticks_per_bit());
+            Some(Nearest {
+                count,
+                period: stream.period,
+                response: or_zero(scene.bound),
+                transfer: u64::from(least_bits(stream.bytes)) * bit,
+                bit,
+            })
+        }
+        None => None,
+    }
+}
+
+fn bytes_of(stream: Option<Stream>) -> u8
+    ensures { result ≡ bytes_with stream }
+{
+    match stream {
+        Some(stream) => stream.bytes,
+        None => 0,
+    }
+}
+
+fn soon(scene: &Scene, count: u64) -> Broken
+    ensures { (a : Counted) → scene.now.anchor ≡ Option.Some a
+        → result ≡ broken.Soon a.entry.line (scene.now.entry.at - a.entry.at) (nearest_with scene.now.rate scene.now.stream scene.now.bound count) }
+{
+    match scene.anchor {
+        Some(anchor) => Broken::Soon {
+            from: anchor.entry.line,
+            since: scene.entry.at.saturating_sub(anchor.entry.at),
+            nearest: nearest_of(scene, count),
+        },
+        None => Broken::Unknown,
+    }
+}
+
+fn crowded(scene: &Scene) -> Broken
+    ensures { (x : Piled) → scene.now.pile ≡ Option.Some x → x.ticks ≤ 2 ^ 84
+        → result ≡ broken.Crowded x.entry.line (scene.now.entry.at - x.entry.at) (x.ticks + least_bits scene.now.entry.len * ticks_of scene.now.rate) }
+{
+    match scene.pile {
+        Some(pile) => {
+            let own = (47 + 8 * u128::from(scene.entry.len))
+                * u128::from(scene.rate.ticks_per_bit());
+            Broken::Crowded {
+                from: pile.entry.line,
+                since: scene.entry.at.saturating_sub(pile.entry.at),
+                ticks: pile.ticks.saturating_add(own),
+            }
+        }
+        None => Broken::Unknown,
+    }
+}
+
+fn fallen(scene: &Scene) -> Broken
+    ensures { (x : Highest) → scene.now.top ≡ Option.Some x → result ≡ broken.Fallen x.entry.line (x.entry.at - scene.now.entry.at) }
+{
+    match scene.top {
+        Some(top) => Broken::Fallen {
+            from: top.entry.line,
+            by: top.entry.at.saturating_sub(scene.entry.at),
+        },
+        None => Broken::Unknown,
+    }
+}
+
+/// What a finding breaks.
+fn broken_of(scene: &Scene, finding: Finding) -> Broken
+    ensures { (t : Terms) (log : List Seen) → Shows t log scene.now finding → result ≡ broken_by t log finding }
+{
+    match finding {
+        Finding::Unknown { .. } => Broken::Unknown,
+        Finding::Length { .. } => Broken::Length {
+            planned: bytes_of(scene.stream),
+        },
+        Finding::Soon { count, .. } => soon(scene, count),
+        Finding::Crowded { .. } => crowded(scene),
+        Finding::Fallen { .. } => fallen(scene),
     }
 }
 
 /// The breach that a finding is.
-fn breach_of(scene: &Scene<'_>, finding: Finding) -> Breach {
-    let broken = match finding {
-        Finding::Unknown { .. } => Broken::Unknown,
-        Finding::Length { .. } => Broken::Length {
-            planned: match scene.stream {
-                Some(stream) => stream.bytes,
-                None => 0,
-            },
-        },
-        Finding::Soon { count, .. } => soon(scene, count),
-        Finding::Crowded { .. } => crowded(scene),
-    };
+fn breach_of(scene: &Scene, finding: Finding) -> Breach
+    ensures { (t : Terms) (log : List Seen) → Shows t log scene.now finding → result ≡ breach_by t log finding }
+{
     Breach {
-        line: scene.line,
-        entry: *scene.entry,
-        broken,
+        line: scene.entry.line,
+        entry: scene.entry,
+        broken: broken_of(scene, finding),
     }
+}
+
+/// The kind of a breach: its identifier, or that of all that no stream can have.
+fn kind_of(breach: &Breach) -> usize
+    ensures { result ≡ kind_of breach.now }
+{
+    (breach.entry.id as usize).min(IDS)
+}
+
+fn count_at(counts: &[u64], kind: usize) -> u64
+    ensures { result ≡ slice_index_or counts.now kind 0 }
+{
+    match counts.get(kind) {
+        Some(count) => *count,
+        None => 0,
+    }
+}
+
+fn set_at(counts: &mut Vec<u64>, kind: usize, count: u64)
+    ensures { kind < length counts.old.items → counts.new.items ≡ set counts.old.items kind count }
+{
+    if kind < counts.len() {
+        counts[kind] = count;
+    }
+}
+
+/// Keeps a breach, as long as not too many of its kind came before.
+fn keep(told: &mut Vec<Breach>, breach: Breach, before: u64) -> Result<(), AllocError>
+    ensures { OnOk result (told.new.items ≡ told.old.items ++ kept_of breach before) }
+{
+    if before < MOST {
+        told.push(breach)?;
+    }
+    Ok(())
 }
 
 /// An identifier in words.
@@ -175,15 +260,35 @@ fn write_sum(text: &mut String, nearest: &Nearest, clock: Clock) -> Result<(), A
     )
 }
 
+/// Whether an identifier is that of an error frame.
+fn is_error(id: u32) -> bool
+    ensures { result ≡ is_error id }
+{
+    id / 0x2000_0000 % 2 == 1
+}
+
+/// What does not hold, where an identifier is of no sender.
+fn unknown_premise(is_error: bool) -> &'static str
+    ensures { result.now ≡ premise_of is_error broken.Unknown }
+{
+    if is_error {
+        "no frame is disturbed"
+    } else {
+        "nothing else sends"
+    }
+}
+
 impl Breach {
-    /// What does not hold of the machine.
-    pub fn premise(&self) -> &'static str {
+    /// What does not hold of the machine, or of the clock.
+    pub fn premise(&self) -> &'static str
+        ensures { result.now ≡ premise_of (has_error self.now) self.now.broken }
+    {
         match self.broken {
-            Broken::Unknown if self.entry.id & 0x20000000 != 0 => "no frame is disturbed",
-            Broken::Unknown => "nothing else sends",
+            Broken::Unknown => unknown_premise(is_error(self.entry.id)),
             Broken::Length { .. } => "each frame is as long as its mapping",
             Broken::Soon { .. } => "events are as far apart as the periods say",
             Broken::Crowded { .. } => "the bus has the planned rate",
+            Broken::Fallen { .. } => "the clock of the log does not fall",
         }
     }
 
@@ -221,22 +326,31 @@ impl Breach {
                     "the transfers after line {from} take {all} us at least, and end {since} us after it, with {error} us and {drift} ppm for the clock"
                 )
             }
+            Broken::Fallen { from, by } => {
+                let error = clock.error;
+                write!(
+                    text,
+                    "the log's clock falls by {by} us from line {from} on, with {error} us for the clock"
+                )
+            }
         }
     }
 
-    /// Adds its line.
-    fn write(&self, text: &mut String, clock: Clock) -> Result<(), AllocError> {
+    /// Its line.
+    fn line_of(&self, alloc: Global, clock: Clock) -> Result<String, AllocError>
+        ensures { IfOk result (λ line. IsLine self.now (string_bytes line)) }
+    {
+        let mut shown = String::new(alloc);
+        self.write_broken(&mut shown, clock)?;
         let (line, premise) = (self.line, self.premise());
-        write!(text, "line {line}: ")?;
-        self.write_broken(text, clock)?;
-        write!(text, "; breaks: {premise}\n")
+        format!(in alloc; "line {line}: {shown}; breaks: {premise}\n")
     }
 }
 
 impl Breaches {
     /// None yet.
     pub fn new(alloc: Global) -> Result<Breaches, AllocError>
-        ensures { IfOk result (λ b. b.count ≡ 0) }
+        ensures { IfOk result (HasKept []) }
     {
         Ok(Breaches {
             counts: vec![in alloc; 0; IDS + 1]?,
@@ -253,40 +367,43 @@ impl Breaches {
     }
 
     /// Those that are told.
-    pub fn told(&self) -> &[Breach] {
+    pub fn told(&self) -> &[Breach]
+        ensures { result.now ≡ self.now.told.items }
+    {
         &self.told
     }
 
-    /// Adds a line for each that is told.
-    pub fn write(&self, text: &mut String, clock: Clock) -> Result<(), AllocError> {
-        for breach in &self.told {
-            breach.write(text, clock)?;
+    /// The lines of those that are told, in their order.
+    pub fn words(&self, alloc: Global, clock: Clock) -> Result<String, AllocError>
+        ensures { IfOk result (λ text. AreLines self.now.told.items (string_bytes text)) }
+    {
+        let mut text = String::new(alloc);
+        for place in 0..self.told.len() {
+            let line = self.told[place].line_of(alloc, clock)?;
+            text.push_str(&line)?;
         }
-        Ok(())
+        Ok(text)
     }
 
     /// Counts a breach, and keeps it as long as not too many of its identifier were kept.
-    pub fn add(&mut self, scene: &Scene<'_>, finding: Finding) -> Result<(), AllocError>
-        ensures { OnOk result (self.new.count ≡ counted (self.old.count + 1)) }
+    fn add(&mut self, breach: Breach) -> Result<(), AllocError>
+        ensures { OnOk result ((all : List Told) → HasKept all self.old → HasKept (all ++ breach ∷ []) self.new) }
     {
         self.count = self.count.saturating_add(1);
-        let place = (scene.entry.id as usize).min(IDS);
-        if let Some(count) = self.counts.get_mut(place) {
-            *count = count.saturating_add(1);
-            if *count > MOST {
-                return Ok(());
-            }
-        }
-        self.told.push(breach_of(scene, finding))?;
+        let kind = kind_of(&breach);
+        let before = count_at(&self.counts, kind);
+        set_at(&mut self.counts, kind, before.saturating_add(1));
+        keep(&mut self.told, breach, before)?;
         Ok(())
     }
 
     /// Adds what was found, if something was.
-    pub fn note(&mut self, scene: &Scene<'_>, finding: Option<Finding>) -> Result<(), AllocError>
-        ensures { OnOk result (self.new.count ≡ count_with self.old.count finding) }
+    pub fn note(&mut self, scene: &Scene, finding: Option<Finding>) -> Result<(), AllocError>
+        ensures { OnOk result ((t : Terms) (log : List Seen) (all : List Told) → ForSome finding (Shows t log scene.now)
+            → HasKept all self.old → HasKept (all_with t log all finding) self.new) }
     {
         match finding {
-            Some(finding) => self.add(scene, finding),
+            Some(finding) => self.add(breach_of(scene, finding)),
             None => Ok(()),
         }
     }

@@ -1,11 +1,14 @@
 //! A log that is watched, line by line, and what is said of it at its end.
 
-ghost use Rattle.std.specs.Prelude.{◌≡◌, ◌<◌, ◌↔◌, [], IfOk, IsOk, OnOk};
+ghost use Rattle.std.specs.Prelude.{◌≡◌, ◌<◌, ◌↔◌, [], IfOk, IsOk, OnOk, IfErr, MatchResult};
 ghost use Rattle.std.specs.Option.{option_copied};
-ghost use Rattle.cop_log.specs.Reading.{name_of};
-ghost use Rattle.cop_logbook.specs.Books.{count_told, Begins, Takes, IsWith, Notes, Ends};
+ghost use Rattle.cop_log.specs.Reading.{name_of, unended};
+ghost use Rattle.cop_logbook.specs.declared.logbook.BookFault.TheVariants.{Refused, Memory};
+ghost use Rattle.std.specs.String.{string_bytes};
+ghost use Rattle.cop_logbook.specs.Words.{verdict, AreLines};
+ghost use Rattle.cop_logbook.specs.Books.{IsSaid, book_fault, Begins, Takes, Refuses, IsWith, Counts, Tells, Notes, Ends};
 
-use crate::breaches::{Breach, Breaches, Scene};
+use crate::breaches::{Breach, Breaches, Broken};
 use crate::heartbeats::{LateHeartbeat, late_heartbeat};
 use crate::loads::Loads;
 use crate::noticed::Notices;
@@ -13,13 +16,16 @@ use crate::seen::{Seen, least_bits_of};
 use crate::spread::Spread;
 use crate::strangers::Stranger;
 use cop_lines::{Entry, Message};
-use cop_log::{Clock, LogFault, LogReader, Told, Watcher, bounds_of};
+use cop_log::{Clock, LogFault, LogReader, Scene, Told, Watcher, bounds_of};
 use cop_plan::Plan;
 use std::alloc::{AllocError, Global};
 use std::collections::BTreeMap;
 
 /// The number of the rule that a log has a line of the channel.
 const NO_LINE: u8 = 94;
+
+/// The load of a bus that is full, in hundredths of a percent.
+const WHOLE: u64 = 10_000;
 
 /// How many identifiers that no stream can have are counted each by itself.
 const MOST_OTHERS: usize = 1000;
@@ -37,12 +43,16 @@ pub enum BookFault {
 }
 
 impl From<AllocError> for BookFault {
+    ghost from_gives = { λ _ fault. fault ≡ Memory };
+
     fn from(_error: AllocError) -> BookFault {
         BookFault::Memory
     }
 }
 
 impl From<LogFault> for BookFault {
+    ghost from_gives = { λ wrong fault. fault ≡ book_fault wrong };
+
     fn from(fault: LogFault) -> BookFault {
         match fault {
             LogFault::Line { number, fault } => BookFault::Refused {
@@ -52,13 +62,6 @@ impl From<LogFault> for BookFault {
             LogFault::Memory => BookFault::Memory,
         }
     }
-}
-
-/// The same bounds once more.
-fn copied(alloc: Global, bounds: &[Option<u64>]) -> Result<Vec<Option<u64>>, AllocError>
-    ensures { IfOk result (λ own. own.items ≡ bounds.now) }
-{
-    bounds.iter().copied().collect(alloc)
 }
 
 /// The bytes of a channel's name.
@@ -75,13 +78,23 @@ fn bytes_of(alloc: Global, channel: Option<&str>) -> Result<Option<Vec<u8>>, All
     }
 }
 
+/// How what is said of a log ends, which has so many breaches.
+fn verdict_of(alloc: Global, count: u64) -> Result<String, AllocError>
+    ensures { IfOk result (λ text. string_bytes text ≡ verdict count) }
+{
+    if count == 0 {
+        format!(in alloc; "keeps to the tables\n")
+    } else {
+        format!(in alloc; "breaches {count}\n")
+    }
+}
+
 /// A log that is watched.
 #[derive(Drop)]
 pub struct Logbook<'a> {
     alloc: Global,
     plan: &'a Plan,
     clock: Clock,
-    bounds: Vec<Option<u64>>,
     watcher: Watcher<'a>,
     log: LogReader,
     all: Seen,
@@ -90,9 +103,6 @@ pub struct Logbook<'a> {
     spreads: Vec<Spread>,
     loads: Loads,
     others: BTreeMap<u32, Seen>,
-    // The lines from which the entries of each stream are counted, and all entries.
-    anchor_lines: Vec<u64>,
-    pile_line: u64,
     breaches: Breaches,
     notices: Notices,
 }
@@ -110,15 +120,13 @@ impl<'a> Logbook<'a> {
     {
         let (streams, rate) = (plan.streams(), plan.rate());
         let bounds = bounds_of(alloc, streams, rate)?;
-        let own = copied(alloc, &bounds)?;
         let count = bounds.len();
-        let watcher = Watcher::new(alloc, streams, own, rate, clock)?;
+        let watcher = Watcher::new(alloc, streams, bounds, rate, clock)?;
         let wanted = bytes_of(alloc, channel)?;
         Ok(Logbook {
             alloc,
             plan,
             clock,
-            bounds,
             watcher,
             log: LogReader::new(alloc, wanted, are_distances),
             all: Seen::NOTHING,
@@ -126,8 +134,6 @@ impl<'a> Logbook<'a> {
             spreads: vec![in alloc; Spread::NOTHING; count]?,
             loads: Loads::new(alloc)?,
             others: BTreeMap::new(alloc),
-            anchor_lines: vec![in alloc; 0; count]?,
-            pile_line: 0,
             breaches: Breaches::new(alloc)?,
             notices: Notices::new(alloc),
         })
@@ -141,15 +147,17 @@ impl<'a> Logbook<'a> {
     }
 
     /// The breaches that are told: of each identifier the first 20, and as many of all that no stream can have.
-    pub fn told(&self) -> &[Breach] {
+    pub fn told(&self) -> &[Breach]
+        ensures { result.now ≡ self.now.breaches.told.items }
+    {
         self.breaches.told()
     }
 
     /// The words of the breaches that are told, a line each.
-    pub fn words(&self) -> Result<String, AllocError> {
-        let mut text = String::new(self.alloc);
-        self.breaches.write(&mut text, self.clock)?;
-        Ok(text)
+    pub fn words(&self) -> Result<String, AllocError>
+        ensures { IfOk result (λ text. AreLines self.now.breaches.told.items (string_bytes text)) }
+    {
+        self.breaches.words(self.alloc, self.clock)
     }
 
     /// What was noticed that breaks nothing.
@@ -195,9 +203,9 @@ impl<'a> Logbook<'a> {
         }
     }
 
-    /// Takes the next piece of the log, of any length.
+    /// Takes the next piece of the log, of any length. Where a line is refused, nothing more is to be taken.
     pub fn take_piece(&mut self, piece: &[u8]) -> Result<(), BookFault>
-        ensures { OnOk result (Takes self.old piece.now self.new []) }
+        ensures { MatchResult result (λ _. Takes self.old piece.now self.new []) (Refuses self.old piece.now) }
     {
         let mut rest = piece;
         'frames: while let Some(found) = self.log.next(rest)? {
@@ -207,14 +215,11 @@ impl<'a> Logbook<'a> {
         Ok(())
     }
 
-    /// Takes the last line, where it lacks its end, once all pieces were taken.
-    pub fn take_rest(&mut self) -> Result<(), BookFault>
-        ensures { OnOk result (Ends self.old self.new) }
+    /// Once all pieces were taken: the number of the last line, where it has no end. It may be cut, and was left out.
+    pub fn unended(&self) -> Option<u64>
+        ensures { result ≡ unended self.now.log }
     {
-        match self.log.end()? {
-            Some(message) => Ok(self.take_message(&message)?),
-            None => Ok(()),
-        }
+        self.log.unended()
     }
 
     fn take_message(&mut self, message: &Message) -> Result<(), AllocError>
@@ -223,10 +228,9 @@ impl<'a> Logbook<'a> {
         let entry = &message.entry;
         let place = self.place_of(entry.id);
         self.count(entry, place)?;
-        let scene = self.scene(entry, place);
+        let scene = self.watcher.scene(entry);
         let told = self.watcher.take(entry);
         self.tell(&scene, &told)?;
-        self.remember(place);
         self.notice(message)?;
         Ok(())
     }
@@ -244,7 +248,7 @@ impl<'a> Logbook<'a> {
 
     /// Counts an entry, whose identifier's stream is at this place.
     fn count(&mut self, entry: &Entry, place: Option<usize>) -> Result<(), AllocError>
-        ensures { OnOk result (IsWith self.old self.new self.old.log) }
+        ensures { OnOk result (Counts self.old self.new) }
     {
         let line = self.log.line();
         let _ = self.all.note(line, entry.at, entry.len);
@@ -287,54 +291,15 @@ impl<'a> Logbook<'a> {
         Ok(())
     }
 
-    /// What is known before an entry is taken.
-    fn scene<'e>(&self, entry: &'e Entry, place: Option<usize>) -> Scene<'e> {
-        let mut scene = Scene {
-            line: self.log.line(),
-            entry,
-            rate: self.plan.rate(),
-            stream: None,
-            bound: None,
-            anchor: None,
-            anchor_line: 0,
-            pile: self.watcher.pile(),
-            pile_line: self.pile_line,
-        };
-        if let Some(place) = place {
-            scene.stream = self.plan.streams().streams().get(place).copied();
-            scene.bound = self.bounds.get(place).copied().flatten();
-            scene.anchor = self.watcher.anchor(place);
-            scene.anchor_line = self.anchor_lines.get(place).copied().unwrap_or(0);
-        }
-        scene
-    }
-
     /// Tells what the entry shows.
-    fn tell(&mut self, scene: &Scene<'_>, told: &Told) -> Result<(), AllocError>
-        ensures { OnOk result ((self.new.log ≡ self.old.log) × (self.new.watcher ≡ self.old.watcher)
-            × (self.new.breaches.count ≡ count_told self.old.breaches.count told.now)) }
+    fn tell(&mut self, scene: &Scene, told: &Told) -> Result<(), AllocError>
+        ensures { OnOk result (Tells scene.now told.now self.old self.new) }
     {
+        self.breaches.note(scene, told.fallen)?;
         self.breaches.note(scene, told.named)?;
         self.breaches.note(scene, told.soon)?;
-        self.breaches.note(scene, told.crowded)
-    }
-
-    /// Keeps the lines of the entries from which is counted.
-    fn remember(&mut self, place: Option<usize>)
-        ensures { IsWith self.old self.new self.old.log }
-    {
-        let own = self.watcher.number().saturating_sub(1);
-        if matches!(self.watcher.pile(), Some(pile) if pile.from == own) {
-            self.pile_line = self.log.line();
-        }
-        let Some(place) = place else {
-            return;
-        };
-        if matches!(self.watcher.anchor(place), Some(anchor) if anchor.from == own) {
-            if let Some(line) = self.anchor_lines.get_mut(place) {
-                *line = self.log.line();
-            }
-        }
+        self.breaches.note(scene, told.crowded)?;
+        Ok(())
     }
 
     /// Adds the lines of the streams.
@@ -382,9 +347,11 @@ impl<'a> Logbook<'a> {
         Ok(strangers)
     }
 
-    /// Refuses a log in which no line is of the channel, once all lines were taken.
+    /// Refuses a log in which no line is of the channel, once all pieces were taken.
     pub fn end(&self) -> Result<(), BookFault>
-        ensures { IsOk result ↔ (0 < self.now.all.frames) }
+        ensures frames { IsOk result ↔ (0 < self.now.all.frames) }
+        ensures none { IfErr result (λ fault. fault ≡ Refused 94 0) }
+        ensures whole { Ends self.now }
     {
         if self.all.frames == 0 {
             return Err(BookFault::Refused {
@@ -395,20 +362,58 @@ impl<'a> Logbook<'a> {
         Ok(())
     }
 
-    /// Adds what is worth a look: identifiers of no stream, heartbeats that stayed away, and what was noticed.
+    /// Whether the stamps look as if they were distances: more transfers than the bus carries in their time, and a clock that falls.
+    pub fn may_be_distances(&self) -> bool {
+        let load = self.all.load(self.plan.rate(), self.all.span());
+        let falls = self
+            .told()
+            .iter()
+            .any(|breach| matches!(breach.broken, Broken::Fallen { .. }));
+        falls && load > WHOLE
+    }
+
+    /// Adds the streams of which no frame came.
+    fn write_unseen(&self, text: &mut String) -> Result<(), AllocError> {
+        for stream in self.plan.streams().streams() {
+            if matches!(self.seen(stream.id), Some(seen) if seen.frames == 0) {
+                let id = stream.id;
+                write!(text, "{id:03X}h never seen\n")?;
+            }
+        }
+        Ok(())
+    }
+
+    /// Adds what is to be known of the log itself: a last line that was left out, and stamps that may be distances.
+    fn write_form(&self, text: &mut String) -> Result<(), AllocError> {
+        if let Some(line) = self.unended() {
+            write!(
+                text,
+                "line {line}: the last line has no end, and was left out\n"
+            )?;
+        }
+        if self.may_be_distances() {
+            text.push_str(
+                "the load is above 100 % and stamps fall: are these distances? --delta\n",
+            )?;
+        }
+        Ok(())
+    }
+
+    /// Adds what is worth a look: streams that never came, identifiers of no stream, heartbeats that stayed away, and what was noticed.
     fn write_asides(&self, text: &mut String) -> Result<(), AllocError> {
+        self.write_unseen(text)?;
         for stranger in &self.strangers()? {
             stranger.write(text)?;
         }
         for heartbeat in &self.late_heartbeats()? {
             heartbeat.write(text)?;
         }
-        self.notices.write(text)
+        self.notices.write(text)?;
+        self.write_form(text)
     }
 
-    /// What is said of the log, once all lines were taken.
-    pub fn finish(&self) -> Result<String, AllocError> {
-        let mut text = String::new(self.alloc);
+    /// Adds what is seen of the log beside its breaches.
+    fn write_seen(&self, text: &mut String) -> Result<(), AllocError> {
         let (frames, kbits) = (self.all.frames, self.plan.rate().kbits());
         let span = self.all.span();
         let load = self.all.load(self.plan.rate(), span);
@@ -417,13 +422,18 @@ impl<'a> Logbook<'a> {
             text,
             "rate {kbits} frames {frames} time {span} us load {whole}.{part:02}%\n"
         )?;
-        self.write_streams(&mut text, span)?;
-        self.write_asides(&mut text)?;
-        self.breaches.write(&mut text, self.clock)?;
-        match self.breaches.count() {
-            0 => text.push_str("keeps to the tables\n")?,
-            count => write!(text, "breaches {count}\n")?,
-        }
-        Ok(text)
+        self.write_streams(text, span)?;
+        self.write_asides(text)
+    }
+
+    /// What is said of the log, once all pieces were taken: what was seen, the words of the breaches, and how many there are.
+    pub fn finish(&self) -> Result<String, AllocError>
+        ensures { IfOk result (λ text. IsSaid self.now (string_bytes text)) }
+    {
+        let mut seen = String::new(self.alloc);
+        self.write_seen(&mut seen)?;
+        let words = self.words()?;
+        let verdict = verdict_of(self.alloc, self.breaches.count())?;
+        format!(in self.alloc; "{seen}{words}{verdict}")
     }
 }

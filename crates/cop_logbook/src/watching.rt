@@ -1,11 +1,13 @@
 //! A log that is watched to its end, in pieces that are not kept.
 
-ghost use Rattle.std.specs.Prelude.{◌<◌, ◌^◌, length, IfOk, OnOk};
+ghost use Rattle.std.specs.Prelude.{◌≡◌, ◌<◌, ◌^◌, length, IfOk, IfErr, OnOk};
 ghost use Rattle.std.specs.Option.{option_copied};
 ghost use Rattle.std.specs.Io.KnownBytes.{IsAtEnd};
 ghost use Rattle.cop_table.specs.Pieces.{HoldsOfAll};
 ghost use Rattle.cop_logbook.specs.Books.{IsWatched};
-ghost use Rattle.cop_logbook.specs.Pieces.{TakesAlong};
+ghost use Rattle.cop_logbook.specs.declared.logbook.BookFault.TheVariants.{Memory};
+ghost use Rattle.cop_logbook.specs.declared.watching.WatchFault.TheVariants.{Book};
+ghost use Rattle.cop_logbook.specs.Pieces.{TakesAlong, FailsAlong, IsWhyNot};
 
 use crate::logbook::{BookFault, Logbook};
 use cop_log::Clock;
@@ -27,18 +29,24 @@ pub enum WatchFault {
 }
 
 impl From<BookFault> for WatchFault {
+    ghost from_gives = { λ fault watch. watch ≡ Book fault };
+
     fn from(fault: BookFault) -> WatchFault {
         WatchFault::Book(fault)
     }
 }
 
 impl From<AllocError> for WatchFault {
+    ghost from_gives = { λ _ watch. watch ≡ Book Memory };
+
     fn from(_error: AllocError) -> WatchFault {
         WatchFault::Book(BookFault::Memory)
     }
 }
 
 impl<T: Drop> From<AllocFailed<T>> for WatchFault {
+    ghost from_gives = { λ _ watch. watch ≡ Book Memory };
+
     fn from(_error: AllocFailed<T>) -> WatchFault {
         WatchFault::Book(BookFault::Memory)
     }
@@ -53,6 +61,7 @@ fn take_pieces<R: Read>(
     requires { 0 < length piece.old }
     ensures taken { OnOk result (TakesAlong (R.remaining reader.old) (R.remaining reader.new) book.old book.new) }
     ensures all { OnOk result (IsAtEnd (R.remaining reader.new)) }
+    ensures wrong { IfErr result (FailsAlong (R.remaining reader.old) book.old) }
 {
     'pieces: for _ in 0..u64::MAX {
         match reader.read(piece) {
@@ -66,8 +75,8 @@ fn take_pieces<R: Read>(
 
 /// A log that a reader has left, watched to its end by a plan: each breach is evident from it, and where a legal run in which all streams
 /// obey has it, within the error of its clock, there is none. The frames of the channel count, those of the first frame's where none is
-/// given; `are_distances` says that the stamps of a log in columns are distances. The last line may lack its end, and memory does
-/// not grow with the log. It is refused where a line is, or where no frame is of the channel.
+/// given; `are_distances` says that the stamps of a log in columns are distances. A last line that lacks its end is left out, and memory
+/// does not grow with the log. It is refused where a line is, or where no frame is of the channel.
 pub fn watched<'a, R: Read + Drop>(
     alloc: Global,
     plan: &'a Plan,
@@ -76,13 +85,13 @@ pub fn watched<'a, R: Read + Drop>(
     are_distances: bool,
     mut reader: R,
 ) -> Result<Logbook<'a>, WatchFault>
-    ensures { IfOk result (λ book. HoldsOfAll (R.remaining reader) (λ text. length text < 2 ^ 64
+    ensures watched { IfOk result (λ book. HoldsOfAll (R.remaining reader) (λ text. length text < 2 ^ 64
         → IsWatched plan.now clock (record { channel = option_copied channel.entry; are_distances = are_distances }) text book)) }
+    ensures refused { IfErr result (IsWhyNot (record { channel = option_copied channel.entry; are_distances = are_distances }) (R.remaining reader)) }
 {
     let mut book = Logbook::new(alloc, plan, clock, channel, are_distances)?;
     let mut piece = vec![in alloc; 0; PIECE]?;
     take_pieces(&mut book, &mut reader, &mut piece)?;
-    book.take_rest()?;
     book.end()?;
     Ok(book)
 }

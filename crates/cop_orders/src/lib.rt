@@ -1,13 +1,9 @@
-//! What the words of the command line ask for, and their help.
+//! What the program is asked for.
 #![tactic(auto)]
 
-mod commands;
 mod orders;
-mod subcommands;
-mod words;
 
 pub use orders::{
-    Format, MachineOrder, NetworkFiles, Order, PlanOrder, Rates, Request, Shown, TidyOrder,
-    WatchOrder, read_request,
+    Format, MOST_UNTIL, MachineOrder, NetworkFiles, Order, PlanOrder, Rates, Request, Shown,
+    TidyOrder, WatchOrder,
 };
-pub use subcommands::MOST_UNTIL;

@@ -11,18 +11,18 @@ use Rattle.cop_boot.specs.Sent.{MaySend, WereConfigured}
 use Rattle.cop_boot.proofs.CommandLemmas.{driven_commands}
 use Rattle.cop_boot.proofs.StartLemmas.{start_was_late, all_sent_may}
 use Rattle.cop_slcan.specs.Reading.{left_from}
-use Rattle.cop_live.specs.Log.{ByteStep, ClockStep, Doing, Asked, Sent, Read, DidAll, sent_in, came_after, came}
+use Rattle.cop_live.specs.Log.{ByteStep, ClockStep, Doing, Asked, Sent, Read, DidAll, BrokeOff, sent_in, came_after, came}
 use Rattle.cop_live.specs.Nodes.{nobody}
-use Rattle.cop_live.specs.Session.{State, is_start, held, reset_of, turn_log, turn_state, Step, Turn, Request, steps_log, steps_state, turns, first_state, boot_log, Booted}
+use Rattle.cop_live.specs.Session.{State, is_start, held, reset_of, turn_log, turn_state, Step, Turn, Request, steps_log, steps_state, turns, start_of, first_state, boot_log, Booted}
 use Rattle.cop_live.proofs.Sessions.{did_both, state_more, log_more, turn_then, given_up, answered, given, boot_driven, is_driven}
 use Rattle.cop_identity.specs.declared.questions.Question.{Question}
 use Rattle.cop_identity.specs.declared.asking.Outcome.{Outcome}
 use Rattle.cop_identity.specs.declared.asking.Outcome.TheVariants.{Answered, Silent, Unasked}
 use Rattle.cop_identity.specs.declared.asking.Exchange.{Exchange}
 use Rattle.cop_identity.specs.Questions.{request_of}
-use Rattle.cop_readback.specs.Reading.{Round, steps_for, round_steps, rounds_steps, exchanges_of, AreRounds, booted_in, Steps, are_ready, all_wanted}
+use Rattle.cop_readback.specs.Reading.{Round, steps_for, round_steps, rounds_steps, exchanges_of, AreRounds, booted_in, Steps, are_ready, all_wanted, RoundsFail, RoundsStop}
 use Rattle.cop_readback.specs.declared.session.Reach.{Reach}
-use Rattle.cop_readback.specs.Session.{starts_of, commands_of, session_log, booted_state, none_booted, may_start, IsRequest, IsCommand, IsSession, ReadsBack}
+use Rattle.cop_readback.specs.Session.{starts_of, commands_of, session_log, booted_state, none_booted, may_start, IsRequest, IsCommand, IsSession, ReadsBack, ReadingFails, StartFails, ReadBackStops}
 
 -- ---- lists of frames
 
@@ -305,4 +305,36 @@ reads_back reads writes asks reach m nodes questions p x y q began s t exchanges
       starts = starts;
       is = is_session reach.only m began b.taken rounds started t.manager questions (ap (λ (u : State). u.manager) whole_state) each
           (may_only reach.start t.manager.started (are_ready t.manager.nodes nodes) (all_wanted exchanges) (none_booted booted nodes) ready started may starts);
+    }
+
+-- what gives out behind a boot
+pub reading_fails : {P : Type 0} (reads writes : ByteStep P) (asks : ClockStep P) (fails : ByteStep P) (only : Option ℕ) (m : Managing) (nodes : List ℕ) (questions : List Question) (p x q : P) (began : ℕ) (s : State)
+    → Booted reads writes asks only m p began s x → list_all (λ node. is_some (end_at s.manager.nodes node)) nodes ≡ true → RoundsFail reads writes asks fails questions began s x q → ReadingFails reads writes asks fails only m nodes questions p q
+reading_fails reads writes asks fails only m nodes questions p x q began s b ended f = record { began = began; state = s; between = x; boots = b; ended = ended; failed = f }
+
+pub reading_stops : {P : Type 0} (reads writes : ByteStep P) (asks : ClockStep P) (only : Option ℕ) (m : Managing) (nodes : List ℕ) (questions : List Question) (p x q : P) (began : ℕ) (s : State)
+    → Booted reads writes asks only m p began s x → list_all (λ node. is_some (end_at s.manager.nodes node)) nodes ≡ true → RoundsStop reads writes asks questions began s x q → ReadBackStops reads writes asks only m nodes questions p q
+reading_stops reads writes asks only m nodes questions p x q began s b ended f = record { began = began; state = s; between = x; boots = b; ended = ended; stops = f }
+
+-- the start breaks off, where it is to be sent
+wanted_so : {P : Type 0} (reads writes : ByteStep P) (asks : ClockStep P) (fails : ByteStep P) (only : Option ℕ) (wanted ready started : Bool) (y q : P) → started ≡ wanted && ready → BrokeOff reads writes asks fails y (map Sent (starts_of only started)) q
+    → (wanted ≡ true) × (ready ≡ true) × BrokeOff reads writes asks fails y (Sent (start_of only) ∷ []) q
+wanted_so reads writes asks fails only true true started y q es h = (refl, refl, subst (λ b. BrokeOff reads writes asks fails y (map Sent (starts_of only b)) q) es h)
+wanted_so reads writes asks fails only true false started y q es h = absurd (subst (λ b. BrokeOff reads writes asks fails y (map Sent (starts_of only b)) q) es h)
+wanted_so reads writes asks fails only false ready started y q es h = absurd (subst (λ b. BrokeOff reads writes asks fails y (map Sent (starts_of only b)) q) es h)
+
+pub start_fails : {P : Type 0} (reads writes : ByteStep P) (asks : ClockStep P) (fails : ByteStep P) (reach : Reach) (m : Managing) (nodes : List ℕ) (questions : List Question) (p x y q : P) (began : ℕ) (s t : State) (exchanges : List Exchange) (booted before : List Bool) (ready started : Bool)
+    → Booted reads writes asks reach.only m p began s x → list_all (λ node. is_some (end_at s.manager.nodes node)) nodes ≡ true → before ≡ nobody
+    → (rounds : List Round) × (exchanges ≡ exchanges_of rounds) × (map (λ one. one.question) (exchanges_of rounds) ≡ questions) × AreRounds began s [] rounds × Steps reads writes asks began s before x (rounds_steps rounds) t booted y
+    → ready ≡ may_start t.manager nodes exchanges booted → started ≡ reach.start && ready → BrokeOff reads writes asks fails y (map Sent (starts_of reach.only started)) q
+    → StartFails reads writes asks fails reach m nodes questions p t.manager q
+start_fails reads writes asks fails reach m nodes questions p x y q began s t exchanges booted before ready started b ended en rounds may starts off =
+    let w = wanted_so reads writes asks fails reach.only reach.start ready started y q starts off in
+    record {
+      exchanges = exchanges;
+      booted = booted;
+      between = y;
+      reads_back = reads_back reads writes asks (record { only = reach.only; start = false }) m nodes questions p x y y began s t exchanges booted before true false b ended en rounds (sym w.1 ∙ may) refl refl;
+      wanted = w.0;
+      failed = w.2;
     }

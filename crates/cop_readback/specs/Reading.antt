@@ -6,7 +6,7 @@ use Rattle.cop_boot.specs.declared.«end».End.TheVariants as ends
 use Rattle.cop_boot.specs.Node.{Node}
 use Rattle.cop_boot.specs.Manager.{Managing, end_at}
 use Rattle.cop_slcan.specs.Reading.{said_from, left_from}
-use Rattle.cop_live.specs.Log.{ByteStep, ClockStep, DidAll}
+use Rattle.cop_live.specs.Log.{ByteStep, ClockStep, DidAll, GaveUp}
 use Rattle.cop_live.specs.Session.{State, Step, Turn, Request, turns, steps_log, steps_state, noted}
 use Rattle.cop_identity.specs.declared.questions.Question.{Question}
 use Rattle.cop_identity.specs.declared.questions.Answer.{Answer}
@@ -121,3 +121,34 @@ pub record Steps {P : Type 0} (reads writes : ByteStep P) (asks : ClockStep P) (
   pub did : DidAll reads writes asks p (steps_log began s steps) q
   pub state : t ≡ steps_state began s steps
   pub booted_up : after ≡ booted_in booted s.pending steps
+
+-- turns gave out in which an answer was awaited
+abbrev pub AwaitingFails : {P : Type 0} → ByteStep P → ByteStep P → ClockStep P → ByteStep P → ℕ → State → P → P → Type 0
+AwaitingFails reads writes asks fails began s p q = (taken : List (ℕ × List ℕ)) × GaveUp reads writes asks fails taken p (steps_log began s (turns taken)) q
+
+-- a question gave out: its request, or the turns
+abbrev pub RequestFails : {P : Type 0} → ByteStep P → ByteStep P → ClockStep P → ByteStep P → ℕ → State → Question → P → P → Type 0
+RequestFails reads writes asks fails began s question p q = (taken : List (ℕ × List ℕ)) × GaveUp reads writes asks fails taken p (steps_log began s (Request (request_of question) ∷ turns taken)) q
+
+-- and so did one behind others, which is not left out
+abbrev pub RoundFails : {P : Type 0} → ByteStep P → ByteStep P → ClockStep P → ByteStep P → ℕ → State → List Exchange → Question → P → P → Type 0
+RoundFails reads writes asks fails began s before question p q = (is_asked s.manager before question ≡ true) × RequestFails reads writes asks fails began s question p q
+
+-- rounds for the first ones of these questions were done, and the next question gave out
+pub record RoundsFail {P : Type 0} (reads writes : ByteStep P) (asks : ClockStep P) (fails : ByteStep P) (questions : List Question) (began : ℕ) (s : State) (p q : P) : Type 0 where
+  pub rounds : List Round
+  pub next : Question
+  pub rest : List Question
+  pub between : P
+  pub each : map (λ one. one.question) (exchanges_of rounds) ++ next ∷ rest ≡ questions
+  pub right : AreRounds began s [] rounds
+  pub did : DidAll reads writes asks p (steps_log began s (rounds_steps rounds)) between
+  pub failed : RoundFails reads writes asks fails began (steps_state began s (rounds_steps rounds)) (exchanges_of rounds) next between q
+
+-- rounds for the first ones of these questions were done
+pub record RoundsStop {P : Type 0} (reads writes : ByteStep P) (asks : ClockStep P) (questions : List Question) (began : ℕ) (s : State) (p q : P) : Type 0 where
+  pub rounds : List Round
+  pub rest : List Question
+  pub each : map (λ one. one.question) (exchanges_of rounds) ++ rest ≡ questions
+  pub right : AreRounds began s [] rounds
+  pub did : DidAll reads writes asks p (steps_log began s (rounds_steps rounds)) q

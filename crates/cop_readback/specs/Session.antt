@@ -1,17 +1,17 @@
 -- A boot over a port whose settings are read back, and the start of the nodes.
-use Rattle.std.specs.Prelude.{◌≡◌, ℕ, Bool, true, not, ◌&&◌, List, [], ◌∷◌, ◌++◌, map, filter, is_some, ◌⊎◌, Option, if◌then◌else◌}
+use Rattle.std.specs.Prelude.{◌≡◌, ℕ, Bool, true, false, not, ◌&&◌, List, [], ◌∷◌, ◌++◌, map, filter, is_some, ◌⊎◌, Option, if◌then◌else◌}
 use Rattle.std.specs.List.{AllByRecursion, list_all}
 use Rattle.cop_sdo.specs.Message.{Message}
 use Rattle.cop_boot.specs.Manager.{Managing, is_command, end_at}
 use Rattle.cop_boot.specs.Sent.{MaySend, WereConfigured}
-use Rattle.cop_live.specs.Log.{ByteStep, ClockStep, Doing, Sent, DidAll, sent_in, came}
+use Rattle.cop_live.specs.Log.{ByteStep, ClockStep, Doing, Sent, DidAll, BrokeOff, sent_in, came}
 use Rattle.cop_live.specs.Nodes.{nobody, has_node}
-use Rattle.cop_live.specs.Session.{State, turns, steps_state, reset_of, start_of, first_state, boot_log, IsDriven}
+use Rattle.cop_live.specs.Session.{State, turns, steps_state, reset_of, start_of, first_state, boot_log, IsDriven, Booted, BootFails}
 use Rattle.cop_identity.specs.declared.questions.Question.{Question}
 use Rattle.cop_identity.specs.declared.asking.Exchange.{Exchange}
 use Rattle.cop_identity.specs.Questions.{request_of}
 use Rattle.cop_readback.specs.declared.session.Reach.{Reach}
-use Rattle.cop_readback.specs.Reading.{Round, rounds_steps, exchanges_of, AreRounds, are_ready, all_wanted, booted_in}
+use Rattle.cop_readback.specs.Reading.{Round, rounds_steps, exchanges_of, AreRounds, are_ready, all_wanted, booted_in, RoundsFail, RoundsStop}
 
 -- the start of one node alone, or of all, if they are started; and the commands of a session: one reset before it
 abbrev pub starts_of : Option ℕ → Bool → List Message
@@ -80,3 +80,38 @@ pub record ReadsBack {P : Type 0} (reads writes : ByteStep P) (asks : ClockStep 
   pub starts : started ≡ reach.start && ready
   -- and what is true of all that was done
   pub is : IsSession reach.only m questions began (session_log reach.only m began booting rounds started) later started
+
+-- the boot of each of some nodes ended, and then a question gave out
+pub record ReadingFails {P : Type 0} (reads writes : ByteStep P) (asks : ClockStep P) (fails : ByteStep P) (only : Option ℕ) (m : Managing) (nodes : List ℕ) (questions : List Question) (p q : P) : Type 0 where
+  pub began : ℕ
+  pub state : State
+  pub between : P
+  pub boots : Booted reads writes asks only m p began state between
+  pub ended : list_all (λ node. is_some (end_at state.manager.nodes node)) nodes ≡ true
+  pub failed : RoundsFail reads writes asks fails questions began state between q
+
+-- all was as where the nodes are ready and are not to be started; they were to be, and the start broke off
+pub record StartFails {P : Type 0} (reads writes : ByteStep P) (asks : ClockStep P) (fails : ByteStep P) (reach : Reach) (m : Managing) (nodes : List ℕ) (questions : List Question) (p : P) (later : Managing) (q : P) : Type 0 where
+  pub exchanges : List Exchange
+  pub booted : List Bool
+  pub between : P
+  pub reads_back : ReadsBack reads writes asks (record { only = reach.only; start = false }) m nodes questions p exchanges booted true false later between
+  pub wanted : reach.start ≡ true
+  pub failed : BrokeOff reads writes asks fails between (Sent (start_of reach.only) ∷ []) q
+
+-- A boot gave out whose settings are read back: before each node's boot had ended, at a question, or at the start. Before its last case no
+-- start was written, nor a part of it.
+abbrev pub ReadBackFails : {P : Type 0} → ByteStep P → ByteStep P → ClockStep P → ByteStep P → Reach → Managing → List ℕ → List Question → P → Managing → P → Type 0
+ReadBackFails reads writes asks fails reach m nodes questions p later q =
+    BootFails reads writes asks fails reach.only m p q
+    ⊎ (ReadingFails reads writes asks fails reach.only m nodes questions p q ⊎ StartFails reads writes asks fails reach m nodes questions p later q)
+
+-- there was no memory for what came of a question: the boot of each of some nodes ended, rounds for the first ones of the questions were done, and
+-- nothing else was
+pub record ReadBackStops {P : Type 0} (reads writes : ByteStep P) (asks : ClockStep P) (only : Option ℕ) (m : Managing) (nodes : List ℕ) (questions : List Question) (p q : P) : Type 0 where
+  pub began : ℕ
+  pub state : State
+  pub between : P
+  pub boots : Booted reads writes asks only m p began state between
+  pub ended : list_all (λ node. is_some (end_at state.manager.nodes node)) nodes ≡ true
+  pub stops : RoundsStop reads writes asks questions began state between q

@@ -1,10 +1,11 @@
 //! Settings are read back, question after question.
 
-ghost use Rattle.std.specs.Prelude.{◌≡◌, ◌∷◌, [], ℕ, List, map, IfSome, IfOk};
+ghost use Rattle.std.specs.Prelude.{◌≡◌, ◌∷◌, [], ℕ, List, map, IfSome, IfNone, IfOk, OnErr};
 ghost use Rattle.cop_live.specs.Session.{turns};
 ghost use Rattle.cop_identity.specs.Questions.{request_of};
 ghost use Rattle.cop_live.specs.Session.{Request};
 ghost use Rattle.cop_readback.specs.Reading.{Round, round_steps, rounds_steps, exchanges_of, IsOutcome, IsRound, AreRounds, Steps, is_wanted, are_right_at, all_wanted, is_ready_end, is_ready_at, are_ready, is_asked};
+ghost use Rattle.cop_readback.specs.Reading.{AwaitingFails, RequestFails, RoundFails, RoundsFail, RoundsStop};
 
 use cop_boot::{End, Manager};
 use cop_identity::{Answer, Exchange, Outcome, Question, answer_from, limit_of, request_of};
@@ -80,12 +81,13 @@ fn await_answer<P: Port>(
     ensures awaited { IfSome result (λ outcome. (taken : List (ℕ × List ℕ)) × IsOutcome question.now taken outcome
         × Steps P.reads P.writes P.asks boot.old.began (record { manager = manager.old; pending = boot.old.reader }) boot.old.booted port.old (turns taken)
         (record { manager = manager.new; pending = boot.new.reader }) boot.new.booted port.new) }
+    ensures failed { IfNone result (AwaitingFails P.reads P.writes P.asks P.fails boot.old.began (record { manager = manager.old; pending = boot.old.reader }) port.old port.new) }
 {
     let limit = limit_of(question.demand);
     let mut reader = Reader::new();
     let mut first = None;
     let mut buffer = [0; 256];
-    for _ in 0..u64::MAX {
+    for _turn in 0..u64::MAX {
         let Some(turn) = take_turn(manager, boot, port, &mut buffer) else {
             return None;
         };
@@ -112,6 +114,7 @@ fn ask<P: Port>(
     ensures asked { IfSome result (λ outcome. (taken : List (ℕ × List ℕ)) × IsOutcome question.now taken outcome
         × Steps P.reads P.writes P.asks boot.old.began (record { manager = manager.old; pending = boot.old.reader }) boot.old.booted port.old (Request (request_of question.now) ∷ turns taken)
         (record { manager = manager.new; pending = boot.new.reader }) boot.new.booted port.new) }
+    ensures failed { IfNone result (RequestFails P.reads P.writes P.asks P.fails boot.old.began (record { manager = manager.old; pending = boot.old.reader }) question.now port.old port.new) }
 {
     if !send(port, &request_of(question)) {
         return None;
@@ -131,6 +134,7 @@ fn ask_next<P: Port>(
     ensures asked { IfSome result (λ outcome. (taken : List (ℕ × List ℕ)) × IsRound manager.old before.now (record { exchange = record { question = question.now; outcome = outcome }; taken = taken })
         × Steps P.reads P.writes P.asks boot.old.began (record { manager = manager.old; pending = boot.old.reader }) boot.old.booted port.old (round_steps (record { exchange = record { question = question.now; outcome = outcome }; taken = taken }))
         (record { manager = manager.new; pending = boot.new.reader }) boot.new.booted port.new) }
+    ensures failed { IfNone result (RoundFails P.reads P.writes P.asks P.fails boot.old.began (record { manager = manager.old; pending = boot.old.reader }) before.now question.now port.old port.new) }
 {
     if is_asked(manager, before, question) {
         ask(question, manager, boot, port)
@@ -154,6 +158,8 @@ pub(crate) fn read_back<P: Port>(
         × AreRounds boot.old.began (record { manager = manager.old; pending = boot.old.reader }) [] rounds
         × Steps P.reads P.writes P.asks boot.old.began (record { manager = manager.old; pending = boot.old.reader }) boot.old.booted port.old (rounds_steps rounds)
         (record { manager = manager.new; pending = boot.new.reader }) boot.new.booted port.new)) }
+    ensures failed { IfOk result (λ asked. IfNone asked (RoundsFail P.reads P.writes P.asks P.fails questions.now boot.old.began (record { manager = manager.old; pending = boot.old.reader }) port.old port.new)) }
+    ensures short { OnErr result (RoundsStop P.reads P.writes P.asks questions.now boot.old.began (record { manager = manager.old; pending = boot.old.reader }) port.old port.new) }
 {
     let mut all = Vec::new(alloc);
     for question in questions {

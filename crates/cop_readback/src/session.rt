@@ -1,8 +1,8 @@
 //! A boot over a port whose settings are read back, and the start of the nodes.
 
-ghost use Rattle.std.specs.Prelude.{◌≡◌, ◌&&◌, true, map, IfSome, IfOk};
-ghost use Rattle.cop_live.specs.Log.{Sent, DidAll};
-ghost use Rattle.cop_readback.specs.Session.{none_booted, may_start, starts_of, ReadsBack};
+ghost use Rattle.std.specs.Prelude.{◌≡◌, ◌&&◌, true, false, map, IfSome, IfNone, IfOk, OnErr};
+ghost use Rattle.cop_live.specs.Log.{Sent, DidAll, BrokeOff};
+ghost use Rattle.cop_readback.specs.Session.{none_booted, may_start, starts_of, ReadsBack, ReadBackFails, ReadBackStops};
 
 use crate::reading::{all_wanted, are_ready, read_back};
 use cop_boot::Manager;
@@ -43,7 +43,8 @@ pub struct ReadBack {
 
 // Starts one node alone, or all, if they are to be started.
 fn start<P: Port>(port: &mut P, only: Option<u8>, started: bool) -> bool
-    ensures { result ≡ true → DidAll P.reads P.writes P.asks port.old (map Sent (starts_of only started)) port.new }
+    ensures sent { result ≡ true → DidAll P.reads P.writes P.asks port.old (map Sent (starts_of only started)) port.new }
+    ensures failed { result ≡ false → BrokeOff P.reads P.writes P.asks P.fails port.old (map Sent (starts_of only started)) port.new }
 {
     !started || send(port, &start_of(only))
 }
@@ -75,7 +76,9 @@ pub fn boot_and_read_back<P: Port>(
     reach: Reach,
     port: &mut P,
 ) -> Result<Option<ReadBack>, AllocError>
-    ensures { IfOk result (λ done. IfSome done (λ back. ReadsBack P.reads P.writes P.asks reach manager.old nodes.now questions.now port.old back.exchanges.items back.booted back.ready back.started manager.new port.new)) }
+    ensures done { IfOk result (λ done. IfSome done (λ back. ReadsBack P.reads P.writes P.asks reach manager.old nodes.now questions.now port.old back.exchanges.items back.booted back.ready back.started manager.new port.new)) }
+    ensures failed { IfOk result (λ done. IfNone done (ReadBackFails P.reads P.writes P.asks P.fails reach manager.old nodes.now questions.now port.old manager.new port.new)) }
+    ensures short { OnErr result (ReadBackStops P.reads P.writes P.asks reach.only manager.old nodes.now questions.now port.old port.new) }
 {
     let Some(mut boot) = boot_over(manager, nodes, reach.only, port) else {
         return Ok(None);

@@ -241,7 +241,7 @@ pub fn boot_machine(
     form: Form,
     inputs: &mut Inputs,
 ) -> Result<u8, Failure> {
-    read_network(rt, &mut inputs.network, order.network)?;
+    let _tables = read_network(rt, &mut inputs.network, order.network)?;
     let texts = &inputs.network;
     let limit = match order.limit {
         Some(seconds) => seconds.saturating_mul(SECOND),

@@ -138,6 +138,8 @@ impl Port for Serial<'_> {
 
     ghost asks = { λ _ _ _. Unit {0} };
 
+    ghost fails = { λ _ _ _. Unit {0} };
+
     fn read(&mut self, buffer: &mut [u8]) -> Option<usize> {
         match self.read_line(buffer) {
             Ok(0) if !self.is_terminal() => None,

@@ -8,9 +8,7 @@ use crate::rates::{is_list, push_all_rates};
 use crate::separators::seen;
 use crate::words::{Source, push_explanation, push_place, push_rule, push_shown};
 use cop_frame::RateSet;
-use cop_net::{
-    DeviceRow, NodeTable, PlanFault, Refusal, Rule, Table, network, read_nodes, read_pdos,
-};
+use cop_net::{DeviceRow, NodeTable, Refusal, Rule, Table, read_nodes};
 use cop_rules::{NONE_LISTED, header, header_with_deadline, name_of, wanted};
 use std::alloc::{AllocError, Global};
 
@@ -21,14 +19,6 @@ pub struct Network<'a> {
     pub pdos: Source<'a>,
     pub eds_files: &'a [(String, Vec<u8>)],
     pub wanted: &'a RateSet,
-}
-
-/// Reads a network, and nothing more.
-fn read(alloc: Global, files: Network<'_>) -> Result<(), PlanFault> {
-    let nodes = read_nodes(alloc, files.nodes.text)?;
-    let pdos = read_pdos(alloc, files.pdos.text)?;
-    network(alloc, files.wanted, &nodes, &pdos, files.eds_files)?;
-    Ok(())
 }
 
 /// Whether the first record of a table of nodes is the header with deadlines.
@@ -258,8 +248,8 @@ fn push_file(words: &mut Vec<u8>, alloc: Global, name: &str) -> Result<(), Alloc
     Ok(())
 }
 
-/// What is said of a refusal: the record as it stands in its table, the device, what is wanted, and the rule.
-fn refusal_words(
+/// Why a network's files are refused, in words: the record as it stands in its table, the device, what is wanted, and the rule.
+pub fn network_words(
     alloc: Global,
     files: Network<'_>,
     refusal: &Refusal,
@@ -283,13 +273,4 @@ fn refusal_words(
         push_rule(&mut words, alloc, refusal.rule.number())?;
     }
     Ok(words)
-}
-
-/// Why a network's files are refused, in words. Nothing where they are not, and nothing where memory is wanting to tell.
-pub fn network_words(alloc: Global, files: Network<'_>) -> Result<Vec<u8>, AllocError> {
-    match read(alloc, files) {
-        Ok(()) => Ok(Vec::new(alloc)),
-        Err(PlanFault::Memory) => Ok(Vec::new(alloc)),
-        Err(PlanFault::Refused(refusal)) => refusal_words(alloc, files, &refusal),
-    }
 }

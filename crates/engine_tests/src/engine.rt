@@ -25,12 +25,9 @@ const THREE_FRAMES: &[u8] =
 pub(crate) fn refused<T: Drop>(answer: Result<T, Fault>) -> Result<Option<(u8, u64)>, Fail> {
     match answer {
         Ok(_) => Ok(None),
-        Err(fault) => {
-            if let Fault::Refused { number, place } = fault {
-                return Ok(Some((number, place)));
-            }
-            Err(Fail::from(fault))
-        }
+        Err(Fault::Network(refusal)) => Ok(Some((refusal.rule.number(), refusal.place))),
+        Err(Fault::Refused { number, place }) => Ok(Some((number, place))),
+        Err(fault) => Err(Fail::from(fault)),
     }
 }
 

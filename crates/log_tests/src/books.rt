@@ -123,9 +123,14 @@ const LOGS: &[(&str, u64)] = &[
         "(0.000000) can0 181#00112233\n(0.010000) can0 181#00112233\n",
         0,
     ),
-    // The last line lacks its end.
+    // The last line lacks its end, and may be cut.
     (
-        "(0.000000) can0 181#00112233\n(0.001000) can0 181#00112233",
+        "(0.000000) can0 181#00112233\n(0.001000) can0 181#001122",
+        0,
+    ),
+    // The clock falls: what comes behind is no breach by itself.
+    (
+        "(1.000000) can0 181#00112233\n(0.500000) can0 181#00112233\n(0.510000) can0 181#00112233\n",
         1,
     ),
     (
@@ -176,5 +181,33 @@ fn a_log_that_is_not_read_to_its_end_is_not_watched(rt: HostRuntime) -> Result<(
     let log = in_pieces("(0.000000) can0 181#00112233\n", true);
     let found = breaches(rt.alloc(), &plan, None, log);
     assert!(rt; matches!(found, Err(WatchFault::Read(_))));
+    Ok(())
+}
+
+/// Logs, and what is said at the end of them.
+const SAID: &[(&str, &str)] = &[
+    ("(0.000000) can0 181#00112233\n", "keeps to the tables\n"),
+    (
+        "(0.000000) can0 181#00112233\n(0.0100",
+        "line 2: the last line has no end, and was left out\nkeeps to the tables\n",
+    ),
+    (
+        "(1.000000) can0 181#00112233\n(0.500000) can0 181#00112233\n",
+        "line 2: the log's clock falls by 500000 us from line 1 on, with 1 us for the clock; breaks: the clock of the log does not fall\nbreaches 1\n",
+    ),
+];
+
+#[test]
+fn what_is_said_ends_in_the_breaches(rt: HostRuntime) -> Result<(), Fail> {
+    let plan = planned(rt.alloc())?;
+    let clock = Clock { error: 1, drift: 0 };
+    for case in SAID {
+        let (log, wanted) = *case;
+        let pieces = in_pieces(log, false);
+        let Ok(book) = watched(rt.alloc(), &plan, clock, None, false, pieces) else {
+            return Err(Fail::from("it is refused"));
+        };
+        assert!(rt; book.finish()?.ends_with(wanted));
+    }
     Ok(())
 }

@@ -10,14 +10,15 @@ type Seen = (&'static [u8], u64, u32, &'static [u8]);
 
 const DATA: &[u8] = &[0, 0x11, 0x22, 0x33, 0x44, 0x55, 0x66, 0x77];
 
+// The mark of UTF-8 stands in front, and blank lines between.
 const LOG: &[u8] =
-    b"\n(1436509052.249713) can0 181#0011223344556677\r\n(1436509052.250000) can1 00000181#R T";
+    b"\xEF\xBB\xBF(1436509052.249713) can0 181#0011223344556677\r\n\r\n(1436509052.250000) can1 00000181#R T\n";
 
 const COLUMNS: &[u8] =
     b" (1436509052.249713)  can0  181   [8]  00 11 22 33 44 55 66 77   '.\"3D Ufw'\r\n\
      (1436509052.250000)  vcan0  RX - -  18FEF100   [1]  A5\n\
      (1436509052.250001)  can0  TX B E  7FF   [0]  remote request\n\
-     (1436509052.250002)  can0  20000004   [2]  00 04                     ERRORFRAME\n";
+     (1436509052.250002)  can0  20000004   [2]  00 04                     ERRORFRAME\n\tcontroller-problem{rx-error-warning}\n";
 
 const DISTANCES: &[u8] =
     b" (000.000000)  can0  181   [0] \n (000.000100)  can0  182   [0] \n (001.000020)  can0  183   [0] \n";
@@ -29,6 +30,13 @@ const VECTOR: &[u8] =
     \x20  0.0170 2  18FEF100x       TxRq d 1 A5\n   0.0171 2  18FEF100x       Tx   d 1 A5\n   0.018000 1  Statistic: D 3 R 0 XD 0 XR 0 E 0 O 0 B 0.15%\n\
     \x20  0.018123456 1  7FF             Rx   r\n   0.019000 1  ErrorFrame\n   0.020000 Li 1 34 Rx 8 00\nEnd TriggerBlock\n";
 
+// As hardware of CAN FD writes classical frames: flags have no bit 12.
+const VECTOR_FD: &[u8] = b"date Thu Nov 26 10:14:44 2026\nbase hex  timestamps absolute\n\
+     0.000100 CANFD 1 Rx 181 0 0 8 8 00 11 22 33 44 55 66 77 130000 130 0 0 0 0 0 0\n\
+     0.000200 CANFD 2 Tx 18FEF100x Engine 0 0 1 1 A5 130000 130 200000 0 0 0 0 0\n\
+     0.000300 CANFD 1 Rx 7FF 0 0 2 0 130000 130 10 0 0 0 0 0\n\
+     0.000400 CANFD 1 Rx ErrorFrame\n     0.000500 CANFD 1 TxRq 181 0 0 1 1 00 0 0 0 0 0 0 0 0\n";
+
 const RELATIVE: &[u8] =
     b"date Thu Nov 26 10:14:44 2026\r\nbase dec  timestamps relative\r\n 1.5 1 385 Rx d 2 0 255\r\n\
     \x20 0.5 Start of measurement\r\n 0.000001 1 536870911x Rx d 0\r\n";
@@ -39,6 +47,11 @@ const PEAK_1_0: &[u8] = b";####\n;   Message Number\n     1)      1841      0001
 const PEAK_1_1: &[u8] = b";$FILEVERSION=1.1\r\n;$STARTTIME=37704.5364870833\r\n\
     \x20    1)      1059.9  Rx         0300  7  00 00 00 00 04 00 00\r\n     2)      1298.945  Tx     00000400  2  00 01\r\n\
     \x20    3)      1334.416  Warng  FFFFFFFF  4  00 00 00 08  BUSHEAVY\r\n     4)      1352.743  Rx         0100  3  RTR\r\n";
+
+const PEAK_1_2: &[u8] = b";$FILEVERSION=1.2\n     1)      1059.9  2  Rx         0300  2  00 A5\n";
+
+const PEAK_1_3: &[u8] =
+    b";$FILEVERSION=1.3\n      1)      1059.900 1  Rx        0300 -  2    00 A5\n";
 
 const PEAK_2_0: &[u8] =
     b";$FILEVERSION=2.0\n;$COLUMNS=N,O,T,I,d,l,D\n      1      1059.900 DT     0300 Rx 2    00 A5\n\
@@ -89,6 +102,16 @@ const ROWS: &[Row] = &[
         ],
     ),
     (
+        VECTOR_FD,
+        false,
+        &[
+            (b"1", 100, 0x181, DATA),
+            (b"2", 200, 0x98FEF100, b"\xA5"),
+            (b"1", 300, 0x400007FF, b""),
+            (b"1", 400, 0x20000000, b""),
+        ],
+    ),
+    (
         RELATIVE,
         false,
         &[
@@ -114,6 +137,8 @@ const ROWS: &[Row] = &[
             (b"1", 1352743, 0x40000100, b""),
         ],
     ),
+    (PEAK_1_2, false, &[(b"2", 1059900, 0x300, b"\x00\xA5")]),
+    (PEAK_1_3, false, &[(b"1", 1059900, 0x300, b"\x00\xA5")]),
     (
         PEAK_2_0,
         false,
@@ -137,6 +162,7 @@ fn is_seen(message: &Message, channel: &[u8], seen: &Seen) -> bool {
     let (wanted, at, id, bytes) = *seen;
     let Message { entry, body } = *message;
     let Entry {
+        line: _,
         at: stamp,
         id: own,
         len,
@@ -166,7 +192,8 @@ fn each_form_is_read(rt: HostRuntime) -> Result<(), Fail> {
 
 // Logs of which the last line alone is refused.
 const REFUSED: &[(&[u8], LineFault)] = &[
-    (b"(1.000000) can0 181#00\n", LineFault::Stamp),
+    (b"Timestamp,ID,Data", LineFault::Form),
+    (b"(1.000000) can0 181#00\n1.5", LineFault::Stamp),
     (b"(1.000000)  can0  181  [08]  00", LineFault::Form),
     (b"(1.000000)  can0  181  [2]  00", LineFault::Data),
     (b"(1.000000)  can0  181  [1]  00 11", LineFault::Data),
@@ -185,6 +212,11 @@ const REFUSED: &[(&[u8], LineFault)] = &[
     (b"date\n0.1 1 181 R d 1 00", LineFault::Form),
     (b"date\n0.1 1 181 Rx d 2 00", LineFault::Data),
     (b"date\n0.1 CANFD 1 Rx 181 0 0 d 1 1 00", LineFault::Form),
+    (
+        b"date\n0.1 CANFD 1 Rx 181 0 0 1 1 00 0 0 1000",
+        LineFault::Form,
+    ),
+    (b"date\n0.1 CANFD 1 Rx 181 0 0 9 12 00", LineFault::Form),
     (b";$FILEVERSION=3.0", LineFault::Form),
     (b";$COLUMNS=N,O,T,B,d,D", LineFault::Form),
     (b";\n1) 1841 0001 1", LineFault::Data),
@@ -211,5 +243,17 @@ fn a_line_that_is_none_of_its_form_is_refused(rt: HostRuntime) -> Result<(), Fai
         }
         assert!(rt; last == Some(fault));
     }
+    Ok(())
+}
+
+#[test]
+fn distances_begin_at_0_and_are_below_an_hour(rt: HostRuntime) -> Result<(), Fail> {
+    let mut reader = LineReader::new(true);
+    let late = reader.read(b" (000.000001)  can0  181   [0] ");
+    assert!(rt; late.err() == Some(LineFault::Distance));
+    assert!(rt; reader.read(b" (000.000000)  can0  181   [0] ").is_ok());
+    let long = reader.read(b" (3600.000000)  can0  181   [0] ");
+    assert!(rt; long.err() == Some(LineFault::Distance));
+    assert!(rt; LineFault::Distance.number() == 96);
     Ok(())
 }

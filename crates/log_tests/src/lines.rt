@@ -27,7 +27,15 @@ const ENTRIES: &[(&[u8], &[u8], u32, u8)] = &[
 fn an_entry_is_read(rt: HostRuntime) -> Result<(), Fail> {
     for row in ENTRIES {
         let (channel, line, id, len) = *row;
-        assert!(rt; line_in(channel, line) == Ok(Some(Entry { at: AT, id, len })));
+        assert!(rt;
+            line_in(channel, line)
+                == Ok(Some(Entry {
+                    line: 0,
+                    at: AT,
+                    id,
+                    len
+                }))
+        );
     }
     assert!(rt; line_in(b"can1", LINE) == Ok(None));
     Ok(())
@@ -63,15 +71,18 @@ pub(crate) fn named(rt: &HostRuntime, name: &[u8]) -> Result<Option<Vec<u8>>, Al
 
 #[test]
 fn a_log_is_read_up_to_its_end(rt: HostRuntime) -> Result<(), Fail> {
-    let text = b"(1.000000) can0 181#00\n(1.000001) can1 182#\n(1.000002) can0 183#";
+    // The last line has no end.
+    let text =
+        b"(1.000000) can0 181#00\n\n(1.000001) can1 182#\n(1.000002) can0 183#\n(1.000003) can0 18";
     let log = read_log(rt.alloc(), named(&rt, b"can0")?, false, text)?;
     let last = Entry {
+        line: 4,
         at: 1000002,
         id: 0x183,
         len: 0,
     };
     assert!(rt; log.len() == 2 && log.get(1) == Some(&last));
-    let broken = b"(1.000000) can0 181#00\n\n(1.000002) can0 183#";
+    let broken = b"(1.000000) can0 181#00\n1.000001\n(1.000002) can0 183#\n";
     let fault = LogFault::Line {
         number: 2,
         fault: LineFault::Stamp,

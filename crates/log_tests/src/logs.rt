@@ -59,6 +59,8 @@ fn each_breach_is_found(rt: HostRuntime) -> Result<(), Fail> {
     assert!(rt; only(&rt, soon)? == Some(expected));
     let crowded = b"(1.000600) can0 181#0011223344556677\n(1.000800) can0 182#00112233\n";
     assert!(rt; only(&rt, crowded)? == Some(Finding::Crowded { from: 0, to: 1 }));
+    let fallen = b"(1.000600) can0 181#0011223344556677\n(1.000000) can0 182#00112233\n";
+    assert!(rt; only(&rt, fallen)? == Some(Finding::Fallen { from: 0, to: 1 }));
     Ok(())
 }
 

@@ -8,7 +8,7 @@ use std::test::Fail;
 
 const TEXT: &[u8] =
     b"date Thu Nov 26 10:14:44 2026\r\nbase hex  timestamps relative\r\n\r\n 1.5 1 181 Rx d 2 00 FF\r\n\
-    \x20 0.5 Start of measurement\r\n 0.25 2 182 Rx d 0\r\n 0.000001 1 183 Rx r";
+    \x20 0.5 Start of measurement\r\n 0.25 2 182 Rx d 0\r\n 0.000001 1 183 Rx r\n 0.5 1 184 Rx d 2 00";
 
 /// Adds what a reader gives of a piece.
 fn push_entries(log: &mut Vec<Entry>, reader: &mut LogReader, piece: &[u8]) -> Result<(), Fail> {
@@ -32,8 +32,8 @@ fn read_by(rt: &HostRuntime, len: usize) -> Result<Vec<Entry>, Fail>
     for piece in TEXT.chunks(len) {
         push_entries(&mut log, &mut reader, piece)?;
     }
-    if let Some(message) = reader.end()? {
-        log.push(message.entry)?;
+    if reader.unended() != Some(8) {
+        return Err(Fail::from("the last line has an end"));
     }
     Ok(log)
 }
@@ -42,6 +42,7 @@ fn read_by(rt: &HostRuntime, len: usize) -> Result<Vec<Entry>, Fail>
 fn pieces_of_any_length_give_one_log(rt: HostRuntime) -> Result<(), Fail> {
     let whole = read_log(rt.alloc(), None, false, TEXT)?;
     let last = Entry {
+        line: 7,
         at: 2250001,
         id: 0x40000183,
         len: 0,

@@ -88,6 +88,8 @@ impl Port for Script {
 
     ghost asks = { λ p now q. q.written.items ≡ p.written.items };
 
+    ghost fails = { λ _ _ _. Unit {0} };
+
     fn read(&mut self, buffer: &mut [u8]) -> Option<usize> {
         let bytes = match self.answer.take() {
             Some(answer) => answer,

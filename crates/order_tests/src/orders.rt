@@ -1,7 +1,8 @@
 //! What the words of the command line ask for.
 
+use cop_cli_args::read_request;
 use cop_frame::Rate;
-use cop_orders::{Format, NetworkFiles, Order, WatchOrder, read_request};
+use cop_orders::{Format, NetworkFiles, Order, WatchOrder};
 use cop_plan::Choice;
 use std::alloc::{AllocError, Global};
 use std::test::Fail;
@@ -132,7 +133,10 @@ fn write_order(text: &mut String, order: Order<'_>) -> Result<(), AllocError> {
             let (input, out, clamp) = (order.input, order.out.unwrap_or("no"), order.words.clamp);
             write!(text, "tidy {input} {out} {clamp}")
         }
-        Order::Explain { number } => write!(text, "explain {number}"),
+        Order::Explain {
+            number: Some(number),
+        } => write!(text, "explain {number}"),
+        Order::Explain { number: None } => text.push_str("explain all"),
         _ => write_made(text, order),
     }
 }

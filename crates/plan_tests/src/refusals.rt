@@ -407,7 +407,7 @@ const BROKEN: &[(&[u8], &[u8], Rule, u64)] = &[
     (b"rate,pdo,what,value\n", b"", Rule::Version, 1),
     (b"rate,pdo,what,value\n0,0,version\n", b"", Rule::Fields, 1),
     (
-        b"rate,pdo,what,value\n0,0,version,3\n",
+        b"rate,pdo,what,value\n0,0,version,4\n",
         b"",
         Rule::Version,
         1,

@@ -1,5 +1,6 @@
 use cop_frame::{Rate, RateSet};
-use cop_net::all_rates;
+use cop_net::{PlanFault, all_rates, network, read_nodes, read_pdos};
+use cop_rta::Verdict;
 use cop_rules::explained;
 use cop_words::{Network, Source, late_words, line_at, network_words, record_at, record_words};
 use std::alloc::{AllocError, Global};
@@ -96,6 +97,14 @@ fn words(alloc: Global, nodes: &str, pdos: &str, eds: &str) -> Result<String, Fa
     words_of(alloc, nodes, pdos, &[("unit.eds", eds)], &all_rates())
 }
 
+/// Reads a network, and nothing more.
+fn read(alloc: Global, files: Network<'_>) -> Result<(), PlanFault> {
+    let nodes = read_nodes(alloc, files.nodes.text)?;
+    let pdos = read_pdos(alloc, files.pdos.text)?;
+    network(alloc, files.wanted, &nodes, &pdos, files.eds_files)?;
+    Ok(())
+}
+
 /// The words on a network.
 fn words_of(
     alloc: Global,
@@ -117,8 +126,13 @@ fn words_of(
         eds_files: &files,
         wanted,
     };
-    let said = network_words(alloc, network)?;
-    text_of(alloc, &said)
+    match read(alloc, network) {
+        Ok(()) => Ok(String::new(alloc)),
+        Err(PlanFault::Refused(refusal)) => {
+            text_of(alloc, &network_words(alloc, network, &refusal)?)
+        }
+        Err(PlanFault::Memory) => Err(Fail::from("no memory")),
+    }
 }
 
 /// Mistakes in the table of nodes: a record, and what the words begin with and have in them.
@@ -762,10 +776,20 @@ fn a_record_that_is_missing_is_told_by_its_file(rt: HostRuntime) -> Result<(), F
 
 #[test]
 fn late_streams_are_told(rt: HostRuntime) -> Result<(), Fail> {
-    let report = b"181h pass 8000\n183h late 1 14000\n184h long\n";
+    let verdicts = &[
+        (0x181, Verdict::Pass { response: 8000 }),
+        (
+            0x183,
+            Verdict::Late {
+                q: 1,
+                response: 14000,
+            },
+        ),
+        (0x184, Verdict::Long),
+    ];
     let wanted =
         "183h: its instance 1 can end 14000 ticks of 250 ns after its event, which is past its deadline\n184h: it and the frames above it can keep the bus busy for more than 10 s; they ask for more than this rate carries\n";
-    let said = late_words(rt.alloc(), report)?;
+    let said = late_words(rt.alloc(), verdicts)?;
     assert!(rt; said.as_slice() == wanted.as_bytes());
     Ok(())
 }

@@ -56,7 +56,10 @@ fn ran(alloc: Global, until: u64) -> Result<(Vec<u8>, Vec<u8>), Fault>
 /// What is judged of a trace in pieces.
 fn judged(alloc: Global, trace: &[u8], fails: bool) -> Result<Option<Vec<u8>>, Fault> {
     let outcome = outcome(alloc)?;
-    Ok(judge_pieces(alloc, &outcome, in_pieces(trace, fails)))
+    match judge_pieces(alloc, &outcome, in_pieces(trace, fails)) {
+        Some(judgement) => Ok(Some(judgement.text(alloc)?)),
+        None => Ok(None),
+    }
 }
 
 #[test]
@@ -65,7 +68,7 @@ fn a_trace_in_pieces_is_judged_as_it_is_told(rt: HostRuntime) -> Result<(), Fail
     let judged = judged(rt.alloc(), &trace, false)?;
     assert!(rt; judged.is_some_and(|judged| judged == text));
     let whole = judge_outcome(rt.alloc(), &outcome(rt.alloc())?, &trace)?;
-    assert!(rt; whole == text);
+    assert!(rt; whole.text(rt.alloc())? == text);
     Ok(())
 }
 

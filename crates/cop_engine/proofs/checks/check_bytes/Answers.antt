@@ -1,5 +1,6 @@
-use Rattle.std.proofs.Common.{subst}
+use Rattle.std.proofs.Common.{length, subst}
 use Rattle.cop_net.specs.Network.{IsNetwork, accepted}
+use Rattle.cop_engine.specs.Checks.{AreLinesOf}
 use Rattle.cop_engine.specs.Faults.{fault_of, fault_of_refusals}
 use Rattle.cop_engine.proofs.NetworkLemmas.{nodes_explain, pdos_explain, network_explains, network_read, network_is, err_is, of_network, refusals_explain, check_is}
 use Rattle.cop_engine.proofs.checks.check_bytes.Goals as goal
@@ -30,8 +31,16 @@ returns-in_err-refusals c =
 
 pub returns : goal.returns
 returns c =
-    check_is c.args.wanted.now c.args.nodes.now c.args.pdos.now _ c.in_ok-network.network c.args.refusals.now c.in_ok-checked.field-0.0.items c.in_ok-refusals.refusals.items c.in_ok-checked.field-0.1
-    (network_is c.args.wanted.now c.args.nodes.now c.args.pdos.now _ c.in_ok-nodes.nodes c.in_ok-pdos.pdos c.in_ok-network.network c.in_ok-nodes.ensures c.in_ok-pdos.ensures
+    let network = c.in_ok-network.network in
+    let refusals = c.in_ok-refusals.refusals.items in
+    let answered : AreLinesOf network.set (length network.rows) refusals c.in_ok-checks_text.field-0.items c.all_hold.result = record {
+      answers = c.in_ok-answers.answers.items;
+      checked = rw c.deref.ensures.value at c.in_ok-answers.ensures;
+      lines_are = rw (c.deref-2.ensures.value, c.deref-3.ensures.value) at c.in_ok-checks_text.ensures;
+      all_hold = rw c.deref-4.ensures.value at c.all_hold.ensures;
+    } in
+    check_is c.args.wanted.now c.args.nodes.now c.args.pdos.now _ network c.args.refusals.now c.in_ok-checks_text.field-0.items refusals c.all_hold.result
+    (network_is c.args.wanted.now c.args.nodes.now c.args.pdos.now _ c.in_ok-nodes.nodes c.in_ok-pdos.pdos network c.in_ok-nodes.ensures c.in_ok-pdos.ensures
     c.in_ok-network.ensures.exact c.in_ok-network.ensures.tables.0 c.in_ok-network.ensures.tables.1 (subst IsNetwork c.network-2.view_is c.network-2.invariant.0))
     c.in_ok-refusals.ensures.read
-    (rw c.deref.ensures.value at c.in_ok-checked.ensures)
+    answered

@@ -1,4 +1,4 @@
-use Rattle.std.proofs.Common.{refl, sym, ◌∙◌}
+use Rattle.std.proofs.Common.{sym, ◌∙◌}
 use Rattle.cop_engine.specs.Checks.{check_line_at}
 use Rattle.cop_engine.proofs.ReportsLemmas.{lines_none}
 use Rattle.cop_engine.proofs.CheckLemmas.{check_found, checks_more}
@@ -11,4 +11,4 @@ pub loop-k-preserved : goal.loop-k-preserved
 loop-k-preserved c =
     c.in_ok-push_check.ensures
     ∙ checks_more c.loop-k.text.items c.args.refusals.now c.args.answers.now c.loop-k.k _ c.loop-k.invariant
-    (check_found c.args.refusals.now c.args.answers.now c.loop-k.k c.index-refusals-k.result _ c.loop-k-test.true c.index-refusals-k.is refl)
+    (check_found c.args.refusals.now c.args.answers.now c.loop-k.k c.index-refusals-k.result _ c.loop-k-test.true c.index-refusals-k.is c.holds_at.ensures)

@@ -1,27 +1,44 @@
-use Rattle.std.proofs.Common.{◌-◌, ◌<◌, ◌≤◌, sym, ◌∙◌}
+use Rattle.std.proofs.Common.{◌-◌, ◌<◌, ◌≤◌, refl, sym, ◌∙◌}
 use Rattle.cop_sdo.specs.Message.{message_of}
-use Rattle.cop_identity.proofs.AskingLemmas.{waits_first, waits_on, was_answered, was_silent}
+use Rattle.cop_identity.proofs.AskingLemmas.{waits_first, waits_on, was_answered, was_silent, ask_unbegun, ask_unsent, ask_unasked, ask_unread, ask_too_long}
 use Rattle.cop_identity.specs.Questions.{limit_of}
 use Rattle.cop_identity.proofs.asking.ask.Goals as goal
 
-pub loop-init : goal.loop-init
-loop-init g c =
-    waits_first g.P.Port.reads g.P.Port.writes g.P.Port.asks c.args.question.now c.in-Some.began c.args.port.now c.new-reader.result c.now.new.self c.send.new.port (message_of c.request_of.result)
-    c.in-Some.ensures c.request_of.ensures (c.send.ensures c.if-not-send.false) c.new-reader.ensures
+pub loop-turn-init : goal.loop-turn-init
+loop-turn-init g c =
+    waits_first g.P.Port.reads g.P.Port.writes g.P.Port.asks c.args.question.now c.in-Some.began c.args.port.now _ c.new-reader.result c.now.new.self c.send.new.port (message_of c.request_of.result)
+    c.in-Some.ensures.asked c.request_of.ensures (c.send.ensures.sent c.if-not-send.false) c.new-reader.ensures refl
 
-pub returns-in-Some-answer_from : goal.returns-in-Some-answer_from
-returns-in-Some-answer_from g c =
+pub returns-in-Some-answer_from-clause-asked : goal.returns-in-Some-answer_from-clause-asked
+returns-in-Some-answer_from-clause-asked g c =
     let early : c.in-Some-now.now - c.in-Some.began < limit_of c.args.question.now.demand = rw c.limit_of-limit.ensures at (rw c.saturating_sub.ensures at c.if-saturating_sub-limit.false) in
-    was_answered g.P.Port.reads g.P.Port.writes g.P.Port.asks c.args.question.now c.in-Some.began c.args.port.now c.loop.reader c.loop.port c.now-in-loop.new.self c.read.new.self c.in-Some-now.now _ c.in-Some-answer_from.answer
-    c.loop.invariant c.in-Some-now.ensures c.in-Some-read.ensures.reads early (sym c.in-Some-answer_from.is ∙ c.answer_from.ensures.found)
+    was_answered g.P.Port.reads g.P.Port.writes g.P.Port.asks c.args.question.now c.in-Some.began c.args.port.now c.loop-turn._turn c.loop-turn.reader c.loop-turn.port c.now-in-loop-turn.new.self c.read.new.self c.in-Some-now.now _ c.in-Some-answer_from.answer
+    c.loop-turn.invariant c.in-Some-now.ensures.asked c.in-Some-read.ensures.reads early (sym c.in-Some-answer_from.is ∙ c.answer_from.ensures.found)
 
-pub loop-preserved : goal.loop-preserved
-loop-preserved g c =
+pub loop-turn-preserved : goal.loop-turn-preserved
+loop-turn-preserved g c =
     let early : c.in-Some-now.now - c.in-Some.began < limit_of c.args.question.now.demand = rw c.limit_of-limit.ensures at (rw c.saturating_sub.ensures at c.if-saturating_sub-limit.false) in
-    waits_on g.P.Port.reads g.P.Port.writes g.P.Port.asks c.args.question.now c.in-Some.began c.args.port.now c.loop.reader c.answer_from.new.reader c.loop.port c.now-in-loop.new.self c.read.new.self c.in-Some-now.now _
-    c.loop.invariant c.in-Some-now.ensures c.in-Some-read.ensures.reads early (sym c.in_default-answer_from.is ∙ c.answer_from.ensures.found) (c.answer_from.ensures.reader c.in_default-answer_from.is)
+    waits_on g.P.Port.reads g.P.Port.writes g.P.Port.asks c.args.question.now c.in-Some.began c.args.port.now c.loop-turn._turn c.loop-turn.reader c.answer_from.new.reader c.loop-turn.port c.now-in-loop-turn.new.self c.read.new.self c.in-Some-now.now _
+    c.loop-turn.invariant c.in-Some-now.ensures.asked c.in-Some-read.ensures.reads early (sym c.in_default-answer_from.is ∙ c.answer_from.ensures.found) (c.answer_from.ensures.reader c.in_default-answer_from.is)
 
-pub returns-then-saturating_sub-limit : goal.returns-then-saturating_sub-limit
-returns-then-saturating_sub-limit g c =
+pub returns-then-saturating_sub-limit-clause-asked : goal.returns-then-saturating_sub-limit-clause-asked
+returns-then-saturating_sub-limit-clause-asked g c =
     let late : limit_of c.args.question.now.demand ≤ c.in-Some-now.now - c.in-Some.began = rw c.limit_of-limit.ensures at (rw c.saturating_sub.ensures at c.if-saturating_sub-limit.true) in
-    was_silent g.P.Port.reads g.P.Port.writes g.P.Port.asks c.args.question.now c.in-Some.began c.args.port.now c.loop.reader c.loop.port c.now-in-loop.new.self c.in-Some-now.now c.loop.invariant c.in-Some-now.ensures late
+    was_silent g.P.Port.reads g.P.Port.writes g.P.Port.asks c.args.question.now c.in-Some.began c.args.port.now c.loop-turn._turn c.loop-turn.reader c.loop-turn.port c.now-in-loop-turn.new.self c.in-Some-now.now c.loop-turn.invariant c.in-Some-now.ensures.asked late
+
+pub returns-in_default-clause-failed : goal.returns-in_default-clause-failed
+returns-in_default-clause-failed g c = ask_unbegun g.P.Port.reads g.P.Port.writes g.P.Port.asks g.P.Port.fails c.args.question.now 0 c.args.port.now c.now.new.self c.in_default.ensures.failed
+
+pub returns-then-not-send-clause-failed : goal.returns-then-not-send-clause-failed
+returns-then-not-send-clause-failed g c =
+    ask_unsent g.P.Port.reads g.P.Port.writes g.P.Port.asks g.P.Port.fails c.args.question.now c.in-Some.began c.args.port.now c.now.new.self c.send.new.port (message_of c.request_of.result) c.in-Some.ensures.asked c.request_of.ensures (c.send.ensures.failed c.if-not-send.true)
+
+pub returns-in_default-now-clause-failed : goal.returns-in_default-now-clause-failed
+returns-in_default-now-clause-failed g c = ask_unasked g.P.Port.reads g.P.Port.writes g.P.Port.asks g.P.Port.fails c.args.question.now c.in-Some.began c.args.port.now c.loop-turn._turn c.loop-turn.reader c.loop-turn.port c.now-in-loop-turn.new.self c.loop-turn.invariant c.in_default-now.ensures.failed
+
+pub returns-in_default-read-clause-failed : goal.returns-in_default-read-clause-failed
+returns-in_default-read-clause-failed g c =
+    ask_unread g.P.Port.reads g.P.Port.writes g.P.Port.asks g.P.Port.fails c.args.question.now c.in-Some.began c.args.port.now c.loop-turn._turn c.loop-turn.reader c.loop-turn.port c.now-in-loop-turn.new.self c.read.new.self c.in-Some-now.now c.loop-turn.invariant c.in-Some-now.ensures.asked c.in_default-read.ensures.failed
+
+pub returns-clause-failed : goal.returns-clause-failed
+returns-clause-failed g c = ask_too_long g.P.Port.reads g.P.Port.writes g.P.Port.asks g.P.Port.fails c.args.question.now c.in-Some.began c.args.port.now c.loop-turn._turn c.loop-turn.reader c.loop-turn.port c.loop-turn.invariant c.loop-turn-test.false

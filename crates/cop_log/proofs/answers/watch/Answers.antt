@@ -2,7 +2,7 @@ use Rattle.std.proofs.Common.{◌≡◌, ◌∙◌, length, sym, ap, subst, arit
 use Rattle.std.specs.Prelude.{All}
 use Rattle.std.proofs.lemmas.List.Elements.{All-nil}
 use Rattle.cop_log.specs.Log.{Terms, IsEvidence, entry_at}
-use Rattle.cop_log.specs.Watching.{IsTold, Stands}
+use Rattle.cop_log.specs.Watching.{IsTold, IsRising, Stands}
 use Rattle.cop_log.specs.Watchers.{terms_of}
 use Rattle.cop_log.proofs.Answered.{noted, still_clean, answer}
 use Rattle.cop_log.proofs.answers.watch.Goals as goal
@@ -43,5 +43,6 @@ returns c =
     let inv = c.loop-place.invariant in
     let w = c.loop-place.watcher in
     let all : w.number ≡ length log = (let n = inv.number in omega (arith, n)) in
-    answer t log w.anchors.items w.pile w.is_clean c.loop-place.found.items inv.evident inv.clean
-    (subst (λ t. Stands t log (length log) w.anchors.items w.pile w.is_clean) inv.terms (subst (λ n. Stands (terms_of w) log n w.anchors.items w.pile w.is_clean) all inv.kept))
+    answer t log w.anchors.items w.pile w.top w.is_clean c.loop-place.found.items inv.evident inv.clean
+    (subst (λ t. Stands t log (length log) w.anchors.items w.pile w.is_clean) inv.terms (subst (λ n. Stands (terms_of w) log n w.anchors.items w.pile w.is_clean) all inv.kept.stands))
+    (subst (λ (t : Terms). IsRising t.clock log (length log) w.top w.is_clean) inv.terms (subst (λ n. IsRising w.clock log n w.top w.is_clean) all inv.kept.rising))

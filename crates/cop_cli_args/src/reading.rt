@@ -1,0 +1,245 @@
+//! What the words of the command line ask for.
+
+use crate::commands::command;
+use clap::{ArgMatches, Error};
+use cop_engine::rate_of;
+use cop_frame::Rate;
+use cop_orders::{
+    Format, MachineOrder, NetworkFiles, Order, PlanOrder, Rates, Request, Shown, TidyOrder,
+    WatchOrder,
+};
+use cop_plan::Choice;
+use cop_tidy::{Access, Digits, Unlisted, Words};
+use std::alloc::Global;
+
+fn network_of<'a>(matches: &ArgMatches<'a>) -> NetworkFiles<'a> {
+    NetworkFiles {
+        nodes: matches.get_str("NODES").unwrap_or("-"),
+        pdos: matches.get_str("PDOS").unwrap_or("-"),
+        rates: Rates::listed(matches.get_strs("rates")),
+        choice: if matches.get_flag("margin") {
+            Choice::Margin
+        } else {
+            Choice::Order
+        },
+    }
+}
+
+fn test_order<'a>(matches: &ArgMatches<'a>) -> Order<'a> {
+    let rate = match matches.get_str("rate") {
+        Some(word) => rate_of(word.as_bytes()).unwrap_or(Rate::Kbit125),
+        None => Rate::Kbit125,
+    };
+    Order::Test {
+        rate,
+        strict: matches.get_flag("strict"),
+        file: matches.get_str("FILE").unwrap_or("-"),
+    }
+}
+
+fn plan_order<'a>(matches: &ArgMatches<'a>) -> Order<'a> {
+    Order::Plan(PlanOrder {
+        network: network_of(matches),
+        out: matches.get_str("OUT").unwrap_or("-"),
+        strict: matches.get_flag("strict"),
+    })
+}
+
+fn check_order<'a>(matches: &ArgMatches<'a>) -> Order<'a> {
+    Order::Check {
+        network: network_of(matches),
+        refusals: matches.get_str("REFUSALS").unwrap_or("-"),
+        strict: matches.get_flag("strict"),
+    }
+}
+
+/// The node that a word names; 0, which is no node's number, if the word is none.
+fn node_of(matches: &ArgMatches<'_>, name: &str) -> Option<u8> {
+    let number: u64 = matches.get_one(name)?;
+    Some(u8::try_from(number).unwrap_or(0))
+}
+
+fn boot_order<'a>(matches: &ArgMatches<'a>) -> Order<'a> {
+    let network = network_of(matches);
+    match matches.get_str("port") {
+        Some(port) => Order::Machine(MachineOrder {
+            network,
+            port,
+            take_over: matches.get_flag("take-over"),
+            identify: !matches.get_flag("no-identity"),
+            only: node_of(matches, "only"),
+            start: !matches.get_flag("no-start"),
+            store: matches.get_flag("store"),
+            watch: matches.get_one("watch").unwrap_or(0),
+            limit: matches.get_one("limit"),
+        }),
+        None => Order::Boot {
+            seed: matches.get_one("seed").unwrap_or(0),
+            network,
+        },
+    }
+}
+
+fn judge_order<'a>(matches: &ArgMatches<'a>) -> Order<'a> {
+    Order::Judge {
+        network: network_of(matches),
+        trace: matches.get_str("TRACE").unwrap_or("-"),
+    }
+}
+
+fn run_order<'a>(matches: &ArgMatches<'a>) -> Order<'a> {
+    Order::Run {
+        seed: matches.get_one("seed").unwrap_or(0),
+        until: matches.get_one("until").unwrap_or(0),
+        network: network_of(matches),
+        trace: matches.get_str("TRACE").unwrap_or("-"),
+    }
+}
+
+/// What a page is to show of the bus.
+fn shown_of<'a>(matches: &ArgMatches<'a>) -> Shown<'a> {
+    Shown {
+        trace: matches.get_str("trace"),
+        log: match matches.get_str("log") {
+            Some(log) => Some(watch_of(matches, log)),
+            None => None,
+        },
+    }
+}
+
+fn report_order<'a>(matches: &ArgMatches<'a>) -> Order<'a> {
+    Order::Report {
+        network: network_of(matches),
+        shown: shown_of(matches),
+        out: matches.get_str("OUT").unwrap_or("-"),
+    }
+}
+
+fn export_order<'a>(matches: &ArgMatches<'a>) -> Order<'a> {
+    let format = match matches.get_str("FORMAT") {
+        Some("cdcf") => Format::Cdcf {
+            manager: node_of(matches, "manager"),
+        },
+        _ => Format::Dbc,
+    };
+    Order::Export {
+        format,
+        network: network_of(matches),
+        out: matches.get_str("OUT").unwrap_or("-"),
+    }
+}
+
+fn digits_of(matches: &ArgMatches<'_>) -> Option<Digits> {
+    if matches.get_flag("octal") {
+        Some(Digits::Octal)
+    } else if matches.get_flag("decimal") {
+        Some(Digits::Decimal)
+    } else {
+        None
+    }
+}
+
+fn unlisted_of(word: Option<&str>) -> Option<Unlisted> {
+    match word {
+        Some("add") => Some(Unlisted::Add),
+        Some("leave") => Some(Unlisted::Leave),
+        _ => None,
+    }
+}
+
+fn access_of(word: Option<&str>) -> Option<Access> {
+    match word {
+        Some("ro") => Some(Access::ReadOnly),
+        Some("wo") => Some(Access::WriteOnly),
+        Some("rw") => Some(Access::ReadWrite),
+        Some("rwr") => Some(Access::ReadWriteInput),
+        Some("rww") => Some(Access::ReadWriteOutput),
+        Some("const") => Some(Access::Constant),
+        _ => None,
+    }
+}
+
+fn tidy_order<'a>(matches: &ArgMatches<'a>) -> Order<'a> {
+    let words = Words {
+        digits: digits_of(matches),
+        access: access_of(matches.get_str("access")),
+        unlisted: unlisted_of(matches.get_str("unlisted")),
+        clamp: matches.get_flag("clamp"),
+    };
+    Order::Tidy(TidyOrder {
+        input: matches.get_str("IN").unwrap_or("-"),
+        out: matches.get_str("OUT"),
+        words,
+    })
+}
+
+/// A log that is watched, by its name.
+fn watch_of<'a>(matches: &ArgMatches<'a>, log: &'a str) -> WatchOrder<'a> {
+    let error = matches.get_one("error").unwrap_or(1000);
+    let drift = matches.get_one("drift").unwrap_or(200);
+    WatchOrder {
+        network: network_of(matches),
+        log,
+        channel: matches.get_str("channel"),
+        are_distances: matches.get_flag("delta"),
+        error: u32::try_from(error).unwrap_or(u32::MAX),
+        drift: u32::try_from(drift).unwrap_or(u32::MAX),
+    }
+}
+
+fn watch_order<'a>(matches: &ArgMatches<'a>) -> Order<'a> {
+    Order::Watch(watch_of(matches, matches.get_str("LOG").unwrap_or("-")))
+}
+
+fn explain_order<'a>(matches: &ArgMatches<'a>) -> Order<'a> {
+    if matches.get_flag("all") {
+        return Order::Explain { number: None };
+    }
+    let number = matches.get_one("NUMBER").unwrap_or(0);
+    Order::Explain {
+        number: Some(u8::try_from(number).unwrap_or(0)),
+    }
+}
+
+fn order_of<'a>(name: &str, matches: &ArgMatches<'a>) -> Order<'a> {
+    match name {
+        "plan" => plan_order(matches),
+        "check" => check_order(matches),
+        "boot" => boot_order(matches),
+        "judge" => judge_order(matches),
+        "run" => run_order(matches),
+        "report" => report_order(matches),
+        "export" => export_order(matches),
+        "tidy" => tidy_order(matches),
+        "watch" => watch_order(matches),
+        "explain" => explain_order(matches),
+        _ => test_order(matches),
+    }
+}
+
+/// Whether the answer of a subcommand can be a document.
+fn has_document(name: &str) -> bool {
+    matches!(name, "plan" | "check" | "test" | "judge" | "boot" | "watch")
+}
+
+/// What the words ask for, the program's name being the first. With no other word it is `test --rate 125 -`.
+pub fn read_request<'a>(alloc: Global, words: &'a [String]) -> Result<Request<'a>, Error> {
+    let command = command(alloc, words)?;
+    let matches = command.try_get_matches_from(words)?;
+    match matches.subcommand() {
+        Some((name, matches)) => Ok(Request {
+            order: order_of(name, matches),
+            explain: name != "explain" && matches.get_flag("explain"),
+            json: has_document(name) && matches.get_flag("json"),
+        }),
+        None => Ok(Request {
+            order: Order::Test {
+                rate: Rate::Kbit125,
+                file: "-",
+                strict: false,
+            },
+            explain: false,
+            json: false,
+        }),
+    }
+}

@@ -1,0 +1,456 @@
+//! The subcommands, and their words.
+
+use crate::words::{
+    CHANNEL, Choices, DELTA, DRIFT, ERROR, EXPLAIN, JSON, Kind, LISTED_RATES, MARGIN, NODES, Need,
+    PDOS, Word,
+};
+use cop_orders::MOST_UNTIL;
+
+/// The greatest number of a node.
+const MOST_NODE: u64 = 127;
+
+/// The greatest time at a port, a day in seconds.
+const MOST_SECONDS: u64 = 86400;
+
+/// The greatest number of a rule.
+const MOST_RULE: u64 = 255;
+
+static TEST: [Word; 5] = [
+    Word {
+        name: "rate",
+        kind: Kind::OneOf(Choices::Rates),
+        need: Need::Required,
+        help: "The bit rate in kbit/s",
+    },
+    Word {
+        name: "FILE",
+        kind: Kind::Place,
+        need: Need::Required,
+        help: "The table of streams: id,bytes,period,jitter,deadline; - is standard input",
+    },
+    Word {
+        name: "strict",
+        kind: Kind::Flag,
+        need: Need::Optional,
+        help: "Ends with status 3 where a stream does not pass",
+    },
+    JSON,
+    EXPLAIN,
+];
+
+static PLAN: [Word; 8] = [
+    NODES,
+    PDOS,
+    LISTED_RATES,
+    MARGIN,
+    EXPLAIN,
+    JSON,
+    Word {
+        name: "strict",
+        kind: Kind::Flag,
+        need: Need::Optional,
+        help: "Ends with status 3 where something is worth a look before one relies on the plan, as --explain tells it",
+    },
+    Word {
+        name: "OUT",
+        kind: Kind::Place,
+        need: Need::Required,
+        help: "A folder, which has to be there, for plan.txt, refusals.csv and node-005.dcf and so on",
+    },
+];
+
+static CHECK: [Word; 8] = [
+    NODES,
+    PDOS,
+    LISTED_RATES,
+    MARGIN,
+    EXPLAIN,
+    JSON,
+    Word {
+        name: "strict",
+        kind: Kind::Flag,
+        need: Need::Optional,
+        help: "Ends with status 4 where a rate that the plan refuses has no refusal in the file",
+    },
+    Word {
+        name: "REFUSALS",
+        kind: Kind::Place,
+        need: Need::Required,
+        help: "A refusal file of plan",
+    },
+];
+
+static BOOT: [Word; 15] = [
+    NODES,
+    PDOS,
+    LISTED_RATES,
+    MARGIN,
+    EXPLAIN,
+    JSON,
+    Word {
+        name: "seed",
+        kind: Kind::Number(u64::MAX),
+        need: Need::Unless("port"),
+        help: "The number that draws the turns of the simulated bus",
+    },
+    Word {
+        name: "port",
+        kind: Kind::Text("PORT"),
+        need: Need::Against("seed"),
+        help: "The serial device of a CAN adapter that speaks slcan: the devices there are booted; - is standard input and output",
+    },
+    Word {
+        name: "take-over",
+        kind: Kind::Flag,
+        need: Need::Against("seed"),
+        help: "Resets the nodes also where one is heard to run; without it such a machine is left alone",
+    },
+    Word {
+        name: "no-identity",
+        kind: Kind::Flag,
+        need: Need::Against("seed"),
+        help: "Does not ask the devices for their type, vendor and product; without it nothing is written to them where one is another than its EDS file says",
+    },
+    Word {
+        name: "only",
+        kind: Kind::Number(MOST_NODE),
+        need: Need::Against("seed"),
+        help: "The node that is reset, set and started alone; the others may run",
+    },
+    Word {
+        name: "no-start",
+        kind: Kind::Flag,
+        need: Need::Against("seed"),
+        help: "Leaves the nodes in pre-operational, for another manager to start them",
+    },
+    Word {
+        name: "store",
+        kind: Kind::Flag,
+        need: Need::Against("seed"),
+        help: "Has each device store its settings (1010h sub 1), where its EDS file has that",
+    },
+    Word {
+        name: "watch",
+        kind: Kind::Number(MOST_SECONDS),
+        need: Need::Against("seed"),
+        help: "The seconds after the start in which each node with a heartbeat has to say that it is operational",
+    },
+    Word {
+        name: "limit",
+        kind: Kind::Number(MOST_SECONDS),
+        need: Need::Against("seed"),
+        help: "The seconds after which the port is given up",
+    },
+];
+
+static RUN: [Word; 8] = [
+    NODES,
+    PDOS,
+    LISTED_RATES,
+    MARGIN,
+    EXPLAIN,
+    Word {
+        name: "TRACE",
+        kind: Kind::Place,
+        need: Need::Required,
+        help: "The file that the trace is written to",
+    },
+    Word {
+        name: "seed",
+        kind: Kind::Number(u64::MAX),
+        need: Need::Required,
+        help: "The number that draws events, delays, lengths and late joiners",
+    },
+    Word {
+        name: "until",
+        kind: Kind::Number(MOST_UNTIL),
+        need: Need::Required,
+        help: "The end of the run in microseconds, at most 1000000000",
+    },
+];
+
+static JUDGE: [Word; 7] = [
+    NODES,
+    PDOS,
+    LISTED_RATES,
+    MARGIN,
+    EXPLAIN,
+    JSON,
+    Word {
+        name: "TRACE",
+        kind: Kind::Place,
+        need: Need::Required,
+        help: "The trace: kind,moment,id,event,bits,data; moments in ticks of 250 ns",
+    },
+];
+
+static REPORT: [Word; 12] = [
+    NODES,
+    PDOS,
+    LISTED_RATES,
+    MARGIN,
+    EXPLAIN,
+    Word {
+        name: "OUT",
+        kind: Kind::Place,
+        need: Need::Required,
+        help: "The file that the page is written to, in HTML",
+    },
+    Word {
+        name: "trace",
+        kind: Kind::Text("TRACE"),
+        need: Need::Optional,
+        help: "A trace of the bus, as judge takes it: the page shows the bus over time, too",
+    },
+    Word {
+        name: "log",
+        kind: Kind::Text("LOG"),
+        need: Need::Optional,
+        help: "A log of the machine's bus, as watch takes it: the page shows what it shows, too",
+    },
+    ERROR,
+    DRIFT,
+    CHANNEL,
+    DELTA,
+];
+
+static EXPORT: [Word; 8] = [
+    Word {
+        name: "FORMAT",
+        kind: Kind::PlaceOf(Choices::Formats),
+        need: Need::Required,
+        help: "A CAN database for all that reads a bus, or the concise DCF of each node for a manager of the network",
+    },
+    Word {
+        name: "NODES",
+        kind: Kind::Place,
+        need: Need::Required,
+        help: "The table of nodes, as plan takes it",
+    },
+    Word {
+        name: "PDOS",
+        kind: Kind::Place,
+        need: Need::Required,
+        help: "The table of PDOs, as plan takes it",
+    },
+    Word {
+        name: "OUT",
+        kind: Kind::Place,
+        need: Need::Required,
+        help: "The file of the database, or the folder, which has to be there, for node-005.cdcf and so on and master.csv",
+    },
+    Word {
+        name: "manager",
+        kind: Kind::Number(MOST_NODE),
+        need: Need::Optional,
+        help: "The node that is the manager, which is no slave in master.csv; without it the first one that makes SYNC by its EDS file",
+    },
+    MARGIN,
+    LISTED_RATES,
+    EXPLAIN,
+];
+
+static TIDY: [Word; 9] = [
+    Word {
+        name: "IN",
+        kind: Kind::Place,
+        need: Need::Required,
+        help: "The EDS file, or a folder with EDS files",
+    },
+    Word {
+        name: "OUT",
+        kind: Kind::Place,
+        need: Need::Unless("check"),
+        help: "The file, or the folder, that is written to",
+    },
+    Word {
+        name: "check",
+        kind: Kind::Flag,
+        need: Need::Against("OUT"),
+        help: "Tells the changes alone: status 3 where there are some",
+    },
+    EXPLAIN,
+    Word {
+        name: "octal",
+        kind: Kind::Flag,
+        need: Need::Against("decimal"),
+        help: "Digits with a 0 before them are octal, as CiA 306 says",
+    },
+    Word {
+        name: "decimal",
+        kind: Kind::Flag,
+        need: Need::Optional,
+        help: "They are decimal, as people write them",
+    },
+    Word {
+        name: "access",
+        kind: Kind::OneOf(Choices::Accesses),
+        need: Need::Optional,
+        help: "The access of objects that state none",
+    },
+    Word {
+        name: "unlisted",
+        kind: Kind::OneOf(Choices::Unlisted),
+        need: Need::Optional,
+        help: "Whether PDOs that no list names are listed, or left as they are",
+    },
+    Word {
+        name: "clamp",
+        kind: Kind::Flag,
+        need: Need::Optional,
+        help: "A limit outside of its type becomes the end of the type",
+    },
+];
+
+static WATCH: [Word; 11] = [
+    NODES,
+    PDOS,
+    LISTED_RATES,
+    MARGIN,
+    EXPLAIN,
+    JSON,
+    Word {
+        name: "LOG",
+        kind: Kind::Place,
+        need: Need::Required,
+        help: "The log, as candump, a tool of Vector (.asc) or of PEAK (.trc) writes it; - is standard input",
+    },
+    ERROR,
+    DRIFT,
+    CHANNEL,
+    DELTA,
+];
+
+static EXPLAIN_RULE: [Word; 2] = [
+    Word {
+        name: "NUMBER",
+        kind: Kind::PlaceOfNumber(MOST_RULE),
+        need: Need::Unless("all"),
+        help: "The number of a rule, as in canplan: refused NUMBER PLACE",
+    },
+    Word {
+        name: "all",
+        kind: Kind::Flag,
+        need: Need::Against("NUMBER"),
+        help: "All rules and warnings, as a page",
+    },
+];
+
+/// The subcommands.
+#[derive(Clone, Copy)]
+pub(crate) enum Subcommand {
+    Test,
+    Plan,
+    Check,
+    Boot,
+    Run,
+    Judge,
+    Report,
+    Export,
+    Tidy,
+    Watch,
+    Explain,
+}
+
+impl Subcommand {
+    /// All of them, as a help lists them.
+    pub const ALL: [Subcommand; 11] = [
+        Subcommand::Test,
+        Subcommand::Plan,
+        Subcommand::Check,
+        Subcommand::Boot,
+        Subcommand::Run,
+        Subcommand::Judge,
+        Subcommand::Report,
+        Subcommand::Export,
+        Subcommand::Tidy,
+        Subcommand::Watch,
+        Subcommand::Explain,
+    ];
+
+    pub fn name(self) -> &'static str {
+        match self {
+            Subcommand::Test => "test",
+            Subcommand::Plan => "plan",
+            Subcommand::Check => "check",
+            Subcommand::Boot => "boot",
+            Subcommand::Run => "run",
+            Subcommand::Judge => "judge",
+            Subcommand::Report => "report",
+            Subcommand::Export => "export",
+            Subcommand::Tidy => "tidy",
+            Subcommand::Watch => "watch",
+            Subcommand::Explain => "explain",
+        }
+    }
+
+    /// What it does.
+    pub fn about(self) -> &'static str {
+        match self {
+            Subcommand::Test => "Runs the response-time test on a table of streams",
+            Subcommand::Plan => {
+                "Gives the slowest rate and the identifiers that pass, and a DCF file for each device"
+            }
+            Subcommand::Check => {
+                "Checks of each refusal that no choice of identifiers passes at its rate"
+            }
+            Subcommand::Boot => {
+                "Boots the planned devices: those at an adapter, or over a simulated bus, each frame delivered in its turn"
+            }
+            Subcommand::Run => "Runs the plan on a simulated bus, and writes the trace",
+            Subcommand::Judge => "Judges a trace of the bus by the plan of a network",
+            Subcommand::Report => {
+                "Writes a page that shows the plan: why no slower rate, the load, the PDOs and the settings"
+            }
+            Subcommand::Export => "Gives the plan of a network to other tools",
+            Subcommand::Tidy => {
+                "Makes of an EDS file as makers ship it one that plan reads, and tells each change"
+            }
+            Subcommand::Watch => {
+                "Reads a log of a real bus, and says whether it keeps to the tables"
+            }
+            Subcommand::Explain => {
+                "Says what the rule of a refusal is, what is usually behind it, and what is right"
+            }
+        }
+    }
+
+    /// How it is called.
+    pub fn example(self) -> &'static str {
+        match self {
+            Subcommand::Test => "Example: canplan test --rate 125 streams.csv",
+            Subcommand::Plan => "Example: canplan plan nodes.csv pdos.csv out",
+            Subcommand::Check => "Example: canplan check nodes.csv pdos.csv out/refusals.csv",
+            Subcommand::Boot => {
+                "Examples: canplan boot --seed 1 nodes.csv pdos.csv
+          canplan boot --port /dev/ttyACM0 nodes.csv pdos.csv"
+            }
+            Subcommand::Run => {
+                "Example: canplan run --seed 1 --until 1000000 nodes.csv pdos.csv trace.csv"
+            }
+            Subcommand::Judge => "Example: canplan judge nodes.csv pdos.csv trace.csv",
+            Subcommand::Report => "Example: canplan report nodes.csv pdos.csv report.html",
+            Subcommand::Export => "Example: canplan export dbc nodes.csv pdos.csv plan.dbc",
+            Subcommand::Tidy => "Example: canplan tidy unit.eds unit-tidy.eds",
+            Subcommand::Watch => { "Example: candump -L can0 | canplan watch nodes.csv pdos.csv -" }
+            Subcommand::Explain => "Example: canplan explain 41",
+        }
+    }
+
+    /// Its words, as a help lists them.
+    pub fn words(self) -> &'static [Word] {
+        match self {
+            Subcommand::Test => TEST.as_slice(),
+            Subcommand::Plan => PLAN.as_slice(),
+            Subcommand::Check => CHECK.as_slice(),
+            Subcommand::Boot => BOOT.as_slice(),
+            Subcommand::Run => RUN.as_slice(),
+            Subcommand::Judge => JUDGE.as_slice(),
+            Subcommand::Report => REPORT.as_slice(),
+            Subcommand::Export => EXPORT.as_slice(),
+            Subcommand::Tidy => TIDY.as_slice(),
+            Subcommand::Watch => WATCH.as_slice(),
+            Subcommand::Explain => EXPLAIN_RULE.as_slice(),
+        }
+    }
+}

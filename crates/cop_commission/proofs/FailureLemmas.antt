@@ -1,0 +1,189 @@
+-- What a boot over a port had done where its line failed, or memory was wanting.
+use Rattle.std.proofs.Common.{◌≡◌, ℕ, ◌≤◌, List, [], ◌∷◌, Bool, true, false, length, refl, sym, ap, subst, arith, inl, inr}
+use Rattle.std.specs.Prelude.{◌⊎◌, Result, Ok, Err, IfOk, IfErr, OnErr}
+use Rattle.cop_frame.specs.declared.rates.Rate.{Rate}
+use Rattle.cop_net.specs.Network.{Net}
+use Rattle.cop_boot.specs.Manager.{Managing}
+use Rattle.cop_identity.specs.declared.questions.Question.{Question}
+use Rattle.cop_identity.specs.declared.asking.Exchange.{Exchange}
+use Rattle.cop_live.specs.Log.{ByteStep, ClockStep}
+use Rattle.cop_live.specs.Approach.{ApproachFails}
+use Rattle.cop_live.specs.Session.{Closed, CloseFails}
+use Rattle.cop_live.specs.declared.listening.Found.{Found}
+use Rattle.cop_live.specs.declared.listening.Found.TheVariants as found
+use Rattle.cop_heartbeats.specs.declared.attending.Awaited.{Awaited}
+use Rattle.cop_heartbeats.specs.declared.attending.Heartbeats.{Heartbeats}
+use Rattle.cop_readback.specs.declared.session.Reach.{Reach}
+use Rattle.cop_readback.specs.declared.session.ReadBack.{ReadBack}
+use Rattle.cop_readback.specs.Session.{ReadsBack, ReadBackFails, ReadBackStops}
+use Rattle.cop_commission.specs.declared.sessions.Session.{Session}
+use Rattle.cop_commission.specs.declared.sessions.Session.TheVariants as sessions
+use Rattle.cop_commission.specs.Sessions.{Way, awaited_if, IsWatched, IsApproached, IsFree, is_free, IsWhole, WatchFails, ClosingFails, is_kept_off, AskFirstFails, AskFirstStops, SessionFails, SessionStops, if_failed}
+use Rattle.cop_commission.specs.declared.commissioning.Approach.{Approach}
+use Rattle.cop_commission.specs.declared.commissioning.Commissioned.{Commissioned}
+use Rattle.cop_commission.specs.declared.commissioning.Commissioned.TheVariants as commissioned
+use Rattle.cop_commission.specs.Commissioning as meeting
+use Rattle.cop_commission.specs.Told.{off_questions, told_manager}
+use Rattle.cop_commission.specs.Commissioning.{meant_nodes, way_of, questions_for, settings_for, BootingFails, BootingStops, MeetingFails, MeetingStops, CommissionFails, CommissionStops}
+
+-- what holds of an error
+pub on_err : {T E : Type 0} (result : Result T E) (claim : Type 0) → claim → OnErr result claim
+on_err (Ok x) claim h = tt
+on_err (Err e) claim h = h
+
+pub either_so : (A B C : Type 0) → (B → C) → A ⊎ B → A ⊎ C
+either_so A B C so (inl a) = inl a
+either_so A B C so (inr b) = inr (so b)
+
+-- a boot gave out before its settings were read back
+pub unread_so : {P : Type 0} (reads writes : ByteStep P) (asks : ClockStep P) (fails : ByteStep P) (way : Way) (reach : Reach) (m later : Managing) (nodes : List ℕ) (settings : List Question) (p q : P)
+    → reach ≡ way.reach → ReadBackFails reads writes asks fails reach m nodes settings p later q → ClosingFails reads writes asks fails way m nodes settings p later false q
+unread_so reads writes asks fails way reach m later nodes settings p q er h = inl (refl, subst (λ r. ReadBackFails reads writes asks fails r m nodes settings p later q) er h)
+
+-- or there was no memory
+pub short_so : {P : Type 0} (reads writes : ByteStep P) (asks : ClockStep P) (way : Way) (reach : Reach) (m : Managing) (nodes : List ℕ) (settings : List Question) (p q : P)
+    → reach ≡ way.reach → ReadBackStops reads writes asks reach.only m nodes settings p q → ReadBackStops reads writes asks way.reach.only m nodes settings p q
+short_so reads writes asks way reach m nodes settings p q er h = subst (λ (r : Reach). ReadBackStops reads writes asks r.only m nodes settings p q) er h
+
+-- the heartbeats gave out, or the closing of the adapter
+module _ {P : Type 0} (reads writes : ByteStep P) (asks : ClockStep P) (fails : ByteStep P) (way : Way) (reach : Reach) (own : List Awaited) (m later : Managing) (nodes : List ℕ) (settings : List Question) (back : ReadBack) (p booted : P) where
+  abbrev Boots : Type 0
+  Boots = ReadsBack reads writes asks reach m nodes settings p back.exchanges.items back.booted back.ready back.started later booted
+
+  pub unwatched_so : (q : P) → reach ≡ way.reach → own ≡ awaited_if back.started way.awaited → Boots → WatchFails reads writes asks fails own booted q → ClosingFails reads writes asks fails way m nodes settings p later back.started q
+  unwatched_so q er eo boots h = inr (record {
+    back = back;
+    booted = booted;
+    boots = rw er at boots;
+    tells = refl;
+    failed = inl (subst (λ awaited. WatchFails reads writes asks fails awaited booted q) eo h);
+  })
+
+  pub unclosed_so : (limit : ℕ) (heartbeats : Heartbeats) (watched q : P) → reach ≡ way.reach → limit ≡ way.limit → own ≡ awaited_if back.started way.awaited → Boots
+      → IsWatched reads writes asks own limit booted heartbeats watched → CloseFails reads writes fails watched q → ClosingFails reads writes asks fails way m nodes settings p later back.started q
+  unclosed_so limit heartbeats watched q er el eo boots watches h = inr (record {
+    back = back;
+    booted = booted;
+    boots = rw er at boots;
+    tells = refl;
+    failed = inr (heartbeats, watched, rw (el, eo) at watches, h);
+  })
+
+-- nothing was to be sent, for what was found, and the adapter was not closed
+pub kept_off_so : {P : Type 0} (reads writes : ByteStep P) (asks : ClockStep P) (fails : ByteStep P) (own way : Way) (nodes : List ℕ) (questions offs : List Question) (f : Found) (p heard q : P) (session : Session)
+    → own ≡ way → is_kept_off f ≡ true → IsApproached reads writes asks own p f heard → if_failed session (is_kept_off f ≡ true → CloseFails reads writes fails heard q)
+    → if_failed session (SessionFails reads writes asks fails way nodes questions offs p q)
+kept_off_so reads writes asks fails own way nodes questions offs f p heard q (sessions.Told told) e off a h = tt
+kept_off_so reads writes asks fails own way nodes questions offs f p heard q (sessions.Running runner) e off a h = tt
+kept_off_so reads writes asks fails own way nodes questions offs f p heard q (sessions.Garbled lines) e off a h = tt
+kept_off_so reads writes asks fails own way nodes questions offs f p heard q (sessions.Erroneous flags) e off a h = tt
+kept_off_so reads writes asks fails own way nodes questions offs f p heard q (sessions.Unopened command) e off a h = tt
+kept_off_so reads writes asks fails own way nodes questions offs f p heard q (sessions.Others all) e off a h = tt
+kept_off_so reads writes asks fails own way nodes questions offs f p heard q sessions.Failed e off a h =
+    inr (inl (f, heard, off, subst (λ (w : Way). IsApproached reads writes asks w p f heard) e a, h off))
+
+-- the bus was found free, and what the devices are asked first gave out
+pub asks_fail_so : {P : Type 0} (reads writes : ByteStep P) (asks : ClockStep P) (fails : ByteStep P) {E : Type 0} (own way : Way) (nodes : List ℕ) (questions offs : List Question) (f : Found) (p free q : P) (result : Result Session E) → own ≡ way → is_free f ≡ true → IsApproached reads writes asks own p f free
+    → IfOk result (λ session. if_failed session (AskFirstFails reads writes asks fails way nodes questions offs free q)) → IfOk result (λ session. if_failed session (SessionFails reads writes asks fails way nodes questions offs p q))
+asks_fail_so reads writes asks fails own way nodes questions offs f p free q (Err e) eo ef a h = tt
+asks_fail_so reads writes asks fails own way nodes questions offs f p free q (Ok session) eo ef a h = by_case session h
+  where
+    by_case : (session : Session) → if_failed session (AskFirstFails reads writes asks fails way nodes questions offs free q) → if_failed session (SessionFails reads writes asks fails way nodes questions offs p q)
+    by_case (sessions.Told told) h = tt
+    by_case (sessions.Running runner) h = tt
+    by_case (sessions.Garbled lines) h = tt
+    by_case (sessions.Erroneous flags) h = tt
+    by_case (sessions.Unopened command) h = tt
+    by_case (sessions.Others all) h = tt
+    by_case sessions.Failed h = inr (inr (free, (f, ef, subst (λ (w : Way). IsApproached reads writes asks w p f free) eo a), h))
+
+-- or there was no memory
+pub asks_stop_so : {P : Type 0} (reads writes : ByteStep P) (asks : ClockStep P) {T E : Type 0} (own way : Way) (nodes : List ℕ) (questions offs : List Question) (f : Found) (p free q : P) (result : Result T E) → own ≡ way → is_free f ≡ true → IsApproached reads writes asks own p f free
+    → OnErr result (AskFirstStops reads writes asks way nodes questions offs free q) → OnErr result (SessionStops reads writes asks way nodes questions offs p q)
+asks_stop_so reads writes asks own way nodes questions offs f p free q (Ok x) eo ef a h = tt
+asks_stop_so reads writes asks own way nodes questions offs f p free q (Err e) eo ef a h = (free, (f, ef, subst (λ (w : Way). IsApproached reads writes asks w p f free) eo a), h)
+
+-- the devices were asked first, and the boot gave out, or there was no memory
+module _ {P : Type 0} (reads writes : ByteStep P) (asks : ClockStep P) (fails : ByteStep P) {E : Type 0} (net : Net) (ids nodes : List ℕ) (way : Way) (identify store : Bool) (told : List Exchange) (p free q : P) (result : Result Commissioned E) where
+  pub boot_fails_so : IsWhole reads writes asks way nodes (questions_for identify net nodes) (off_questions net ids nodes) p told free
+      → IfOk result (λ ended. meeting.if_failed ended (BootingFails reads writes asks fails way (told_manager net ids told nodes) nodes (settings_for store net ids told nodes) free q))
+      → IfOk result (λ ended. meeting.if_failed ended (MeetingFails reads writes asks fails net ids nodes way identify store p q))
+  boot_fails_so whole h = by_result result h
+    where
+      by_case : (ended : Commissioned) → meeting.if_failed ended (BootingFails reads writes asks fails way (told_manager net ids told nodes) nodes (settings_for store net ids told nodes) free q) → meeting.if_failed ended (MeetingFails reads writes asks fails net ids nodes way identify store p q)
+      by_case (commissioned.Failed text) h = inr (told, free, whole, h)
+      by_case (commissioned.Ended text ready started operational at) h = tt
+      by_case (commissioned.Running runner) h = tt
+      by_case (commissioned.Garbled lines) h = tt
+      by_case (commissioned.Erroneous flags at) h = tt
+      by_case (commissioned.Unopened command at) h = tt
+      by_case (commissioned.Others text all) h = tt
+      by_case commissioned.Absent h = tt
+      by_case commissioned.NonePasses h = tt
+
+      by_result : (result : Result Commissioned E) → IfOk result (λ ended. meeting.if_failed ended (BootingFails reads writes asks fails way (told_manager net ids told nodes) nodes (settings_for store net ids told nodes) free q))
+          → IfOk result (λ ended. meeting.if_failed ended (MeetingFails reads writes asks fails net ids nodes way identify store p q))
+      by_result (Ok ended) h = by_case ended h
+      by_result (Err e) h = tt
+
+  pub boot_stops_so : IsWhole reads writes asks way nodes (questions_for identify net nodes) (off_questions net ids nodes) p told free
+      → OnErr result (BootingStops reads writes asks fails way (told_manager net ids told nodes) nodes (settings_for store net ids told nodes) free q) → OnErr result (MeetingStops reads writes asks fails net ids nodes way identify store p q)
+  boot_stops_so whole h = by_result result h
+    where
+      by_result : (result : Result Commissioned E) → OnErr result (BootingStops reads writes asks fails way (told_manager net ids told nodes) nodes (settings_for store net ids told nodes) free q) → OnErr result (MeetingStops reads writes asks fails net ids nodes way identify store p q)
+      by_result (Ok ended) h = tt
+      by_result (Err e) h = inr (inr (inr (told, free, whole, inr h)))
+
+-- the parts of a session are those of the plan
+module _ {P : Type 0} (reads writes : ByteStep P) (asks : ClockStep P) (own way : Way) (nodes : List ℕ) (q questions o offs : List Question) (eo : own ≡ way) (eq : q ≡ questions) (ef : o ≡ offs) where
+  pub session_stops_so : (p r : P) → SessionStops reads writes asks own nodes q o p r → SessionStops reads writes asks way nodes questions offs p r
+  session_stops_so p r h =
+      subst (λ (w : Way). SessionStops reads writes asks w nodes questions offs p r) eo
+      (subst (λ (x : List Question). SessionStops reads writes asks own nodes x offs p r) eq (subst (λ (x : List Question). SessionStops reads writes asks own nodes q x p r) ef h))
+
+  pub session_fails_so : (fails : ByteStep P) (p r : P) → SessionFails reads writes asks fails own nodes q o p r → SessionFails reads writes asks fails way nodes questions offs p r
+  session_fails_so fails p r h =
+      subst (λ (w : Way). SessionFails reads writes asks fails w nodes questions offs p r) eo
+      (subst (λ (x : List Question). SessionFails reads writes asks fails own nodes x offs p r) eq (subst (λ (x : List Question). SessionFails reads writes asks fails own nodes q x p r) ef h))
+
+  pub whole_so : (p r : P) (told : List Exchange) → IsWhole reads writes asks own nodes q o p told r → IsWhole reads writes asks way nodes questions offs p told r
+  whole_so p r told h =
+      subst (λ (w : Way). IsWhole reads writes asks w nodes questions offs p told r) eo
+      (subst (λ (x : List Question). IsWhole reads writes asks own nodes x offs p told r) eq (subst (λ (x : List Question). IsWhole reads writes asks own nodes q x p told r) ef h))
+
+module _ {P : Type 0} (reads writes : ByteStep P) (asks : ClockStep P) (fails : ByteStep P) {E : Type 0} (own way : Way) (m later : Managing) (nodes : List ℕ) (s settings : List Question) (eo : own ≡ way) (em : m ≡ later) (es : s ≡ settings) (p r : P) (result : Result Commissioned E) where
+  pub booting_fails_so : IfOk result (λ ended. meeting.if_failed ended (BootingFails reads writes asks fails own m nodes s p r)) → IfOk result (λ ended. meeting.if_failed ended (BootingFails reads writes asks fails way later nodes settings p r))
+  booting_fails_so h =
+      subst (λ (w : Way). IfOk result (λ ended. meeting.if_failed ended (BootingFails reads writes asks fails w later nodes settings p r))) eo
+      (subst (λ (x : Managing). IfOk result (λ ended. meeting.if_failed ended (BootingFails reads writes asks fails own x nodes settings p r))) em
+      (subst (λ (x : List Question). IfOk result (λ ended. meeting.if_failed ended (BootingFails reads writes asks fails own m nodes x p r))) es h))
+
+  pub booting_stops_so : OnErr result (BootingStops reads writes asks fails own m nodes s p r) → OnErr result (BootingStops reads writes asks fails way later nodes settings p r)
+  booting_stops_so h =
+      subst (λ (w : Way). OnErr result (BootingStops reads writes asks fails w later nodes settings p r)) eo
+      (subst (λ (x : Managing). OnErr result (BootingStops reads writes asks fails own x nodes settings p r)) em (subst (λ (x : List Question). OnErr result (BootingStops reads writes asks fails own m nodes x p r)) es h))
+
+-- what follows of the text where the port failed
+pub if_failed_map : (ended : Commissioned) (A B : List ℕ → Type 0) → ((text : List ℕ) → A text → B text) → meeting.if_failed ended A → meeting.if_failed ended B
+if_failed_map (commissioned.Failed text) A B so h = so text.items h
+if_failed_map (commissioned.Ended text ready started operational at) A B so h = tt
+if_failed_map (commissioned.Running runner) A B so h = tt
+if_failed_map (commissioned.Garbled lines) A B so h = tt
+if_failed_map (commissioned.Erroneous flags at) A B so h = tt
+if_failed_map (commissioned.Unopened command at) A B so h = tt
+if_failed_map (commissioned.Others text all) A B so h = tt
+if_failed_map commissioned.Absent A B so h = tt
+if_failed_map commissioned.NonePasses A B so h = tt
+
+-- the nodes are those that are meant
+pub failed_so : {P : Type 0} (reads writes : ByteStep P) (asks : ClockStep P) (fails : ByteStep P) {E : Type 0} (net : Net) (rate : Rate) (ids nodes : List ℕ) (approach : Approach) (p q : P) (result : Result Commissioned E) → nodes ≡ meant_nodes net approach.reach.only
+    → IfOk result (λ ended. meeting.if_failed ended (MeetingFails reads writes asks fails net ids nodes (way_of net rate ids nodes approach) approach.identify approach.store p q))
+    → IfOk result (λ ended. meeting.if_failed ended (CommissionFails reads writes asks fails net rate ids approach p q))
+failed_so reads writes asks fails net rate ids nodes approach p q result e h =
+    subst (λ (ns : List ℕ). IfOk result (λ ended. meeting.if_failed ended (MeetingFails reads writes asks fails net ids ns (way_of net rate ids ns approach) approach.identify approach.store p q))) e h
+
+pub stopped_so : {P : Type 0} (reads writes : ByteStep P) (asks : ClockStep P) (fails : ByteStep P) {E : Type 0} (net : Net) (rate : Rate) (ids nodes : List ℕ) (approach : Approach) (p q : P) (result : Result Commissioned E) → nodes ≡ meant_nodes net approach.reach.only
+    → OnErr result (MeetingStops reads writes asks fails net ids nodes (way_of net rate ids nodes approach) approach.identify approach.store p q)
+    → OnErr result (CommissionStops reads writes asks fails net rate ids approach p q)
+stopped_so reads writes asks fails net rate ids nodes approach p q result e h =
+    subst (λ (ns : List ℕ). OnErr result (MeetingStops reads writes asks fails net ids ns (way_of net rate ids ns approach) approach.identify approach.store p q)) e h
