@@ -113,6 +113,9 @@ def lines(form, nodes):
 
 READY = lines("node {} ready\n", CONVEYOR)
 
+# The other cases are not watched unless they say so, since that would take the time of a heartbeat in each.
+BY_ITSELF = []
+
 REACHES = {
     "one node alone": ("crane", "--running 13", ["--only", "12"], "node 12 ready\nstarted\n", 0, ["820c", "820c", "010c"], [12]),
     "one node alone that runs": ("crane", "--running 12", ["--only", "12"], "", 3, [], []),
@@ -120,6 +123,10 @@ REACHES = {
     "one node alone, not started": ("conveyor", "", ["--only", "11", "--no-start"], "node 11 ready\nnot started\n", 0, ["820b", "820b"], [11]),
     "not started": ("conveyor", "", ["--no-start"], READY + "not started\n", 0, RESET, CONVEYOR),
     "not started, since one is silent": ("valve", "--silent 5", ["--no-start"], "node 5 silent\nnot started\n", 3, RESET, []),
+    "watched by itself": ("conveyor", "", BY_ITSELF, READY + "started\n" + lines("node {} operational\n", CONVEYOR), 0, RESET + ["0100"], CONVEYOR),
+    "watched by itself, and one says nothing": (
+        "conveyor", "--quiet 13", BY_ITSELF,
+        READY + "started\n" + lines("node {} operational\n", [1, 11, 12]) + "node 13 late\nnode 14 operational\n", 3, RESET + ["0100"], CONVEYOR),
     "watched": ("conveyor", "", ["--watch", "2"], READY + "started\n" + lines("node {} operational\n", CONVEYOR), 0, RESET + ["0100"], CONVEYOR),
     "watched, and one says nothing": (
         "conveyor", "--quiet 13", ["--watch", "2"],
@@ -229,7 +236,7 @@ def boot(example, words, options, folder):
     rig = subprocess.Popen([sys.executable, RIG, tables[0], port, "--expect", os.path.dirname(tables[0]), "--log", f"{folder}/log",
                             "--report", report, *words.split()], stdout=subprocess.PIPE, text=True)
     rig.stdout.readline()
-    it = subprocess.run([PROGRAM, "boot", "--port", port, *options, *tables], capture_output=True, text=True, timeout=120)
+    it = subprocess.run([PROGRAM, "boot", "--port", port, "--watch", "0", *options, *tables], capture_output=True, text=True, timeout=120)
     rig.wait(timeout=60)
     with open(report) as file:
         return it, json.load(file)
@@ -273,7 +280,8 @@ def reach(name, folder):
     rig = subprocess.Popen([sys.executable, RIG, tables[0], port, "--expect", expected, "--log", f"{folder}/log", "--report", report, *words.split()],
                            stdout=subprocess.PIPE, text=True)
     rig.stdout.readline()
-    it = subprocess.run([PROGRAM, "boot", "--port", port, *options, *tables], capture_output=True, text=True, timeout=120)
+    unwatched = [] if options is BY_ITSELF or "--watch" in options else ["--watch", "0"]
+    it = subprocess.run([PROGRAM, "boot", "--port", port, *unwatched, *options, *tables], capture_output=True, text=True, timeout=120)
     rig.wait(timeout=60)
     with open(report) as file:
         seen = json.load(file)
@@ -283,6 +291,8 @@ def reach(name, folder):
         faults.append(f"says {said!r} with status {it.returncode}, not {text!r} with {status}")
     if seen["commands"] != commands:
         faults.append(f"NMT commands {seen['commands']}, not {commands}")
+    if "--limit" in options and [command for _, command, _ in seen["given"]][-1:] != ["C"]:
+        faults.append(f"the adapter is left open: {seen['given']}")
     for node in set_up:
         device = seen["devices"][str(node)]
         if not device["as_dcf"]:
@@ -306,7 +316,7 @@ def twice(name, folder):
     rig.stdout.readline()
     faults = []
     for time in ("first", "second"):
-        it = subprocess.run([PROGRAM, "boot", "--port", port, "--store", "--take-over", *tables], capture_output=True, text=True, timeout=120)
+        it = subprocess.run([PROGRAM, "boot", "--port", port, "--store", "--take-over", "--watch", "0", *tables], capture_output=True, text=True, timeout=120)
         lines = it.stdout.splitlines()
         if it.returncode or lines[-1:] != ["started"] or not all(line.endswith(" ready") for line in lines[:-1]):
             faults.append(f"the {time} boot says {it.stdout!r} with status {it.returncode}: {it.stderr}")

@@ -3,8 +3,9 @@
 
     python3 tools/long_refusals.py
 
-One of 150 PDOs nearly fills the bus at 1000 kbit/s, so each of the others waits for seconds, and no rate passes. The file has to be of
-version 3 and to stay within 64 MiB, and `check` has to say that each refusal holds.
+One of 270 PDOs nearly fills the bus at 1000 kbit/s. Each of the others comes a second time at the moment when the bus would be free again, so the
+busy time goes on for seconds in steps of one transfer, and no rate passes. The file has to be of version 3 and to stay within 64 MiB, and
+`check` has to say that each refusal holds.
 """
 import argparse
 import os
@@ -19,9 +20,28 @@ sys.path.insert(0, f"{HERE}/bench")
 import networks  # noqa: E402
 
 PROGRAM = os.environ.get("CANPLAN", f"{HERE}/bin/canplan")
-PDOS = 150
+PDOS = 270
 MOST = 64 << 20
-OFTEN = "1,4,136,0,136,\n"
+OFTEN = 3  # this PDO is sent each 136 us, and takes 135 us of them
+PERIOD = 20000000
+HORIZON = 10000000
+
+
+def transfer(place):
+    """The longest transfer of a PDO at 1000 kbit/s, in microseconds: that is as many bits."""
+    return 55 + 20 * networks.WORDS[place % networks.PDOS_OF_A_NODE]
+
+
+def jitters():
+    """The jitters with which each second instance comes when the bus would be free again, while that is within 10 s."""
+    waiting = [place for place in range(PDOS) if place != OFTEN]
+    work, free, found = sum(map(transfer, waiting)), 0, {}
+    for place in waiting:
+        while (end := work + -(-free // 136) * 135) != free:
+            free = end
+        found[place] = PERIOD - free + 1 if free < HORIZON else 0
+        work += transfer(place)
+    return found
 
 
 def tables(folder):
@@ -30,10 +50,10 @@ def tables(folder):
     devices = (PDOS + size - 1) // size
     eds = networks.eds("drive", "unit.eds", False)
     nodes = "".join(f"device,{node},Unit {node},unit.eds,0,0\n" for node in range(1, devices + 1))
-    rows = (f"{place // size + 1},{place % size + 1},20000000,0,5000,\n" for place in range(PDOS) if place != 3)
+    rows = (f"{place // size + 1},{place % size + 1},{PERIOD},{jitter},5000,\n" for place, jitter in jitters().items())
     write(f"{folder}/unit.eds", "".join(f"{line}\n" for line in eds).encode())
     write(f"{folder}/nodes.csv", f"row,node,name,eds,period,jitter\n{nodes}".encode())
-    write(f"{folder}/pdos.csv", f"node,tpdo,period,jitter,deadline,consumers\n{OFTEN}{''.join(rows)}".encode())
+    write(f"{folder}/pdos.csv", f"node,tpdo,period,jitter,deadline,consumers\n1,4,136,0,136,\n{''.join(rows)}".encode())
     return f"{folder}/nodes.csv", f"{folder}/pdos.csv"
 
 

@@ -1,5 +1,6 @@
 //! What is said of a boot of the devices at a port.
 
+use cop_boot_answer::{BootAnswer, NodeLine, State};
 use cop_frame::Rate;
 use cop_logbook::abort_words;
 use std::alloc::{AllocError, Global};
@@ -68,49 +69,43 @@ fn own_words(code: u32) -> &'static str {
     }
 }
 
-/// What is said of a node's line that tells of an abort: the code in words; and of one that tells that a value differs, or what was not heard.
-fn line_words(alloc: Global, line: &str) -> Result<String, AllocError> {
-    if line.contains(" differs ") {
-        return format!(in alloc;
-            "{line}: the plan has another value there, which it confirmed if it was set, and this is what it has. If it was not set, the device has the value of another machine: restore its defaults (1011h)\n"
-        );
-    }
-    if line.ends_with(" late") {
-        return format!(in alloc;
-            "{line}: no heartbeat said that it is operational for one and a half of its time\n"
-        );
-    }
-    if line.ends_with(" unheard") {
-        return format!(in alloc;
-            "{line}: no heartbeat said that it is operational, and one and a half of its time had not passed yet: give --watch more seconds\n"
-        );
-    }
-    let code = match line.rsplit_once(' ') {
-        Some((start, code)) if start.contains(" aborted ") => u32::from_str_radix(code, 16).ok(),
-        _ => None,
-    };
-    match code {
-        Some(code) => {
+/// What is said of a node, if its line alone does not say enough: what a value that differs may come from, what was not heard, and the code of
+/// an abort in words.
+fn line_words(alloc: Global, line: NodeLine) -> Result<String, AllocError> {
+    let text = line.text(alloc)?;
+    let said = text.trim_end();
+    match line.state {
+        State::Differs { .. } => format!(in alloc;
+            "{said}: the plan has another value there, which it confirmed if it was set, and this is what it has. If it was not set, the device has the value of another machine: restore its defaults (1011h)\n"
+        ),
+        State::Late => format!(in alloc;
+            "{said}: no heartbeat said that it is operational for one and a half of its time\n"
+        ),
+        State::Unheard => format!(in alloc;
+            "{said}: no heartbeat said that it is operational, and one and a half of its time had not passed yet: give --watch more seconds\n"
+        ),
+        State::Aborted { code, .. } => {
             let (words, own) = (abort_words(code), own_words(code));
-            format!(in alloc; "{line}: {words}{own}\n")
+            format!(in alloc; "{said}: {words}{own}\n")
         }
-        None => Ok(String::new(alloc)),
+        _ => Ok(String::new(alloc)),
     }
 }
 
-/// Whether no node was heard.
-fn are_silent(text: &str) -> bool {
-    text.lines()
-        .all(|line| line.ends_with(" silent") || line == "not started")
+/// What is said of nodes.
+fn push_words(notes: &mut Vec<u8>, alloc: Global, lines: &[NodeLine]) -> Result<(), AllocError> {
+    for line in lines {
+        notes.extend_from_slice(line_words(alloc, *line)?.as_bytes())?;
+    }
+    Ok(())
 }
 
 /// What is said below the lines of a boot: the codes of aborts in words, what differs, and what to look at where no node was heard.
-pub fn boot_notes(alloc: Global, text: &str, rate: Rate) -> Result<Vec<u8>, AllocError> {
+pub fn boot_notes(alloc: Global, answer: &BootAnswer, rate: Rate) -> Result<Vec<u8>, AllocError> {
     let mut notes = Vec::new(alloc);
-    for line in text.lines() {
-        notes.extend_from_slice(line_words(alloc, line)?.as_bytes())?;
-    }
-    if are_silent(text) {
+    push_words(&mut notes, alloc, &answer.nodes)?;
+    push_words(&mut notes, alloc, &answer.heartbeats)?;
+    if answer.nodes.iter().all(|line| line.state == State::Silent) {
         let kbits = rate.kbits();
         let words = format!(in alloc;
             "no node answered at {kbits} kbit/s, the plan's rate: look at the rate that is set in the devices, at supply, wires and termination, and at the adapter's flags (its command F)\n"

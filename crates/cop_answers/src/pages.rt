@@ -5,7 +5,9 @@ ghost use Rattle.cop_figures.specs.Figures.{AreFigures};
 use crate::texts::{Inputs, beside};
 use crate::warnings::finding_lines;
 use cop_engine::{Fault, PlannedNetwork};
-use cop_figures::{Breakdown, Figures, Timeline, breakdowns_of, figures_of, timeline_of};
+use cop_figures::{
+    Breakdown, Figures, Timeline, Unsorted, breakdowns_of, figures_of, timeline_of, unsorted_of,
+};
 use cop_logbook::Logbook;
 use cop_net::{Network, NodeTable};
 use cop_orders::{NetworkFiles, Shown};
@@ -90,6 +92,18 @@ fn breakdowns(
     }
 }
 
+/// What becomes of the PDOs if controllers do not sort, where a rate passes.
+fn unsorted(
+    alloc: Global,
+    network: &Network<'_>,
+    outcome: &Outcome,
+) -> Result<Vec<Unsorted>, AllocError> {
+    match outcome {
+        Outcome::Planned(plan) => unsorted_of(alloc, network, plan),
+        Outcome::Refused(_) => Ok(Vec::new(alloc)),
+    }
+}
+
 /// The text of a page.
 pub fn page_text(
     alloc: Global,
@@ -102,6 +116,7 @@ pub fn page_text(
     let (network, outcome) = planned.parts();
     let figures = figures_of(alloc, network, outcome)?;
     let breakdowns = breakdowns(alloc, network, outcome, &figures)?;
+    let unsorted = unsorted(alloc, network, outcome)?;
     let opened = opened(alloc, sources)?;
     let inputs = inputs(alloc, sources, &opened)?;
     let warnings = finding_lines(alloc, &sources.inputs.network, nodes, network, &figures)?;
@@ -110,6 +125,7 @@ pub fn page_text(
         outcome,
         figures: &figures,
         breakdowns: &breakdowns,
+        unsorted: &unsorted,
         timeline,
         log,
         are_rates_listed: sources.network.rates.are_listed(),

@@ -2,7 +2,7 @@
 
 use cop_answers::Inputs;
 use cop_documents::boot_document;
-use cop_engine::{boot_of, plan_status};
+use cop_engine::{boot_of, boot_text, plan_status};
 use cop_files::{Failure, Form, print, print_document, read_network};
 use cop_orders::NetworkFiles;
 
@@ -17,11 +17,11 @@ pub fn boot(
 ) -> Result<u8, Failure> {
     let tables = read_network(rt, &mut inputs.network, network)?;
     let planned = inputs.network.planned(rt.alloc(), &tables)?;
-    let text = boot_of(rt.alloc(), seed, &planned)?;
+    let answer = boot_of(rt.alloc(), seed, &planned)?;
     if form == Form::Document {
-        print_document(rt, &boot_document(rt.alloc(), &text)?)?;
+        print_document(rt, &boot_document(rt.alloc(), answer.as_ref())?)?;
     } else {
-        print(rt, &text)?;
+        print(rt, &boot_text(rt.alloc(), answer.as_ref())?)?;
     }
     Ok(plan_status(planned.is_planned()))
 }

@@ -70,7 +70,7 @@ fn boot_order<'a>(matches: &ArgMatches<'a>) -> Order<'a> {
             only: node_of(matches, "only"),
             start: !matches.get_flag("no-start"),
             store: matches.get_flag("store"),
-            watch: matches.get_one("watch").unwrap_or(0),
+            watch: matches.get_one("watch"),
             limit: matches.get_one("limit"),
         }),
         None => Order::Boot {

@@ -133,7 +133,7 @@ static BOOT: [Word; 15] = [
         name: "watch",
         kind: Kind::Number(MOST_SECONDS),
         need: Need::Against("seed"),
-        help: "The seconds after the start in which each node with a heartbeat has to say that it is operational",
+        help: "The seconds after the start for which heartbeats are awaited, 0 for none; one and a half of the longest heartbeat time where it is left out",
     },
     Word {
         name: "limit",

@@ -18,8 +18,9 @@ use Rattle.cop_heartbeats.specs.declared.attending.Heartbeats.{Heartbeats}
 use Rattle.cop_heartbeats.specs.Attending.{are_all_operational}
 use Rattle.cop_readback.specs.declared.session.Reach.{Reach}
 use Rattle.cop_readback.specs.Session.{ReadsBack}
+use Rattle.cop_boot_answer.specs.Answers.{Told}
 use Rattle.cop_commission.specs.Sessions.{Way, awaited_if, IsWatched, BootsAndCloses, HasStarted}
-use Rattle.cop_commission.specs.Commissioning.{meant_nodes, is_meant_device, ended_text, HasEnded}
+use Rattle.cop_commission.specs.Commissioning.{meant_nodes, is_meant_device, ended_answer, HasEnded}
 
 -- the nodes that are meant are numbers of nodes, and rise
 pub meant_low : (net : Net) (only : Option ℕ) → All (IsUpTo 127) (meant_nodes net only)
@@ -68,11 +69,11 @@ started_so reads writes asks way reach m later nodes settings back p booted er b
 }
 
 -- a boot by a manager
-pub ended_so : {P : Type 0} (reads writes : ByteStep P) (asks : ClockStep P) (way : Way) (at : Rate) (m later : Managing) (nodes : List ℕ) (settings : List Question) (back : ReadBack) (heartbeats : Heartbeats) (p q : P) (text : List ℕ) (ready started operational : Bool)
+pub ended_so : {P : Type 0} (reads writes : ByteStep P) (asks : ClockStep P) (way : Way) (at : Rate) (m later : Managing) (nodes : List ℕ) (settings : List Question) (back : ReadBack) (heartbeats : Heartbeats) (p q : P) (answer : Told) (ready started operational : Bool)
     → BootsAndCloses reads writes asks way m nodes settings p back heartbeats later q
-    → text ≡ ended_text later nodes back way.awaited heartbeats → ready ≡ back.ready → started ≡ back.started → operational ≡ are_all_operational heartbeats (awaited_if back.started way.awaited) → at ≡ way.rate
-    → HasEnded reads writes asks way m nodes settings p q text ready started operational at
-ended_so reads writes asks way at m later nodes settings back heartbeats p q text ready started operational boots says are tells came rated = record {
+    → answer ≡ ended_answer later nodes back way.awaited heartbeats → ready ≡ back.ready → started ≡ back.started → operational ≡ are_all_operational heartbeats (awaited_if back.started way.awaited) → at ≡ way.rate
+    → HasEnded reads writes asks way m nodes settings p q answer ready started operational at
+ended_so reads writes asks way at m later nodes settings back heartbeats p q answer ready started operational boots says are tells came rated = record {
   later = later;
   back = back;
   heartbeats = heartbeats;

@@ -1,24 +1,23 @@
 -- What a boot over a port had done where its line failed, or memory was wanting.
-use Rattle.std.proofs.Common.{◌≡◌, ℕ, ◌≤◌, List, [], ◌∷◌, Bool, true, false, length, refl, sym, ap, subst, arith, inl, inr}
-use Rattle.std.specs.Prelude.{◌⊎◌, Result, Ok, Err, IfOk, IfErr, OnErr}
+use Rattle.std.proofs.Common.{◌≡◌, ℕ, List, Bool, true, false, refl, subst, inl, inr}
+use Rattle.std.specs.Prelude.{◌⊎◌, Result, Ok, Err, IfOk, OnErr}
 use Rattle.cop_frame.specs.declared.rates.Rate.{Rate}
 use Rattle.cop_net.specs.Network.{Net}
 use Rattle.cop_boot.specs.Manager.{Managing}
 use Rattle.cop_identity.specs.declared.questions.Question.{Question}
 use Rattle.cop_identity.specs.declared.asking.Exchange.{Exchange}
 use Rattle.cop_live.specs.Log.{ByteStep, ClockStep}
-use Rattle.cop_live.specs.Approach.{ApproachFails}
-use Rattle.cop_live.specs.Session.{Closed, CloseFails}
+use Rattle.cop_live.specs.Session.{CloseFails}
 use Rattle.cop_live.specs.declared.listening.Found.{Found}
-use Rattle.cop_live.specs.declared.listening.Found.TheVariants as found
 use Rattle.cop_heartbeats.specs.declared.attending.Awaited.{Awaited}
 use Rattle.cop_heartbeats.specs.declared.attending.Heartbeats.{Heartbeats}
 use Rattle.cop_readback.specs.declared.session.Reach.{Reach}
 use Rattle.cop_readback.specs.declared.session.ReadBack.{ReadBack}
 use Rattle.cop_readback.specs.Session.{ReadsBack, ReadBackFails, ReadBackStops}
+use Rattle.cop_boot_answer.specs.Answers.{Told}
 use Rattle.cop_commission.specs.declared.sessions.Session.{Session}
 use Rattle.cop_commission.specs.declared.sessions.Session.TheVariants as sessions
-use Rattle.cop_commission.specs.Sessions.{Way, awaited_if, IsWatched, IsApproached, IsFree, is_free, IsWhole, WatchFails, ClosingFails, is_kept_off, AskFirstFails, AskFirstStops, SessionFails, SessionStops, if_failed}
+use Rattle.cop_commission.specs.Sessions.{Way, awaited_if, IsWatched, IsApproached, is_free, IsWhole, WatchFails, ClosingFails, is_kept_off, AskFirstFails, AskFirstStops, SessionFails, SessionStops, if_failed}
 use Rattle.cop_commission.specs.declared.commissioning.Approach.{Approach}
 use Rattle.cop_commission.specs.declared.commissioning.Commissioned.{Commissioned}
 use Rattle.cop_commission.specs.declared.commissioning.Commissioned.TheVariants as commissioned
@@ -111,13 +110,13 @@ module _ {P : Type 0} (reads writes : ByteStep P) (asks : ClockStep P) (fails : 
   boot_fails_so whole h = by_result result h
     where
       by_case : (ended : Commissioned) → meeting.if_failed ended (BootingFails reads writes asks fails way (told_manager net ids told nodes) nodes (settings_for store net ids told nodes) free q) → meeting.if_failed ended (MeetingFails reads writes asks fails net ids nodes way identify store p q)
-      by_case (commissioned.Failed text) h = inr (told, free, whole, h)
-      by_case (commissioned.Ended text ready started operational at) h = tt
+      by_case (commissioned.Failed answer) h = inr (told, free, whole, h)
+      by_case (commissioned.Ended answer ready started operational at) h = tt
       by_case (commissioned.Running runner) h = tt
       by_case (commissioned.Garbled lines) h = tt
       by_case (commissioned.Erroneous flags at) h = tt
       by_case (commissioned.Unopened command at) h = tt
-      by_case (commissioned.Others text all) h = tt
+      by_case (commissioned.Others answer all) h = tt
       by_case commissioned.Absent h = tt
       by_case commissioned.NonePasses h = tt
 
@@ -163,15 +162,15 @@ module _ {P : Type 0} (reads writes : ByteStep P) (asks : ClockStep P) (fails : 
       subst (λ (w : Way). OnErr result (BootingStops reads writes asks fails w later nodes settings p r)) eo
       (subst (λ (x : Managing). OnErr result (BootingStops reads writes asks fails own x nodes settings p r)) em (subst (λ (x : List Question). OnErr result (BootingStops reads writes asks fails own m nodes x p r)) es h))
 
--- what follows of the text where the port failed
-pub if_failed_map : (ended : Commissioned) (A B : List ℕ → Type 0) → ((text : List ℕ) → A text → B text) → meeting.if_failed ended A → meeting.if_failed ended B
-if_failed_map (commissioned.Failed text) A B so h = so text.items h
-if_failed_map (commissioned.Ended text ready started operational at) A B so h = tt
+-- what follows of the answer where the port failed
+pub if_failed_map : (ended : Commissioned) (A B : Told → Type 0) → ((answer : Told) → A answer → B answer) → meeting.if_failed ended A → meeting.if_failed ended B
+if_failed_map (commissioned.Failed answer) A B so h = so answer h
+if_failed_map (commissioned.Ended answer ready started operational at) A B so h = tt
 if_failed_map (commissioned.Running runner) A B so h = tt
 if_failed_map (commissioned.Garbled lines) A B so h = tt
 if_failed_map (commissioned.Erroneous flags at) A B so h = tt
 if_failed_map (commissioned.Unopened command at) A B so h = tt
-if_failed_map (commissioned.Others text all) A B so h = tt
+if_failed_map (commissioned.Others answer all) A B so h = tt
 if_failed_map commissioned.Absent A B so h = tt
 if_failed_map commissioned.NonePasses A B so h = tt
 

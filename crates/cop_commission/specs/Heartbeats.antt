@@ -1,5 +1,5 @@
 -- The nodes whose heartbeats are awaited after a start, and what is said of them.
-use Rattle.std.specs.Prelude.{ℕ, ◌*◌, Bool, not, List, [], ◌∷◌, ◌++◌, codes, decimal, ◌==◌, if◌then◌else◌}
+use Rattle.std.specs.Prelude.{ℕ, ◌*◌, Bool, not, List, [], ◌∷◌, map, ◌==◌, if◌then◌else◌}
 use Rattle.std.specs.List.{flat_map}
 use Rattle.cop_net.specs.Heartbeats.{heartbeat_of}
 use Rattle.cop_net.specs.Network.{Net}
@@ -8,6 +8,9 @@ use Rattle.cop_heartbeats.specs.declared.attending.Heartbeats.{Heartbeats}
 use Rattle.cop_heartbeats.specs.declared.attending.Presence.{Presence}
 use Rattle.cop_heartbeats.specs.declared.attending.Presence.TheVariants.{Operational, Unheard, Late}
 use Rattle.cop_heartbeats.specs.Attending.{presence_of}
+use Rattle.cop_boot_answer.specs.declared.states.State.{State}
+use Rattle.cop_boot_answer.specs.declared.states.State.TheVariants as states
+use Rattle.cop_boot_answer.specs.declared.answers.NodeLine.{NodeLine}
 
 -- a node has a heartbeat, whose time is not 0
 abbrev pub has_heartbeat : Net → ℕ → Bool
@@ -24,15 +27,15 @@ awaited_at net node = if has_heartbeat net node then awaited_from net node ∷ [
 abbrev pub awaited_of : Net → List ℕ → List Awaited
 awaited_of net nodes = flat_map (awaited_at net) nodes
 
--- the line of a node: `operational` only if a heartbeat said so and none was overdue
-abbrev pub presence_word : Presence → List ℕ
-presence_word Operational = codes " operational\n"
-presence_word Unheard = codes " unheard\n"
-presence_word Late = codes " late\n"
+-- what is said of a node: operational only if a heartbeat said so and none was overdue
+abbrev pub presence_said : Presence → State
+presence_said Operational = states.Operational
+presence_said Unheard = states.Unheard
+presence_said Late = states.Late
 
-abbrev pub beat_line : ℕ → Presence → List ℕ
-beat_line node presence = codes "node " ++ (decimal node ++ presence_word presence)
+-- the line of each
+abbrev pub beat_line : Heartbeats → Awaited → NodeLine
+beat_line heartbeats one = record { node = one.node; state = presence_said (presence_of heartbeats one.node) }
 
--- a line for each
-abbrev pub attendance_text : List Awaited → Heartbeats → List ℕ
-attendance_text awaited heartbeats = flat_map (λ one. beat_line one.node (presence_of heartbeats one.node)) awaited
+abbrev pub attendance_lines : List Awaited → Heartbeats → List NodeLine
+attendance_lines awaited heartbeats = map (beat_line heartbeats) awaited

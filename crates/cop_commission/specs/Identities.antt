@@ -1,11 +1,14 @@
 -- What the devices of a network are asked about themselves, and what is said of their answers.
-use Rattle.std.specs.Prelude.{ℕ, List, [], ◌∷◌, ◌++◌, codes, decimal, false, ◌==◌, nat_le, if◌then◌else◌, Option, Some, None, option_map, option_and_then, option_to_list}
+use Rattle.std.specs.Prelude.{ℕ, List, [], ◌∷◌, ◌++◌, map, false, ◌==◌, nat_le, if◌then◌else◌, Option, Some, None, option_map, option_and_then, option_to_list}
 use Rattle.std.specs.List.{flat_map}
 use Rattle.cop_dict.specs.Find.{Entry, entry_at, unsigned32_of}
 use Rattle.cop_sdo.specs.declared.address.Address.{Address}
 use Rattle.cop_net.specs.Network.{Net}
 use Rattle.cop_dcf.specs.Settings.{dictionary_of}
-use Rattle.cop_engine.specs.Boots.{hexadecimal_of, started_line}
+use Rattle.cop_boot_answer.specs.declared.states.State.{State}
+use Rattle.cop_boot_answer.specs.declared.states.State.TheVariants as states
+use Rattle.cop_boot_answer.specs.declared.answers.NodeLine.{NodeLine}
+use Rattle.cop_boot_answer.specs.Answers.{Told}
 use Rattle.cop_identity.specs.declared.questions.Demand.TheVariants.{Tell}
 use Rattle.cop_identity.specs.declared.questions.Question.{Question}
 use Rattle.cop_identity.specs.declared.questions.Answer.{Answer}
@@ -85,17 +88,17 @@ finding_of node [] = Unasked
 finding_of node (asked ∷ rest) = if asked.question.node == node then worse (finding_by asked) (finding_of node rest) else finding_of node rest
 
 -- what is said of a node's device
-abbrev pub said_of : Finding → List ℕ
-said_of Unasked = codes " unasked\n"
-said_of AsPlanned = codes " as planned\n"
-said_of (Aborted at code) = codes " aborted " ++ (hexadecimal_of 4 at.index ++ (codes " " ++ (hexadecimal_of 2 at.sub ++ (codes " " ++ (hexadecimal_of 8 code ++ codes "\n")))))
-said_of Silent = codes " silent\n"
-said_of (Other at found) = codes " other " ++ (hexadecimal_of 4 at.index ++ (codes " " ++ (hexadecimal_of 2 at.sub ++ (codes " " ++ (hexadecimal_of 8 found ++ codes "\n")))))
+abbrev pub finding_said : Finding → State
+finding_said Unasked = states.Unasked
+finding_said AsPlanned = states.AsPlanned
+finding_said (Aborted at code) = states.Aborted at code
+finding_said Silent = states.Silent
+finding_said (Other at found) = states.Other at found
 
 -- the line of a node
-abbrev pub identity_line : ℕ → Finding → List ℕ
-identity_line node finding = codes "node " ++ (decimal node ++ said_of finding)
+abbrev pub identity_line : List Exchange → ℕ → NodeLine
+identity_line all node = record { node = node; state = finding_said (finding_of node all) }
 
--- a line for each node, and that they were not started
-abbrev pub identity_text : List ℕ → List Exchange → List ℕ
-identity_text nodes all = flat_map (λ node. identity_line node (finding_of node all)) nodes ++ started_line false
+-- the line of each, and that they were not started
+abbrev pub identity_answer : List ℕ → List Exchange → Told
+identity_answer nodes all = record { nodes = map (identity_line all) nodes; started = Some false; heartbeats = [] }

@@ -1,5 +1,5 @@
 -- What is read back of the settings of nodes, and what is said of it.
-use Rattle.std.specs.Prelude.{ℕ, Bool, not, ◌&&◌, List, [], ◌∷◌, ◌++◌, codes, decimal, ◌==◌, is_some, option_and_then, if◌then◌else◌, Option, Some, None}
+use Rattle.std.specs.Prelude.{ℕ, Bool, not, ◌&&◌, List, [], ◌∷◌, ◌++◌, map, ◌==◌, is_some, option_and_then, if◌then◌else◌, Option, Some, None}
 use Rattle.std.specs.List.{flat_map, list_any}
 use Rattle.cop_dict.specs.Find.{Entry, entry_at}
 use Rattle.cop_sdo.specs.declared.address.Address.{Address}
@@ -9,7 +9,6 @@ use Rattle.cop_dcf.specs.Settings.{node_settings, dictionary_of}
 use Rattle.cop_boot.specs.declared.«end».End.{End}
 use Rattle.cop_boot.specs.declared.«end».End.TheVariants as ends
 use Rattle.cop_boot.specs.Manager.{Managing, end_at}
-use Rattle.cop_engine.specs.Boots.{hexadecimal_of, started_line}
 use Rattle.cop_live.specs.Nodes.{has_node}
 use Rattle.cop_identity.specs.declared.questions.Demand.TheVariants.{Take}
 use Rattle.cop_identity.specs.declared.questions.Question.{Question}
@@ -22,8 +21,9 @@ use Rattle.cop_readback.specs.declared.session.ReadBack.{ReadBack}
 use Rattle.cop_readback.specs.Reading.{is_wanted}
 use Rattle.cop_commission.specs.Relied.{relied_questions}
 use Rattle.cop_commission.specs.Told.{question_about, told_settings}
-use Rattle.cop_commission.specs.declared.readings.Standing.{Standing}
-use Rattle.cop_commission.specs.declared.readings.Standing.TheVariants.{Ready, Differs, Aborted, Silent, Restarting}
+use Rattle.cop_boot_answer.specs.declared.states.State.{State}
+use Rattle.cop_boot_answer.specs.declared.states.State.TheVariants.{Ready, Differs, Aborted, Silent, Restarting}
+use Rattle.cop_boot_answer.specs.declared.answers.NodeLine.{NodeLine}
 
 -- a setting is at the address of another, and a later one is
 abbrev pub is_at : Setting → Setting → Bool
@@ -65,27 +65,27 @@ abbrev pub storing_questions : Net → List ℕ → List Question
 storing_questions net nodes = flat_map (storing_at net) nodes
 
 -- where an answer leaves a node, and where the outcome of a question does: it is not asked only where it has booted up since
-abbrev pub answer_leaves : Address → Answer → Standing
+abbrev pub answer_leaves : Address → Answer → State
 answer_leaves at answers.Wanted = Ready
 answer_leaves at (answers.Other found) = Differs at found
 answer_leaves at (answers.Aborted code) = Aborted at code
 
-abbrev pub outcome_leaves : Address → Outcome → Standing
+abbrev pub outcome_leaves : Address → Outcome → State
 outcome_leaves at (outcomes.Answered answer) = answer_leaves at answer
 outcome_leaves at outcomes.Silent = Silent
 outcome_leaves at outcomes.Unasked = Restarting
 
-abbrev pub standing_by : Exchange → Standing
+abbrev pub standing_by : Exchange → State
 standing_by asked = outcome_leaves asked.question.at asked.outcome
 
 -- the first question to a node that was not answered as it should be tells where it stands
-abbrev pub standing_read : ℕ → List Exchange → Standing
+abbrev pub standing_read : ℕ → List Exchange → State
 standing_read node [] = Ready
 standing_read node (asked ∷ rest) = if (asked.question.node == node) && not (is_wanted asked.outcome) then standing_by asked else standing_read node rest
 
 -- where a node stands by the end of its boot, and by what was read back; the boot of a node had ended, and it booted up since if it has
 -- no end
-abbrev pub standing_after : Option End → Standing → Standing
+abbrev pub standing_after : Option End → State → State
 standing_after None told = Restarting
 standing_after (Some ends.Ready) told = told
 standing_after (Some (ends.Silent node)) told = Silent
@@ -93,22 +93,13 @@ standing_after (Some (ends.Restarting node)) told = Restarting
 standing_after (Some (ends.Aborted node index sub code)) told = Aborted (record { index = index; sub = sub }) code
 
 -- where a node stands: one that booted up since is restarting
-abbrev pub standing_of : Managing → ReadBack → ℕ → Standing
+abbrev pub standing_of : Managing → ReadBack → ℕ → State
 standing_of m back node =
     if has_node back.booted node then Restarting else standing_after (end_at m.nodes node) (standing_read node back.exchanges.items)
 
--- what is said of it
-abbrev pub said_of : Standing → List ℕ
-said_of Ready = codes " ready\n"
-said_of Silent = codes " silent\n"
-said_of Restarting = codes " restarting\n"
-said_of (Aborted at code) = codes " aborted " ++ (hexadecimal_of 4 at.index ++ (codes " " ++ (hexadecimal_of 2 at.sub ++ (codes " " ++ (hexadecimal_of 8 code ++ codes "\n")))))
-said_of (Differs at found) = codes " differs " ++ (hexadecimal_of 4 at.index ++ (codes " " ++ (hexadecimal_of 2 at.sub ++ (codes " " ++ (hexadecimal_of 8 found ++ codes "\n")))))
+-- the line of each node
+abbrev pub standing_line : Managing → ReadBack → ℕ → NodeLine
+standing_line m back node = record { node = node; state = standing_of m back node }
 
--- the line of a node
-abbrev pub standing_line : ℕ → Standing → List ℕ
-standing_line node standing = codes "node " ++ (decimal node ++ said_of standing)
-
--- a line for each node, and one that says whether they were started
-abbrev pub standing_text : Managing → List ℕ → ReadBack → List ℕ
-standing_text m nodes back = flat_map (λ node. standing_line node (standing_of m back node)) nodes ++ started_line back.started
+abbrev pub standing_lines : Managing → List ℕ → ReadBack → List NodeLine
+standing_lines m nodes back = map (standing_line m back) nodes

@@ -1,5 +1,5 @@
 -- What a plan relies on in a device, beside what it sets: types, mappings, and PDOs that are off.
-use Rattle.std.specs.Prelude.{ℕ, ◌-◌, ◌^◌, Bool, not, ◌&&◌, List, ◌==◌, nat_le, nat_lt, length, if◌then◌else◌, Option, Some, None, option_map}
+use Rattle.std.specs.Prelude.{ℕ, ◌-◌, ◌^◌, Bool, not, ◌&&◌, List, ◌==◌, nat_le, nat_lt, length, if◌then◌else◌, Option, Some, None}
 use Rattle.std.specs.List.{flat_map, list_any}
 use Rattle.std.specs.Option.{option_map_or, option_to_list}
 use Rattle.cop_dict.specs.Find.{Entry, entry_at}

@@ -7,17 +7,18 @@ ghost use Rattle.cop_plan.specs.Plans.{IsPlan};
 ghost use Rattle.cop_engine.specs.Networks.{ExplainsNetwork};
 ghost use Rattle.cop_heartbeats.specs.Attending.{are_all_operational};
 ghost use Rattle.cop_commission.specs.Sessions.{awaited_if};
-ghost use Rattle.cop_commission.specs.Commissioning.{senders_of, questions_for, settings_for, meant_nodes, is_meant_device, awaited_for, way_of, ended_text, IsBooting, IsMet, IsCommissioned, IsCommissionedBy, IsCommissioning};
+ghost use Rattle.cop_commission.specs.Commissioning.{senders_of, questions_for, settings_for, meant_nodes, is_meant_device, awaited_for, longest, limit_for, way_of, ended_answer, IsBooting, IsMet, IsCommissioned, IsCommissionedBy, IsCommissioning};
 ghost use Rattle.cop_commission.specs.Commissioning.{if_failed, BootingFails, BootingStops, MeetingFails, MeetingStops, CommissionFails, CommissionStops, FailsBy, StopsBy, CommissioningFails, CommissioningStops};
 
-use crate::heartbeats::{attendance_text, awaited_of};
-use crate::identities::{identity_text, questions_of};
-use crate::readings::{settings_questions, standing_text, storing_questions};
+use crate::heartbeats::{attendance_lines, awaited_of};
+use crate::identities::{identity_answer, questions_of};
+use crate::readings::{settings_questions, standing_lines, storing_questions};
 use crate::senders::add_own_senders;
 use crate::sessions::{Bus, Closing, Questions, Session, awaited_if, boot_and_close, run_session};
 use crate::told::{off_questions, told_manager};
-use crate::unended::unended_text;
+use crate::unended::unended_answer;
 use cop_boot::Manager;
+use cop_boot_answer::BootAnswer;
 use cop_engine::{Fault, device_nodes};
 use cop_frame::Rate;
 use cop_heartbeats::{Awaited, Heartbeats};
@@ -28,6 +29,17 @@ use cop_plan::{Asked, Choice, Outcome, Plan, plan};
 use cop_readback::{Reach, ReadBack};
 use cop_rows::PdoRow;
 use std::alloc::{AllocError, Global};
+
+/// For how long the heartbeats of nodes that were started are awaited.
+#[derive(Clone, Copy, Debug, PartialEq, Eq)]
+pub enum Watch {
+    /// They are not awaited.
+    Never,
+    /// Until the time has passed in which each has to come once.
+    OnceEach,
+    /// For so many ticks of 250 ns.
+    For(u64),
+}
 
 /// How the devices are approached.
 #[derive(Clone, Copy, Debug, PartialEq, Eq)]
@@ -40,17 +52,17 @@ pub struct Approach {
     pub reach: Reach,
     /// Whether devices that have their settings store them, where they can.
     pub store: bool,
-    /// For how many ticks the heartbeats of nodes that were started are awaited; 0 for not at all.
-    pub watch: u64,
+    /// For how long the heartbeats of nodes that were started are awaited.
+    pub watch: Watch,
 }
 
 /// What came of a boot over a port.
 #[derive(Drop)]
 pub enum Commissioned {
-    /// The boot of each node ended, at a rate, and its settings were read back: the text has a line for each, and whether they were
-    /// started, and behind them one for each heartbeat that was awaited; all are ready, or not, and each of these nodes is operational, or not.
+    /// The boot of each node ended, at a rate, and its settings were read back; all are ready, or not, and each node whose heartbeat was awaited
+    /// is operational, or not.
     Ended {
-        text: Vec<u8>,
+        answer: BootAnswer,
         ready: bool,
         started: bool,
         operational: bool,
@@ -74,19 +86,19 @@ pub enum Commissioned {
         command: Command,
         rate: Rate,
     },
-    /// Some device is another one than is planned: of frames questions alone were sent. The text has a line for each node.
+    /// Some device is another one than is planned: of frames questions alone were sent.
     Others {
-        text: Vec<u8>,
+        answer: BootAnswer,
         exchanges: Vec<Exchange>,
     },
     /// The node that is meant alone has no device row: nothing was done at the port.
     Absent,
     /// No rate passes: nothing was done at the port.
     NonePasses,
-    /// The port or its clock failed. The text has a line for each node by where its boot stood then, and says whether the start was sent; it
-    /// is empty where the settings had not been begun.
+    /// The port or its clock failed. The answer says where the boot of each node stood then, and whether the start was sent; nothing where the
+    /// settings had not been begun.
     Failed {
-        text: Vec<u8>,
+        answer: BootAnswer,
     },
 }
 
@@ -172,16 +184,36 @@ fn meant_nodes(
 /// The heartbeats of nodes of a network that are awaited, if they are to be watched.
 fn awaited_for(
     alloc: Global,
-    watch: u64,
+    watch: Watch,
     network: &Network<'_>,
     nodes: &[u8],
 ) -> Result<Vec<Awaited>, AllocError>
     ensures { IfOk result (λ awaited. awaited.items ≡ awaited_for watch network.now nodes.now) }
 {
-    if watch == 0 {
-        Ok(Vec::new(alloc))
-    } else {
-        awaited_of(alloc, network, nodes)
+    match watch {
+        Watch::Never => Ok(Vec::new(alloc)),
+        Watch::OnceEach | Watch::For(_) => awaited_of(alloc, network, nodes),
+    }
+}
+
+/// The longest time in which a heartbeat has to come, 0 if none is awaited.
+fn longest(awaited: &[Awaited]) -> u64
+    ensures { result ≡ longest awaited.now }
+{
+    match awaited {
+        [] => 0,
+        [one, rest @ ..] => one.time.max(longest(rest)),
+    }
+}
+
+/// For how many ticks heartbeats are awaited.
+fn limit_for(watch: Watch, awaited: &[Awaited]) -> u64
+    ensures { result ≡ limit_for watch awaited.now }
+{
+    match watch {
+        Watch::Never => 0,
+        Watch::OnceEach => longest(awaited),
+        Watch::For(ticks) => ticks,
     }
 }
 
@@ -198,31 +230,35 @@ fn bus_of(
 {
     let mut senders = senders_of(alloc, network.rows(), plan.ids())?;
     add_own_senders(&mut senders, network, approach.reach.only)?;
+    let awaited = awaited_for(alloc, approach.watch, network, nodes)?;
+    let limit = limit_for(approach.watch, &awaited);
     Ok(Bus {
         rate: plan.rate(),
         senders,
         take_over: approach.take_over,
         reach: approach.reach,
-        awaited: awaited_for(alloc, approach.watch, network, nodes)?,
-        limit: approach.watch,
+        awaited,
+        limit,
     })
 }
 
 /// What is said of a boot, and of the heartbeats that were awaited after it.
-fn ended_text(
+fn ended_answer(
     alloc: Global,
     manager: &Manager,
     nodes: &[u8],
     back: &ReadBack,
     bus: &Bus,
     heartbeats: &Heartbeats,
-) -> Result<Vec<u8>, AllocError>
-    ensures { IfOk result (λ text. text.items ≡ ended_text manager.now nodes.now back.now bus.now.awaited heartbeats.now) }
+) -> Result<BootAnswer, AllocError>
+    ensures { IfOk result (λ answer. answer ≡ ended_answer manager.now nodes.now back.now bus.now.awaited heartbeats.now) }
 {
-    let mut text = standing_text(alloc, manager, nodes, back)?;
-    let attendance = attendance_text(alloc, awaited_if(back.started, &bus.awaited), heartbeats)?;
-    text.extend_from_slice(&attendance)?;
-    Ok(text)
+    let awaited = awaited_if(back.started, &bus.awaited);
+    Ok(BootAnswer {
+        nodes: standing_lines(alloc, manager, nodes, back)?,
+        started: Some(back.started),
+        heartbeats: attendance_lines(alloc, awaited, heartbeats)?,
+    })
 }
 
 /// Whether each node whose heartbeat was awaited is operational.
@@ -247,14 +283,14 @@ fn boot_nodes<P: Port>(
 {
     match boot_and_close(alloc, manager, nodes, settings, bus, port)? {
         Closing::Closed { back, heartbeats } => Ok(Commissioned::Ended {
-            text: ended_text(alloc, manager, nodes, &back, bus, &heartbeats)?,
+            answer: ended_answer(alloc, manager, nodes, &back, bus, &heartbeats)?,
             ready: back.ready,
             started: back.started,
             operational: is_operational(&back, bus, &heartbeats),
             rate: bus.rate,
         }),
         Closing::Failed { started } => Ok(Commissioned::Failed {
-            text: unended_text(alloc, manager, nodes, started)?,
+            answer: unended_answer(alloc, manager, nodes, started)?,
         }),
     }
 }
@@ -297,11 +333,11 @@ fn commission_nodes<P: Port>(
             rate: plan.rate(),
         }),
         Session::Others { exchanges } => Ok(Commissioned::Others {
-            text: identity_text(alloc, nodes, &exchanges)?,
+            answer: identity_answer(alloc, nodes, &exchanges)?,
             exchanges,
         }),
         Session::Failed => Ok(Commissioned::Failed {
-            text: Vec::new(alloc),
+            answer: BootAnswer::nothing(alloc),
         }),
     }
 }

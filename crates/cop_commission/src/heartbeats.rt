@@ -1,9 +1,9 @@
 //! The nodes whose heartbeats are awaited after a start, and what is said of them.
 
 ghost use Rattle.std.specs.Prelude.{◌≡◌, ◌++◌, OnOk, IfOk};
-ghost use Rattle.std.specs.String.{string_bytes};
-ghost use Rattle.cop_commission.specs.Heartbeats.{has_heartbeat, awaited_from, awaited_at, awaited_of, beat_line, attendance_text};
+ghost use Rattle.cop_commission.specs.Heartbeats.{has_heartbeat, awaited_from, awaited_at, awaited_of, presence_said, beat_line, attendance_lines};
 
+use cop_boot_answer::{NodeLine, State};
 use cop_heartbeats::{Awaited, Heartbeats, Presence};
 use cop_net::Network;
 use std::alloc::{AllocError, Global};
@@ -54,29 +54,38 @@ pub fn awaited_of(
     Ok(awaited)
 }
 
-// The line of a node.
-fn beat_line(alloc: Global, node: u8, presence: Presence) -> Result<String, AllocError>
-    ensures { IfOk result (λ line. string_bytes line ≡ beat_line node presence) }
+// What is said of a node by what its heartbeats said.
+fn presence_said(presence: Presence) -> State
+    ensures { result ≡ presence_said presence }
 {
     match presence {
-        Presence::Operational => format!(in alloc; "node {node} operational\n"),
-        Presence::Unheard => format!(in alloc; "node {node} unheard\n"),
-        Presence::Late => format!(in alloc; "node {node} late\n"),
+        Presence::Operational => State::Operational,
+        Presence::Unheard => State::Unheard,
+        Presence::Late => State::Late,
     }
 }
 
-/// What is said of nodes whose heartbeats were awaited: a line for each. Otherwise want of memory.
-pub fn attendance_text(
+// The line of a node.
+fn beat_line(heartbeats: &Heartbeats, one: Awaited) -> NodeLine
+    ensures { result ≡ beat_line heartbeats.now one }
+{
+    NodeLine {
+        node: one.node,
+        state: presence_said(heartbeats.presence_of(one.node)),
+    }
+}
+
+/// What is said of nodes whose heartbeats were awaited. Otherwise want of memory.
+pub fn attendance_lines(
     alloc: Global,
     awaited: &[Awaited],
     heartbeats: &Heartbeats,
-) -> Result<Vec<u8>, AllocError>
-    ensures { IfOk result (λ text. text.items ≡ attendance_text awaited.now heartbeats.now) }
+) -> Result<Vec<NodeLine>, AllocError>
+    ensures { IfOk result (λ lines. lines.items ≡ attendance_lines awaited.now heartbeats.now) }
 {
-    let mut text = Vec::new(alloc);
+    let mut lines = Vec::new(alloc);
     for one in awaited {
-        let line = beat_line(alloc, one.node, heartbeats.presence_of(one.node))?;
-        text.extend_from_slice(line.as_bytes())?;
+        lines.push(beat_line(heartbeats, *one))?;
     }
-    Ok(text)
+    Ok(lines)
 }

@@ -1,9 +1,9 @@
 //! What the devices of a network are asked about themselves, and what is said of their answers.
 
 ghost use Rattle.std.specs.Prelude.{◌≡◌, ◌++◌, option_to_list, IfOk, OnOk};
-ghost use Rattle.std.specs.String.{string_bytes};
-ghost use Rattle.cop_commission.specs.Identities.{identity_at, question_at, questions_at, questions_to, questions_of, finding_by, weight, worse, finding_of, identity_line, identity_text};
+ghost use Rattle.cop_commission.specs.Identities.{identity_at, question_at, questions_at, questions_to, questions_of, finding_by, weight, worse, finding_of, finding_said, identity_line, identity_answer};
 
+use cop_boot_answer::{BootAnswer, NodeLine, State};
 use cop_dict::Dictionary;
 use cop_identity::{Address, Answer, Demand, Exchange, Outcome, Question};
 use cop_net::Network;
@@ -178,34 +178,44 @@ fn finding_of(node: u8, all: &[Exchange]) -> Finding
     }
 }
 
-// The line of a node.
-fn identity_line(alloc: Global, node: u8, finding: Finding) -> Result<String, AllocError>
-    ensures { IfOk result (λ line. string_bytes line ≡ identity_line node finding) }
+// What is said of a node's device.
+fn finding_said(finding: Finding) -> State
+    ensures { result ≡ finding_said finding }
 {
     match finding {
-        Finding::Unasked => format!(in alloc; "node {node} unasked\n"),
-        Finding::AsPlanned => format!(in alloc; "node {node} as planned\n"),
-        Finding::Silent => format!(in alloc; "node {node} silent\n"),
-        Finding::Aborted {
-            at: Address { index, sub },
-            code,
-        } => format!(in alloc; "node {node} aborted {index:04X} {sub:02X} {code:08X}\n"),
-        Finding::Other {
-            at: Address { index, sub },
-            found,
-        } => format!(in alloc; "node {node} other {index:04X} {sub:02X} {found:08X}\n"),
+        Finding::Unasked => State::Unasked,
+        Finding::AsPlanned => State::AsPlanned,
+        Finding::Aborted { at, code } => State::Aborted { at, code },
+        Finding::Silent => State::Silent,
+        Finding::Other { at, found } => State::Other { at, found },
     }
 }
 
-/// What is said where some device is another one: a line for each of some nodes, and that they were not started. Otherwise want of memory.
-pub fn identity_text(alloc: Global, nodes: &[u8], all: &[Exchange]) -> Result<Vec<u8>, AllocError>
-    ensures { IfOk result (λ text. text.items ≡ identity_text nodes.now all.now) }
+// The line of a node.
+fn identity_line(all: &[Exchange], node: u8) -> NodeLine
+    ensures { result ≡ identity_line all.now node }
 {
-    let mut text = Vec::new(alloc);
-    for node in nodes {
-        let line = identity_line(alloc, *node, finding_of(*node, all))?;
-        text.extend_from_slice(line.as_bytes())?;
+    NodeLine {
+        node,
+        state: finding_said(finding_of(node, all)),
     }
-    text.extend_from_slice(b"not started\n")?;
-    Ok(text)
+}
+
+/// What is said where some device is another one: the line of each of some nodes, and that they were not started. Otherwise want of memory.
+pub fn identity_answer(
+    alloc: Global,
+    nodes: &[u8],
+    all: &[Exchange],
+) -> Result<BootAnswer, AllocError>
+    ensures { IfOk result (λ answer. answer ≡ identity_answer nodes.now all.now) }
+{
+    let mut lines = Vec::new(alloc);
+    for node in nodes {
+        lines.push(identity_line(all, *node))?;
+    }
+    Ok(BootAnswer {
+        nodes: lines,
+        started: Some(false),
+        heartbeats: Vec::new(alloc),
+    })
 }

@@ -11,6 +11,6 @@ mod sessions;
 mod told;
 mod unended;
 
-pub use commissioning::{Approach, Commissioned, commission};
+pub use commissioning::{Approach, Commissioned, Watch, commission};
 pub use cop_live::{Command, Runner};
 pub use cop_readback::Reach;

@@ -1,35 +1,19 @@
 //! What is read back of the settings of nodes, and what is said of it.
 
 ghost use Rattle.std.specs.Prelude.{◌≡◌, ◌++◌, length, OnOk, IfOk};
-ghost use Rattle.std.specs.String.{string_bytes};
 ghost use Rattle.cop_plan.specs.Plans.{IsPlan};
 ghost use Rattle.cop_dcf.specs.Settings.{dictionary_of};
-ghost use Rattle.cop_engine.specs.Boots.{started_line};
-ghost use Rattle.cop_commission.specs.Readings.{is_at, is_set_again, questions_about, node_questions, settings_questions, can_store, storing, storing_at, storing_questions, standing_by, standing_read, standing_after, standing_of, standing_line, standing_text};
+ghost use Rattle.cop_commission.specs.Readings.{is_at, is_set_again, questions_about, node_questions, settings_questions, can_store, storing, storing_at, storing_questions, standing_by, standing_read, standing_after, standing_of, standing_line, standing_lines};
 
 use crate::relied::add_relied;
 use crate::told::{question_about, told_settings};
 use cop_boot::{End, Manager, Setting};
+use cop_boot_answer::{NodeLine, State};
 use cop_identity::{Address, Answer, Demand, Exchange, Outcome, Question};
 use cop_net::Network;
 use cop_plan::Plan;
 use cop_readback::{ReadBack, is_wanted};
 use std::alloc::{AllocError, Global};
-
-/// Where a node stands after a boot whose settings were read back.
-#[derive(Clone, Copy)]
-pub enum Standing {
-    /// It confirmed its settings, and has them.
-    Ready,
-    /// It has another value at an address than was set.
-    Differs { at: Address, found: u32 },
-    /// It refused a setting, or to tell or store it, by this abort code.
-    Aborted { at: Address, code: u32 },
-    /// It did not answer.
-    Silent,
-    /// It booted up too often, or after its settings were confirmed.
-    Restarting,
-}
 
 // Whether a setting is at the address of another.
 fn is_at(setting: &Setting, other: &Setting) -> bool
@@ -154,31 +138,31 @@ pub fn storing_questions(
 }
 
 // Where the outcome of a question leaves a node.
-fn standing_by(asked: &Exchange) -> Standing
+fn standing_by(asked: &Exchange) -> State
     ensures { result ≡ standing_by asked.now }
 {
     let at = asked.question.at;
     match asked.outcome {
         Outcome::Answered {
             answer: Answer::Wanted,
-        } => Standing::Ready,
+        } => State::Ready,
         Outcome::Answered {
             answer: Answer::Other { found },
-        } => Standing::Differs { at, found },
+        } => State::Differs { at, found },
         Outcome::Answered {
             answer: Answer::Aborted { code },
-        } => Standing::Aborted { at, code },
-        Outcome::Silent => Standing::Silent,
-        Outcome::Unasked => Standing::Restarting,
+        } => State::Aborted { at, code },
+        Outcome::Silent => State::Silent,
+        Outcome::Unasked => State::Restarting,
     }
 }
 
 // Where the first question to a node that was not answered as it should be leaves it.
-fn standing_read(node: u8, all: &[Exchange]) -> Standing
+fn standing_read(node: u8, all: &[Exchange]) -> State
     ensures { result ≡ standing_read node all.now }
 {
     match all {
-        [] => Standing::Ready,
+        [] => State::Ready,
         [asked, rest @ ..] => {
             if asked.question.node == node && !is_wanted(&asked.outcome) {
                 standing_by(asked)
@@ -190,7 +174,7 @@ fn standing_read(node: u8, all: &[Exchange]) -> Standing
 }
 
 /// Where a node stands by the end of its boot, and by what was read back.
-pub fn standing_after(end: Option<End>, read: Standing) -> Standing
+pub fn standing_after(end: Option<End>, read: State) -> State
     ensures { result ≡ standing_after end read }
 {
     match end {
@@ -202,71 +186,48 @@ pub fn standing_after(end: Option<End>, read: Standing) -> Standing
                 code,
                 ..
             },
-        ) => Standing::Aborted {
+        ) => State::Aborted {
             at: Address { index, sub },
             code,
         },
-        Some(End::Silent { .. }) => Standing::Silent,
-        Some(End::Restarting { .. }) | None => Standing::Restarting,
+        Some(End::Silent { .. }) => State::Silent,
+        Some(End::Restarting { .. }) | None => State::Restarting,
     }
 }
 
 // Where a node stands.
-fn standing_of(manager: &Manager, back: &ReadBack, node: u8) -> Standing
+fn standing_of(manager: &Manager, back: &ReadBack, node: u8) -> State
     ensures { result ≡ standing_of manager.now back.now node }
 {
     if back.booted.has(node) {
-        Standing::Restarting
+        State::Restarting
     } else {
         standing_after(manager.end(node), standing_read(node, &back.exchanges))
     }
 }
 
-/// The line of a node. Otherwise want of memory.
-pub fn standing_line(alloc: Global, node: u8, standing: Standing) -> Result<String, AllocError>
-    ensures { IfOk result (λ line. string_bytes line ≡ standing_line node standing) }
+// The line of a node.
+fn standing_line(manager: &Manager, back: &ReadBack, node: u8) -> NodeLine
+    ensures { result ≡ standing_line manager.now back.now node }
 {
-    match standing {
-        Standing::Ready => format!(in alloc; "node {node} ready\n"),
-        Standing::Silent => format!(in alloc; "node {node} silent\n"),
-        Standing::Restarting => format!(in alloc; "node {node} restarting\n"),
-        Standing::Aborted {
-            at: Address { index, sub },
-            code,
-        } => format!(in alloc; "node {node} aborted {index:04X} {sub:02X} {code:08X}\n"),
-        Standing::Differs {
-            at: Address { index, sub },
-            found,
-        } => format!(in alloc; "node {node} differs {index:04X} {sub:02X} {found:08X}\n"),
+    NodeLine {
+        node,
+        state: standing_of(manager, back, node),
     }
 }
 
-// What is said of whether the nodes were started.
-fn started_line(started: bool) -> &'static [u8]
-    ensures { result.now ≡ started_line started }
-{
-    if started {
-        b"started\n"
-    } else {
-        b"not started\n"
-    }
-}
-
-/// What is said of a boot whose settings were read back: a line for each of some nodes, and whether they were started. Otherwise want of
-/// memory.
-pub fn standing_text(
+/// What is said of some nodes after a boot whose settings were read back. Otherwise want of memory.
+pub fn standing_lines(
     alloc: Global,
     manager: &Manager,
     nodes: &[u8],
     back: &ReadBack,
-) -> Result<Vec<u8>, AllocError>
-    ensures { IfOk result (λ text. text.items ≡ standing_text manager.now nodes.now back.now) }
+) -> Result<Vec<NodeLine>, AllocError>
+    ensures { IfOk result (λ lines. lines.items ≡ standing_lines manager.now nodes.now back.now) }
 {
-    let mut text = Vec::new(alloc);
+    let mut lines = Vec::new(alloc);
     for node in nodes {
-        let line = standing_line(alloc, *node, standing_of(manager, back, *node))?;
-        text.extend_from_slice(line.as_bytes())?;
+        lines.push(standing_line(manager, back, *node))?;
     }
-    text.extend_from_slice(started_line(back.started))?;
-    Ok(text)
+    Ok(lines)
 }

@@ -1,45 +1,57 @@
 //! What is said of a boot whose line failed.
 
 ghost use Rattle.std.specs.Prelude.{◌≡◌, IfOk};
-ghost use Rattle.std.specs.String.{string_bytes};
-ghost use Rattle.cop_commission.specs.Unended.{unended_line, started_if, unended_text};
+ghost use Rattle.cop_commission.specs.Unended.{unended_state, unended_line, started_if, unended_answer};
 
-use crate::readings::{Standing, standing_after, standing_line};
+use crate::readings::standing_after;
 use cop_boot::{End, Manager};
+use cop_boot_answer::{BootAnswer, NodeLine, State};
 use std::alloc::{AllocError, Global};
 
-// The line of a node by the end of its boot, if that has ended.
-fn unended_line(alloc: Global, node: u8, end: Option<End>) -> Result<String, AllocError>
-    ensures { IfOk result (λ line. string_bytes line ≡ unended_line node end) }
+// Where a node stands by the end of its boot, if that has ended.
+fn unended_state(end: Option<End>) -> State
+    ensures { result ≡ unended_state end }
 {
     match end {
-        None => format!(in alloc; "node {node} unfinished\n"),
-        Some(_) => standing_line(alloc, node, standing_after(end, Standing::Ready)),
+        None => State::Unfinished,
+        Some(_) => standing_after(end, State::Ready),
     }
 }
 
-// What is said where the start of the nodes was sent.
-fn started_if(started: bool) -> &'static [u8]
-    ensures { result.now ≡ started_if started }
+// The line of a node.
+fn unended_line(manager: &Manager, node: u8) -> NodeLine
+    ensures { result ≡ unended_line manager.now node }
 {
-    if started { b"started\n" } else { b"" }
+    NodeLine {
+        node,
+        state: unended_state(manager.end(node)),
+    }
 }
 
-/// What is said of a boot over a line that failed: a line for each of some nodes by the end of its boot, as far as it came, and whether the
+// What is said of the start of the nodes.
+fn started_if(started: bool) -> Option<bool>
+    ensures { result ≡ started_if started }
+{
+    if started { Some(true) } else { None }
+}
+
+/// What is said of a boot over a line that failed: the line of each of some nodes by the end of its boot, as far as it came, and whether the
 /// start of the nodes was sent. Otherwise want of memory.
-pub fn unended_text(
+pub fn unended_answer(
     alloc: Global,
     manager: &Manager,
     nodes: &[u8],
     started: bool,
-) -> Result<Vec<u8>, AllocError>
-    ensures { IfOk result (λ text. text.items ≡ unended_text manager.now nodes.now started) }
+) -> Result<BootAnswer, AllocError>
+    ensures { IfOk result (λ answer. answer ≡ unended_answer manager.now nodes.now started) }
 {
-    let mut text = Vec::new(alloc);
+    let mut lines = Vec::new(alloc);
     for node in nodes {
-        let line = unended_line(alloc, *node, manager.end(*node))?;
-        text.extend_from_slice(line.as_bytes())?;
+        lines.push(unended_line(manager, *node))?;
     }
-    text.extend_from_slice(started_if(started))?;
-    Ok(text)
+    Ok(BootAnswer {
+        nodes: lines,
+        started: started_if(started),
+        heartbeats: Vec::new(alloc),
+    })
 }

@@ -2,18 +2,14 @@
 
 use crate::faults::number_if;
 use crate::objects::{Object, text_of};
-use crate::values::{identifier, number, number_in, time_if};
+use crate::values::time_if;
+use cop_boot_answer::{BootAnswer, Detail, NodeLine, State};
 use cop_cert::Refusal;
 use cop_logbook::abort_words;
 use cop_rta::Verdict;
+use cop_sdo::Address;
 use serde_json::Value;
 use std::alloc::{AllocError, Global};
-use std::str;
-
-/// The lines of an answer.
-fn lines_of(text: &[u8]) -> &str {
-    str::from_utf8(text).unwrap_or("")
-}
 
 /// What the test says of the stream of an identifier.
 fn stream_of(alloc: Global, id: u16, verdict: Verdict) -> Result<Value, AllocError> {
@@ -73,80 +69,58 @@ pub fn check_document(
     document.to_string(alloc)
 }
 
-/// With an index and a sub.
-fn with_address(told: Object, index: &str, sub: &str) -> Object {
-    told.plain("index", identifier(index))
-        .plain("sub", identifier(sub))
-}
-
-/// With the code of an abort and what it says, both null where the word is none.
-fn with_code(alloc: Global, told: Object, word: &str) -> Object {
-    let words = match number_in(word, 16) {
-        Some(code) => text_of(alloc, abort_words(u32::try_from(code).unwrap_or(0))),
-        None => Ok(Value::Null),
+/// With what is said of an object: its index and sub, and what was found there or the code of an abort with its words.
+fn with_detail(alloc: Global, told: Object, state: State) -> Object {
+    let Some(
+        Detail {
+            at: Address { index, sub },
+            value,
+        },
+    ) = state.detail()
+    else {
+        return told;
     };
-    told.plain("code", identifier(word)).with("words", words)
-}
-
-/// How the boot of a node ended, or what it answered: `node 5 ready`, `node 5 as planned`, `node 5 aborted 1800 01 06090030`,
-/// `node 5 other 1018 02 00000191` or `node 5 differs 1800 01 00000191`.
-fn node_of(alloc: Global, line: &str) -> Result<Option<Value>, AllocError> {
-    let mut words = line.split(' ');
-    if words.next().unwrap_or("") != "node" {
-        return Ok(None);
+    let told = told.plain("index", index).plain("sub", sub);
+    match state {
+        State::Aborted { .. } => told
+            .plain("code", value)
+            .with("words", text_of(alloc, abort_words(value))),
+        _ => told.plain("found", value),
     }
-    let told = Object::new(alloc).plain("node", number(words.next().unwrap_or("")));
-    let state = words.next().unwrap_or("");
-    let (index, sub) = (words.next().unwrap_or(""), words.next().unwrap_or(""));
-    let last = words.next().unwrap_or("");
-    let told = match state {
-        "as" => told.text("state", "as planned"),
-        "other" | "differs" => with_address(told.text("state", state), index, sub).plain(
-            "found",
-            identifier(last),
-        ),
-        "aborted" => with_code(
-            alloc,
-            with_address(told.text("state", state), index, sub),
-            last,
-        ),
-        _ => told.text("state", state),
-    };
-    Ok(Some(told.end()?))
 }
 
-/// Whether an answer has a line.
-fn has_line(text: &[u8], wanted: &str) -> bool {
-    lines_of(text).lines().any(|line| line == wanted)
+/// What is said of a node.
+fn node_of(alloc: Global, line: NodeLine) -> Result<Value, AllocError> {
+    let NodeLine { node, state } = line;
+    let told = Object::new(alloc)
+        .plain("node", node)
+        .text("state", state.word());
+    with_detail(alloc, told, state).end()
 }
 
-/// Whether a line tells of a heartbeat that was awaited after a start.
-fn is_of_heartbeat(line: &str) -> bool {
-    [" operational", " unheard", " late"]
-        .iter()
-        .any(|word| line.ends_with(word))
-}
-
-/// What the lines of nodes say that tell of heartbeats, or those that do not.
-fn nodes_of(alloc: Global, text: &[u8], of_heartbeats: bool) -> Result<Value, AllocError> {
+/// What is said of nodes.
+fn nodes_of(alloc: Global, lines: &[NodeLine]) -> Result<Value, AllocError> {
     let mut nodes = Vec::new(alloc);
-    for line in lines_of(text).lines() {
-        if is_of_heartbeat(line) == of_heartbeats {
-            if let Some(node) = node_of(alloc, line)? {
-                nodes.push(node)?;
-            }
-        }
+    for line in lines {
+        nodes.push(node_of(alloc, *line)?)?;
     }
     Ok(Value::Array(nodes))
 }
 
-/// The answer of a boot.
-pub fn boot_document(alloc: Global, text: &[u8]) -> Result<String, AllocError> {
-    let (nodes, heartbeats) = (nodes_of(alloc, text, false)?, nodes_of(alloc, text, true)?);
+/// The answer of a boot, and that no rate passes where there is none.
+pub fn boot_document(alloc: Global, answer: Option<&BootAnswer>) -> Result<String, AllocError> {
+    let (nodes, heartbeats) = match answer {
+        Some(answer) => (
+            nodes_of(alloc, &answer.nodes)?,
+            nodes_of(alloc, &answer.heartbeats)?,
+        ),
+        None => (nodes_of(alloc, &[])?, nodes_of(alloc, &[])?),
+    };
+    let started = answer.is_some_and(|answer| answer.started == Some(true));
     let document = Object::new(alloc)
         .text("command", "boot")
-        .plain("planned", !has_line(text, "no rate passes"))
-        .plain("started", has_line(text, "started"))
+        .plain("planned", answer.is_some())
+        .plain("started", started)
         .plain("nodes", nodes)
         .plain("heartbeats", heartbeats)
         .end()?;

@@ -1,7 +1,5 @@
 //! Numbers and times in a document.
 
-ghost use Rattle.std.specs.Prelude.{◌≤◌};
-
 use crate::objects::Object;
 use serde_json::Value;
 use std::alloc::{AllocError, Global};
@@ -33,32 +31,5 @@ pub(crate) fn time_if(alloc: Global, ticks: Option<u64>) -> Result<Value, AllocE
     match ticks {
         Some(ticks) => time(alloc, ticks),
         None => Ok(Value::Null),
-    }
-}
-
-/// The number that a word is in a base.
-pub(crate) fn number_in(word: &str, base: u32) -> Option<u64>
-    requires { (2 ≤ base) × (base ≤ 36) }
-{
-    match u64::from_str_radix(word, base) {
-        Ok(number) => Some(number),
-        Err(_) => None,
-    }
-}
-
-/// The number that a word is; null where it is none.
-pub(crate) fn number(word: &str) -> Value {
-    match number_in(word, 10) {
-        Some(number) => Value::from(number),
-        None => Value::Null,
-    }
-}
-
-/// The identifier that a word such as `181h` is; null where it is none.
-pub(crate) fn identifier(word: &str) -> Value {
-    let digits = word.strip_suffix("h").unwrap_or(word);
-    match number_in(digits, 16) {
-        Some(number) => Value::from(number),
-        None => Value::Null,
     }
 }

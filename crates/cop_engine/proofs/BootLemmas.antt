@@ -30,7 +30,8 @@ use Rattle.cop_boot.specs.Bus.{Runs, Made}
 use Rattle.cop_boot.specs.Booted.{CanBoot, ReadyInTime}
 use Rattle.cop_boot.specs.NetworkBoot.{IsPlanOf, HavePlannedPdos}
 use Rattle.cop_engine.specs.Turns.{turns_drawn}
-use Rattle.cop_engine.specs.Boots.{nodes_to, device_nodes, managed, manager_of, dictionary_at, device_at, boot_text, IsBooted}
+use Rattle.cop_boot_answer.specs.Answers.{Told}
+use Rattle.cop_engine.specs.Boots.{nodes_to, device_nodes, managed, manager_of, dictionary_at, device_at, boot_answer, IsBooted}
 
 heads : {X : Type 0} (x y : X) (xs ys : List X) → x ∷ xs ≡ y ∷ ys → (x ≡ y) × (xs ≡ ys)
 heads x y xs ys h = (cc, cc)
@@ -194,16 +195,16 @@ module _ (net : Net) (ids : List ℕ) where
           rw (number, settings, low, high) short
 
 -- what a boot made, put together
-pub booted_so : {E : Type 0} (seed : ℕ) (net : Net) (ids nodes shown : List ℕ) (manager later : Managing) (devices after : List Attached) (turns : List Turn) (r : Result (Vec ℕ) E)
+pub booted_so : {E : Type 0} (seed : ℕ) (net : Net) (ids nodes shown : List ℕ) (manager later : Managing) (devices after : List Attached) (turns : List Turn) (r : Result Told E)
     → nodes ≡ device_nodes net → manager ≡ manager_of net ids nodes → devices ≡ map (device_at net) nodes → turns ≡ turns_drawn seed nodes → shown ≡ nodes
     → Runs manager devices turns later after
     → CanBoot (manager_of net ids (device_nodes net)) (map (device_at net) (device_nodes net)) (dictionary_at net) → ((built : ℕ → List Entry) → CanBoot manager devices built → Made manager built later after)
     → ((built : ℕ → List Entry) → CanBoot manager devices built → ReadyInTime manager devices turns later)
     → ((net : Net) (ids : List ℕ) (built : ℕ → List Entry) → CanBoot manager devices built → IsPlanOf net ids manager built → HavePlannedPdos net ids later after)
     → IsPlanOf net ids (manager_of net ids (device_nodes net)) (dictionary_at net)
-    → IfOk r (λ text. text.items ≡ boot_text later shown) → IfOk r (λ text. IsBooted seed net ids text.items)
+    → IfOk r (λ answer. answer ≡ boot_answer later shown) → IfOk r (λ answer. IsBooted seed net ids answer)
 booted_so seed net ids nodes shown manager later devices after turns (Err e) are made there drawn same runs can configures in_time exist plan_of said = tt
-booted_so seed net ids nodes shown manager later devices after turns (Ok text) are made there drawn same runs can configures in_time exist plan_of said = record {
+booted_so seed net ids nodes shown manager later devices after turns (Ok answer) are made there drawn same runs can configures in_time exist plan_of said = record {
   later = later;
   after = after;
   runs = subst (λ ts. Runs (manager_of net ids (device_nodes net)) (map (device_at net) (device_nodes net)) ts later after) whole_turns
@@ -213,7 +214,7 @@ booted_so seed net ids nodes shown manager later devices after turns (Ok text) a
       (subst (λ ds. ReadyInTime (manager_of net ids (device_nodes net)) ds turns later) whole_devices
       (subst (λ m. ReadyInTime m devices turns later) whole_manager (in_time (dictionary_at net) can_now)));
   pdos = exist net ids (dictionary_at net) can_now (subst (λ m. IsPlanOf net ids m (dictionary_at net)) (sym whole_manager) plan_of);
-  says = said ∙ ap (boot_text later) (same ∙ are);
+  says = said ∙ ap (boot_answer later) (same ∙ are);
 }
   where
     whole_manager : manager ≡ manager_of net ids (device_nodes net)

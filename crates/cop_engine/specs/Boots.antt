@@ -1,7 +1,5 @@
 -- The boot of a planned network by drawn turns, and what is said of it.
-use Rattle.std.specs.Prelude.{◌≡◌, ℕ, zero, suc, List, [], ◌∷◌, ◌++◌, map, false, true, codes, decimal, Option, Some, None, is_some, unwrap_or, if◌then◌else◌, Bool, ◌^◌, ◌-◌}
-use Rattle.std.specs.List.{flat_map}
-use Rattle.std.specs.Fmt.{digits, padded_integral, format_spec}
+use Rattle.std.specs.Prelude.{◌≡◌, ℕ, zero, suc, List, [], ◌∷◌, ◌++◌, map, false, Option, Some, None, is_some, unwrap_or, if◌then◌else◌}
 use Rattle.cop_nmt.specs.declared.states.NodeState.TheVariants.{PreOperational}
 use Rattle.cop_sdo.specs.Server.{idle}
 use Rattle.cop_dict.specs.Find.{Entry}
@@ -21,6 +19,10 @@ use Rattle.cop_boot.specs.Device.{Attached}
 use Rattle.cop_boot.specs.Booted.{ReadyInTime}
 use Rattle.cop_boot.specs.Bus.{Runs, Made}
 use Rattle.cop_boot.specs.NetworkBoot.{HavePlannedPdos}
+use Rattle.cop_boot_answer.specs.declared.states.State.{State}
+use Rattle.cop_boot_answer.specs.declared.states.State.TheVariants as states
+use Rattle.cop_boot_answer.specs.declared.answers.NodeLine.{NodeLine}
+use Rattle.cop_boot_answer.specs.Answers.{Told, text_of}
 use Rattle.cop_engine.specs.Networks.{IsPlannedNetwork}
 use Rattle.cop_engine.specs.Judgements.{none_passes}
 use Rattle.cop_engine.specs.Turns.{turns_drawn}
@@ -49,51 +51,50 @@ dictionary_at net node = initial (unwrap_or (dictionary_of net node) [])
 abbrev pub device_at : Net → ℕ → Attached
 device_at net node = record { number = node; state = PreOperational; dict = dictionary_at net node; server = record { node = node; state = idle } }
 
--- at least so many hexadecimal digits in upper case, filled with zeros
-abbrev pub hexadecimal_of : ℕ → ℕ → List ℕ
-hexadecimal_of width n = padded_integral (format_spec 32 0 4 width (2 ^ 64 - 1)) false [] (digits 16 true n)
-
 -- what is said of a node's end
-abbrev pub said_of : Option End → List ℕ
-said_of None = codes " undecided\n"
-said_of (Some Ready) = codes " ready\n"
-said_of (Some (Silent node)) = codes " silent\n"
-said_of (Some (Restarting node)) = codes " restarting\n"
-said_of (Some (Aborted node index sub code)) =
-    codes " aborted " ++ (hexadecimal_of 4 index ++ (codes " " ++ (hexadecimal_of 2 sub ++ (codes " " ++ (hexadecimal_of 8 code ++ codes "\n")))))
+abbrev pub state_of : Option End → State
+state_of None = states.Undecided
+state_of (Some Ready) = states.Ready
+state_of (Some (Silent node)) = states.Silent
+state_of (Some (Restarting node)) = states.Restarting
+state_of (Some (Aborted node index sub code)) = states.Aborted (record { index = index; sub = sub }) code
 
 -- the line of a node
-abbrev pub node_line : ℕ → Option End → List ℕ
-node_line node end = codes "node " ++ (decimal node ++ said_of end)
+abbrev pub node_line : Managing → ℕ → NodeLine
+node_line m node = record { node = node; state = state_of (end_at m.nodes node) }
 
-abbrev pub started_line : Bool → List ℕ
-started_line true = codes "started\n"
-started_line false = codes "not started\n"
-
--- a line for each node, and one that says whether they were started
-abbrev pub boot_text : Managing → List ℕ → List ℕ
-boot_text m nodes = flat_map (λ node. node_line node (end_at m.nodes node)) nodes ++ started_line m.started
+-- a line for each node, and whether they were started
+abbrev pub boot_answer : Managing → List ℕ → Told
+boot_answer m nodes = record { nodes = map (node_line m) nodes; started = Some m.started; heartbeats = [] }
 
 -- A boot of a network by a plan with these identifiers, by the turns that a seed draws, made this of the manager and of the devices:
 -- a node that is ready has the planned dictionary, no node is aborted or restarting, and the nodes are started exactly where
 -- all are ready. A node is ready where its turns came in turn once more than it has settings, and no moment was too late. In the
--- device of each that is ready exactly the PDOs of the plan exist. The text says so.
-pub record IsBooted (seed : ℕ) (net : Net) (ids text : List ℕ) : Type 0 where
+-- device of each that is ready exactly the PDOs of the plan exist. The answer says so.
+pub record IsBooted (seed : ℕ) (net : Net) (ids : List ℕ) (answer : Told) : Type 0 where
   pub later : Managing
   pub after : List Attached
   pub runs : Runs (manager_of net ids (device_nodes net)) (map (device_at net) (device_nodes net)) (turns_drawn seed (device_nodes net)) later after
   pub made : Made (manager_of net ids (device_nodes net)) (dictionary_at net) later after
   pub in_time : ReadyInTime (manager_of net ids (device_nodes net)) (map (device_at net) (device_nodes net)) (turns_drawn seed (device_nodes net)) later
   pub pdos : HavePlannedPdos net ids later after
-  pub says : text ≡ boot_text later (device_nodes net)
+  pub says : answer ≡ boot_answer later (device_nodes net)
 
 -- where no rate passes nothing is booted
-abbrev pub IsBootedBy : ℕ → Net → Outcome → List ℕ → Type 0
-IsBootedBy seed net (Planned plan) text = IsBooted seed net plan.ids text
-IsBootedBy seed net (Refused refusals) text = text ≡ none_passes
+abbrev pub IsBootedBy : ℕ → Net → Outcome → Option Told → Type 0
+IsBootedBy seed net (Planned plan) (Some answer) = IsBooted seed net plan.ids answer
+IsBootedBy seed net (Planned plan) None = ⊥
+IsBootedBy seed net (Refused refusals) answer = answer ≡ None
+
+-- the text of an answer, and that no rate passes where there is none
+abbrev pub boot_said : Option Told → List ℕ
+boot_said None = none_passes
+boot_said (Some answer) = text_of answer
 
 -- the boot of the network that the tables and the EDS files say, by its plan
 pub record IsBootOf (asked : Asked) (seed : ℕ) (nodes pdos : List ℕ) (eds : List File) (text : List ℕ) : Type 0 where
   pub outcome : Outcome
   pub network : IsPlannedNetwork asked nodes pdos eds outcome
-  pub booted : IsBootedBy seed network.net outcome text
+  pub answer : Option Told
+  pub booted : IsBootedBy seed network.net outcome answer
+  pub says : text ≡ boot_said answer

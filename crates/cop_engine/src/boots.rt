@@ -2,7 +2,7 @@
 
 ghost use Rattle.std.specs.Prelude.{◌≡◌, ◌≤◌, ◌<◌, length, map, is_some, All, IfOk, MatchResult};
 ghost use Rattle.std.specs.List.{AllPairs};
-ghost use Rattle.std.specs.String.{string_bytes};
+ghost use Rattle.std.specs.Option.{option_copied};
 ghost use Rattle.cop_dict.specs.Dict.{initial};
 ghost use Rattle.cop_net.specs.Devices.{handed_in};
 ghost use Rattle.cop_net.specs.Network.{IsNetwork};
@@ -10,17 +10,19 @@ ghost use Rattle.cop_plan.specs.Plans.{IsPlan};
 ghost use Rattle.cop_dcf.specs.Settings.{dictionary_of};
 ghost use Rattle.cop_boot.specs.Member.{unheard};
 ghost use Rattle.cop_engine.specs.Networks.{ExplainsNetwork};
-ghost use Rattle.cop_engine.specs.Boots.{device_nodes, managed, manager_of, device_at, boot_text, node_line, IsBooted, IsBootedBy, IsBootOf};
+ghost use Rattle.cop_engine.specs.Boots.{device_nodes, managed, manager_of, device_at, state_of, node_line, boot_answer, boot_said, IsBooted, IsBootedBy, IsBootOf};
 
 use crate::faults::Fault;
 use crate::judgements::none_passes;
 use crate::planned_networks::{PlannedNetwork, planned};
 use crate::turns::boot_by_drawn;
 use cop_boot::{Device, End, Manager};
+use cop_boot_answer::{BootAnswer, NodeLine, State};
 use cop_dcf::{Setting, settings};
 use cop_dict::{Dictionary, Object};
 use cop_net::{Network, read_nodes, read_pdos};
 use cop_plan::{Asked, Outcome, Plan};
+use cop_sdo::Address;
 use std::alloc::{AllocError, Global};
 use std::collections::BTreeMap;
 
@@ -120,15 +122,15 @@ pub fn manager_of(
     Manager::new(alloc, plan_of)
 }
 
-/// The line of a node.
-fn node_line(alloc: Global, node: u8, end: Option<End>) -> Result<String, AllocError>
-    ensures { IfOk result (λ line. string_bytes line ≡ node_line node end) }
+/// What is said of a node's end.
+fn state_of(end: Option<End>) -> State
+    ensures { result ≡ state_of end }
 {
     match end {
-        None => format!(in alloc; "node {node} undecided\n"),
-        Some(End::Ready) => format!(in alloc; "node {node} ready\n"),
-        Some(End::Silent { .. }) => format!(in alloc; "node {node} silent\n"),
-        Some(End::Restarting { .. }) => format!(in alloc; "node {node} restarting\n"),
+        None => State::Undecided,
+        Some(End::Ready) => State::Ready,
+        Some(End::Silent { .. }) => State::Silent,
+        Some(End::Restarting { .. }) => State::Restarting,
         Some(
             End::Aborted {
                 index,
@@ -136,25 +138,36 @@ fn node_line(alloc: Global, node: u8, end: Option<End>) -> Result<String, AllocE
                 code,
                 ..
             },
-        ) => format!(in alloc; "node {node} aborted {index:04X} {sub:02X} {code:08X}\n"),
+        ) => State::Aborted {
+            at: Address { index, sub },
+            code,
+        },
+    }
+}
+
+/// The line of a node.
+fn node_line(manager: &Manager, node: u8) -> NodeLine
+    ensures { result ≡ node_line manager.now node }
+{
+    NodeLine {
+        node,
+        state: state_of(manager.end(node)),
     }
 }
 
 /// What is said of a boot: a line for each of some nodes, and whether they were started. Otherwise want of memory.
-pub fn boot_text(alloc: Global, manager: &Manager, nodes: &[u8]) -> Result<Vec<u8>, AllocError>
-    ensures { IfOk result (λ text. text.items ≡ boot_text manager.now nodes.now) }
+pub fn boot_answer(alloc: Global, manager: &Manager, nodes: &[u8]) -> Result<BootAnswer, AllocError>
+    ensures { IfOk result (λ answer. answer ≡ boot_answer manager.now nodes.now) }
 {
-    let mut text = Vec::new(alloc);
+    let mut lines = Vec::new(alloc);
     for node in nodes {
-        let line = node_line(alloc, *node, manager.end(*node))?;
-        text.extend_from_slice(line.as_bytes())?;
+        lines.push(node_line(manager, *node))?;
     }
-    if manager.started() {
-        text.extend_from_slice(b"started\n")?;
-    } else {
-        text.extend_from_slice(b"not started\n")?;
-    }
-    Ok(text)
+    Ok(BootAnswer {
+        nodes: lines,
+        started: Some(manager.started()),
+        heartbeats: Vec::new(alloc),
+    })
 }
 
 /// The boot of a network by its plan.
@@ -163,30 +176,40 @@ fn booted(
     seed: u64,
     network: &Network<'_>,
     plan: &Plan,
-) -> Result<Vec<u8>, AllocError>
+) -> Result<BootAnswer, AllocError>
     requires network { IsNetwork network.now }
     requires planned { IsPlan network.now.equipment.rates network.now.set (length network.now.rows) plan.now }
-    ensures { IfOk result (λ text. IsBooted seed network.now plan.now.ids text.items) }
+    ensures { IfOk result (λ answer. IsBooted seed network.now plan.now.ids answer) }
 {
     let nodes = device_nodes(alloc, network)?;
     let mut manager = manager_of(alloc, plan, network, &nodes)?;
     let mut devices = devices_of(alloc, network, &nodes)?;
     boot_by_drawn(alloc, seed, &nodes, &mut manager, &mut devices)?;
-    boot_text(alloc, &manager, &nodes)
+    boot_answer(alloc, &manager, &nodes)
 }
 
-/// The boot of a network by what the planner answers for it, by the turns that a seed draws.
+/// The boot of a network by what the planner answers for it, by the turns that a seed draws; `None` where no rate passes.
 pub fn boot_of(
     alloc: Global,
     seed: u64,
     planned: &PlannedNetwork<'_>,
-) -> Result<Vec<u8>, AllocError>
-    ensures { IfOk result (λ text. IsBootedBy seed planned.now.net planned.now.outcome text.items) }
+) -> Result<Option<BootAnswer>, AllocError>
+    ensures { IfOk result (λ answer. IsBootedBy seed planned.now.net planned.now.outcome answer) }
 {
     let (network, outcome) = planned.parts();
     match outcome {
-        Outcome::Planned(plan) => booted(alloc, seed, network, plan),
-        Outcome::Refused(_) => none_passes(alloc),
+        Outcome::Planned(plan) => Ok(Some(booted(alloc, seed, network, plan)?)),
+        Outcome::Refused(_) => Ok(None),
+    }
+}
+
+/// The text of what came of a boot; that no rate passes where nothing did.
+pub fn boot_text(alloc: Global, answer: Option<&BootAnswer>) -> Result<Vec<u8>, AllocError>
+    ensures { IfOk result (λ text. text.items ≡ boot_said (option_copied answer.entry)) }
+{
+    match answer {
+        Some(answer) => answer.text(alloc),
+        None => none_passes(alloc),
     }
 }
 
@@ -207,5 +230,6 @@ pub fn boot_bytes(
     let nodes = read_nodes(alloc, nodes)?;
     let pdos = read_pdos(alloc, pdos)?;
     let planned = planned(alloc, asked, &nodes, &pdos, eds_files)?;
-    Ok(boot_of(alloc, seed, &planned)?)
+    let answer = boot_of(alloc, seed, &planned)?;
+    Ok(boot_text(alloc, answer.as_ref())?)
 }

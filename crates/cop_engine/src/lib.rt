@@ -20,7 +20,7 @@ mod seeded_runs;
 mod tests_of_streams;
 mod turns;
 
-pub use boots::{boot_bytes, boot_of, boot_text, device_nodes, manager_of};
+pub use boots::{boot_answer, boot_bytes, boot_of, boot_text, device_nodes, manager_of};
 pub use checks::{all_hold, check_bytes, checked, checks_text};
 pub use dcfs::DcfFile;
 pub use faults::{Fault, status};

@@ -4,3 +4,4 @@ pub mod FrameLemmas
 pub mod BelowLemmas
 pub mod TimelineLemmas
 pub mod DelayLemmas
+pub mod UnsortedLemmas

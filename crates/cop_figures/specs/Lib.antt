@@ -6,3 +6,4 @@ pub mod Errors
 pub mod Figures
 pub mod Measures
 pub mod Timelines
+pub mod Unsorted

@@ -9,6 +9,7 @@ mod loads;
 mod refused;
 mod timelines;
 mod times;
+mod unsorted;
 
 pub use delays::{Breakdown, Delay, breakdowns_of};
 pub use errors::{Tight, error_cost, tightest};
@@ -18,3 +19,4 @@ pub use loads::Load;
 pub use refused::{Failing, FailingFrame, Reason, RefusedRate};
 pub use timelines::{Lane, MOST_SHOWN, Timeline, timeline_of};
 pub use times::PdoTimes;
+pub use unsorted::{Unsorted, unsorted_of};

@@ -75,8 +75,8 @@ pub struct MachineOrder<'a> {
     pub start: bool,
     /// Whether the devices store their settings.
     pub store: bool,
-    /// For how many seconds the heartbeats of nodes that were started are awaited.
-    pub watch: u64,
+    /// For how many seconds the heartbeats of nodes that were started are awaited, 0 for not at all. Otherwise until each has had its time.
+    pub watch: Option<u64>,
     /// After how many seconds the port is given up, if it ever is.
     pub limit: Option<u64>,
 }

@@ -16,6 +16,7 @@ mod script;
 mod senders;
 mod style;
 mod units;
+mod unsorted;
 mod warnings;
 
 pub use page::{Input, Report, page_of};

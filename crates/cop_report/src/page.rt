@@ -15,7 +15,7 @@ use crate::senders::fixed_sender;
 use crate::style::STYLE;
 use crate::units::{Count, Identifier, Micros, Percent, Share};
 use crate::warnings::push_warnings;
-use cop_figures::{Breakdown, Figures, Timeline};
+use cop_figures::{Breakdown, Figures, Timeline, Unsorted};
 use cop_logbook::Logbook;
 use cop_net::Network;
 use cop_plan::Outcome;
@@ -29,14 +29,16 @@ pub struct Input<'a> {
 }
 
 /// What a page is made of: a network, what the planner answers for it, the numbers of that, what the responses of the PDOs are made of, in
-/// the order of these numbers, what a trace tells of the bus under
-/// the plan if one is to be shown, a log that was watched by the plan if there is one, and the files that were read.
+/// the order of these numbers, what a trace tells of the bus under the plan if one is to be shown, a log that was watched by the plan if there
+/// is one, and the files that were read.
 #[derive(Clone, Copy)]
 pub struct Report<'a, 'n> {
     pub network: &'a Network<'n>,
     pub outcome: &'a Outcome,
     pub figures: &'a Figures,
     pub breakdowns: &'a [Breakdown],
+    /// What becomes of the PDOs if controllers do not sort, in the order of their numbers; empty where no rate passes.
+    pub unsorted: &'a [Unsorted],
     pub timeline: Option<&'a Timeline>,
     pub log: Option<&'a Logbook<'a>>,
     /// Whether the rates that the plan may have were listed.
@@ -253,6 +255,7 @@ fn push_plan(page: &mut String, alloc: Global, report: Report<'_, '_>) -> Result
             report.network,
             report.figures,
             report.breakdowns,
+            report.unsorted,
         )?;
         push_frames(page, alloc, report.network, report.figures)?;
         if let Some(timeline) = report.timeline {

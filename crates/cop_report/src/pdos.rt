@@ -6,7 +6,8 @@ use crate::frames::{is_lower, push_lower};
 use crate::parts::push_parts;
 use crate::script::TABLE_SCRIPT;
 use crate::units::{Identifier, Micros, Share};
-use cop_figures::{Breakdown, Figures, PdoTimes, SyncTimes};
+use crate::unsorted::push_unsorted;
+use cop_figures::{Breakdown, Figures, PdoTimes, SyncTimes, Unsorted};
 use cop_net::{Consumer, Network, PdoRow};
 use std::alloc::{AllocError, Global};
 
@@ -217,13 +218,15 @@ fn push_lines(
     Ok(())
 }
 
-/// Adds the PDOs by rising identifier, with what their responses are made of, which stands in the same order.
+/// Adds the PDOs by rising identifier, with what their responses are made of and what becomes of them if controllers do not sort. All stand in
+/// the same order.
 pub(crate) fn push_pdos(
     page: &mut String,
     alloc: Global,
     network: &Network<'_>,
     figures: &Figures,
     breakdowns: &[Breakdown],
+    unsorted: &[Unsorted],
 ) -> Result<(), AllocError> {
     page.push_str(
         "<section id=\"pdos\">\n<h2>PDOs by identifier</h2>\n\
@@ -239,7 +242,9 @@ a bar is full where it takes the whole deadline.</p>\n",
 <th class=\"n\">Response</th><th></th><th class=\"n\">Margin</th><th class=\"n\">of it</th><th>Taken by</th></tr>\n",
     )?;
     push_lines(page, alloc, network, figures, breakdowns)?;
-    page.push_str("</table></div>\n<script>")?;
+    page.push_str("</table></div>\n")?;
+    push_unsorted(page, network, figures, unsorted)?;
+    page.push_str("<script>")?;
     page.push_str(TABLE_SCRIPT)?;
     page.push_str("</script>\n</section>\n")
 }

@@ -2,15 +2,16 @@
 
 ghost use Rattle.std.specs.Prelude.{◌≡◌, IfOk, IfErr, Some};
 ghost use Rattle.cop_engine.specs.declared.faults.Fault.TheVariants.{Refused};
-ghost use Rattle.cop_serial.specs.Boots.{approach_of, status_of, refused_as, FailsBy};
+ghost use Rattle.cop_serial.specs.Boots.{watch_of, approach_of, status_of, refused_as, FailsBy};
 
 use crate::serial::{Serial, open_serial};
 use cop_answers::{
     ABSENT, ERRONEOUS, GARBLED, Inputs, RUNNING, UNOPENED, boot_notes, identity_notes,
 };
-use cop_commission::{Approach, Command, Commissioned, Reach, Runner, commission};
+use cop_boot_answer::BootAnswer;
+use cop_commission::{Approach, Command, Commissioned, Reach, Runner, Watch, commission};
 use cop_documents::boot_document;
-use cop_engine::{Fault, none_passes};
+use cop_engine::{Fault, boot_text};
 use cop_files::{Failure, Form, Use, file_failure, print, read_network};
 use cop_frame::Rate;
 use cop_orders::MachineOrder;
@@ -36,13 +37,18 @@ pub fn answer(rt: &HostRuntime, port: &str, text: &[u8]) -> Result<(), Failure> 
     }
 }
 
-/// Gives the lines of a boot in a form.
-fn answer_in(rt: &HostRuntime, port: &str, form: Form, text: &[u8]) -> Result<(), Failure> {
+/// Gives the answer of a boot in a form, and that no rate passes where there is none.
+fn answer_in(
+    rt: &HostRuntime,
+    port: &str,
+    form: Form,
+    told: Option<&BootAnswer>,
+) -> Result<(), Failure> {
     if form == Form::Document {
-        let document = boot_document(rt.alloc(), text)?;
+        let document = boot_document(rt.alloc(), told)?;
         answer(rt, port, format!(in rt.alloc(); "{document}\n")?.as_bytes())
     } else {
-        answer(rt, port, text)
+        answer(rt, port, &boot_text(rt.alloc(), told)?)
     }
 }
 
@@ -151,15 +157,16 @@ fn boot_failure(
     rt: &HostRuntime,
     name: &str,
     form: Form,
-    text: &[u8],
+    told: &BootAnswer,
     port: &Serial<'_>,
 ) -> Result<Failure, Failure> {
     let failure = line_failure(rt, name, port);
+    let text = told.text(rt.alloc())?;
     if form == Form::Document {
-        return Ok(with_lines(rt, failure, text));
+        return Ok(with_lines(rt, failure, &text));
     }
     if !text.is_empty() {
-        answer(rt, name, text)?;
+        answer(rt, name, &text)?;
     }
     Ok(failure)
 }
@@ -178,19 +185,18 @@ fn tell_ended(
     let name = order.port;
     match ended {
         Commissioned::Ended {
-            text,
+            answer,
             ready,
             operational,
             rate,
             ..
         } => {
-            answer_in(rt, name, form, text)?;
-            let words = str::from_utf8(text).unwrap_or("");
-            say(rt, &boot_notes(rt.alloc(), words, *rate)?);
+            answer_in(rt, name, form, Some(answer))?;
+            say(rt, &boot_notes(rt.alloc(), answer, *rate)?);
             Ok(if *ready && *operational { 0 } else { 3 })
         }
-        Commissioned::Others { text, exchanges } => {
-            answer_in(rt, name, form, text)?;
+        Commissioned::Others { answer, exchanges } => {
+            answer_in(rt, name, form, Some(answer))?;
             say(rt, &identity_notes(rt.alloc(), exchanges)?);
             Ok(3)
         }
@@ -200,10 +206,10 @@ fn tell_ended(
         Commissioned::Unopened { command, rate } => Err(unopened_refusal(rt, *command, *rate)),
         Commissioned::Absent => Err(refusal(ABSENT, u64::from(order.only.unwrap_or(0)), None)),
         Commissioned::NonePasses => {
-            answer_in(rt, name, form, &none_passes(rt.alloc())?)?;
+            answer_in(rt, name, form, None)?;
             Ok(4)
         }
-        Commissioned::Failed { text } => Err(boot_failure(rt, name, form, text, port)?),
+        Commissioned::Failed { answer } => Err(boot_failure(rt, name, form, answer, port)?),
     }
 }
 
@@ -214,6 +220,17 @@ fn said_before(order: MachineOrder<'_>) -> &'static str {
         (false, true) =>
             "canplan: listening for 2 s, then the devices are asked who they are and the nodes are reset\n",
         (false, false) => "canplan: listening for 2 s, then the nodes are reset\n",
+    }
+}
+
+/// For how long heartbeats are awaited.
+fn watch_of(seconds: Option<u64>) -> Watch
+    ensures { result ≡ watch_of seconds }
+{
+    match seconds {
+        None => Watch::OnceEach,
+        Some(0) => Watch::Never,
+        Some(seconds) => Watch::For(seconds.saturating_mul(SECOND)),
     }
 }
 
@@ -229,7 +246,7 @@ fn approach_of(order: MachineOrder<'_>) -> Approach
             start: order.start,
         },
         store: order.store,
-        watch: order.watch.saturating_mul(SECOND),
+        watch: watch_of(order.watch),
     }
 }
 
@@ -264,6 +281,7 @@ pub fn boot_machine(
         approach,
         &mut port,
     )?;
+    port.close_if_over();
     tell_adapter(rt, &port);
     tell_ended(rt, order, form, &ended, &port)
 }

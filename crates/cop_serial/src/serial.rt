@@ -116,6 +116,13 @@ impl Serial<'_> {
 }
 
 impl Serial<'_> {
+    /// Closes the adapter if its line was given up before that was done. No frame is sent, and if this fails too, nothing is left to do.
+    pub fn close_if_over(&mut self) {
+        if self.over {
+            let _ = self.write_line(b"C\r");
+        }
+    }
+
     /// Notes a command. `O` behind `L` is given where that is refused. What the adapter refuses counts from its opening on, since one that is
     /// closed already refuses to be closed.
     fn note(&mut self, bytes: &[u8]) {

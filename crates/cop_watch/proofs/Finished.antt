@@ -20,7 +20,7 @@ use Rattle.cop_watch.specs.declared.bus.Bus.TheVariants.{Idle, Sending}
 use Rattle.cop_watch.specs.declared.syncs.Syncs.{Syncs}
 use Rattle.cop_watch.specs.Syncs.{IsNewest, AreNone}
 use Rattle.cop_watch.specs.Rings.{ring_of}
-use Rattle.cop_watch.specs.Knowing.{IsHeld, Awaits, runs_of}
+use Rattle.cop_watch.specs.Knowing.{IsHeld, AreUnended, Awaits, runs_of}
 use Rattle.cop_watch.specs.Watching.{Knows}
 use Rattle.cop_watch.proofs.Further.{runs-idle, idle-is}
 use Rattle.cop_watch.proofs.Taken.{none-waiting}
@@ -41,8 +41,8 @@ first-none tau streams until steps fine end = go (length steps) 0 (omega arith)
         ∙ ap (λ o. at_step i o (first_broken_from tau streams until steps (suc i) (drop (suc i) steps))) (fine i l)
         ∙ go n (suc i) (omega arith)
 
-module _ (tau : ℕ) (streams : List Stream) (steps : List Step) (bus : Bus) (now rank : ℕ) (last : List (Option ℕ)) (marks : List ℕ) (syncs : Syncs) (rings : List (List ℕ)) (waiting : BTreeSet ℕ) (count : ℕ)
-    (h : Knows tau streams steps bus now rank last marks syncs rings waiting count) (until : ℕ) (le : now ≤ until) where
+module _ (tau : ℕ) (streams : List Stream) (steps : List Step) (bus : Bus) (now rank : ℕ) (last : List (Option ℕ)) (marks : List ℕ) (syncs : Syncs) (events : List ℕ) (rings : List (List ℕ)) (waiting : BTreeSet ℕ) (count : ℕ)
+    (h : Knows tau streams steps bus now rank last marks syncs events rings waiting count) (until : ℕ) (le : now ≤ until) where
   by-end : KeepTheRules tau streams now steps [] → (i : ℕ) → i < length steps → broken_by tau streams until steps i (step_at steps i) ≡ None
   by-end fine i l =
       subst (λ (xs : List Step). broken_by tau streams until xs i (step_at steps i) ≡ None) (no-more steps)
@@ -60,7 +60,7 @@ module _ (tau : ℕ) (streams : List Stream) (steps : List Step) (bus : Bus) (no
       first-none tau streams until steps (by-end (h.fine [] a)) (at-the-end None (h.runs [] a ∙ ap (λ b. runs_of tau b []) e) refl
       (elim o [
         | inl by ↦ idle-is streams steps now rank until h.last_is (inl by)
-        | inr none ↦ idle-is streams steps now rank until h.last_is (inr (none-waiting tau streams steps bus now rank last marks syncs rings waiting count h none))
+        | inr none ↦ idle-is streams steps now rank until h.last_is (inr (none-waiting tau streams steps bus now rank last marks syncs events rings waiting count h none))
       ]))
 
   pub over-sending : (id end : ℕ) → bus ≡ Sending id end → until < end → first_broken tau streams until steps ≡ None
@@ -70,9 +70,9 @@ module _ (tau : ℕ) (streams : List Stream) (steps : List Step) (bus : Bus) (no
       (runs-idle streams steps (length steps) until (id, end)))
 
 -- before the first step
-pub at-first : (tau : ℕ) (streams : List Stream) (last : List (Option ℕ)) (marks : List ℕ) (syncs : Syncs) (rings : List (List ℕ)) (waiting : BTreeSet ℕ) → 1 ≤ tau → AreNone syncs →
-    ((id : ℕ) → slice_index_or last id None ≡ None) → ((id : ℕ) → ring_of rings id ≡ []) → ((id : ℕ) → contains nat_cmp waiting id ≡ false) → Knows tau streams [] Idle 0 0 last marks syncs rings waiting 0
-at-first tau streams last marks syncs rings waiting tick no_sync lasts none listed = record {
+pub at-first : (tau : ℕ) (streams : List Stream) (last : List (Option ℕ)) (marks : List ℕ) (syncs : Syncs) (events : List ℕ) (rings : List (List ℕ)) (waiting : BTreeSet ℕ) → 1 ≤ tau → AreNone syncs → events ≡ [] →
+    ((id : ℕ) → slice_index_or last id None ≡ None) → ((id : ℕ) → ring_of rings id ≡ []) → ((id : ℕ) → contains nat_cmp waiting id ≡ false) → Knows tau streams [] Idle 0 0 last marks syncs events rings waiting 0
+at-first tau streams last marks syncs events rings waiting tick no_sync no_event lasts none listed = record {
   tick = tick;
   last_is = λ i e. absurd (omega (arith, e));
   fine = λ ahead a i l. absurd (omega (arith, l));
@@ -80,7 +80,7 @@ at-first tau streams last marks syncs rings waiting tick no_sync lasts none list
   none_ahead = λ id f. omega arith;
   one_ahead = λ id t. absurd (cc);
   lasts = lasts;
-  last_queued = λ some. absurd (omega (arith, some));
+  unended = subst (AreUnended []) (sym no_event) (record { count = refl; each = λ j l. absurd (omega (arith, l)) });
   hangs = λ ahead a. record { newest = subst (λ n. IsNewest n ahead 0) (sym no_sync.newest) (count_to-zero (is_end sync_id) ahead); recent = λ s on. absurd (no_sync.recent s on) };
   marked = λ ahead a id k its synced v e. absurd (cc);
   held = λ id. subst (IsHeld [] 0 id) (sym (none id)) (record { count = refl; each = λ j l. absurd (omega (arith, l)) });

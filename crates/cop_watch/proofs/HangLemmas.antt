@@ -1,5 +1,5 @@
 -- What the instances of synchronous streams hang on, with one step more.
-use Rattle.std.proofs.Common.{◌≡◌, ℕ, ◌+◌, ◌-◌, ◌≤◌, ◌<◌, List, [], ◌∷◌, ◌++◌, length, refl, sym, ◌∙◌, ap, subst, arith, suc, true, false, cond}
+use Rattle.std.proofs.Common.{◌≡◌, ℕ, ◌≤◌, List, [], ◌∷◌, ◌++◌, length, refl, sym, ◌∙◌, ap, subst, arith, suc, true, false, cond}
 use Rattle.std.specs.Prelude.{Option, None, Some}
 use Rattle.std.proofs.lemmas.Bool.{ne_eqb}
 use Rattle.cop_rta.specs.declared.streams.Stream.{Stream}
@@ -9,21 +9,21 @@ use Rattle.cop_bus.specs.declared.steps.Content.{Content}
 use Rattle.cop_bus.specs.declared.steps.Step.TheVariants.{Queue, End}
 use Rattle.cop_bus.specs.declared.anchors.Anchor.{Anchor}
 use Rattle.cop_bus.specs.Run.{gap_of}
-use Rattle.cop_bus.specs.Trace.{is_queue, is_start, count_to, nth_that, step_at, running, moment_of}
-use Rattle.cop_bus.specs.Ends.{is_end, event_in, ended_by, sync_number, anchor_if, or_next, sync_below, sync_anchor, anchor_of, runs_of}
-use Rattle.cop_bus.specs.Judge.{last_event, event_or, is_period_later, is_queued_in_time}
+use Rattle.cop_bus.specs.Trace.{is_queue, count_to, nth_that, moment_of}
+use Rattle.cop_bus.specs.Ends.{is_end, event_in, ended_by, sync_number, anchor_if, or_next, sync_below, sync_anchor, anchor_of}
+use Rattle.cop_bus.specs.Judge.{is_period_later, is_queued_in_time}
 use Rattle.cop_bus.specs.Growing.{KeepTheRules}
 use Rattle.cop_bus.proofs.Work.{eq-true}
-use Rattle.cop_bus.proofs.StepLemmas.{nth_that-at, nth_before}
-use Rattle.cop_bus.proofs.Grows.{count_to-more, nth_that-more, below-more, balanced, no-more}
-use Rattle.cop_bus.proofs.Appended.{step_at-here, length-one, one-more, last_event-here}
+use Rattle.cop_bus.proofs.StepLemmas.{nth_that-at}
+use Rattle.cop_bus.proofs.Grows.{count_to-more, nth_that-more, below-more, no-more}
+use Rattle.cop_bus.proofs.Appended.{step_at-here, length-one, one-more}
 use Rattle.cop_bus.proofs.AnchorLemmas.{ended, anchor_synced, gap-synced, apart-true, time-true}
 use Rattle.cop_watch.specs.declared.syncs.Syncs.{Syncs}
 use Rattle.cop_watch.specs.declared.syncs.Newest.{Newest}
-use Rattle.cop_watch.specs.declared.syncs.Newest.TheVariants.{Nothing, Sync, Lost}
-use Rattle.cop_watch.specs.Knowing.{queues, starts}
+use Rattle.cop_watch.specs.declared.syncs.Newest.TheVariants.{Nothing, Sync}
 use Rattle.cop_watch.specs.Syncs.{ObeysSync, IsSync, HangsOn, IsNewest, AreKnown, IsBehind}
 use Rattle.cop_watch.proofs.SyncLemmas.{among}
+use Rattle.cop_watch.proofs.UnendedLemmas.{event-some}
 use Rattle.cop_watch.proofs.Further.{FindsTheSame, finds-more, count-kept, count-raised}
 
 module _ (tau : ℕ) (streams : List Stream) (now later : ℕ) (steps ahead more : List Step) (x : Step) (le : now ≤ later) (look : FindsTheSame steps ahead (x ∷ more)) (fine : KeepTheRules tau streams now steps ahead) where
@@ -55,7 +55,6 @@ module _ (tau : ℕ) (streams : List Stream) (now later : ℕ) (steps ahead more
     newest-after : (newest : Newest) → IsNewest newest (steps ++ ahead) (length steps) → IsNewest newest ((steps ++ x ∷ []) ++ more) (length (steps ++ x ∷ []))
     newest-after Nothing h = count-after ∙ h
     newest-after (Sync s) h = record { number = count-after ∙ h.number; first = anchor-after s.event ∙ h.first; later = λ e l. anchor-after e ∙ h.later e l }
-    newest-after Lost h = tt
 
     pub syncs-after : (syncs : Syncs) → AreKnown syncs (steps ++ ahead) (length steps) → AreKnown syncs ((steps ++ x ∷ []) ++ more) (length (steps ++ x ∷ []))
     syncs-after syncs h = record { newest = newest-after syncs.newest h.newest; recent = λ s on. anchor-after s.event ∙ h.recent s on }
@@ -98,36 +97,9 @@ module _ (tau : ℕ) (streams : List Stream) (now later : ℕ) (steps ahead more
     pub time-sync : is_queued_in_time (Some k) xs (length steps) (Queue id at event frame) ≡ true
     time-sync = time-true k.jitter (anchor_of k xs (length steps) event) at anchor hangs-here o.after_from o.by
 
--- the event of the last SYNC that is queued
-pub queued-kept : (steps : List Step) (x : Step) → is_queue sync_id x ≡ false → ((v : Option ℕ) → event_or sync_id x v ≡ v) →
-    (0 < queues sync_id steps → event_in (nth_that (is_queue sync_id) (queues sync_id steps - 1) steps) ≡ last_event sync_id steps (length steps)) →
-    0 < queues sync_id (steps ++ x ∷ []) → event_in (nth_that (is_queue sync_id) (queues sync_id (steps ++ x ∷ []) - 1) (steps ++ x ∷ [])) ≡ last_event sync_id (steps ++ x ∷ []) (length (steps ++ x ∷ []))
-queued-kept steps x f kept h some =
-    let c = count-kept (is_queue sync_id) steps x f in
-    let there = nth_before (is_queue sync_id) steps (length steps) (queues sync_id steps - 1) (omega (arith, c, some)) in
-    let y : nth_that (is_queue sync_id) (queues sync_id steps - 1) steps ≡ Some (step_at steps there.0) = ap (λ n. nth_that (is_queue sync_id) n steps) (sym there.4) ∙ nth_that-at (is_queue sync_id) steps there.0 there.2 there.3 in
-    ap (λ n. event_in (nth_that (is_queue sync_id) (n - 1) (steps ++ x ∷ []))) c
-    ∙ ap event_in (nth_that-more (is_queue sync_id) (queues sync_id steps - 1) steps (x ∷ []) (step_at steps there.0) y ∙ sym y) ∙ h (omega (arith, c, some))
-    ∙ sym (ap (last_event sync_id (steps ++ x ∷ [])) (length-one steps x) ∙ last_event-here sync_id steps x [] ∙ kept (last_event sync_id steps (length steps)))
-
-pub queued-sync : (steps : List Step) (at event : ℕ) (frame : Content) → let x = Queue sync_id at event frame in
-    event_in (nth_that (is_queue sync_id) (queues sync_id (steps ++ x ∷ []) - 1) (steps ++ x ∷ [])) ≡ last_event sync_id (steps ++ x ∷ []) (length (steps ++ x ∷ []))
-queued-sync steps at event frame =
-    let x = Queue sync_id at event frame in
-    let c = count-raised (is_queue sync_id) steps x refl in
-    let n : queues sync_id (steps ++ x ∷ []) - 1 ≡ queues sync_id steps = omega (arith, c) in
-    let here = step_at-here steps x [] in
-    let t = nth_that-at (is_queue sync_id) (steps ++ x ∷ []) (length steps) (let l = length-one steps x in omega (arith, l)) (ap (is_queue sync_id) here) in
-    let r = count_to-more (is_queue sync_id) steps (x ∷ []) (length steps) (omega arith) in
-    ap (λ m. event_in (nth_that (is_queue sync_id) m (steps ++ x ∷ []))) (n ∙ sym r) ∙ ap event_in (t ∙ ap Some here) ∙ sym (ap (last_event sync_id (steps ++ x ∷ [])) (length-one steps x) ∙ last_event-here sync_id steps x [])
-
 hang-stays : (o next : Option Anchor) (mark : ℕ) → HangsOn o mark → HangsOn (or_next o next) mark
 hang-stays None next mark h = absurd h
 hang-stays (Some e) next mark h = h
-
-event-some : (o : Option Step) (e : ℕ) → event_in o ≡ Some e → (y : Step) × (o ≡ Some y)
-event-some None e h = absurd (cc)
-event-some (Some y) e h = (y, refl)
 
 -- A SYNC ends.
 module _ (tau : ℕ) (streams : List Stream) (now : ℕ) (steps : List Step) (at : ℕ) (fine : KeepTheRules tau streams now steps []) where
@@ -155,25 +127,11 @@ module _ (tau : ℕ) (streams : List Stream) (now : ℕ) (steps : List Step) (at
   pub hang-next : (v mark : ℕ) → HangsOn (sync_anchor (steps ++ []) (length steps) v) mark → HangsOn (sync_anchor ((steps ++ e ∷ []) ++ []) (length (steps ++ e ∷ [])) v) mark
   hang-next v mark h = subst (λ o. HangsOn o mark) (sym (anchor-next v)) (hang-stays (sync_anchor (steps ++ []) (length steps) v) (anchor_if v a (sync_number (steps ++ e ∷ []) a)) mark h)
 
-  module _ (event : ℕ) (runs : running tau (steps ++ []) (length steps) ≡ Some (sync_id, at)) (as_many : starts sync_id steps ≡ queues sync_id steps)
-      (its : 0 < queues sync_id steps → event_in (nth_that (is_queue sync_id) (queues sync_id steps - 1) steps) ≡ Some event) where
-    one-runs : queues sync_id steps ≡ a + 1
-    one-runs =
-        let b = balanced tau streams now now steps [] (e ∷ []) (omega arith) (finds-more steps (e ∷ [])) fine sync_id (length steps) (omega arith) in
-        let s = count_to-more (is_start sync_id) steps [] (length steps) (omega arith) in
-        let n = count_to-more (is_end sync_id) steps [] (length steps) (omega arith) in
-        let r : runs_of sync_id (running tau (steps ++ []) (length steps)) ≡ 1 = ap (runs_of sync_id) runs in
-        omega (arith, b, s, n, r, as_many)
-
-    its-event : event_in (nth_that (is_queue sync_id) a steps) ≡ Some event
-    its-event =
-        let m : queues sync_id steps - 1 ≡ a = omega (arith, one-runs) in
-        ap (λ n. event_in (nth_that (is_queue sync_id) n steps)) (sym m) ∙ its (omega (arith, one-runs))
-
+  module _ (event : ℕ) (its_event : event_in (nth_that (is_queue sync_id) a steps) ≡ Some event) where
     number-is : sync_number (steps ++ e ∷ []) a ≡ Some (ended event at)
     number-is =
-        let y = event-some (nth_that (is_queue sync_id) a steps) event its-event in
-        let queued = ap event_in (nth_that-more (is_queue sync_id) a steps (e ∷ []) y.0 y.1 ∙ sym y.1) ∙ its-event in
+        let y = event-some (nth_that (is_queue sync_id) a steps) event its_event in
+        let queued = ap event_in (nth_that-more (is_queue sync_id) a steps (e ∷ []) y.0 y.1 ∙ sym y.1) ∙ its_event in
         let here = step_at-here steps e [] in
         let t = nth_that-at (is_end sync_id) (steps ++ e ∷ []) (length steps) (let l = length-one steps e in omega (arith, l)) (ap (is_end sync_id) here) in
         let r = count_to-more (is_end sync_id) steps (e ∷ []) (length steps) (omega arith) in
@@ -200,4 +158,3 @@ module _ (tau : ℕ) (streams : List Stream) (now : ℕ) (steps : List Step) (at
         let c = count_to-more (is_end sync_id) steps [] (length steps) (omega arith) in
         let m : mark ≡ a = omega (arith, b.1, c, h.number) in
         subst (λ n. IsSync ((steps ++ e ∷ []) ++ []) (length (steps ++ e ∷ [])) event n at) (sym m) (sync-next (λ v l. h.later v (let s = b.0 in omega (arith, s, l))))
-    newest-next Lost mark b h = absurd b

@@ -70,7 +70,7 @@ held-joined steps at event now later id frame lengths ahead h =
     let s = count-kept (is_start id) steps x refl in
     record { count = (let c = h.count in omega (arith, q, s, c, ahead)); each = λ j l. absurd (let c = h.count in omega (arith, l, c, ahead)) }
 
-last-of : (lengths : List ℕ) (bits j : ℕ) → j < length (lengths ++ bits ∷ []) → ((j < length lengths) × (slice_index (lengths ++ bits ∷ []) j ≡ slice_index lengths j)) ⊎ ((j ≡ length lengths) × (slice_index (lengths ++ bits ∷ []) j ≡ bits))
+pub last-of : (lengths : List ℕ) (bits j : ℕ) → j < length (lengths ++ bits ∷ []) → ((j < length lengths) × (slice_index (lengths ++ bits ∷ []) j ≡ slice_index lengths j)) ⊎ ((j ≡ length lengths) × (slice_index (lengths ++ bits ∷ []) j ≡ bits))
 last-of [] bits zero l = inr (refl, refl)
 last-of [] bits (suc j) l = absurd (omega (arith, l))
 last-of (y ∷ ys) bits zero l = inl (omega arith, refl)

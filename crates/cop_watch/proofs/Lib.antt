@@ -1,5 +1,6 @@
 pub mod Further
 pub mod HeldLemmas
+pub mod UnendedLemmas
 pub mod SyncLemmas
 pub mod HangLemmas
 pub mod Taken

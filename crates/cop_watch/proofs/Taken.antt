@@ -9,7 +9,7 @@ use Rattle.cop_bus.specs.declared.steps.Content.{Content}
 use Rattle.cop_bus.specs.declared.steps.Step.TheVariants.{Queue, Start, End}
 use Rattle.cop_bus.specs.Run.{least_bits, worst_bits}
 use Rattle.cop_bus.specs.Trace.{is_queue, is_start, count_to, nth_that, running, bits_of, at_of}
-use Rattle.cop_bus.specs.Ends.{anchor_of, event_in, sync_anchor}
+use Rattle.cop_bus.specs.Ends.{anchor_of, sync_anchor}
 use Rattle.cop_rta.specs.Test.{sync_id}
 use Rattle.cop_bus.specs.Judge as Judge
 use Rattle.cop_bus.specs.Judge.{stream_of, last_event, event_or, is_in_order, is_period_later, is_queued_in_time, is_of_length, fits_transfer, is_not_idle, broken_by, any_waits, lower_waits, waits_after, are_apart, is_soon_queued}
@@ -27,14 +27,15 @@ use Rattle.cop_watch.specs.Rules.{Obeys, IsOfLength, is_after}
 use Rattle.cop_watch.specs.declared.syncs.Syncs.{Syncs}
 use Rattle.cop_watch.specs.declared.syncs.EndedSync.{EndedSync}
 use Rattle.cop_watch.specs.declared.syncs.Newest.{Newest}
-use Rattle.cop_watch.specs.declared.syncs.Newest.TheVariants.{Nothing, Sync, Lost}
-use Rattle.cop_watch.specs.Syncs.{Recalls, IsAmong, MayCome, HangsOn, IsNewest, AreKnown, EndsLast, EndsOne}
+use Rattle.cop_watch.specs.declared.syncs.Newest.TheVariants.{Nothing, Sync}
+use Rattle.cop_watch.specs.Syncs.{Recalls, IsAmong, MayCome, HangsOn, IsSync, IsBehind, IsNewest, AreKnown, EndsLast, EndsFirst, events_with}
 use Rattle.cop_watch.specs.Rings.{ring_of, Waits, Leaves, Stays, ArePassed}
-use Rattle.cop_watch.specs.Knowing.{queues, starts, sent, is_a_start, IsQueued, IsHeld, IsJoiner, Awaits, runs_of, joins}
-use Rattle.cop_watch.specs.Watching.{Knows, IsOpen, IsLastSync}
+use Rattle.cop_watch.specs.Knowing.{queues, starts, sent, is_a_start, IsQueued, IsHeld, IsJoiner, AreUnended, Awaits, runs_of, joins}
+use Rattle.cop_watch.specs.Watching.{Knows, IsOpen}
 use Rattle.cop_watch.proofs.Further.{FindsTheSame, finds-more, finds-between, fine-one, running-kept, running-one, keeps-none, order-more, idle-more, runs-idle, start-period, end-period, start-time, end-time, start-length, end-length, count-kept, count-raised, order-is, after-le, now-one, idle-is}
-use Rattle.cop_watch.proofs.HangLemmas.{syncs-after, recent-next, hang-after, period-sync, time-sync, queued-kept, queued-sync, hang-next, newest-next}
+use Rattle.cop_watch.proofs.HangLemmas.{syncs-after, recent-next, hang-after, period-sync, time-sync, hang-next, newest-next}
 use Rattle.cop_watch.proofs.SyncLemmas.{among}
+use Rattle.cop_watch.proofs.UnendedLemmas.{unended-other, unended-queued, unended-first, unended-ended}
 use Rattle.cop_watch.proofs.HeldLemmas.{waits-is, held-other, held-started, held-joiner, held-joined, held-queued}
 
 -- a length of a bit at least is one of a bit time at least
@@ -128,8 +129,8 @@ hangs-on-recalled xs i event number syncs s on its is known =
     subst (λ v. HangsOn (sync_anchor xs i v) number) its (subst (λ o. HangsOn o number) (sym (among xs i syncs s known on)) (sym is))
 
 -- What is known before a step.
-module _ (tau : ℕ) (streams : List Stream) (steps : List Step) (bus : Bus) (now rank : ℕ) (last : List (Option ℕ)) (marks : List ℕ) (syncs : Syncs) (rings : List (List ℕ)) (waiting : BTreeSet ℕ) (count : ℕ)
-    (h : Knows tau streams steps bus now rank last marks syncs rings waiting count) where
+module _ (tau : ℕ) (streams : List Stream) (steps : List Step) (bus : Bus) (now rank : ℕ) (last : List (Option ℕ)) (marks : List ℕ) (syncs : Syncs) (events : List ℕ) (rings : List (List ℕ)) (waiting : BTreeSet ℕ) (count : ℕ)
+    (h : Knows tau streams steps bus now rank last marks syncs events rings waiting count) where
   -- an instance waits where its identifier is listed
   pub waits-listed : (id : ℕ) → contains nat_cmp waiting id ≡ waits_after steps (length steps) id
   waits-listed id = h.listed id ∙ sym (waits-is steps now id (ring_of rings id) (h.held id))
@@ -203,11 +204,11 @@ module _ (tau : ℕ) (streams : List Stream) (steps : List Step) (bus : Bus) (no
     last-now : (m : ℕ) → last_event m (steps ++ x ∷ []) (length (steps ++ x ∷ [])) ≡ event_or m x (last_event m steps (length steps))
     last-now m = ap (last_event m (steps ++ x ∷ [])) (length-one steps x) ∙ last_event-here m steps x []
 
-    last-queued : 0 < queues sync_id (steps ++ x ∷ []) → event_in (nth_that (is_queue sync_id) (queues sync_id (steps ++ x ∷ []) - 1) (steps ++ x ∷ [])) ≡ last_event sync_id (steps ++ x ∷ []) (length (steps ++ x ∷ []))
-    last-queued = elim (bool_cases (id == sync_id)) [
-      | inl t ↦ (λ some. subst (λ n. let y = Queue n at event frame in event_in (nth_that (is_queue sync_id) (queues sync_id (steps ++ y ∷ []) - 1) (steps ++ y ∷ [])) ≡ last_event sync_id (steps ++ y ∷ []) (length (steps ++ y ∷ [])))
-          (sym (true-eq id sync_id t)) (queued-sync steps at event frame))
-      | inr f ↦ queued-kept steps x f (λ v. ap (λ b. cond b (Some event) v) f) h.last_queued
+    unended-here : AreUnended (steps ++ x ∷ []) (events_with id event events)
+    unended-here = elim (bool_cases (id == sync_id)) [
+      | inl t ↦ subst (AreUnended (steps ++ x ∷ [])) (sym (ap (λ b. cond b (events ++ event ∷ []) events) t))
+          (subst (λ n. AreUnended (steps ++ Queue n at event frame ∷ []) (events ++ event ∷ [])) (sym (true-eq id sync_id t)) (unended-queued steps at event frame events h.unended))
+      | inr f ↦ subst (AreUnended (steps ++ x ∷ [])) (sym (ap (λ b. cond b (events ++ event ∷ []) events) f)) (unended-other steps x events f refl h.unended)
     ]
 
     -- the marks of the last events
@@ -282,7 +283,7 @@ module _ (tau : ℕ) (streams : List Stream) (steps : List Step) (bus : Bus) (no
         | inr f ↦ (let c = count-kept (is_queue m) steps x f in omega (arith, c))
       ]
 
-      pub queued-behind : Knows tau streams (steps ++ x ∷ []) bus at 1 (slice_set last id (Some event)) (slice_set marks id number) syncs rings' waiting' count
+      pub queued-behind : Knows tau streams (steps ++ x ∷ []) bus at 1 (slice_set last id (Some event)) (slice_set marks id number) syncs (events_with id event events) rings' waiting' count
       queued-behind = record {
         tick = h.tick;
         last_is = now-one steps x;
@@ -294,7 +295,7 @@ module _ (tau : ℕ) (streams : List Stream) (steps : List Step) (bus : Bus) (no
           | inr f ↦ (let s = count-kept (is_start m) steps x refl in let q = count-kept (is_queue m) steps x f in let l = h.one_ahead m t in omega (arith, s, q, l))
         ];
         lasts = last-queue id at event frame last steps long h.lasts;
-        last_queued = last-queued;
+        unended = unended-here;
         hangs = λ ahead a. syncs-after tau streams now at steps ahead ahead x le (look-behind ahead a) (h.fine ahead a) refl syncs (h.hangs ahead a);
         marked = λ ahead a. marked-queue ahead ahead a (look-behind ahead a);
         held = held-behind;
@@ -334,7 +335,7 @@ module _ (tau : ℕ) (streams : List Stream) (steps : List Step) (bus : Bus) (no
         | inr f ↦ other-held m f
       ]
 
-      pub queued-joined : Knows tau streams (steps ++ x ∷ []) (Sending id (start + frame.bits * tau)) at 1 (slice_set last id (Some event)) (slice_set marks id number) syncs rings waiting count
+      pub queued-joined : Knows tau streams (steps ++ x ∷ []) (Sending id (start + frame.bits * tau)) at 1 (slice_set last id (Some event)) (slice_set marks id number) syncs (events_with id event events) rings waiting count
       queued-joined = record {
         tick = h.tick;
         last_is = now-one steps x;
@@ -347,7 +348,7 @@ module _ (tau : ℕ) (streams : List Stream) (steps : List Step) (bus : Bus) (no
         ];
         one_ahead = λ m t. absurd (cc);
         lasts = last-queue id at event frame last steps long h.lasts;
-        last_queued = last-queued;
+        unended = unended-here;
         hangs = λ ahead e. subst (λ (xs : List Step). AreKnown syncs ((steps ++ x ∷ []) ++ xs) (length (steps ++ x ∷ []))) (sym e)
             (syncs-after tau streams now at steps (x ∷ []) [] x le same-found (h.fine (x ∷ []) awaited) refl syncs (h.hangs (x ∷ []) awaited));
         marked = λ ahead e m j there synced v l. subst (λ (xs : List Step). HangsOn (sync_anchor ((steps ++ x ∷ []) ++ xs) (length (steps ++ x ∷ [])) v) (slice_index (slice_set marks id number) m)) (sym e)
@@ -479,7 +480,7 @@ module _ (tau : ℕ) (streams : List Stream) (steps : List Step) (bus : Bus) (no
       ends : at + bits_of (Some y) * tau ≡ at + bits * tau
       ends = ap (λ n. at + n * tau) queued-first.long
 
-      pub started-first : Knows tau streams (steps ++ s ∷ []) (Sending id (at + bits * tau)) at 2 last marks syncs rings' waiting' (count + 1)
+      pub started-first : Knows tau streams (steps ++ s ∷ []) (Sending id (at + bits * tau)) at 2 last marks syncs events rings' waiting' (count + 1)
       started-first = record {
         tick = h.tick;
         last_is = now-one steps s;
@@ -488,7 +489,7 @@ module _ (tau : ℕ) (streams : List Stream) (steps : List Step) (bus : Bus) (no
         none_ahead = λ m f. even-after m;
         one_ahead = λ m t. absurd (cc);
         lasts = last-kept s last steps (λ k v. refl) h.lasts;
-        last_queued = queued-kept steps s refl (λ v. refl) h.last_queued;
+        unended = unended-other steps s events refl refl h.unended;
         hangs = λ ahead a. hangs-start ahead;
         marked = λ ahead a. marked-start ahead;
         held = held-after;
@@ -529,7 +530,7 @@ module _ (tau : ℕ) (streams : List Stream) (steps : List Step) (bus : Bus) (no
         | inr f ↦ other-held-start m f
       ]
 
-      pub started-joiner : Knows tau streams (steps ++ s ∷ []) (Joining id at) at 2 last marks syncs rings' waiting' (count + 1)
+      pub started-joiner : Knows tau streams (steps ++ s ∷ []) (Joining id at) at 2 last marks syncs events rings' waiting' (count + 1)
       started-joiner = record {
         tick = h.tick;
         last_is = now-one steps s;
@@ -539,7 +540,7 @@ module _ (tau : ℕ) (streams : List Stream) (steps : List Step) (bus : Bus) (no
         one_ahead = λ m t. (let c = count-raised (is_start m) steps s t in let q = count-kept (is_queue m) steps s refl in
             let v : starts m steps ≡ queues m steps = subst (λ n. starts n steps ≡ queues n steps) (true-eq id m t) as-many in omega (arith, c, q, v));
         lasts = last-kept s last steps (λ k v. refl) h.lasts;
-        last_queued = queued-kept steps s refl (λ v. refl) h.last_queued;
+        unended = unended-other steps s events refl refl h.unended;
         hangs = λ ahead a. hangs-start ahead;
         marked = λ ahead a. marked-start ahead;
         held = λ m. subst (λ (rs : List (List ℕ)). IsHeld (steps ++ s ∷ []) at m (ring_of rs m)) (sym l.rings) (held-joiner-here m);
@@ -581,10 +582,10 @@ module _ (tau : ℕ) (streams : List Stream) (steps : List Step) (bus : Bus) (no
     last-end : (m : ℕ) → last_event m (steps ++ e ∷ []) (length (steps ++ e ∷ [])) ≡ last_event m steps (length steps)
     last-end m = ap (last_event m (steps ++ e ∷ [])) (length-one steps e) ∙ last_event-here m steps e []
 
-    ended : (syncs' : Syncs) → AreKnown syncs' ((steps ++ e ∷ []) ++ []) (length (steps ++ e ∷ [])) →
+    ended : (syncs' : Syncs) (events' : List ℕ) → AreUnended (steps ++ e ∷ []) events' → AreKnown syncs' ((steps ++ e ∷ []) ++ []) (length (steps ++ e ∷ [])) →
         ((v mark : ℕ) → HangsOn (sync_anchor (steps ++ []) (length steps) v) mark → HangsOn (sync_anchor ((steps ++ e ∷ []) ++ []) (length (steps ++ e ∷ [])) v) mark) →
-        Knows tau streams (steps ++ e ∷ []) Idle at 0 last marks syncs' rings waiting count
-    ended syncs' hangs' hang = record {
+        Knows tau streams (steps ++ e ∷ []) Idle at 0 last marks syncs' events' rings waiting count
+    ended syncs' events' unended' hangs' hang = record {
       tick = h.tick;
       last_is = now-one steps e;
       fine = λ ahead a. subst (KeepTheRules tau streams at (steps ++ e ∷ [])) (sym a) (fine-one tau streams now at steps [] [] e (after-le now rank at 0 order) (finds-more steps (e ∷ [])) (h.fine [] none-awaited-end) here-end);
@@ -592,7 +593,7 @@ module _ (tau : ℕ) (streams : List Stream) (steps : List Step) (bus : Bus) (no
       none_ahead = λ m f. (let c = count-kept (is_start m) steps e refl in let q = count-kept (is_queue m) steps e refl in let v = h.none_ahead m (ap (λ b. joins b m) sends) in omega (arith, c, q, v));
       one_ahead = λ m t. absurd (cc);
       lasts = last-kept e last steps (λ k v. refl) h.lasts;
-      last_queued = queued-kept steps e refl (λ v. refl) h.last_queued;
+      unended = unended';
       hangs = λ ahead a. subst (λ (xs : List Step). AreKnown syncs' ((steps ++ e ∷ []) ++ xs) (length (steps ++ e ∷ []))) (sym a) hangs';
       marked = λ ahead a m j there synced v l. subst (λ (xs : List Step). HangsOn (sync_anchor ((steps ++ e ∷ []) ++ xs) (length (steps ++ e ∷ [])) v) (slice_index marks m)) (sym a)
           (hang v (slice_index marks m) (h.marked [] none-awaited-end m j there synced v (sym (last-end m) ∙ l)));
@@ -602,10 +603,10 @@ module _ (tau : ℕ) (streams : List Stream) (steps : List Step) (bus : Bus) (no
       count = h.count ∙ sym (count-kept is_a_start steps e refl);
     }
 
-    pub ended-other : (id == sync_id) ≡ false → Knows tau streams (steps ++ e ∷ []) Idle at 0 last marks syncs rings waiting count
+    pub ended-other : (id == sync_id) ≡ false → Knows tau streams (steps ++ e ∷ []) Idle at 0 last marks syncs events rings waiting count
     ended-other f =
         let le = after-le now rank at 0 order in
-        ended syncs (syncs-after tau streams now at steps [] [] e le (finds-more steps (e ∷ [])) (h.fine [] none-awaited-end) f syncs (h.hangs [] none-awaited-end))
+        ended syncs events (unended-other steps e events refl f h.unended) (syncs-after tau streams now at steps [] [] e le (finds-more steps (e ∷ [])) (h.fine [] none-awaited-end) f syncs (h.hangs [] none-awaited-end))
         (hang-after tau streams now at steps [] [] e le (finds-more steps (e ∷ [])) (h.fine [] none-awaited-end) f)
 
   -- The end of a SYNC.
@@ -613,32 +614,19 @@ module _ (tau : ℕ) (streams : List Stream) (steps : List Step) (bus : Bus) (no
     none-awaited-sync : Awaits tau bus []
     none-awaited-sync = subst (λ b. Awaits tau b []) (sym sends) refl
 
-    runs-sync : running tau (steps ++ []) (length steps) ≡ Some (sync_id, at)
-    runs-sync = h.runs [] none-awaited-sync ∙ ap (λ b. runs_of tau b []) sends
+    ends-so : (event : ℕ) (rest : List ℕ) → events ≡ event ∷ rest → (newest' : Newest) → EndsLast event syncs.newest at newest' → IsNewest newest' ((steps ++ End sync_id at ∷ []) ++ []) (length (steps ++ End sync_id at ∷ []))
+    ends-so event rest its Nothing w = absurd w
+    ends-so event rest its (Sync s) w =
+        let first = unended-first steps event rest (subst (AreUnended steps) its h.unended) in
+        let next = newest-next tau streams now steps at (h.fine [] none-awaited-sync) event first syncs.newest s.mark (subst (λ v. IsBehind syncs.newest v s.mark) w.0 w.2) (h.hangs [] none-awaited-sync).newest in
+        let same : IsSync ((steps ++ End sync_id at ∷ []) ++ []) (length (steps ++ End sync_id at ∷ [])) event s.mark s.from = subst (IsSync ((steps ++ End sync_id at ∷ []) ++ []) (length (steps ++ End sync_id at ∷ [])) event s.mark) (sym w.1) next in
+        subst (λ v. IsSync ((steps ++ End sync_id at ∷ []) ++ []) (length (steps ++ End sync_id at ∷ [])) v s.mark s.from) (sym w.0) same
 
-    as-many-sync : ring_of rings sync_id ≡ [] → starts sync_id steps ≡ queues sync_id steps
-    as-many-sync none =
-        let c = (h.held sync_id).count in
-        let n = ap (λ (xs : List ℕ). length xs) none in
-        let l = h.none_ahead sync_id (ap (λ b. joins b sync_id) sends) in
-        omega (arith, c, n, l)
-
-    newest-so : (event : Option ℕ) → ((v : ℕ) → event ≡ Some v → IsLastSync (ring_of rings sync_id) (get_or last sync_id None) v) → (newest' : Newest) → EndsLast event syncs.newest at newest'
-        → IsNewest newest' ((steps ++ End sync_id at ∷ []) ++ []) (length (steps ++ End sync_id at ∷ []))
-    newest-so event its Nothing w = absurd w
-    newest-so event its (Sync s) w =
-        let is = its s.event w.0 in
-        let told = λ (some : 0 < queues sync_id steps). h.last_queued some ∙ sym (h.lasts sync_id) ∙ is.1 in
-        let next = newest-next tau streams now steps at (h.fine [] none-awaited-sync) s.event runs-sync (as-many-sync is.0) told syncs.newest s.mark w.2 (h.hangs [] none-awaited-sync).newest in
-        subst (λ n. IsNewest (Sync (record { event = s.event; mark = s.mark; from = n })) ((steps ++ End sync_id at ∷ []) ++ []) (length (steps ++ End sync_id at ∷ []))) (sym w.1) next
-    newest-so event its Lost w = tt
-
-    pub ended-sync : (event : Option ℕ) → ((v : ℕ) → event ≡ Some v → IsLastSync (ring_of rings sync_id) (get_or last sync_id None) v) → (syncs' : Syncs) → EndsOne event syncs at syncs'
-        → Knows tau streams (steps ++ End sync_id at ∷ []) Idle at 0 last marks syncs' rings waiting count
-    ended-sync event its syncs' w =
-        let newest = newest-so event its syncs'.newest w.newest in
-        ended sync_id at sends order is_known syncs'
-        (record { newest = newest; recent = λ s on. recalled s (w.recent s on) newest })
+    pub ended-sync : (events' : List ℕ) (syncs' : Syncs) → EndsFirst events events' syncs at syncs' → Knows tau streams (steps ++ End sync_id at ∷ []) Idle at 0 last marks syncs' events' rings waiting count
+    ended-sync events' syncs' w =
+        let newest = ends-so w.event events' w.first syncs'.newest w.ends.newest in
+        ended sync_id at sends order is_known syncs' events' (unended-ended steps at w.event events' (subst (AreUnended steps) w.first h.unended))
+        (record { newest = newest; recent = λ s on. recalled s (w.ends.recent s on) newest })
         (hang-next tau streams now steps at (h.fine [] none-awaited-sync))
       where
         recalled : (s : EndedSync) → Recalls syncs s ⊎ (syncs'.newest ≡ Sync s) → IsNewest syncs'.newest ((steps ++ End sync_id at ∷ []) ++ []) (length (steps ++ End sync_id at ∷ []))

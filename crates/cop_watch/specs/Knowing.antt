@@ -4,6 +4,8 @@ use Rattle.cop_bus.specs.declared.steps.Step.{Step}
 use Rattle.cop_bus.specs.declared.steps.Content.{Content}
 use Rattle.cop_bus.specs.declared.steps.Step.TheVariants.{Queue, Start, End}
 use Rattle.cop_bus.specs.Trace.{at_of, rank_of, is_queue, is_start, count_to, nth_that, step_at, bits_of}
+use Rattle.cop_bus.specs.Ends.{is_end, event_in}
+use Rattle.cop_rta.specs.Test.{sync_id}
 use Rattle.cop_watch.specs.declared.bus.Bus.{Bus}
 use Rattle.cop_watch.specs.declared.bus.Bus.TheVariants.{Idle, Sending, Joining}
 
@@ -40,6 +42,15 @@ pub record IsQueued (steps : List Step) (now id j bits : ℕ) : Type 0 where
 pub record IsHeld (steps : List Step) (now id : ℕ) (lengths : List ℕ) : Type 0 where
   pub count : length lengths ≡ queues id steps - starts id steps
   pub each : (j : ℕ) → j < length lengths → IsQueued steps now id (starts id steps + j) (slice_index lengths j)
+
+-- how many SYNCs have ended
+abbrev pub ends : List Step → ℕ
+ends steps = count_to (is_end sync_id) steps (length steps)
+
+-- the events of SYNC's instances that are queued and have not ended, first come first
+pub record AreUnended (steps : List Step) (events : List ℕ) : Type 0 where
+  pub count : length events + ends steps ≡ queues sync_id steps
+  pub each : (j : ℕ) → j < length events → event_in (nth_that (is_queue sync_id) (ends steps + j) steps) ≡ Some (slice_index events j)
 
 -- what has to come next, where a joiner was sent whose queue step did not come yet
 pub record IsJoiner (tau id start : ℕ) (ahead : List Step) : Type 0 where

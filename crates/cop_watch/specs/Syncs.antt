@@ -1,5 +1,5 @@
 -- The SYNCs that have ended, and what hangs on them.
-use Rattle.std.specs.Prelude.{◌≡◌, ℕ, ◌+◌, ◌≤◌, ◌<◌, ◌⊎◌, List, Option, Some, None, slice_get}
+use Rattle.std.specs.Prelude.{◌≡◌, ℕ, ◌+◌, ◌≤◌, ◌<◌, ◌⊎◌, List, [], ◌∷◌, ◌++◌, Option, Some, None, slice_get, ◌==◌, if◌then◌else◌}
 use Rattle.cop_rta.specs.declared.streams.Stream.{Stream}
 use Rattle.cop_rta.specs.Test.{sync_id}
 use Rattle.cop_bus.specs.declared.steps.Step.{Step}
@@ -10,7 +10,7 @@ use Rattle.cop_bus.specs.Ends.{is_end, sync_anchor}
 use Rattle.cop_watch.specs.declared.syncs.EndedSync.{EndedSync}
 use Rattle.cop_watch.specs.declared.syncs.Syncs.{Syncs}
 use Rattle.cop_watch.specs.declared.syncs.Newest.{Newest}
-use Rattle.cop_watch.specs.declared.syncs.Newest.TheVariants.{Nothing, Sync, Lost}
+use Rattle.cop_watch.specs.declared.syncs.Newest.TheVariants.{Nothing, Sync}
 use Rattle.cop_watch.specs.Rules.{Obeys, IsOfLength}
 
 -- a SYNC is among those that are recalled
@@ -51,7 +51,6 @@ HangsOn (Some e) mark = e.mark ≡ mark
 abbrev pub IsNewest : Newest → List Step → ℕ → Type 0
 IsNewest Nothing xs i = count_to (is_end sync_id) xs i ≡ 0
 IsNewest (Sync s) xs i = IsSync xs i s.event s.mark s.from
-IsNewest Lost xs i = Unit {0}
 
 -- the SYNC that ended last is known, and each that is recalled is the first that ended of those with its event
 pub record AreKnown (syncs : Syncs) (xs : List Step) (i : ℕ) : Type 0 where
@@ -62,12 +61,10 @@ pub record AreKnown (syncs : Syncs) (xs : List Step) (i : ℕ) : Type 0 where
 abbrev pub IsBehind : Newest → ℕ → ℕ → Type 0
 IsBehind Nothing event mark = mark ≡ 0
 IsBehind (Sync before) event mark = (before.event < event) × (mark ≡ before.mark + 1)
-IsBehind Lost event mark = ⊥
 
-abbrev pub EndsLast : Option ℕ → Newest → ℕ → Newest → Type 0
-EndsLast last newest at Nothing = ⊥
-EndsLast last newest at (Sync s) = (last ≡ Some s.event) × (s.from ≡ at) × IsBehind newest s.event s.mark
-EndsLast last newest at Lost = Unit {0}
+abbrev pub EndsLast : ℕ → Newest → ℕ → Newest → Type 0
+EndsLast event newest at Nothing = ⊥
+EndsLast event newest at (Sync s) = (s.event ≡ event) × (s.from ≡ at) × IsBehind newest s.event s.mark
 
 -- what stands at places afterwards stood there before, or is one SYNC
 abbrev pub Puts : List (Option EndedSync) → List (Option EndedSync) → EndedSync → Type 0
@@ -78,7 +75,17 @@ pub record AreNone (syncs : Syncs) : Type 0 where
   pub newest : syncs.newest ≡ Nothing
   pub recent : (s : EndedSync) → Recalls syncs s → ⊥
 
--- A SYNC ends, whose event is known, or it is lost: what is recalled afterwards was recalled before, or is this SYNC.
-pub record EndsOne (event : Option ℕ) (before : Syncs) (at : ℕ) (after : Syncs) : Type 0 where
+-- A SYNC with an event ends: what is recalled afterwards was recalled before, or is this SYNC.
+pub record EndsOne (event : ℕ) (before : Syncs) (at : ℕ) (after : Syncs) : Type 0 where
   pub newest : EndsLast event before.newest at after.newest
   pub recent : (s : EndedSync) → Recalls after s → Recalls before s ⊎ (after.newest ≡ Sync s)
+
+-- the events that are kept after an instance is queued: only SYNC's are
+abbrev pub events_with : ℕ → ℕ → List ℕ → List ℕ
+events_with id event events = if id == sync_id then events ++ event ∷ [] else events
+
+-- the SYNC whose event was kept first ends
+pub record EndsFirst (before after : List ℕ) (syncs : Syncs) (at : ℕ) (syncs' : Syncs) : Type 0 where
+  pub event : ℕ
+  pub first : before ≡ event ∷ after
+  pub ends : EndsOne event syncs at syncs'

@@ -1,13 +1,12 @@
 -- A trace that is watched, step by step.
-use Rattle.std.specs.Prelude.{◌≡◌, ℕ, ◌+◌, ◌-◌, ◌^◌, ◌≤◌, ◌<◌, ◌⊎◌, List, [], ◌++◌, Option, None, Some, true, false, length, is_some, nat_lt, slice_index, slice_index_or}
+use Rattle.std.specs.Prelude.{◌≡◌, ℕ, ◌+◌, ◌-◌, ◌^◌, ◌≤◌, ◌<◌, ◌⊎◌, List, ◌++◌, Option, None, Some, true, false, length, is_some, nat_lt, slice_index, slice_index_or}
 use Rattle.std.specs.BTreeSet.{BTreeSet, contains}
 use Rattle.std.specs.Ordering.{nat_cmp}
 use Rattle.cop_rta.specs.declared.streams.Stream.{Stream}
 use Rattle.cop_bus.specs.declared.steps.Step.{Step}
 use Rattle.cop_bus.specs.declared.steps.Content.{Content}
-use Rattle.cop_bus.specs.Trace.{running, is_queue, nth_that}
-use Rattle.cop_bus.specs.Ends.{event_in, sync_anchor}
-use Rattle.cop_rta.specs.Test.{sync_id}
+use Rattle.cop_bus.specs.Trace.{running}
+use Rattle.cop_bus.specs.Ends.{sync_anchor}
 use Rattle.cop_bus.specs.Judge.{stream_of, last_event}
 use Rattle.cop_bus.specs.Growing.{KeepTheRules}
 use Rattle.cop_watch.specs.declared.watching.Watch.{Watch}
@@ -17,12 +16,12 @@ use Rattle.cop_watch.specs.Rules.{is_after}
 use Rattle.cop_watch.specs.declared.syncs.Syncs.{Syncs}
 use Rattle.cop_watch.specs.Syncs.{MayCome, HangsOn, AreKnown}
 use Rattle.cop_watch.specs.Rings.{ring_of, ArePassed}
-use Rattle.cop_watch.specs.Knowing.{queues, starts, sent, IsNow, IsHeld, Awaits, runs_of, joins}
+use Rattle.cop_watch.specs.Knowing.{queues, starts, sent, IsNow, IsHeld, AreUnended, Awaits, runs_of, joins}
 
 -- The steps that were taken break no rule, whatever comes next in place of what is awaited, and all is known of them that the next
 -- one is judged by: what the bus does, the moment and the rank of the last one, by identifier the last event and the lengths of the
--- instances that wait, those of which some do, and how many were sent.
-pub record Knows (tau : ℕ) (streams : List Stream) (steps : List Step) (bus : Bus) (now rank : ℕ) (last : List (Option ℕ)) (marks : List ℕ) (syncs : Syncs) (rings : List (List ℕ)) (waiting : BTreeSet ℕ) (sent_so_far : ℕ) : Type 0 where
+-- instances that wait, those of which some do, the events of the SYNCs that wait or run, and how many were sent.
+pub record Knows (tau : ℕ) (streams : List Stream) (steps : List Step) (bus : Bus) (now rank : ℕ) (last : List (Option ℕ)) (marks : List ℕ) (syncs : Syncs) (events : List ℕ) (rings : List (List ℕ)) (waiting : BTreeSet ℕ) (sent_so_far : ℕ) : Type 0 where
   pub tick : 1 ≤ tau
   pub last_is : IsNow steps now rank
   pub fine : (ahead : List Step) → Awaits tau bus ahead → KeepTheRules tau streams now steps ahead
@@ -30,7 +29,7 @@ pub record Knows (tau : ℕ) (streams : List Stream) (steps : List Step) (bus : 
   pub none_ahead : (id : ℕ) → joins bus id ≡ false → starts id steps ≤ queues id steps
   pub one_ahead : (id : ℕ) → joins bus id ≡ true → starts id steps ≡ queues id steps + 1
   pub lasts : (id : ℕ) → slice_index_or last id None ≡ last_event id steps (length steps)
-  pub last_queued : 0 < queues sync_id steps → event_in (nth_that (is_queue sync_id) (queues sync_id steps - 1) steps) ≡ last_event sync_id steps (length steps)
+  pub unended : AreUnended steps events
   pub hangs : (ahead : List Step) → Awaits tau bus ahead → AreKnown syncs (steps ++ ahead) (length steps)
   pub marked : (ahead : List Step) → Awaits tau bus ahead → (id : ℕ) (k : Stream) → stream_of streams id ≡ Some k → 1 ≤ k.every → (v : ℕ) → last_event id steps (length steps) ≡ Some v
       → HangsOn (sync_anchor (steps ++ ahead) (length steps) v) (slice_index marks id)
@@ -42,17 +41,13 @@ pub record Knows (tau : ℕ) (streams : List Stream) (steps : List Step) (bus : 
 pub record HasTaken (tau : ℕ) (streams : List Stream) (steps : List Step) (w : Watch) : Type 0 where
   pub ticks : w.ticks ≡ tau
   pub set : w.streams.now ≡ streams
-  pub knows : Knows tau streams steps w.bus w.at w.rank w.last.items w.marks.items w.syncs w.rings.items w.waiting w.sent
+  pub knows : Knows tau streams steps w.bus w.at w.rank w.last.items w.marks.items w.syncs w.events.items w.rings.items w.waiting w.sent
 
 -- a queue step may come at a moment, by what the bus does and what waits
 abbrev pub IsOpen : ℕ → ℕ → BTreeSet ℕ → Bus → ℕ → Type 0
 IsOpen tau now waiting Idle at = (at ≤ now) ⊎ ((k : ℕ) → contains nat_cmp waiting k ≡ false)
 IsOpen tau now waiting (Sending id end) at = at < end
 IsOpen tau now waiting (Joining id start) at = at < start + tau
-
--- so may a SYNC's event be told where one ends: none other waits, and it is the last
-abbrev pub IsLastSync : List ℕ → Option ℕ → ℕ → Type 0
-IsLastSync ring last event = (ring ≡ []) × (last ≡ Some event)
 
 pub record MayQueue (w : Watch) (id at event : ℕ) (frame : Content) (number : ℕ) : Type 0 where
   pub last_there : id < length w.last.items

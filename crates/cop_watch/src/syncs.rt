@@ -1,9 +1,11 @@
 //! The SYNCs that have ended, on which the instances of synchronous streams hang.
 
-ghost use Rattle.std.specs.Prelude.{◌≡◌, IfOk, IfSome};
-ghost use Rattle.cop_watch.specs.Syncs.{EndsLast, AreNone, IsAmong, Puts, EndsOne};
+ghost use Rattle.std.specs.Prelude.{◌≡◌, true, IfOk, IfSome};
+ghost use Rattle.cop_watch.specs.Syncs.{EndsLast, AreNone, IsAmong, Puts, EndsOne, EndsFirst, events_with};
 
+use cop_frame::identifiers::SYNC;
 use std::alloc::{AllocError, Global};
+use std::collections::VecDeque;
 
 /// How many SYNCs are recalled at most.
 const MOST: u64 = 64;
@@ -23,37 +25,26 @@ pub(crate) enum Newest {
     Nothing,
     /// It is this.
     Sync(EndedSync),
-    /// It is lost which of them have ended.
-    Lost,
 }
 
-/// The newest one after a SYNC with an event ends. Where its event is not later than those before, it is lost.
-fn ended(newest: Newest, event: Option<u64>, at: u64) -> Newest
-    ensures { EndsLast event newest at result }
+/// The SYNC with an event that ends, if its event is later than those before: SYNC's period is never 0.
+fn ended(newest: Newest, event: u64, at: u64) -> Option<EndedSync>
+    ensures { IfSome result (λ sync. EndsLast event newest at (Newest.Sync sync)) }
 {
-    let event = match event {
-        Some(event) => event,
-        None => return Newest::Lost,
-    };
-    match newest {
-        Newest::Nothing => Newest::Sync(EndedSync {
-            event,
-            mark: 0,
-            from: at,
-        }),
+    let mark = match newest {
+        Newest::Nothing => 0,
         Newest::Sync(before) => {
-            if before.event < event && before.mark < u64::MAX {
-                Newest::Sync(EndedSync {
-                    event,
-                    mark: before.mark + 1,
-                    from: at,
-                })
-            } else {
-                Newest::Lost
+            if before.event >= event || before.mark == u64::MAX {
+                return None;
             }
+            before.mark + 1
         }
-        Newest::Lost => Newest::Lost,
-    }
+    };
+    Some(EndedSync {
+        event,
+        mark,
+        from: at,
+    })
 }
 
 /// Puts a SYNC in the place of its number among those that are recalled.
@@ -84,13 +75,17 @@ impl Syncs {
         })
     }
 
-    /// One ends at a moment, with an event, if it is known.
-    pub(crate) fn end(&mut self, event: Option<u64>, at: u64)
-        ensures { EndsOne event self.old at self.new }
+    /// One with an event ends at a moment. Where it does not say so, the event is not later than those before.
+    fn end(&mut self, event: u64, at: u64) -> bool
+        ensures { result ≡ true → EndsOne event self.old at self.new }
     {
-        self.newest = ended(self.newest, event, at);
-        if let Newest::Sync(sync) = self.newest {
-            put(&mut self.recent, sync);
+        match ended(self.newest, event, at) {
+            Some(sync) => {
+                self.newest = Newest::Sync(sync);
+                put(&mut self.recent, sync);
+                true
+            }
+            None => false,
         }
     }
 
@@ -112,5 +107,22 @@ impl Syncs {
             }
         }
         None
+    }
+}
+
+/// Keeps the event of an instance that is queued, if it is SYNC's and there is memory.
+pub(crate) fn keep_event(events: &mut VecDeque<u64>, id: u16, event: u64) -> bool
+    ensures { result ≡ true → events.new.items ≡ events_with id event events.old.items }
+{
+    id != SYNC || events.push_back(event).is_ok()
+}
+
+/// Ends the SYNC whose event was kept first: it is the one that runs.
+pub(crate) fn end_first(syncs: &mut Syncs, events: &mut VecDeque<u64>, at: u64) -> bool
+    ensures { result ≡ true → EndsFirst events.old.items events.new.items syncs.old at syncs.new }
+{
+    match events.pop_front() {
+        Some(event) => syncs.end(event, at),
+        None => false,
     }
 }

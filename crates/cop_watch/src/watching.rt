@@ -7,20 +7,19 @@ ghost use Rattle.cop_bus.specs.declared.steps.Step.{Step};
 ghost use Rattle.cop_bus.specs.Judge.{first_broken};
 ghost use Rattle.cop_watch.specs.Knowing.{sent};
 ghost use Rattle.cop_watch.specs.Rings.{ring_of};
-ghost use Rattle.cop_rta.specs.Test.{sync_id};
 ghost use Rattle.cop_watch.specs.Syncs.{MayCome};
-ghost use Rattle.cop_watch.specs.Watching.{HasTaken, MayQueue, MayStart, MayEnd, IsOpen, IsLastSync};
+ghost use Rattle.cop_watch.specs.Watching.{HasTaken, MayQueue, MayStart, MayEnd, IsOpen};
 
 use crate::bus::{Bus, sending};
 use crate::rings::{Ring, none_lower, none_waits, take_first, wait};
 use crate::rules::{is_after, obeys, stream_of, sync_obeyed};
-use crate::syncs::Syncs;
+use crate::syncs::{Syncs, end_first, keep_event};
 use cop_bus::{Content, Step};
 use cop_frame::Rate;
 use cop_frame::identifiers::SYNC;
 use cop_rta::{Stream, StreamSet};
 use std::alloc::{AllocError, Global};
-use std::collections::BTreeSet;
+use std::collections::{BTreeSet, VecDeque};
 
 /// How many identifiers streams can have.
 const IDS: usize = 2048;
@@ -35,6 +34,8 @@ pub struct Watch<'a> {
     last: Vec<Option<u64>>,
     marks: Vec<u64>,
     syncs: Syncs,
+    // The events of the SYNCs that wait or run, first come first.
+    events: VecDeque<u64>,
     // Each identifier's instances that wait, and those of which some do.
     rings: Vec<Ring>,
     waiting: BTreeSet<u16>,
@@ -56,6 +57,7 @@ impl<'a> Watch<'a> {
             last: no_events(alloc)?,
             marks: vec![in alloc; 0; IDS]?,
             syncs: Syncs::new(alloc)?,
+            events: VecDeque::new(alloc),
             rings: rings(alloc)?,
             waiting: BTreeSet::new(alloc),
             bus: Bus::Idle,
@@ -74,7 +76,7 @@ impl<'a> Watch<'a> {
 
     /// Takes the next step. Where it says that it did, all the steps so far may stand so in a trace that breaks no rule. Where it does not,
     /// nothing is known of them, and nothing more is to be taken: a rule may be broken, or more instances of a stream wait than there is
-    /// room for, or memory is wanting, or an instance hangs on another SYNC than the 64 that ended last, or one ended while another waited.
+    /// room for, or memory is wanting, or an instance hangs on another SYNC than the 64 that ended last.
     pub fn take(&mut self, step: &Step) -> bool
         ensures { result ≡ true → (tau : ℕ) (streams : List Seen) (steps : List Step)
             → HasTaken tau streams steps self.old → HasTaken tau streams (steps ++ step.now ∷ []) self.new }
@@ -198,6 +200,9 @@ impl<'a> Watch<'a> {
         self.rank = 1;
         self.last[place] = Some(event);
         self.marks[place] = mark;
+        if !keep_event(&mut self.events, id, event) {
+            return false;
+        }
         match self.bus.joined(id) {
             Some(start) => {
                 self.bus = sending(id, start, frame.bits, self.ticks);
@@ -234,22 +239,7 @@ impl<'a> Watch<'a> {
         self.at = at;
         self.rank = 0;
         self.bus = Bus::Idle;
-        if id == SYNC {
-            let event = self.last_sync();
-            self.syncs.end(event, at);
-        }
-        true
-    }
-
-    // The event of the SYNC that ends. Where another waits it is lost which of them does.
-    fn last_sync(&self) -> Option<u64>
-        ensures { IfSome result (IsLastSync (ring_of self.now.rings.items sync_id) (slice_index_or self.now.last.items sync_id None)) }
-    {
-        let place = usize::from(SYNC);
-        if place >= self.rings.len() || place >= self.last.len() || !self.rings[place].is_empty() {
-            return None;
-        }
-        self.last[place]
+        id != SYNC || end_first(&mut self.syncs, &mut self.events, at)
     }
 }
 

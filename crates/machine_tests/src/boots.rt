@@ -1,7 +1,7 @@
 //! Boots of a planned network over a port.
 
 use crate::scripts::{Script, Turn};
-use cop_commission::{Approach, Command, Commissioned, Reach, Runner, commission};
+use cop_commission::{Approach, Command, Commissioned, Reach, Runner, Watch, commission};
 use cop_frame::Rate;
 use cop_net::all_rates;
 use cop_plan::{Asked, Choice};
@@ -156,19 +156,22 @@ pub const PLAIN: Approach = Approach {
         start: true,
     },
     store: false,
-    watch: 0,
+    watch: Watch::Never,
 };
 
 /// What came of a boot, as a text, and whether the nodes were started at 500 kbit/s.
 pub fn told(alloc: Global, ended: Commissioned) -> Result<(Vec<u8>, bool), AllocError> {
     match ended {
         Commissioned::Ended {
-            text,
+            answer,
             ready,
             started,
             rate,
             ..
-        } => Ok((text, started && ready && rate == Rate::Kbit500)),
+        } => Ok((
+            answer.text(alloc)?,
+            started && ready && rate == Rate::Kbit500,
+        )),
         Commissioned::Running {
             runner: Runner { node: 5, id: 0x181 },
         } => Ok((Vec::from_slice(alloc, b"running")?, false)),
@@ -186,12 +189,12 @@ pub fn told(alloc: Global, ended: Commissioned) -> Result<(Vec<u8>, bool), Alloc
         } => Ok((Vec::from_slice(alloc, b"refuses S")?, false)),
         Commissioned::Unopened { .. } => Ok((Vec::from_slice(alloc, b"refuses O")?, false)),
         Commissioned::Others {
-            text: _text,
+            answer: _answer,
             exchanges: _exchanges,
         } => Ok((Vec::from_slice(alloc, b"others")?, false)),
         Commissioned::Absent => Ok((Vec::from_slice(alloc, b"absent")?, false)),
         Commissioned::NonePasses => Ok((Vec::from_slice(alloc, b"none passes")?, false)),
-        Commissioned::Failed { text } => Ok((text, false)),
+        Commissioned::Failed { answer } => Ok((answer.text(alloc)?, false)),
     }
 }
 

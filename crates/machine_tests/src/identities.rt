@@ -124,18 +124,18 @@ const CASES: &[(bool, &[Turn], &[u8], &[u8])] = &[
 /// The text of a boot.
 fn text_of(alloc: Global, ended: Commissioned) -> Result<Vec<u8>, AllocError> {
     match ended {
-        Commissioned::Ended { text, .. } => Ok(text),
+        Commissioned::Ended { answer, .. } => answer.text(alloc),
         Commissioned::Others {
-            text,
+            answer,
             exchanges: _exchanges,
-        } => Ok(text),
+        } => answer.text(alloc),
         Commissioned::Running { .. } => Vec::from_slice(alloc, b"running"),
         Commissioned::Garbled { .. } => Vec::from_slice(alloc, b"garbled"),
         Commissioned::Erroneous { .. } => Vec::from_slice(alloc, b"errors"),
         Commissioned::Unopened { .. } => Vec::from_slice(alloc, b"unopened"),
         Commissioned::Absent => Vec::from_slice(alloc, b"absent"),
         Commissioned::NonePasses => Vec::from_slice(alloc, b"none passes"),
-        Commissioned::Failed { text } => Ok(text),
+        Commissioned::Failed { answer } => answer.text(alloc),
     }
 }
 

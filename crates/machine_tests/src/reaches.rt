@@ -2,7 +2,7 @@
 
 use crate::boots::{PLAIN, Tables, ended, told};
 use crate::scripts::{Script, Turn};
-use cop_commission::{Approach, Reach};
+use cop_commission::{Approach, Reach, Watch};
 use std::test::Fail;
 
 /// A device that can store its settings.
@@ -38,13 +38,19 @@ const STORED: Approach = Approach {
 
 /// The heartbeats are awaited for a quarter of a second.
 const WATCHED: Approach = Approach {
-    watch: 1_000_000,
+    watch: Watch::For(1_000_000),
     ..ALONE
 };
 
 /// They are awaited for less than one and a half of their time.
 const WATCHED_BRIEFLY: Approach = Approach {
-    watch: 400_000,
+    watch: Watch::For(400_000),
+    ..ALONE
+};
+
+/// They are awaited until one and a half of their time has passed, which is 150 ms.
+const WATCHED_ONCE: Approach = Approach {
+    watch: Watch::OnceEach,
     ..ALONE
 };
 
@@ -145,6 +151,42 @@ const BEATS_LATE: &[Turn] = &[
     (10_000_400, b""),
 ];
 
+/// A heartbeat comes in one and a half of its time.
+const BEATS_ONCE: &[Turn] = &[
+    (0, b""),
+    (10, b"t70517F\r"),
+    (8_000_010, b"t705100\r"),
+    (8_000_100, b"t58584300180185010040\r"),
+    (8_000_200, b"t705100\r"),
+    (8_000_400, b"t58586000180100000000\r"),
+    (8_000_800, b"t58586000180100000000\r"),
+    (8_001_200, b"t58586017100000000000\r"),
+    (8_001_600, b"t58584300180181010040\r"),
+    (8_002_000, b"t58584B17100064000000\r"),
+    (9_000_000, b"t705105\r"),
+    (9_400_000, b""),
+    (9_600_000, b""),
+    (9_600_400, b""),
+];
+
+/// None does.
+const BEATS_NEVER: &[Turn] = &[
+    (0, b""),
+    (10, b"t70517F\r"),
+    (8_000_010, b"t705100\r"),
+    (8_000_100, b"t58584300180185010040\r"),
+    (8_000_200, b"t705100\r"),
+    (8_000_400, b"t58586000180100000000\r"),
+    (8_000_800, b"t58586000180100000000\r"),
+    (8_001_200, b"t58586017100000000000\r"),
+    (8_001_600, b"t58584300180181010040\r"),
+    (8_002_000, b"t58584B17100064000000\r"),
+    (9_000_000, b"t70517F\rt706105\r"),
+    (9_400_000, b""),
+    (9_600_000, b""),
+    (9_600_400, b""),
+];
+
 /// Both nodes boot up while the first setting is read back, and confirm their settings again.
 const BOTH_BOOT_UP: &[Turn] = &[
     (0, b""),
@@ -228,6 +270,18 @@ const REACHES: &[(Approach, &[Turn], &[u8], &[u8])] = &[
         WATCHED_BRIEFLY,
         BEATS_NOT,
         b"node 5 ready\nstarted\nnode 5 unheard\n",
+        ALONE_WRITTEN,
+    ),
+    (
+        WATCHED_ONCE,
+        BEATS_ONCE,
+        b"node 5 ready\nstarted\nnode 5 operational\n",
+        ALONE_WRITTEN,
+    ),
+    (
+        WATCHED_ONCE,
+        BEATS_NEVER,
+        b"node 5 ready\nstarted\nnode 5 late\n",
         ALONE_WRITTEN,
     ),
     (OF_NOBODY, TAKES_ALL, b"absent", b""),

@@ -133,6 +133,7 @@ const SAID: &[&str] = &[
     "<li>heartbeat every 100 ms</li>",
     "a&lt;b&gt;&amp;&quot;c&quot;.csv",
     "there are no error frames",
+    "by identifier, its PDOs pass this test, too</summary>",
 ];
 
 #[test]

@@ -26,16 +26,22 @@ const LATENCY: u64 = 400;
 // A latency that reaches past the next SYNC.
 const LONG_LATENCY: u64 = 50_000;
 
-// SYNC each 40,000 ticks, a PDO of 8 bytes for each so many SYNCs, and one that is not synchronous.
-fn streams(every: u8, latency: u64) -> [Stream; 3]
+const PERIOD: u64 = 40_000;
+
+// A period in which less than a SYNC and a PDO of 8 bytes are sent.
+const CLOSE_PERIOD: u64 = 400;
+
+// SYNC of a period, a PDO of 8 bytes for each so many SYNCs, and one that is not synchronous.
+fn streams(every: u8, period: u64, latency: u64) -> [Stream; 3]
     requires every { (1 ≤ every) × (every ≤ 2) }
+    requires period { (400 ≤ period) × (period ≤ 40000) }
     requires latency { latency ≤ 240000000 }
 {
     [
         Stream {
             id: SYNC,
             bytes: 0,
-            period: 40_000,
+            period,
             jitter: DELAY,
             deadline: None,
             every: 0,
@@ -43,7 +49,7 @@ fn streams(every: u8, latency: u64) -> [Stream; 3]
         Stream {
             id: PDO,
             bytes: 8,
-            period: 40_000 * u64::from(every),
+            period: period * u64::from(every),
             jitter: latency,
             deadline: Some(40_000),
             every,
@@ -63,12 +69,17 @@ fn streams(every: u8, latency: u64) -> [Stream; 3]
 pub fn set(alloc: Global, every: u8) -> Result<StreamSet, SetFault>
     requires { (1 ≤ every) × (every ≤ 2) }
 {
-    set_of(alloc, &streams(every, LATENCY))
+    set_of(alloc, &streams(every, PERIOD, LATENCY))
 }
 
 /// The same with a PDO for each SYNC, whose latency reaches past the next one.
 pub fn long_set(alloc: Global) -> Result<StreamSet, SetFault> {
-    set_of(alloc, &streams(1, LONG_LATENCY))
+    set_of(alloc, &streams(1, PERIOD, LONG_LATENCY))
+}
+
+/// The same with so short a period of SYNC that several SYNCs wait at once behind a PDO.
+pub fn close_set(alloc: Global) -> Result<StreamSet, SetFault> {
+    set_of(alloc, &streams(1, CLOSE_PERIOD, LATENCY))
 }
 
 /// The step that breaks a rule first, and the rule, in a trace that ends with its last step.

@@ -3,7 +3,7 @@
 ghost use Rattle.std.specs.Prelude.{◌≤◌};
 
 use crate::bus::{LATE_JOINER, two_streams};
-use crate::syncs::{long_set, set};
+use crate::syncs::{close_set, long_set, set};
 use cop_frame::Rate;
 use cop_rta::StreamSet;
 use cop_watch::TraceWatch;
@@ -88,5 +88,46 @@ const AFTER_TWO: &str = "kind,moment,id,event,bits,data\n\
 fn an_instance_of_an_earlier_sync_is_watched(rt: HostRuntime) -> Result<(), Fail> {
     let set = long_set(rt.alloc())?;
     assert!(rt; starts(rt.alloc(), &set, Rate::Kbit500, AFTER_TWO, 64)? == Some(4));
+    Ok(())
+}
+
+/// Three SYNCs wait at once, and an instance hangs on the first of them after it has ended.
+const WAITING_SYNCS: &str = "kind,moment,id,event,bits,data\n\
+    queue,0,128,0,47,\n\
+    start,0,128,,,\n\
+    end,376,128,,,\n\
+    queue,376,385,0,111,0000000000000000\n\
+    start,376,385,,,\n\
+    queue,400,128,400,47,\n\
+    queue,800,128,800,47,\n\
+    queue,1200,128,1200,47,\n\
+    end,1264,385,,,\n\
+    start,1264,128,,,\n\
+    end,1640,128,,,\n\
+    queue,1640,385,400,111,0000000000000000\n\
+    start,1640,128,,,\n\
+    until,1999,0,,,\n";
+
+/// The same where that instance has the event of the SYNC that waits next.
+const TOO_EARLY: &str = "kind,moment,id,event,bits,data\n\
+    queue,0,128,0,47,\n\
+    start,0,128,,,\n\
+    end,376,128,,,\n\
+    queue,376,385,0,111,0000000000000000\n\
+    start,376,385,,,\n\
+    queue,400,128,400,47,\n\
+    queue,800,128,800,47,\n\
+    end,1264,385,,,\n\
+    start,1264,128,,,\n\
+    end,1640,128,,,\n\
+    queue,1640,385,800,111,0000000000000000\n\
+    start,1640,128,,,\n\
+    until,1999,0,,,\n";
+
+#[test]
+fn several_syncs_that_wait_are_watched(rt: HostRuntime) -> Result<(), Fail> {
+    let set = close_set(rt.alloc())?;
+    assert!(rt; starts(rt.alloc(), &set, Rate::Kbit500, WAITING_SYNCS, 64)? == Some(4));
+    assert!(rt; starts(rt.alloc(), &set, Rate::Kbit500, TOO_EARLY, 64)?.is_none());
     Ok(())
 }

@@ -4,7 +4,9 @@ ghost use Rattle.std.specs.Prelude.{length};
 ghost use Rattle.cop_figures.specs.Figures.{AreFigures};
 ghost use Rattle.cop_plan.specs.Plans.{IsOutcome};
 
-use cop_figures::{Breakdown, Figures, Timeline, breakdowns_of, figures_of, timeline_of};
+use cop_figures::{
+    Breakdown, Figures, Timeline, Unsorted, breakdowns_of, figures_of, timeline_of, unsorted_of,
+};
 use cop_net::{Network, NodeTable, PdoTable, all_rates, network, read_nodes, read_pdos};
 use cop_plan::{Choice, Outcome, Plan, plan};
 use cop_report::{Input, Report, page_of};
@@ -145,6 +147,18 @@ fn breakdowns(
     }
 }
 
+/// The PDOs if controllers do not sort, where there is a plan.
+fn unsorted(
+    alloc: Global,
+    network: &Network<'_>,
+    outcome: &Outcome,
+) -> Result<Vec<Unsorted>, AllocError> {
+    match outcome {
+        Outcome::Planned(plan) => unsorted_of(alloc, network, plan),
+        Outcome::Refused(_) => Ok(Vec::new(alloc)),
+    }
+}
+
 /// The page of a report.
 fn page<'a>(
     alloc: Global,
@@ -152,6 +166,7 @@ fn page<'a>(
     outcome: &'a Outcome,
     figures: &'a Figures,
     breakdowns: &'a [Breakdown],
+    unsorted: &'a [Unsorted],
     timeline: Option<&'a Timeline>,
 ) -> Result<String, AllocError>
     requires { IsOutcome network.now.equipment.rates network.now.set (length network.now.rows) outcome.now }
@@ -163,6 +178,7 @@ fn page<'a>(
             outcome,
             figures,
             breakdowns,
+            unsorted,
             timeline,
             log: None,
             are_rates_listed: false,
@@ -184,6 +200,7 @@ fn page_with(
     requires counted { AreFigures network.now outcome.now figures.now }
 {
     let breakdowns = breakdowns(alloc, network, outcome, figures)?;
+    let unsorted = unsorted(alloc, network, outcome)?;
     let timeline = timeline(alloc, outcome, trace)?;
     Ok(page(
         alloc,
@@ -191,6 +208,7 @@ fn page_with(
         outcome,
         figures,
         &breakdowns,
+        &unsorted,
         timeline.as_ref(),
     )?)
 }

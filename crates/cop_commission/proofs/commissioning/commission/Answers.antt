@@ -1,4 +1,4 @@
-use Rattle.std.proofs.Common.{◌⊎◌, subst, inl, inr}
+use Rattle.std.proofs.Common.{subst}
 use Rattle.cop_net.specs.Devices.{handed_in}
 use Rattle.cop_net.specs.Network.{IsNetwork}
 use Rattle.cop_commission.specs.Commissioning.{FailsBy, CommissioningFails}
@@ -37,9 +37,9 @@ returns-clause-commissioned g c =
 pub returns-clause-failed : goal.returns-clause-failed
 unfolding planned_network
 returns-clause-failed g c =
-    if_failed_map c.in_ok-commission_network.field-0 (λ text. FailsBy g.P.Port.reads g.P.Port.writes g.P.Port.asks g.P.Port.fails c.args.asked.now.choice _ c.args.approach c.args.port.now c.commission_network.new.port text)
-    (λ text. CommissioningFails g.P.Port.reads g.P.Port.writes g.P.Port.asks g.P.Port.fails c.args.asked.now c.args.nodes.now c.args.pdos.now (handed_in c.args.eds_files.now) c.args.approach c.args.port.now c.commission_network.new.port text)
-    (λ text b. record {
+    if_failed_map c.in_ok-commission_network.field-0 (λ answer. FailsBy g.P.Port.reads g.P.Port.writes g.P.Port.asks g.P.Port.fails c.args.asked.now.choice _ c.args.approach c.args.port.now c.commission_network.new.port answer)
+    (λ answer. CommissioningFails g.P.Port.reads g.P.Port.writes g.P.Port.asks g.P.Port.fails c.args.asked.now c.args.nodes.now c.args.pdos.now (handed_in c.args.eds_files.now) c.args.approach c.args.port.now c.commission_network.new.port answer)
+    (λ answer b. record {
       outcome = b.0;
       network = planned_network c.args.asked.now c.args.nodes.now c.args.pdos.now _ c.in_ok-nodes.nodes c.in_ok-pdos.pdos c.in_ok-network.network b.0 c.in_ok-nodes.ensures c.in_ok-pdos.ensures
           c.in_ok-network.ensures.exact c.in_ok-network.ensures.tables.0 c.in_ok-network.ensures.tables.1 (subst IsNetwork c.network-2.view_is c.network-2.invariant.0) b.1 b.2;

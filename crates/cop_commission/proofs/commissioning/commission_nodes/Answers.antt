@@ -37,4 +37,4 @@ returns-in-Told-clause-short g c =
 
 pub returns-clause-failed : goal.returns-clause-failed
 returns-clause-failed g c =
-    inl (c.new.ensures.items, session_fails_so g.P.Port.reads g.P.Port.writes g.P.Port.asks _ (way_of c.args.network.now c.args.plan.now.rate c.args.plan.now.ids c.args.nodes.now c.args.approach) c.args.nodes.now _ _ _ _ c.in_ok-bus.ensures c.in_ok-questions_for.ensures c.in_ok-off_questions.ensures g.P.Port.fails c.args.port.now c.run_session.new.port (rw c.in-Failed.is at c.in_ok-told.ensures.failed))
+    inl (c.nothing.ensures, session_fails_so g.P.Port.reads g.P.Port.writes g.P.Port.asks _ (way_of c.args.network.now c.args.plan.now.rate c.args.plan.now.ids c.args.nodes.now c.args.approach) c.args.nodes.now _ _ _ _ c.in_ok-bus.ensures c.in_ok-questions_for.ensures c.in_ok-off_questions.ensures g.P.Port.fails c.args.port.now c.run_session.new.port (rw c.in-Failed.is at c.in_ok-told.ensures.failed))

@@ -1,3 +1,5 @@
+use Rattle.std.proofs.Common.{ap, ◌∙◌}
+use Rattle.cop_engine.specs.Boots.{boot_said}
 use Rattle.cop_engine.specs.Faults.{fault_of}
 use Rattle.cop_engine.proofs.NetworkLemmas.{nodes_explain, pdos_explain, network_explains, planning_is, err_is}
 use Rattle.cop_engine.proofs.boots.boot_bytes.Goals as goal
@@ -23,5 +25,7 @@ returns c =
     record {
       outcome = c.in_ok-planned.planned.outcome;
       network = planning_is c.args.asked.now c.args.nodes.now c.args.pdos.now _ c.in_ok-nodes.nodes c.in_ok-pdos.pdos c.in_ok-planned.planned c.in_ok-nodes.ensures c.in_ok-pdos.ensures c.in_ok-planned.ensures;
-      booted = c.in_ok-boot_of.ensures;
+      answer = c.in_ok-answer.answer;
+      booted = c.in_ok-answer.ensures;
+      says = c.in_ok-boot_text.ensures ∙ ap boot_said c.as_ref.ensures.value;
     }

@@ -23,8 +23,8 @@ returns c =
     let net = c.args.network.now in
     let ids = c.args.plan.now.ids in
     let range = pdo_ids net.equipment.rates net.set (length net.rows) c.args.plan.now c.requires.planned in
-    booted_so c.args.seed net ids c.in_ok-nodes.nodes.items c.deref-4.result.now c.in_ok-manager.manager _ c.deref_mut.result.now _ _ c.boot_text.result
+    booted_so c.args.seed net ids c.in_ok-nodes.nodes.items c.deref-4.result.now c.in_ok-manager.manager _ c.deref_mut.result.now _ _ c.boot_answer.result
     c.in_ok-nodes.ensures (c.in_ok-manager.ensures ∙ ap (manager_of net ids) c.deref.ensures.value) (c.deref_mut.ensures.value ∙ c.in_ok-devices.ensures ∙ ap (λ ns. map (device_at net) ns) c.deref-2.ensures.value)
     (ap (turns_drawn c.args.seed) c.deref-3.ensures.value) c.deref-4.ensures.value c.in_ok-boot_by_drawn.ensures.runs
     (can_boot net c.requires.network ids range) c.in_ok-boot_by_drawn.ensures.configures c.in_ok-boot_by_drawn.ensures.in_time c.in_ok-boot_by_drawn.ensures.exist
-    (plan_of net c.requires.network ids range) c.boot_text.ensures
+    (plan_of net c.requires.network ids range) c.boot_answer.ensures

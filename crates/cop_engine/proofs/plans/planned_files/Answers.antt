@@ -1,5 +1,4 @@
-use Rattle.std.proofs.Common.{◌≡◌, refl}
-use Rattle.cop_cert.specs.Short.{file_of}
+use Rattle.std.proofs.Common.{refl}
 use Rattle.cop_engine.proofs.plans.planned_files.Goals as goal
 
 pub write_file-requires-clause-hold : goal.write_file-requires-clause-hold

@@ -10,26 +10,26 @@ use Rattle.cop_bus.specs.Judge.{stream_of}
 use Rattle.cop_watch.proofs.Taken.{ended-other, ended-sync}
 use Rattle.cop_watch.proofs.watching.Watch.take_end.Goals as goal
 
-pub returns-then-id-eq-SYNC : goal.returns-then-id-eq-SYNC
-returns-then-id-eq-SYNC c = λ is tau streams steps h.
+pub returns-else-id-ne-SYNC : goal.returns-else-id-ne-SYNC
+returns-else-id-ne-SYNC c = λ is tau streams steps h.
     let w = c.args.self.now in
     let m = c.may_end.ensures (search rules) in
-    let its : c.args.id ≡ sync_id = c.if-id-eq-SYNC.true in
+    let its : c.args.id ≡ sync_id = c.if-id-ne-SYNC.false in
     record {
       ticks = h.ticks;
       set = h.set;
-      knows = subst (λ n. Knows tau streams (steps ++ End n c.args.at ∷ []) Idle c.args.at 0 w.last.items w.marks.items c.end.new.self w.rings.items w.waiting w.sent) (sym its)
-          (ended-sync tau streams steps w.bus w.at w.rank w.last.items w.marks.items w.syncs w.rings.items w.waiting w.sent h.knows c.args.at (m.sending ∙ ap (λ n. Sending n c.args.at) its) m.order
-          (subst (λ (ks : List Stream). is_some (stream_of ks sync_id) ≡ true) h.set (subst (λ n. is_some (stream_of w.streams.now n) ≡ true) its m.known)) c.last_sync-event.result (λ v e. rw e at c.last_sync-event.ensures) c.end.new.self c.end.ensures);
+      knows = subst (λ n. Knows tau streams (steps ++ End n c.args.at ∷ []) Idle c.args.at 0 w.last.items w.marks.items c.end_first.new.syncs c.end_first.new.events.items w.rings.items w.waiting w.sent) (sym its)
+          (ended-sync tau streams steps w.bus w.at w.rank w.last.items w.marks.items w.syncs w.events.items w.rings.items w.waiting w.sent h.knows c.args.at (m.sending ∙ ap (λ n. Sending n c.args.at) its) m.order
+          (subst (λ (ks : List Stream). is_some (stream_of ks sync_id) ≡ true) h.set (subst (λ n. is_some (stream_of w.streams.now n) ≡ true) its m.known)) c.end_first.new.events.items c.end_first.new.syncs (c.end_first.ensures is));
     }
 
-pub returns-else-id-eq-SYNC : goal.returns-else-id-eq-SYNC
-returns-else-id-eq-SYNC c = λ is tau streams steps h.
+pub returns-then-id-ne-SYNC : goal.returns-then-id-ne-SYNC
+returns-then-id-ne-SYNC c = λ is tau streams steps h.
     let w = c.args.self.now in
     let m = c.may_end.ensures (search rules) in
     record {
       ticks = h.ticks;
       set = h.set;
-      knows = ended-other tau streams steps w.bus w.at w.rank w.last.items w.marks.items w.syncs w.rings.items w.waiting w.sent h.knows c.args.id c.args.at m.sending m.order
-          (subst (λ (ks : List Stream). is_some (stream_of ks c.args.id) ≡ true) h.set m.known) (ne_eqb c.args.id 128 c.if-id-eq-SYNC.false);
+      knows = ended-other tau streams steps w.bus w.at w.rank w.last.items w.marks.items w.syncs w.events.items w.rings.items w.waiting w.sent h.knows c.args.id c.args.at m.sending m.order
+          (subst (λ (ks : List Stream). is_some (stream_of ks c.args.id) ≡ true) h.set m.known) (ne_eqb c.args.id 128 c.if-id-ne-SYNC.true);
     }

@@ -17,16 +17,16 @@ returns c = λ is tau streams steps h.
     let at = c.args.at in
     let m = c.may_start.ensures (search rules) in
     let known = subst (λ (ks : List Stream). is_some (stream_of ks id) ≡ true) h.set m.known in
-    let After : Bus → Type 0 = λ b. Knows tau streams (steps ++ Start id at ∷ []) b at 2 w.last.items w.marks.items w.syncs c.take_first.new.rings.items c.take_first.new.waiting (w.sent + 1) in
+    let After : Bus → Type 0 = λ b. Knows tau streams (steps ++ Start id at ∷ []) b at 2 w.last.items w.marks.items w.syncs w.events.items c.take_first.new.rings.items c.take_first.new.waiting (w.sent + 1) in
     record {
       ticks = h.ticks;
       set = h.set;
       knows = elim c.match-take_first.branch [
         | in-Some v ↦ (let bits = v.in-Some.bits in
             let sends : Sending id (at + bits * tau) ≡ c.match-take_first.self = ap (λ n. Sending id (at + bits * n)) (sym h.ticks) ∙ sym v.sending-self.ensures ∙ sym v.self-is in
-            subst After sends (started-first tau streams steps w.bus w.at w.rank w.last.items w.marks.items w.syncs w.rings.items w.waiting w.sent h.knows id at m.idle m.by_now m.order m.passed known
+            subst After sends (started-first tau streams steps w.bus w.at w.rank w.last.items w.marks.items w.syncs w.events.items w.rings.items w.waiting w.sent h.knows id at m.idle m.by_now m.order m.passed known
             bits c.take_first.new.rings.items c.take_first.new.waiting m.ring_there v.in-Some.ensures.some))
-        | in-None v ↦ subst After (sym v.self-is) (started-joiner tau streams steps w.bus w.at w.rank w.last.items w.marks.items w.syncs w.rings.items w.waiting w.sent h.knows id at m.idle m.by_now m.order m.passed known
+        | in-None v ↦ subst After (sym v.self-is) (started-joiner tau streams steps w.bus w.at w.rank w.last.items w.marks.items w.syncs w.events.items w.rings.items w.waiting w.sent h.knows id at m.idle m.by_now m.order m.passed known
             c.take_first.new.rings.items c.take_first.new.waiting v.in-None.ensures.none)
       ];
     }

@@ -1,8 +1,0 @@
-use Rattle.std.proofs.Common.{◌≡◌, take}
-use Rattle.std.specs.List.{flat_map}
-use Rattle.cop_boot.specs.Manager.{end_at}
-use Rattle.cop_engine.specs.Boots.{node_line}
-use Rattle.cop_engine.proofs.boots.boot_text.Given as goal
-
-abbrev pub invariant-loop-node : goal.invariant-loop-node
-invariant-loop-node l = l.text.items ≡ flat_map (λ node. node_line node (end_at l.manager.nodes node)) (take l.node-index l.nodes)
