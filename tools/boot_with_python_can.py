@@ -79,7 +79,7 @@ def main():
     peer.start()
     program = os.environ.get("CANPLAN", f"{HERE}/bin/canplan")
     tables = [f"{HERE}/examples/valve/{file}" for file in ("nodes.csv", "pdos.csv")]
-    it = subprocess.run([*program.split(), "boot", "--port", port, *tables], capture_output=True, text=True, timeout=600)
+    it = subprocess.run([*program.split(), "boot", "--port", port, "--watch", "0", *tables], capture_output=True, text=True, timeout=600)
     time.sleep(0.3)
     is_over.set()
     peer.join()
