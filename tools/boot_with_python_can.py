@@ -25,6 +25,10 @@ WANTED = [
     (0x605, "23001801850100c0"),
     (0x605, "2300180181010040"),
     (0x605, "2b17100064000000"),
+    (0x605, "4000180200000000"),
+    (0x605, "40001a0000000000"),
+    (0x605, "40001a0100000000"),
+    (0x605, "40001a0200000000"),
     (0x605, "4000180100000000"),
     (0x605, "4017100000000000"),
     (0x000, "0100"),
@@ -51,8 +55,14 @@ def pass_on(source, target):
 
 
 def serve(bus, seen, is_over):
-    """Node 5: it boots up at a reset, confirms each setting, and tells what it has: at first the COB-ID of its EDS file."""
-    has = {b"\x00\x18\x01": [0x43, 0x00, 0x18, 0x01, 0x85, 0x01, 0x00, 0x40]}
+    """Node 5: it boots up at a reset, confirms each setting, and tells what it has: at first what its EDS file says."""
+    has = {
+        b"\x00\x18\x01": [0x43, 0x00, 0x18, 0x01, 0x85, 0x01, 0x00, 0x40],
+        b"\x00\x18\x02": [0x4F, 0x00, 0x18, 0x02, 0xFF, 0x00, 0x00, 0x00],
+        b"\x00\x1a\x00": [0x4F, 0x00, 0x1A, 0x00, 0x02, 0x00, 0x00, 0x00],
+        b"\x00\x1a\x01": [0x43, 0x00, 0x1A, 0x01, 0x20, 0x01, 0x00, 0x20],
+        b"\x00\x1a\x02": [0x43, 0x00, 0x1A, 0x02, 0x20, 0x02, 0x00, 0x20],
+    }
     while not is_over.is_set():
         frame = bus.recv(0.1)
         if frame is None:
