@@ -34,6 +34,8 @@ CASES = {
     "silent among others": ("crane", "--silent 31", {31: "silent"}),
     "late boot-up": ("valve", "--late 5:3", {}),
     "too late boot-up": ("valve", "--late 5:6", {5: "silent"}),
+    "late boot-up that is awaited for longer": ("valve", "--late 5:6", {}, 0, ["--boot-limit", "8"]),
+    "late boot-up that is awaited for less": ("valve", "--late 5:3", {5: "silent"}, 3, ["--boot-limit", "2"]),
     "slow answers": ("crane", "--slow 22:0.4", {}),
     "abort": ("valve", "--abort 5:1800:1:06090030", {5: "aborted 1800 01 06090030"}),
     "abort among others": ("crane", "--abort 12:1017:0:08000022", {12: "aborted 1017 00 08000022"}),
@@ -97,6 +99,18 @@ LEFT_ALONE = {
     "to be opened is refused": ("valve", "--refuse O", [], "refused 104 0", ["C", "S6", "L", "F", "C", "S6", "O", "C"]),
     "to be opened is refused, taken over": ("valve", "--refuse O", ["--take-over"], "refused 104 0", ["C", "S6", "O", "C"]),
     "to listen and to be opened is refused": ("valve", "--refuse LO", [], "refused 104 0", ["C", "S6", "L", "O", "C"]),
+}
+
+# What is heard beside a boot that ends well: the example, the words of the rig, and what is said of it.
+TOLD = {
+    "a device tells an error": ("valve", "--error 5:8130:11", ["node 5 told an error by EMCY: code 8130h (communication), error register 11h"]),
+    "devices tell errors": (
+        "conveyor", "--error 11:4210:09 13:FF01:81",
+        ["node 11 told an error by EMCY: code 4210h (temperature), error register 09h", "node 13 told an error by EMCY: code FF01h (of the device's own kind), error register 81h"]),
+    "an error that is gone": ("valve", "--error 5:0000:00", []),
+    "another manager": ("valve", "--foreign 0200", ["another manager is on the bus: the NMT command 02h 00h was heard, which was not sent here"]),
+    "another manager resets too": ("valve", "--foreign 8200", []),
+    "frames that are given back": ("valve", "--echo", []),
 }
 
 # The communication is reset before the devices are asked which COB-IDs they have, and again by the manager.
@@ -213,6 +227,19 @@ def opening_faults(seen, options):
         elif command == "O" and "--take-over" not in options and not refused and (since is None or moment - since < 2):
             return [f"the adapter is opened to send before it was listened: {seen['given']}"]
     return []
+
+
+def told(name, folder):
+    """What is wrong with what is said of a boot that ends well."""
+    example, words, wanted = TOLD[name]
+    it, seen = boot(example, words, [], folder)
+    said = [line.removeprefix("canplan: ") for line in it.stderr.splitlines() if "EMCY" in line or "another manager" in line]
+    faults = opening_faults(seen, [])
+    if it.returncode or it.stdout != wanted_text(example, {}):
+        faults.append(f"status {it.returncode}, says {it.stdout!r}")
+    if said != wanted:
+        faults.append(f"says {said}, not {wanted}")
+    return faults + ([f"standard error: {it.stderr}"] if faults else [])
 
 
 def left_alone(name, folder):
@@ -333,11 +360,11 @@ def twice(name, folder):
 
 def main(words):
     passed, failed = 0, 0
-    for name in [*CASES, *LEFT_ALONE, *REACHES, *TWICE]:
+    for name in [*CASES, *LEFT_ALONE, *TOLD, *REACHES, *TWICE]:
         if words and not any(word in name for word in words):
             continue
         with tempfile.TemporaryDirectory() as folder:
-            faults = (run if name in CASES else left_alone if name in LEFT_ALONE else reach if name in REACHES else twice)(name, folder)
+            faults = (run if name in CASES else left_alone if name in LEFT_ALONE else told if name in TOLD else reach if name in REACHES else twice)(name, folder)
         print(f"{'FAILED' if faults else 'ok'}: {name}", flush=True)
         for fault in faults:
             print(f"  {fault}")

@@ -60,6 +60,9 @@ DEVICES = (
     (None, listed("0x1012", "[1012]\nDataType=7\nAccessType=rw\nDefaultValue=0x40000100"), NODES, ROW, 5, "node 5 sends TIME (100h)"),
     (None, listed("0x1006", "[1006]\nDataType=7\nAccessType=rw\nDefaultValue=20000"), NODES + "sync,0,,,10000,0\n", ROW, 5, "1006h is 20000 us"),
     (111, [("DefaultValue=255\n", "DefaultValue=255\nParameterValue=254\n")], NODES, ROW, 5, "ParameterValue=254 of Valve is not the DefaultValue"),
+    (117, [("", "[DeviceComissioning]\nNodeID=11\n")], NODES, ROW, 5, "NodeID=11: this is the DCF of node 11, and Valve is node 5"),
+    (117, [("", "[DeviceComissioning]\nNodeID=5\n")], TWO, ROW, 5, "NodeID=5: this is the DCF of node 5, and Valve and 1 more are several nodes"),
+    (118, listed("0x1006", "[1006]\nDataType=7\nAccessType=rw\nDefaultValue=0\nLowLimit=10\nHighLimit=5"), NODES, ROW, 5, "node 5: 1006h sub 0 takes no value by its EDS file"),
     (116, [], NODES, "5,1,10000,0,700,\n", 5, "one error on the bus takes up to 664 us, and TPDO 1 of node 5 has 160 us left"),
 )
 
@@ -79,7 +82,7 @@ def changed(parts):
 
 def of_place(text, warning):
     """What is wrong with the place of a warning of an EDS text."""
-    if warning["number"] is None or warning["number"] > 85 and warning["number"] != 111:
+    if warning["number"] is None or warning["number"] > 85 and warning["number"] not in (111, 117):
         if warning["file"] is not None or warning["line"] is not None:
             yield f"a place: {warning}"
         return

@@ -16,6 +16,7 @@ from files import bytes_of, status_of, write
 HERE = os.path.dirname(os.path.dirname(os.path.realpath(__file__)))
 PROGRAM = os.environ.get("CANPLAN", f"{HERE}/bin/canplan")
 CRANE, SDO, RANGES = ((f"{HERE}/examples/{it}/nodes.csv", f"{HERE}/examples/{it}/pdos.csv") for it in ("crane", "sdo-refusal", "second-range"))
+VALVE, UNIT = f"{HERE}/examples/valve/pdos.csv", bytes_of(f"{HERE}/examples/valve/unit.eds").decode()
 NO_REFUSAL = b"rate,pdo,what,value\n0,0,version,1\n"
 
 # The words, the status, and what stands in the answer and on standard error. OUT is a folder of its own.
@@ -44,6 +45,9 @@ CALLS = (
     (("test", "--strict", "--rate", "500", f"{HERE}/examples/three-frames.csv"), 0, "pass", ""),
     (("boot", "--seed", "1", "--port", "-", *CRANE), 2, "", "cannot be used with"),
     (("boot", "--seed", "1", "--no-identity", *CRANE), 2, "", "cannot be used with"),
+    (("boot", "--seed", "1", "--boot-limit", "8", *CRANE), 2, "", "cannot be used with"),
+    (("boot", "--port", "-", "--boot-limit", "0", *CRANE), 2, "", "--boot-limit"),
+    (("boot", "--port", "-", "--boot-limit", "601", *CRANE), 2, "", "--boot-limit"),
     (("boot", *CRANE), 2, "", "required"),
     (("explain", "90"), 0, "", ""),
     (("explain", "94"), 0, "no frame of the channel", ""),
@@ -54,6 +58,9 @@ CALLS = (
     (("watch", "--json", *CRANE, "OUT/none.csv"), 3, '"number":90', ""),
     (("report", "--json", *CRANE, "OUT/page.html"), 2, "", "--json"),
     (("report", "--log", "/dev/null", *CRANE, "OUT/page.html"), 3, "", "canplan: refused 94 0"),
+    (("plan", "--explain", "OUT/empty.csv", VALVE, "OUT"), 3, "", "\nits EDS file is empty\n"),
+    (("plan", "--explain", "OUT/utf16.csv", VALVE, "OUT"), 3, "", "\nits EDS file is UTF-16: CiA 306 has plain text, and canplan tidy makes one of it\n"),
+    (("plan", "--explain", "OUT/modular.csv", VALVE, "OUT"), 3, "", "\nits EDS file is of a modular device ([SupportedModules]): "),
 )
 
 
@@ -101,9 +108,18 @@ def faults_of_no_words():
         yield f"no words at a terminal: status {done.returncode}, {done.stdout!r}, {done.stderr!r}"
 
 
+def write_devices(folder):
+    """Writes EDS files that describe no PDO, each with a table of nodes beside it: an empty one, one in UTF-16, and that of a modular device."""
+    modular = "[DeviceInfo]\nBaudRate_250=1\n[SupportedModules]\nNrOfEntries=2\n"
+    for name, text in (("empty", b""), ("utf16", UNIT.encode("utf-16")), ("modular", modular.encode())):
+        write(f"{folder}/{name}.eds", text)
+        write(f"{folder}/{name}.csv", f"row,node,name,eds,period,jitter\ndevice,5,Valve,{name}.eds,0,0\n".encode())
+
+
 def main():
     with tempfile.TemporaryDirectory() as folder:
         write(f"{folder}/none.csv", NO_REFUSAL)
+        write_devices(folder)
         write(f"{folder}/node-099.cdcf", b"old")
         write(f"{folder}/node-099.txt", b"mine")
         faults = [fault for fault in (fault_of(*call, folder) for call in CALLS) if fault]

@@ -22,6 +22,8 @@ class Device:
             self.boot_at = None
             self.state, self.boots = 0x7F, self.boots + 1
             self.send(0x700 + self.node, b"\0")
+            if "error" in self.faults:
+                self.send(0x80 + self.node, struct.pack("<HB5x", *self.faults["error"]))
             self.arm(now)
         for due, ident, data in [p for p in self.pending if p[0] <= now]:
             self.send(ident, data)

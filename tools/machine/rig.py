@@ -80,6 +80,8 @@ class Adapter:
             self.yes({"z": b"z", "cr": b"", "none": b""}[self.args.answers])
             if self.args.rate and self.args.rate != self.rate:
                 return self.log(f"bus: error frames, {self.rate} kbit/s on a bus of {self.args.rate}")
+            if self.args.echo:
+                self.frame(ident, data)
             return self.on_frame(ident, data)
         return self.no(line)
 
@@ -192,6 +194,9 @@ class Rig:
         for text in self.args.lost:
             node, index, sub = text.split(":")
             at(node).setdefault("lost", set()).add((int(index, 16), int(sub, 16)))
+        for text in self.args.error:
+            node, code, register = text.split(":")
+            at(node)["error"] = int(code, 16), int(register, 16)
         for text in self.args.reboot_at_read:
             node, after = text.split(":")
             at(node)["reboot_at_read"] = int(after)
@@ -208,6 +213,8 @@ class Rig:
         self.log(f"-> {ident:03X} {data.hex(' ')}")
         if ident == 0:
             self.commands.append(data.hex())
+            if self.args.foreign and len(self.commands) == 1:
+                self.adapter.frame(0, bytes.fromhex(self.args.foreign))
         if self.args.gone and self.adapter.heard >= self.args.gone:
             self.is_gone = True
         now = time.monotonic()
@@ -323,6 +330,9 @@ def words():
     p.add_argument("--stores-nothing", nargs="*", default=[], metavar="NODE", help="confirms each write, and stores nothing")
     p.add_argument("--lost", nargs="*", default=[], metavar="NODE:INDEX:SUB", help="does not get that write; an old confirmation of it is on the way")
     p.add_argument("--reboot-at-read", nargs="*", default=[], metavar="NODE:K", help="falls over at the K-th upload behind a write, forgets all and boots again")
+    p.add_argument("--error", nargs="*", default=[], metavar="NODE:CODE:REGISTER", help="tells this error by EMCY behind each boot-up (hexadecimal but for NODE)")
+    p.add_argument("--foreign", default="", metavar="BYTES", help="an NMT command of another manager behind the first one")
+    p.add_argument("--echo", action="store_true", help="the adapter gives back each frame that it sends")
     p.add_argument("--traffic", type=float, default=0, help="so many other frames a second")
     p.add_argument("--garbage", type=float, default=0, help="before so many of the lines (0 to 1) a line of garbage with a CR")
     p.add_argument("--noise", type=float, default=0, help="before so many of the lines a few bytes without CR: that line is lost")

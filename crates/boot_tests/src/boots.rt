@@ -74,6 +74,15 @@ pub fn manager(alloc: Global, nodes: &[u8]) -> Result<Manager, Fail>
     Ok(Manager::new(alloc, plan)?)
 }
 
+/// A manager of node 5, whose boot-up is awaited for so many ticks.
+fn manager_within(alloc: Global, limit: u64) -> Result<Manager, Fail> {
+    let plan = plan_of(alloc, &[5])?;
+    if !can_manage(&plan) {
+        return Err(Fail::from("no plan"));
+    }
+    Ok(Manager::with_limit(alloc, plan, limit)?)
+}
+
 /// Whether the device at a place has this COB-ID.
 fn has_cob_id(devices: &[Device], place: usize, value: &[u8]) -> bool {
     match devices.get(place) {
@@ -167,6 +176,20 @@ const NEVER_BOOTS: &[Step] = &[
     (Event::Reaches(20_000_000), None, Some(SILENT)),
 ];
 
+/// It boots up after 6 s, while it is awaited.
+const BOOTS_LATE: &[Step] = &[
+    (Event::Reaches(24_000_000), None, None),
+    (Event::Hears(BOOT_UP), Some(OFF), None),
+    (Event::Hears(CONFIRMED), Some(ON), None),
+    (Event::Hears(CONFIRMED), Some(START), Some(End::Ready)),
+];
+
+/// It boots up after 6 s, once it is given up.
+const BOOTS_TOO_LATE: &[Step] = &[
+    (Event::Reaches(24_000_000), None, Some(SILENT)),
+    (Event::Hears(BOOT_UP), None, Some(SILENT)),
+];
+
 const RESTARTS: &[Step] = &[
     (Event::Hears(BOOT_UP), Some(OFF), None),
     (Event::Hears(CONFIRMED), Some(ON), None),
@@ -215,6 +238,26 @@ fn boots_of_one_node(rt: HostRuntime) -> Result<(), Fail> {
         let _ = manager.begin(0);
         assert!(rt; does_each(&mut manager, steps)?, "it {name}");
     }
+    Ok(())
+}
+
+/// Whether node 5 does at each step what is due where its boot-up is awaited for so many ticks.
+fn does_each_within(alloc: Global, limit: u64, steps: &[Step]) -> Result<bool, Fail> {
+    let mut manager = manager_within(alloc, limit)?;
+    let _ = manager.begin(0);
+    does_each(&mut manager, steps)
+}
+
+#[test]
+fn a_boot_up_after_six_seconds(rt: HostRuntime) -> Result<(), Fail> {
+    assert!(rt;
+        does_each_within(rt.alloc(), 40_000_000, BOOTS_LATE)?,
+        "within 10 s"
+    );
+    assert!(rt;
+        does_each_within(rt.alloc(), 20_000_000, BOOTS_TOO_LATE)?,
+        "within 5 s"
+    );
     Ok(())
 }
 

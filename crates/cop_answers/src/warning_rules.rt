@@ -24,6 +24,12 @@ pub fn warning_rule_words(number: u8) -> &'static str {
         116 => {
             "warning 116: a PDO has less time left than one error on the bus takes, at most 166 bits: with an error it may be late\nusually: identifiers in canonical order, which leave some PDOs no time\nright: --margin, a longer deadline, or a bus on which no frame is disturbed\n"
         }
+        117 => {
+            "warning 117: the file of a device is the DCF of another node, by NodeID of its section DeviceComissioning\nusually: a file that was copied from another node\nright: the maker's EDS file, or the DCF of this node\n"
+        }
+        118 => {
+            "warning 118: LowLimit of an object of the device is above its HighLimit, so that it takes no value: 1005h to 1007h, 1010h, 1011h, 1014h to 1018h, 1200h, and those of PDOs\nusually: limits that were exchanged, or of another type\nright: limits that the device has, or none\n"
+        }
         _ => "",
     }
 }

@@ -47,7 +47,7 @@ none_ready [] = refl
 none_ready (node ∷ nodes) = refl
 
 abbrev pub plan : (ℕ → List Entry) → ℕ → Node → Plan
-plan built n node = record { number = n; settings = node.settings; dict = built n }
+plan built n node = record { number = n; settings = node.settings; limit = node.limit; dict = built n }
 
 -- the plan of each node
 abbrev pub plans_of : (ℕ → List Entry) → List Node → ℕ → Option Plan

@@ -78,9 +78,9 @@ record SoFar (settings : List Setting) (all past : List Event) : Type 0 where
 abbrev IsOn : List Setting → List Event → List Event → Type 0
 IsOn settings all past = ((boots past == 0) ≡ true) ⊎ SoFar settings all past
 
-module _ (number : ℕ) (settings : List Setting) where
+module _ (number limit : ℕ) (settings : List Setting) where
   -- nothing ends a boot as ready
-  not_ready : (past : List Event) (event : Event) → ended_by number settings past event ≡ Some Ready → ⊥
+  not_ready : (past : List Event) (event : Event) → ended_by number limit settings past event ≡ Some Ready → ⊥
   not_ready past (BootUp at) h = by_test (boots past == 3) h
     where
       by_test : (b : Bool) → cond b (Some (Restarting number)) None ≡ Some Ready → ⊥
@@ -96,31 +96,31 @@ module _ (number : ℕ) (settings : List Setting) where
       by_test true o h = cc
       by_test false None h = cc
       by_test false (Some s) h = by_refusal s (refusal (address_of s) (reply_of body)) refl h
-  not_ready past (Reached at) h = by_test (is_too_late settings past at) h
+  not_ready past (Reached at) h = by_test (is_too_late limit settings past at) h
     where
       by_test : (b : Bool) → cond b (Some (Silent number)) None ≡ Some Ready → ⊥
       by_test true h = cc
       by_test false h = cc
 
-  first_not_ready : (events past : List Event) → first_end number settings past events ≡ Some Ready → ⊥
+  first_not_ready : (events past : List Event) → first_end number limit settings past events ≡ Some Ready → ⊥
   first_not_ready [] past h = cc
-  first_not_ready (event ∷ events) past h = by_end (ended_by number settings past event) refl h (first_not_ready events (event ∷ past))
+  first_not_ready (event ∷ events) past h = by_end (ended_by number limit settings past event) refl h (first_not_ready events (event ∷ past))
     where
-      by_end : (o : Option End) → ended_by number settings past event ≡ o → option_or o (first_end number settings (event ∷ past) events) ≡ Some Ready
-          → (first_end number settings (event ∷ past) events ≡ Some Ready → ⊥) → ⊥
+      by_end : (o : Option End) → ended_by number limit settings past event ≡ o → option_or o (first_end number limit settings (event ∷ past) events) ≡ Some Ready
+          → (first_end number limit settings (event ∷ past) events ≡ Some Ready → ⊥) → ⊥
       by_end None e h more = more h
       by_end (Some x) e h more = not_ready past event (e ∙ h)
 
   -- an answer that ended nothing confirmed the setting that was out
   accepted : (past : List Event) (at : ℕ) (body : List ℕ) (s : Setting) → (boots past == 0) ≡ false → slice_get settings (answers past) ≡ Some s
-      → ended_by number settings past (Answer at body) ≡ None → refusal (address_of s) (reply_of body) ≡ None
+      → ended_by number limit settings past (Answer at body) ≡ None → refusal (address_of s) (reply_of body) ≡ None
   accepted past at body s some get h = by_refusal (refusal (address_of s) (reply_of body)) refl (rw (some, get) at h)
     where
       by_refusal : (o : Option ℕ) → refusal (address_of s) (reply_of body) ≡ o → refused_end number body (Some s) ≡ None → refusal (address_of s) (reply_of body) ≡ None
       by_refusal None e h = e
       by_refusal (Some code) e h = let other = rw e at h in cc
 
-  answered_on : (all past : List Event) (at : ℕ) (body : List ℕ) → ended_by number settings past (Answer at body) ≡ None → IsOn settings all past
+  answered_on : (all past : List Event) (at : ℕ) (body : List ℕ) → ended_by number limit settings past (Answer at body) ≡ None → IsOn settings all past
       → IsOn settings (all ++ Answer at body ∷ []) (Answer at body ∷ past)
   answered_on all past at body h (inl none) = inl none
   answered_on all past at body h (inr s) = by_boots (boots past == 0) refl
@@ -199,7 +199,7 @@ module _ (number : ℕ) (settings : List Setting) where
         many = elim (s.many) [ inl m ↦ inl (m.0, omega (arith, n, m.1)) | inr none ↦ inr none ];
       })
 
-  event_on : (all past : List Event) (event : Event) → ended_by number settings past event ≡ None → IsOn settings all past → IsOn settings (all ++ event ∷ []) (event ∷ past)
+  event_on : (all past : List Event) (event : Event) → ended_by number limit settings past event ≡ None → IsOn settings all past → IsOn settings (all ++ event ∷ []) (event ∷ past)
   event_on all past (BootUp at) h s = inr (record { before = all; at = at; after = []; done = []; rest = settings; split = refl; last = refl; parts = refl; confirmed = tt; many = inl (refl, refl) })
   event_on all past (Answer at body) h s = answered_on all past at body h s
   event_on all past (Reached at) h s = reached_on all past at s
@@ -242,23 +242,23 @@ module _ (number : ℕ) (settings : List Setting) where
   none_both None b h = (refl, h)
   none_both (Some x) b h = cc
 
-  configured_after : (events all past : List Event) → first_end number settings past events ≡ None → IsOn settings all past → is_confirmed settings (reverse events ++ past) ≡ true → IsConfigured settings (all ++ events)
+  configured_after : (events all past : List Event) → first_end number limit settings past events ≡ None → IsOn settings all past → is_confirmed settings (reverse events ++ past) ≡ true → IsConfigured settings (all ++ events)
   configured_after [] all past h s holds = subst (IsConfigured settings) (sym (append-nil all)) (all_done all past holds s)
   configured_after (event ∷ events) all past h s holds =
-      let both = none_both (ended_by number settings past event) (first_end number settings (event ∷ past) events) h in
+      let both = none_both (ended_by number limit settings past event) (first_end number limit settings (event ∷ past) events) h in
       let same : reverse (event ∷ events) ++ past ≡ reverse events ++ (event ∷ past) = ap (λ l. l ++ past) (reverse-append (event ∷ []) events) ∙ append_assoc (reverse events) (event ∷ []) past in
       subst (IsConfigured settings) (append_assoc all (event ∷ []) events)
       (configured_after events (all ++ event ∷ []) (event ∷ past) both.1 (event_on all past event both.0 s) (ap (is_confirmed settings) (sym same) ∙ holds))
 
   -- who is ready was configured
-  pub ready_configured : (events : List Event) → end_of number settings events ≡ Some Ready → IsConfigured settings events
-  ready_configured events h = by_end (first_end number settings [] events) refl h
+  pub ready_configured : (events : List Event) → end_of number limit settings events ≡ Some Ready → IsConfigured settings events
+  ready_configured events h = by_end (first_end number limit settings [] events) refl h
     where
       by_confirmed : (b : Bool) → is_confirmed settings (reverse events) ≡ b → cond b (Some Ready) None ≡ Some Ready → is_confirmed settings (reverse events) ≡ true
       by_confirmed true e h = e
       by_confirmed false e h = cc
 
-      by_end : (o : Option End) → first_end number settings [] events ≡ o → option_or o (ready_after settings (reverse events)) ≡ Some Ready → IsConfigured settings events
+      by_end : (o : Option End) → first_end number limit settings [] events ≡ o → option_or o (ready_after settings (reverse events)) ≡ Some Ready → IsConfigured settings events
       by_end (Some x) e h = absurd (first_not_ready events [] (e ∙ h))
       by_end None e h =
           let holds = by_confirmed (is_confirmed settings (reverse events)) refl h in
@@ -298,7 +298,7 @@ boots_reverse (x ∷ xs) =
     let same = boots_both (x ∷ []) xs in
     ap boots (reverse_front x xs) ∙ omega (arith, both, same, boots_reverse xs)
 
-module _ (number : ℕ) (settings : List Setting) (events : List Event) (h : IsConfigured settings events) where
+module _ (number limit : ℕ) (settings : List Setting) (events : List Event) (h : IsConfigured settings events) where
   past_is : reverse events ≡ reverse h.after ++ BootUp h.at ∷ reverse h.before
   past_is =
       ap reverse h.split ∙ reverse-append h.before (BootUp h.at ∷ h.after) ∙ ap (λ l. l ++ reverse h.before) (reverse_front (BootUp h.at) h.after)
@@ -315,5 +315,5 @@ module _ (number : ℕ) (settings : List Setting) (events : List Event) (h : IsC
       by_counts b a some all = grind (arith, nat_tests)
 
   -- who was configured is ready, where nothing else ended its boot
-  pub confirmed_ready : first_end number settings [] events ≡ None → end_of number settings events ≡ Some Ready
+  pub confirmed_ready : first_end number limit settings [] events ≡ None → end_of number limit settings events ≡ Some Ready
   confirmed_ready none = ap (λ o. option_or o (ready_after settings (reverse events))) none ∙ ap (λ b. cond b (Some Ready) None) confirmed_so

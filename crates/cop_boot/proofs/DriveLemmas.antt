@@ -61,7 +61,7 @@ awaited_keeps node now = by_phase node.phase
     by_test false frame = kept node
 
     by_phase : (p : Phase) → Keeps node (awaited_in node now p).node
-    by_phase (Waiting since) = by_test (nat_le (since + 20000000) now) None
+    by_phase (Waiting since) = by_test (nat_le (since + node.limit) now) None
     by_phase (Sending done since) = by_test (nat_le (since + 4000000) now) (gives_up node.number (slice_get node.settings done))
     by_phase (Over e) = kept node
 
@@ -189,16 +189,16 @@ found_map f same (node ∷ nodes) number =
 
 -- the end of each node after a list of inputs is that of what came from it
 pub drives : (m : Managing) (inputs : List Meeting) (number : ℕ)
-    → end_at (driven m inputs).manager.nodes number ≡ option_and_then (λ node. end_of node.number node.settings (events node.number 0 inputs)) (node_of m.nodes number)
+    → end_at (driven m inputs).manager.nodes number ≡ option_and_then (λ node. end_of node.number node.limit node.settings (events node.number 0 inputs)) (node_of m.nodes number)
 drives m inputs number =
     let all = runs inputs (begun_at m 0).manager refl ∙ map_two (run 0 inputs) (waiting_from 0) (λ node. run 0 inputs (waiting_from 0 node)) (λ node. refl) m.nodes in
     let at = found_map (λ node. run 0 inputs (waiting_from 0 node)) (λ node. (after_keeps (events node.number 0 inputs) (waiting_from 0 node)).number) m.nodes number in
     ap (λ nodes. end_at nodes number) all ∙ ap (option_and_then (λ node. end_in node.phase)) at ∙ by_found (node_of m.nodes number)
   where
     by_found : (o : Option Node) → option_and_then (λ node. end_in node.phase) (option_map (λ node. run 0 inputs (waiting_from 0 node)) o)
-        ≡ option_and_then (λ node. end_of node.number node.settings (events node.number 0 inputs)) o
+        ≡ option_and_then (λ node. end_of node.number node.limit node.settings (events node.number 0 inputs)) o
     by_found None = refl
-    by_found (Some node) = ends_so node.number node.settings (events node.number 0 inputs)
+    by_found (Some node) = ends_so node.number node.limit node.settings (events node.number 0 inputs)
 
 -- a list of inputs, one after the other
 pub begins_so : (m new : Managing) (first : Message) (before : List Message) (inputs : List Meeting) → (let out : Managed = record { manager = new; frames = first ∷ [] } in out) ≡ begun_at m 0

@@ -15,18 +15,18 @@ use Rattle.cop_boot.specs.declared.member.Member.{Member}
 use Rattle.cop_boot.specs.Manager.{node_of}
 use Rattle.cop_boot.specs.Booted.{Apart}
 use Rattle.cop_boot.specs.Settings.{is_short_value}
-use Rattle.cop_boot.specs.Member.{seen, unheard, is_managed, CanManage}
+use Rattle.cop_boot.specs.Member.{seen, unheard_within, is_managed, CanManage}
 
 abbrev pub Plans : Type 0
 Plans = List (ℕ × Vec Setting)
 
 -- one more member
-pub one_more : (all rest : Plans) (one : ℕ × Vec Setting) (old new : List Member) (member : Member) (before : Plans)
-    → map unheard all ≡ map seen old ++ map unheard before → before ≡ one ∷ rest → new ≡ old ++ member ∷ [] → seen member ≡ unheard one
-    → map unheard all ≡ map seen new ++ map unheard rest
-one_more all rest one old new member before whole first push is =
-    whole ∙ ap (λ l. map seen old ++ map unheard l) first ∙ ap (λ n. map seen old ++ (n ∷ map unheard rest)) (sym is)
-    ∙ sym (append_assoc (map seen old) (seen member ∷ []) (map unheard rest)) ∙ ap (λ l. l ++ map unheard rest) (sym (map-append seen old (member ∷ [])) ∙ ap (map seen) (sym push))
+pub one_more : (limit : ℕ) (all rest : Plans) (one : ℕ × Vec Setting) (old new : List Member) (member : Member) (before : Plans)
+    → map (unheard_within limit) all ≡ map seen old ++ map (unheard_within limit) before → before ≡ one ∷ rest → new ≡ old ++ member ∷ [] → seen member ≡ unheard_within limit one
+    → map (unheard_within limit) all ≡ map seen new ++ map (unheard_within limit) rest
+one_more limit all rest one old new member before whole first push is =
+    whole ∙ ap (λ l. map seen old ++ map (unheard_within limit) l) first ∙ ap (λ n. map seen old ++ (n ∷ map (unheard_within limit) rest)) (sym is)
+    ∙ sym (append_assoc (map seen old) (seen member ∷ []) (map (unheard_within limit) rest)) ∙ ap (λ l. l ++ map (unheard_within limit) rest) (sym (map-append seen old (member ∷ [])) ∙ ap (map seen) (sym push))
 
 differ : (a b : ℕ) → nat_cmp a b ≡ Less → (b == a) ≡ false
 differ a b h = by_test (b == a) refl
@@ -39,19 +39,19 @@ differ a b h = by_test (b == a) refl
         cc
 
 -- the nodes of a plan have different numbers
-pub plan_apart : (plan : Plans) → IsStrictlySortedBy nat_cmp (map (λ e. e.0) plan) → Apart (map unheard plan)
+pub plan_apart : (limit : ℕ) (plan : Plans) → IsStrictlySortedBy nat_cmp (map (λ e. e.0) plan) → Apart (map (unheard_within limit) plan)
 unfolding IsStrictlySortedBy
-plan_apart [] h = tt
-plan_apart (x ∷ plan) h = (none plan h.0, plan_apart plan h.1)
+plan_apart limit [] h = tt
+plan_apart limit (x ∷ plan) h = (none plan h.0, plan_apart limit plan h.1)
   where
-    none : (plan : Plans) → AllByRecursion (λ n. nat_cmp x.0 n ≡ Less) (map (λ e. e.0) plan) → node_of (map unheard plan) x.0 ≡ None
+    none : (plan : Plans) → AllByRecursion (λ n. nat_cmp x.0 n ≡ Less) (map (λ e. e.0) plan) → node_of (map (unheard_within limit) plan) x.0 ≡ None
     none [] h = refl
     none (y ∷ plan) h = rw (differ x.0 y.0 h.0) (none plan h.1)
 
 -- all members of a whole plan are apart
-pub made_apart : (plan : Plans) (members : List Member) (rest : Plans) → IsStrictlySortedBy nat_cmp (map (λ e. e.0) plan) → map unheard plan ≡ map seen members ++ map unheard rest → rest ≡ [] → Apart (map seen members)
-made_apart plan members rest h whole none =
-    subst Apart (whole ∙ ap (λ rest. map seen members ++ map unheard rest) none ∙ append-nil (map seen members)) (plan_apart plan h)
+pub made_apart : (limit : ℕ) (plan : Plans) (members : List Member) (rest : Plans) → IsStrictlySortedBy nat_cmp (map (λ e. e.0) plan) → map (unheard_within limit) plan ≡ map seen members ++ map (unheard_within limit) rest → rest ≡ [] → Apart (map seen members)
+made_apart limit plan members rest h whole none =
+    subst Apart (whole ∙ ap (λ rest. map seen members ++ map (unheard_within limit) rest) none ∙ append-nil (map seen members)) (plan_apart limit plan h)
 
 -- what a managed node says, taken apart
 pub managed_parts : (number : ℕ) (settings : List Setting) → is_managed number settings ≡ true → ((1 ≤ number) × (number ≤ 127)) × All (λ s. is_short_value s ≡ true) settings

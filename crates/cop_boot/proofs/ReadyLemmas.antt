@@ -70,25 +70,25 @@ from_less p now (Confirmed done since s more) j h = goes_left p (suc done) now m
 from_less p now Done j h = tt
 from_less p now Lost j h = absurd h
 
-moment_keeps : (p : Plan) (now : ℕ) (stage : Stage) (n : ℕ) → now < 4000000 → HasLeft p stage n → HasLeft p (after_moment now stage) n
-moment_keeps p now (Resetting since here) n low h = let t = boot since now low in rw t h
+moment_keeps : (p : Plan) (now : ℕ) (stage : Stage) (n : ℕ) → 4000000 ≤ p.limit → now < 4000000 → HasLeft p stage n → HasLeft p (after_moment p now stage) n
+moment_keeps p now (Resetting since here) n patient low h = let t = boot since now p.limit patient low in rw t h
   where
-    boot : (since now : ℕ) → now < 4000000 → nat_le (since + 20000000) now ≡ false
-    boot since now low = grind (arith, nat_tests)
-moment_keeps p now (Booting since) n low h = let t = boot since now low in rw t h
+    boot : (since now limit : ℕ) → 4000000 ≤ limit → now < 4000000 → nat_le (since + limit) now ≡ false
+    boot since now limit patient low = grind (arith, nat_tests)
+moment_keeps p now (Booting since) n patient low h = let t = boot since now p.limit patient low in rw t h
   where
-    boot : (since now : ℕ) → now < 4000000 → nat_le (since + 20000000) now ≡ false
-    boot since now low = grind (arith, nat_tests)
-moment_keeps p now (Asked done since s more) n low h = let t = out since now low in rw t h
-  where
-    out : (since now : ℕ) → now < 4000000 → nat_le (since + 4000000) now ≡ false
-    out since now low = grind (arith, nat_tests)
-moment_keeps p now (Confirmed done since s more) n low h = let t = out since now low in rw t h
+    boot : (since now limit : ℕ) → 4000000 ≤ limit → now < 4000000 → nat_le (since + limit) now ≡ false
+    boot since now limit patient low = grind (arith, nat_tests)
+moment_keeps p now (Asked done since s more) n patient low h = let t = out since now low in rw t h
   where
     out : (since now : ℕ) → now < 4000000 → nat_le (since + 4000000) now ≡ false
     out since now low = grind (arith, nat_tests)
-moment_keeps p now Done n low h = tt
-moment_keeps p now Lost n low h = absurd h
+moment_keeps p now (Confirmed done since s more) n patient low h = let t = out since now low in rw t h
+  where
+    out : (since now : ℕ) → now < 4000000 → nat_le (since + 4000000) now ≡ false
+    out since now low = grind (arith, nat_tests)
+moment_keeps p now Done n patient low h = tt
+moment_keeps p now Lost n patient low h = absurd h
 
 -- where nothing can be delivered, the stage stays
 quiet_to : (p : Plan) (stage : Stage) (node : Node) (line : Line) → IsAt p stage node line → (line.device ≡ None) ⊎ (line.to ≡ []) → after_to stage ≡ stage
@@ -123,7 +123,7 @@ quiet_from p now Lost node line at none = refl
 abbrev turned : Plan → ℕ → ℕ → Turn → Stage → Stage
 turned p n clock (ToNode m) stage = if n == m then after_to stage else stage
 turned p n clock (FromNode m) stage = if n == m then after_from p (max clock clock) stage else stage
-turned p n clock (Moment now) stage = after_moment (max clock now) stage
+turned p n clock (Moment now) stage = after_moment p (max clock now) stage
 
 -- a node stands at a stage, or is done
 abbrev Leads : World → ℕ → Plan → Stage → Type 0
@@ -192,8 +192,8 @@ module _ (plans : ℕ → Option Plan) (good : ArePlans plans) (w : World) (h : 
   turn_leads (ToNode m) next is = to_leads m next is
   turn_leads (FromNode m) next is = from_leads m next is
   turn_leads (Moment now) next is = (
-    after_moment (max w.manager.clock now) stage,
-    subst (λ x. Stands x n p (after_moment (max w.manager.clock now) stage)) (sym is) (moment_stands plans good w h now n p e stage s),
+    after_moment p (max w.manager.clock now) stage,
+    subst (λ x. Stands x n p (after_moment p (max w.manager.clock now) stage)) (sym is) (moment_stands plans good w h now n p e stage s),
     inl refl,
   )
 
@@ -259,14 +259,14 @@ nears w n p stage left (later, stands, inl is) has = (later, stands, subst (λ x
 nears w n p stage left (later, stands, inr is) has = (later, stands, subst (λ x. HasLeft p x left) (sym is) tt)
 
 -- any turn leaves no more
-turned_keeps : (p : Plan) (n clock : ℕ) (turn : Turn) (stage : Stage) (left : ℕ) → clock < 4000000 → IsBelow 4000000 turn → HasLeft p stage left → HasLeft p (turned p n clock turn stage) left
-turned_keeps p n clock (Moment now) stage left low below has = moment_keeps p (max clock now) stage left (max_below clock now 4000000 low below) has
-turned_keeps p n clock (ToNode m) stage left low below has = by_test (n == m)
+turned_keeps : (p : Plan) (n clock : ℕ) (turn : Turn) (stage : Stage) (left : ℕ) → 4000000 ≤ p.limit → clock < 4000000 → IsBelow 4000000 turn → HasLeft p stage left → HasLeft p (turned p n clock turn stage) left
+turned_keeps p n clock (Moment now) stage left patient low below has = moment_keeps p (max clock now) stage left patient (max_below clock now 4000000 low below) has
+turned_keeps p n clock (ToNode m) stage left patient low below has = by_test (n == m)
   where
     by_test : (b : Bool) → HasLeft p (if b then after_to stage else stage) left
     by_test true = to_keeps p stage left has
     by_test false = has
-turned_keeps p n clock (FromNode m) stage left low below has = by_test (n == m)
+turned_keeps p n clock (FromNode m) stage left patient low below has = by_test (n == m)
   where
     by_test : (b : Bool) → HasLeft p (if b then after_from p (max clock clock) stage else stage) left
     by_test true = from_keeps p (max clock clock) stage left has
@@ -287,7 +287,7 @@ done_at p (Confirmed done since s more) h = absurd (omega (arith, h))
 done_at p Done h = refl
 done_at p Lost h = absurd h
 
-module _ (plans : ℕ → Option Plan) (good : ArePlans plans) (n : ℕ) (p : Plan) (e : plans n ≡ Some p) where
+module _ (plans : ℕ → Option Plan) (good : ArePlans plans) (n : ℕ) (p : Plan) (e : plans n ≡ Some p) (patient : 4000000 ≤ p.limit) where
   nears_end : (turns : List Turn) (w last : World) → Holds plans w → w.manager.clock < 4000000 → MomentsBelow 4000000 turns → TakesAll w turns last
       → (b : Bool) (j : ℕ) → Nears w n p (left_of b j) → StandAmong (wanted n b j) turns → Stands last n p Done
   nears_end [] w last h low below takes true j near among = absurd among
@@ -310,7 +310,7 @@ module _ (plans : ℕ → Option Plan) (good : ArePlans plans) (n : ℕ) (p : Pl
       leads = turn_leads plans good w h n p e stage stands turn between takes
 
       skipped : (left : ℕ) → HasLeft p stage left → Nears between n p left
-      skipped left has = nears between n p (turned p n w.manager.clock turn stage) left leads (turned_keeps p n w.manager.clock turn stage left low split.0 has)
+      skipped left has = nears between n p (turned p n w.manager.clock turn stage) left leads (turned_keeps p n w.manager.clock turn stage left patient low split.0 has)
 
       to_it : ToNode n ≡ turn → (j : ℕ) → HasLeft p stage (2 * suc j) → Nears between n p (2 * j + 1)
       to_it is j has =
@@ -342,5 +342,5 @@ ready_so m devices built turns w can boots number node at there below among =
 
     done : Stands w number (plan built number node) Done
     done =
-        nears_end (plans_of built m.nodes) (good m devices built can) number (plan built number node) planned_at turns (begins m devices) w (begun m devices built can) (omega arith) below boots
+        nears_end (plans_of built m.nodes) (good m devices built can) number (plan built number node) planned_at (can.patient number node at) turns (begins m devices) w (begun m devices built can) (omega arith) below boots
         false (suc (length node.settings)) (Resetting 0 true, first_stands m devices built can number node at there, omega arith) among

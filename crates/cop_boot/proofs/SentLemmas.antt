@@ -22,7 +22,7 @@ again x now = by_phase x.phase refl
     by_test p frame t false e is so = ap (awaited_in x now) is ∙ so ∙ ap (λ t. cond t (over x (Silent x.number) frame) (stays x)) e
 
     by_phase : (p : Phase) → x.phase ≡ p → awaited (awaited_in x now p).node now ≡ stays (awaited_in x now p).node
-    by_phase (Waiting since) e = by_test (Waiting since) None (nat_le (since + 20000000) now) (nat_le (since + 20000000) now) refl e refl
+    by_phase (Waiting since) e = by_test (Waiting since) None (nat_le (since + x.limit) now) (nat_le (since + x.limit) now) refl e refl
     by_phase (Sending done since) e = by_test (Sending done since) (gives_up x.number (slice_get x.settings done)) (nat_le (since + 4000000) now) (nat_le (since + 4000000) now) refl e refl
     by_phase (Over end_now) e = ap (awaited_in x now) e
 
@@ -162,7 +162,7 @@ awaited_open x now = by_phase x.phase refl
     by_test p o false e one = rw (e, one) (omega arith)
 
     by_phase : (p : Phase) → x.phase ≡ p → length (option_to_list (awaited_in x now p).frame) + one_open (awaited_in x now p).node.phase ≤ one_open p
-    by_phase (Waiting since) e = by_test (Waiting since) None (nat_le (since + 20000000) now) e refl
+    by_phase (Waiting since) e = by_test (Waiting since) None (nat_le (since + x.limit) now) e refl
     by_phase (Sending done since) e = by_test (Sending done since) (gives_up x.number (slice_get x.settings done)) (nat_le (since + 4000000) now) e refl
     by_phase (Over end_now) e = rw e (omega arith)
 

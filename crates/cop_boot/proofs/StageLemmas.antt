@@ -105,17 +105,18 @@ pub record IsFresh (n : ℕ) (dict : List Entry) (device : Attached) : Type 0 wh
 abbrev pub ComesFrom : ℕ → Message → Type 0
 ComesFrom n frame = (frame.id ≡ 0x700 + n) ⊎ (frame.id ≡ 0x580 + n)
 
--- a node that boots: its settings, the dictionary of its device, and the one that they make of it
+-- a node that boots: its settings, for how many ticks its boot-up is awaited, and the dictionary of its device
 pub record Plan : Type 0 where
   pub number : ℕ
   pub settings : List Setting
+  pub limit : ℕ
   pub dict : List Entry
 
 abbrev pub goal_of : Plan → List Entry
 goal_of p = planned p.dict p.settings
 
 abbrev pub node_at : Plan → ℕ → Phase → Node
-node_at p boots phase = record { number = p.number; settings = p.settings; boots = boots; phase = phase }
+node_at p boots phase = record { number = p.number; settings = p.settings; limit = p.limit; boots = boots; phase = phase }
 
 abbrev pub line_at : Plan → List Message → List Message → Option Attached → Line
 line_at p to from device = record { number = p.number; to = to; from = from; device = device }
@@ -374,15 +375,15 @@ after_from p now Lost = Lost
 
 module _ (p : Plan) (sound : IsSound p) where
   -- the next setting goes out
-  goes_at : (done now : ℕ) (rest : List Setting) (device : Attached) (dict : List Entry) (old : Node) → old.number ≡ p.number → old.settings ≡ p.settings → old.boots ≡ 1
+  goes_at : (done now : ℕ) (rest : List Setting) (device : Attached) (dict : List Entry) (old : Node) → old.number ≡ p.number → old.settings ≡ p.settings → old.limit ≡ p.limit → old.boots ≡ 1
       → drop done p.settings ≡ rest → IsQuiet p.number dict device → IsLeft p rest dict
       → IsAt p (goes_stage done now rest) (goes_on old done now).node (line_at p (option_to_list (goes_on old done now).frame) [] (Some device))
-  goes_at done now [] device dict old number settings boots at quiet left =
+  goes_at done now [] device dict old number settings limit boots at quiet left =
       let none : slice_get old.settings done ≡ None = rw settings (dropped_none p.settings done at) in
-      rw none (device, [], rw (number, settings, boots) refl, refl, tt, subst (λ dict. IsQuiet p.number dict device) left.leads quiet)
-  goes_at done now (s ∷ more) device dict old number settings boots at quiet left =
+      rw none (device, [], rw (number, settings, limit, boots) refl, refl, tt, subst (λ dict. IsQuiet p.number dict device) left.leads quiet)
+  goes_at done now (s ∷ more) device dict old number settings limit boots at quiet left =
       let some : slice_get old.settings done ≡ Some s = rw settings (dropped_some p.settings done s more at).0 in
-      rw some (device, rw (number, settings, boots) refl, rw number refl, at, dict, quiet, left)
+      rw some (device, rw (number, settings, limit, boots) refl, rw number refl, at, dict, quiet, left)
 
   -- the manager hears the boot-up
   from_boot_up : (since now : ℕ) (d : Attached) → IsQuiet p.number p.dict d
@@ -390,7 +391,7 @@ module _ (p : Plan) (sound : IsSound p) where
       IsAt p (goes_stage 0 now p.settings) m.node (line_at p (option_to_list m.frame) [] (Some d))
   from_boot_up since now d quiet =
       rw (same_number (0x700 + p.number))
-      (goes_at 0 now p.settings d p.dict (node_at p 1 (Waiting since)) refl refl refl refl quiet (record { accepts = sound.accepts; leads = refl }))
+      (goes_at 0 now p.settings d p.dict (node_at p 1 (Waiting since)) refl refl refl refl refl quiet (record { accepts = sound.accepts; leads = refl }))
 
   -- the manager hears a confirmation
   from_confirm : (done since now : ℕ) (s : Setting) (more : List Setting) (d : Attached) (dict : List Entry) → drop done p.settings ≡ s ∷ more → IsQuiet p.number dict d → IsLeft p more dict
@@ -399,7 +400,7 @@ module _ (p : Plan) (sound : IsSound p) where
   from_confirm done since now s more d dict at quiet left =
       let here = dropped_some p.settings done s more at in
       rw (no_boot_up p.number, same_number (0x580 + p.number), here.0, same_index s.index, same_number s.index, same_number s.sub)
-      (goes_at (suc done) now more d dict (node_at p 1 (Sending done since)) refl refl refl here.1 quiet left)
+      (goes_at (suc done) now more d dict (node_at p 1 (Sending done since)) refl refl refl refl here.1 quiet left)
 
 -- the line after its node has sent
 abbrev pub sent_to : Line → List Message → Option Message → Line
@@ -460,13 +461,13 @@ module _ (p : Plan) (sound : IsSound p) where
   started_at Lost node line (device, to0, from0, boots, en, el, all, has) ready = absurd (let h : false ≡ true = rw en at ready in cc)
 
 -- the stage that a moment leads to
-abbrev pub after_moment : ℕ → Stage → Stage
-after_moment now (Resetting since here) = if nat_le (since + 20000000) now then Lost else Resetting since here
-after_moment now (Booting since) = if nat_le (since + 20000000) now then Lost else Booting since
-after_moment now (Asked done since s more) = if nat_le (since + 4000000) now then Lost else Asked done since s more
-after_moment now (Confirmed done since s more) = if nat_le (since + 4000000) now then Lost else Confirmed done since s more
-after_moment now Done = Done
-after_moment now Lost = Lost
+abbrev pub after_moment : Plan → ℕ → Stage → Stage
+after_moment p now (Resetting since here) = if nat_le (since + p.limit) now then Lost else Resetting since here
+after_moment p now (Booting since) = if nat_le (since + p.limit) now then Lost else Booting since
+after_moment p now (Asked done since s more) = if nat_le (since + 4000000) now then Lost else Asked done since s more
+after_moment p now (Confirmed done since s more) = if nat_le (since + 4000000) now then Lost else Confirmed done since s more
+after_moment p now Done = Done
+after_moment p now Lost = Lost
 
 pub nothing_sent : (line : Line) → line ≡ sent_to line line.from None
 nothing_sent line = ap (λ to. record line { to = to }) (sym (append-nil line.to))
@@ -492,19 +493,19 @@ module _ (p : Plan) where
   still stage node line m e at = rw e (subst (IsAt p stage node) (nothing_sent line) at)
 
   pub waited : (now : ℕ) (stage : Stage) (node : Node) (line : Line) → IsAt p stage node line
-      → IsAt p (after_moment now stage) (awaited node now).node (sent_to line line.from (awaited node now).frame)
+      → IsAt p (after_moment p now stage) (awaited node now).node (sent_to line line.from (awaited node now).frame)
   waited now (Resetting since here) node line (device, en, el, fresh, has) =
-      subst (λ n. IsAt p (after_moment now (Resetting since here)) (awaited n now).node (sent_to line line.from (awaited n now).frame)) (sym en)
-      (given_up (nat_le (since + 20000000) now) (Resetting since here) 0 (Waiting since) line None device (reset_all ∷ []) [] (device, refl, el, fresh, has) el tt (fresh_of p.number p.dict device fresh))
+      subst (λ n. IsAt p (after_moment p now (Resetting since here)) (awaited n now).node (sent_to line line.from (awaited n now).frame)) (sym en)
+      (given_up (nat_le (since + p.limit) now) (Resetting since here) 0 (Waiting since) line None device (reset_all ∷ []) [] (device, refl, el, fresh, has) el tt (fresh_of p.number p.dict device fresh))
   waited now (Booting since) node line (device, en, el, quiet) =
-      subst (λ n. IsAt p (after_moment now (Booting since)) (awaited n now).node (sent_to line line.from (awaited n now).frame)) (sym en)
-      (given_up (nat_le (since + 20000000) now) (Booting since) 0 (Waiting since) line None (Some device) [] (boot_up p.number ∷ []) (device, refl, el, quiet) el (inl refl, tt) (quiet_of p.number p.dict device quiet))
+      subst (λ n. IsAt p (after_moment p now (Booting since)) (awaited n now).node (sent_to line line.from (awaited n now).frame)) (sym en)
+      (given_up (nat_le (since + p.limit) now) (Booting since) 0 (Waiting since) line None (Some device) [] (boot_up p.number ∷ []) (device, refl, el, quiet) el (inl refl, tt) (quiet_of p.number p.dict device quiet))
   waited now (Asked done since s more) node line (device, en, el, at, dict, quiet, left) =
-      subst (λ n. IsAt p (after_moment now (Asked done since s more)) (awaited n now).node (sent_to line line.from (awaited n now).frame)) (sym en)
+      subst (λ n. IsAt p (after_moment p now (Asked done since s more)) (awaited n now).node (sent_to line line.from (awaited n now).frame)) (sym en)
       (given_up (nat_le (since + 4000000) now) (Asked done since s more) 1 (Sending done since) line (gives_up p.number (slice_get p.settings done)) (Some device) (request_of p.number s ∷ []) []
       (device, refl, el, at, dict, quiet, left) el tt (quiet_of p.number dict device quiet))
   waited now (Confirmed done since s more) node line (device, en, el, at, dict, quiet, left) =
-      subst (λ n. IsAt p (after_moment now (Confirmed done since s more)) (awaited n now).node (sent_to line line.from (awaited n now).frame)) (sym en)
+      subst (λ n. IsAt p (after_moment p now (Confirmed done since s more)) (awaited n now).node (sent_to line line.from (awaited n now).frame)) (sym en)
       (given_up (nat_le (since + 4000000) now) (Confirmed done since s more) 1 (Sending done since) line (gives_up p.number (slice_get p.settings done)) (Some device) [] (reply p.number (download_answer (address_of s)) ∷ [])
       (device, refl, el, at, dict, quiet, left) el (inr refl, tt) (quiet_of p.number dict device quiet))
   waited now Done node line (device, starts, en, el, all, quiet) =

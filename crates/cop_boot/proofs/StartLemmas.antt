@@ -67,7 +67,7 @@ answered_about node now body (Sending done since) = by_get (slice_get node.setti
 
 awaited_about : (node : Node) (now : ℕ) (p : Phase) → About node (awaited_in node now p).frame
 awaited_about node now (Over e) = tt
-awaited_about node now (Waiting since) = by_test (nat_le (since + 20000000) now)
+awaited_about node now (Waiting since) = by_test (nat_le (since + node.limit) now)
   where
     by_test : (b : Bool) → About node (cond b (over node (Silent node.number) None) (stays node)).frame
     by_test true = tt
@@ -246,9 +246,9 @@ met_found (meeting ∷ came) m begun number node h =
 pub ready_was_configured : (m : Managing) (came : List Meeting) (number : ℕ) (node : Node) → node_of m.nodes number ≡ Some node → end_at (driven m came).manager.nodes number ≡ Some Ready
     → IsConfigured node.settings (events node.number 0 came)
 ready_was_configured m came number node found ready =
-    let says : end_of node.number node.settings (events node.number 0 came) ≡ Some Ready =
-    ap (option_and_then (λ node. end_of node.number node.settings (events node.number 0 came))) (sym found) ∙ sym (drives m came number) ∙ ready in
-    ready_configured node.number node.settings (events node.number 0 came) says
+    let says : end_of node.number node.limit node.settings (events node.number 0 came) ≡ Some Ready =
+    ap (option_and_then (λ node. end_of node.number node.limit node.settings (events node.number 0 came))) (sym found) ∙ sym (drives m came number) ∙ ready in
+    ready_configured node.number node.limit node.settings (events node.number 0 came) says
 
 started_configured : (m : Managing) (came : List Meeting) → (driven m came).manager.started ≡ true → WereConfigured m.nodes came
 started_configured m came begins =
@@ -302,10 +302,10 @@ start_was_late m came = by_started (driven m came).manager.started refl (driven_
 
 -- a node that was configured is ready, where nothing else ended its boot
 pub configured_is_ready : (m : Managing) (came : List Meeting) (number : ℕ) (node : Node) → node_of m.nodes number ≡ Some node → IsConfigured node.settings (events node.number 0 came)
-    → first_end node.number node.settings [] (events node.number 0 came) ≡ None → end_at (driven m came).manager.nodes number ≡ Some Ready
+    → first_end node.number node.limit node.settings [] (events node.number 0 came) ≡ None → end_at (driven m came).manager.nodes number ≡ Some Ready
 configured_is_ready m came number node found h none =
-    drives m came number ∙ ap (option_and_then (λ node. end_of node.number node.settings (events node.number 0 came))) found
-    ∙ confirmed_ready node.number node.settings (events node.number 0 came) h none
+    drives m came number ∙ ap (option_and_then (λ node. end_of node.number node.limit node.settings (events node.number 0 came))) found
+    ∙ confirmed_ready node.number node.limit node.settings (events node.number 0 came) h none
 
 -- where all are ready they were started
 abbrev WasStarted : Managing → Type 0
@@ -328,7 +328,7 @@ awaited_ready node now h = by_phase node.phase h
     by_test false frame h = h
 
     by_phase : (p : Phase) → is_ready (awaited_in node now p).node ≡ true → is_ready node ≡ true
-    by_phase (Waiting since) h = by_test (nat_le (since + 20000000) now) None h
+    by_phase (Waiting since) h = by_test (nat_le (since + node.limit) now) None h
     by_phase (Sending done since) h = by_test (nat_le (since + 4000000) now) (gives_up node.number (slice_get node.settings done)) h
     by_phase (Over e) h = h
 

@@ -139,7 +139,7 @@ awaited_own node now = by_phase node.phase
     by_setting (Some s) = refl
 
     by_phase : (p : Phase) → IfThere (λ frame. frame.id ≡ 0x600 + node.number) (awaited_in node now p).frame
-    by_phase (Waiting since) = by_test (nat_le (since + 20000000) now) None tt
+    by_phase (Waiting since) = by_test (nat_le (since + node.limit) now) None tt
     by_phase (Sending done since) = by_test (nat_le (since + 4000000) now) (gives_up node.number (slice_get node.settings done)) (by_setting (slice_get node.settings done))
     by_phase (Over e) = tt
 
@@ -366,7 +366,7 @@ awaited_ready node now = by_phase node.phase refl
     by_test false phase o e none = ap is_ready_in e
 
     by_phase : (p : Phase) → node.phase ≡ p → is_ready (awaited_in node now p).node ≡ is_ready_in node.phase
-    by_phase (Waiting since) e = by_test (nat_le (since + 20000000) now) (Waiting since) None e refl ∙ sym (ap is_ready_in e)
+    by_phase (Waiting since) e = by_test (nat_le (since + node.limit) now) (Waiting since) None e refl ∙ sym (ap is_ready_in e)
     by_phase (Sending done since) e = by_test (nat_le (since + 4000000) now) (Sending done since) (gives_up node.number (slice_get node.settings done)) e refl ∙ sym (ap is_ready_in e)
     by_phase (Over x) e = refl
 
@@ -374,7 +374,7 @@ module _ (plans : ℕ → Option Plan) (good : ArePlans plans) (w : World) (h : 
   -- where a moment takes a node
   pub moment_goes : (now n : ℕ) (p : Plan) → plans n ≡ Some p → (stage : Stage) → Stands w n p stage
       → Goes plans good (λ node. awaited node (max w.manager.clock now)) (λ node. awaited_own node (max w.manager.clock now)) (λ node. awaited_number (max w.manager.clock now) node)
-      (moved (λ node. awaited node (max w.manager.clock now)) (at_least w.manager now)) w.manager.nodes w.lines refl h.begun h.apart h.none h.absent n p (after_moment (max w.manager.clock now) stage)
+      (moved (λ node. awaited node (max w.manager.clock now)) (at_least w.manager now)) w.manager.nodes w.lines refl h.begun h.apart h.none h.absent n p (after_moment p (max w.manager.clock now) stage)
   moment_goes now n p here stage s = record {
     node = s.node;
     line = s.line;
@@ -383,12 +383,12 @@ module _ (plans : ℕ → Option Plan) (good : ArePlans plans) (w : World) (h : 
     at = waited p (max w.manager.clock now) stage s.node s.line s.at;
   }
 
-  pub moment_stands : (now n : ℕ) (p : Plan) → plans n ≡ Some p → (stage : Stage) → Stands w n p stage → Stands (posted (passed w.manager now) w.lines) n p (after_moment (max w.manager.clock now) stage)
+  pub moment_stands : (now n : ℕ) (p : Plan) → plans n ≡ Some p → (stage : Stage) → Stands w n p stage → Stands (posted (passed w.manager now) w.lines) n p (after_moment p (max w.manager.clock now) stage)
   moment_stands now n p here stage s =
       let clock = max w.manager.clock now in
-      subst (λ x. Stands (posted x w.lines) n p (after_moment clock stage)) (sym (passed_begun w.manager now h.begun))
+      subst (λ x. Stands (posted x w.lines) n p (after_moment p clock stage)) (sym (passed_begun w.manager now h.begun))
       (goes plans good (λ node. awaited node clock) (λ node. awaited_own node clock) (λ node. awaited_number clock node) (moved (λ node. awaited node clock) (at_least w.manager now))
-      w.manager.nodes w.lines refl h.begun h.apart h.none h.absent n p here (after_moment clock stage) (moment_goes now n p here stage s))
+      w.manager.nodes w.lines refl h.begun h.apart h.none h.absent n p here (after_moment p clock stage) (moment_goes now n p here stage s))
 
   -- a moment
   moment_holds : (now : ℕ) → Holds plans (posted (passed w.manager now) w.lines)
@@ -398,7 +398,7 @@ module _ (plans : ℕ → Option Plan) (good : ArePlans plans) (w : World) (h : 
       (plain plans good (λ node. awaited node clock) (λ node. awaited_own node clock) (λ node. awaited_number clock node) (moved (λ node. awaited node clock) (at_least w.manager now))
       w.manager.nodes w.lines refl h.begun h.apart h.none h.absent
       (h.starts ∙ sym (ready_same (λ node. (awaited node clock).node) (λ node. awaited_ready node clock) w.manager.nodes))
-      (λ n p here. let s = h.each n p here in (after_moment clock s.0, moment_goes now n p here s.0 s.1)))
+      (λ n p here. let s = h.each n p here in (after_moment p clock s.0, moment_goes now n p here s.0 s.1)))
 
   -- a line is of a node that has a plan
   module _ (m : ℕ) (line : Line) (lined : line_of w.lines m ≡ Some line) where

@@ -54,22 +54,22 @@ last_heard (Reached at ∷ past) = last_heard past
 abbrev pub refused_end : ℕ → List ℕ → Option Setting → Option End
 refused_end number body setting = option_and_then (λ s. option_map (ended_at number s) (refusal (address_of s) (reply_of body))) setting
 
--- nothing came in time: no boot-up in 20,000,000 ticks, or no answer to the setting that is out in 4,000,000
-abbrev pub is_too_late : List Setting → List Event → ℕ → Bool
-is_too_late settings past now =
-    if boots past == 0 then nat_le 20000000 now else nat_lt (answers past) (length settings) && nat_le (last_heard past + 4000000) now
+-- nothing came in time: no boot-up in so many ticks, or no answer to the setting that is out in 4,000,000
+abbrev pub is_too_late : ℕ → List Setting → List Event → ℕ → Bool
+is_too_late limit settings past now =
+    if boots past == 0 then nat_le limit now else nat_lt (answers past) (length settings) && nat_le (last_heard past + 4000000) now
 
 -- what ends the boot of a node, other than that it is ready: the fourth boot-up, an answer that doesn't confirm the setting
 -- that is out, and a moment at which a limit is reached. Since the last boot-up each answer has confirmed one setting, in turn.
-abbrev pub ended_by : ℕ → List Setting → List Event → Event → Option End
-ended_by number settings past (BootUp at) = if boots past == 3 then Some (Restarting number) else None
-ended_by number settings past (Answer at body) = if boots past == 0 then None else refused_end number body (slice_get settings (answers past))
-ended_by number settings past (Reached at) = if is_too_late settings past at then Some (Silent number) else None
+abbrev pub ended_by : ℕ → ℕ → List Setting → List Event → Event → Option End
+ended_by number limit settings past (BootUp at) = if boots past == 3 then Some (Restarting number) else None
+ended_by number limit settings past (Answer at body) = if boots past == 0 then None else refused_end number body (slice_get settings (answers past))
+ended_by number limit settings past (Reached at) = if is_too_late limit settings past at then Some (Silent number) else None
 
 -- the first of these ends to come, after a past
-abbrev pub first_end : ℕ → List Setting → List Event → List Event → Option End
-first_end number settings past [] = None
-first_end number settings past (event ∷ rest) = option_or (ended_by number settings past event) (first_end number settings (event ∷ past) rest)
+abbrev pub first_end : ℕ → ℕ → List Setting → List Event → List Event → Option End
+first_end number limit settings past [] = None
+first_end number limit settings past (event ∷ rest) = option_or (ended_by number limit settings past event) (first_end number limit settings (event ∷ past) rest)
 
 -- the node has booted, and as many answers came since then as it has settings
 abbrev pub is_confirmed : List Setting → List Event → Bool
@@ -78,9 +78,9 @@ is_confirmed settings past = nat_lt 0 (boots past) && nat_le (length settings) (
 abbrev pub ready_after : List Setting → List Event → Option End
 ready_after settings past = if is_confirmed settings past then Some Ready else None
 
--- the end of a node's boot
-abbrev pub end_of : ℕ → List Setting → List Event → Option End
-end_of number settings events = option_or (first_end number settings [] events) (ready_after settings (reverse events))
+-- the end of the boot of a node whose boot-up is awaited for so many ticks
+abbrev pub end_of : ℕ → ℕ → List Setting → List Event → Option End
+end_of number limit settings events = option_or (first_end number limit settings [] events) (ready_after settings (reverse events))
 
 -- the bodies of answers confirm the settings in turn, each by 60h (top bits 011) with its index and sub
 abbrev pub ConfirmInTurn : List Setting → List Event → Type 0

@@ -14,11 +14,15 @@ use Rattle.cop_boot.specs.Settings.{address_of, is_short_value}
 use Rattle.cop_boot.specs.Node.{Node, Moved}
 
 abbrev pub seen : Member → Node
-seen m = record { number = m.node; settings = m.settings.items; boots = m.boots; phase = m.phase }
+seen m = record { number = m.node; settings = m.settings.items; limit = m.limit; boots = m.boots; phase = m.phase }
 
--- a node whose boot has not begun, with its settings
+-- a node whose boot has not begun, with its settings, whose boot-up is awaited for so many ticks
+abbrev pub unheard_within : ℕ → ℕ × Vec Setting → Node
+unheard_within limit (number, settings) = record { number = number; settings = settings.items; limit = limit; boots = 0; phase = Waiting 0 }
+
+-- and for 20,000,000 ticks (5 s), where no other limit is given
 abbrev pub unheard : ℕ × Vec Setting → Node
-unheard (number, settings) = record { number = number; settings = settings.items; boots = 0; phase = Waiting 0 }
+unheard entry = unheard_within 20000000 entry
 
 -- a node has a number of 1 to 127, and short values
 abbrev pub is_managed : ℕ → List Setting → Bool
@@ -46,15 +50,19 @@ pub record IsMember (m : Member) : Type 0 where
 abbrev pub Moves : Option Frame → Member → Moved → Type 0
 Moves frame m moved = (let out : Moved = record { node = seen m; frame = option_map message_of frame } in out) ≡ moved
 
--- the limit of a phase is not over before a moment
-abbrev pub LastsTo : ℕ → Phase → Type 0
-LastsTo due (Waiting since) = due ≤ since + 20000000
-LastsTo due (Sending done since) = due ≤ since + 4000000
-LastsTo due (Over e) = Unit {0}
+-- the limit of a phase is not over before a moment, where the boot-up is awaited for so many ticks
+abbrev pub LastsIn : ℕ → ℕ → Phase → Type 0
+LastsIn due limit (Waiting since) = due ≤ since + limit
+LastsIn due limit (Sending done since) = due ≤ since + 4000000
+LastsIn due limit (Over e) = Unit {0}
+
+-- the limit of a node is not over before a moment
+abbrev pub LastsTo : ℕ → Node → Type 0
+LastsTo due node = LastsIn due node.limit node.phase
 
 abbrev pub AllLast : ℕ → List Node → Type 0
 AllLast due [] = Unit {0}
-AllLast due (node ∷ nodes) = LastsTo due node.phase × AllLast due nodes
+AllLast due (node ∷ nodes) = LastsTo due node × AllLast due nodes
 
 -- no limit of a node is over before a moment, nor one of what is sent from now on
 pub record IsDueFrom (due clock : ℕ) (nodes : List Node) : Type 0 where

@@ -15,10 +15,12 @@ use Rattle.cop_boot.specs.declared.«end».Phase.TheVariants.{Waiting, Sending, 
 use Rattle.cop_dcf.specs.Dcf.{bytes_of}
 use Rattle.cop_boot.specs.Settings.{address_of}
 
--- what a manager knows of a node: its settings, how many boot-ups began them, and how far they are
+-- what a manager knows of a node: its settings, for how many ticks its boot-up is awaited, how many boot-ups began the settings, and
+-- how far they are
 pub record Node : Type 0 where
   pub number : ℕ
   pub settings : List Setting
+  pub limit : ℕ
   pub boots : ℕ
   pub phase : Phase
 
@@ -96,9 +98,9 @@ abbrev pub gives_up : ℕ → Option Setting → Option Message
 gives_up number None = None
 gives_up number (Some s) = Some (request number (abort_body (address_of s) (code_of aborts.TimeOut)))
 
--- a boot-up is awaited for 20,000,000 ticks (5 s), an answer for 4,000,000 (1 s)
+-- a boot-up is awaited for the ticks of the node's limit, an answer for 4,000,000 (1 s)
 abbrev pub awaited_in : Node → ℕ → Phase → Moved
-awaited_in node now (Waiting since) = if nat_le (since + 20000000) now then over node (Silent node.number) None else stays node
+awaited_in node now (Waiting since) = if nat_le (since + node.limit) now then over node (Silent node.number) None else stays node
 awaited_in node now (Sending done since) =
     if nat_le (since + 4000000) now then over node (Silent node.number) (gives_up node.number (slice_get node.settings done)) else stays node
 awaited_in node now (Over e) = stays node

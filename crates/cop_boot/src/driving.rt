@@ -52,7 +52,7 @@ pub fn drive(
 
     // How the boot of each node ends is what came from it says, and the moments.
     ensures ends { IfOk result (λ frames. (number : ℕ) → end_at manager.new.nodes number
-        ≡ option_and_then (λ node. end_of node.number node.settings (events node.number 0 (map meeting_of inputs.now))) (node_of manager.old.nodes number)) }
+        ≡ option_and_then (λ node. end_of node.number node.limit node.settings (events node.number 0 (map meeting_of inputs.now))) (node_of manager.old.nodes number)) }
 
     // The NMT commands among the frames are one reset of the communication of all nodes, and one start where they were started.
     ensures commands { IfOk result (λ frames. filter is_command (map message_of frames.items) ≡ commands_of manager.new.started) }

@@ -86,7 +86,7 @@ pub fn ready_nodes_are_configured()
         → IsConfigured node.settings (events node.number 0 came) }
     ensures start { (m : Managing) (came : List Meeting) → AllByRecursion (λ frame. frame ≡ start_all → WereConfigured m.nodes came) (driven m came).frames }
     ensures becomes_ready { (m : Managing) (came : List Meeting) (number : ℕ) (node : Node) → node_of m.nodes number ≡ Some node → IsConfigured node.settings (events node.number 0 came)
-        → first_end node.number node.settings [] (events node.number 0 came) ≡ None → end_at (driven m came).manager.nodes number ≡ Some Ready }
+        → first_end node.number node.limit node.settings [] (events node.number 0 came) ≡ None → end_at (driven m came).manager.nodes number ≡ Some Ready }
     ensures start_follows { (m : Managing) (came : List Meeting) → all_ready (driven m came).manager.nodes ≡ true → filter is_command (driven m came).frames ≡ commands_of true }
 {}
 

@@ -5,7 +5,7 @@ ghost use Rattle.cop_sdo.specs.Message.{message_of};
 ghost use Rattle.std.specs.List.{position};
 ghost use Rattle.cop_boot.specs.Manager.{begun_at, node_of, comes_from, all_ready, heard, heard_by, reached, first_silent, sent_by, waiting_from, is_ready, end_at};
 ghost use Rattle.cop_boot.specs.Booted.{Apart};
-ghost use Rattle.cop_boot.specs.Member.{seen, unheard, is_managed, CanManage, IsMember, AllLast};
+ghost use Rattle.cop_boot.specs.Member.{seen, unheard, unheard_within, is_managed, CanManage, IsMember, AllLast};
 ghost use Rattle.cop_boot.specs.Settings.{is_short_value};
 
 use crate::end::{End, Phase};
@@ -17,6 +17,9 @@ use cop_nmt::{Command, command};
 use std::alloc::{AllocError, Global};
 use std::collections::BTreeMap;
 use std::marker::Model;
+
+// A boot-up is awaited for so many ticks, 5 s, where no other limit is given.
+const BOOT_LIMIT: u64 = 20_000_000;
 
 /// A manager of nodes: it gives each its settings, all at once, and starts them when all are ready.
 #[derive(Drop)]
@@ -170,14 +173,27 @@ pub fn can_manage(plan: &BTreeMap<u8, Vec<Setting>>) -> bool
 
 impl Manager {
     /// A manager of nodes, 1 to 127, each with the settings that it is to have, whose values are of two or four
-    /// bytes that hold them. It makes all room here: no later call takes memory.
+    /// bytes that hold them. A boot-up is awaited for 20,000,000 ticks (5 s). It makes all room here: no later call
+    /// takes memory.
     pub fn new(alloc: Global, plan: BTreeMap<u8, Vec<Setting>>) -> Result<Manager, AllocError>
         requires { CanManage plan.entries }
         ensures { IfOk result (λ m. m ≡ record { begun = false; clock = 0; started = false; nodes = map unheard plan.entries }) }
     {
+        Manager::with_limit(alloc, plan, BOOT_LIMIT)
+    }
+
+    /// The same, where a boot-up is awaited for so many ticks of 250 ns.
+    pub fn with_limit(
+        alloc: Global,
+        plan: BTreeMap<u8, Vec<Setting>>,
+        limit: u64,
+    ) -> Result<Manager, AllocError>
+        requires { CanManage plan.entries }
+        ensures { IfOk result (λ m. m ≡ record { begun = false; clock = 0; started = false; nodes = map (unheard_within limit) plan.entries }) }
+    {
         let mut members = Vec::with_capacity(alloc, plan.len())?;
         for (node, settings) in plan {
-            members.push(Member::new(alloc, node, settings))?;
+            members.push(Member::new(alloc, node, settings, limit))?;
         }
         Ok(Manager {
             begun: false,

@@ -8,7 +8,7 @@ ghost use Rattle.cop_boot.specs.Node.{goes_on, booted, answered, awaited, is_fin
 ghost use Rattle.cop_boot.specs.Manager.{is_boot_up, heard_by, waiting_from};
 ghost use Rattle.cop_sdo.specs.Reply.{is_answer};
 ghost use Rattle.cop_boot.specs.declared.«end».Phase.TheVariants.{Over};
-ghost use Rattle.cop_boot.specs.Member.{seen, unheard, IsMember, LastsTo, Moves};
+ghost use Rattle.cop_boot.specs.Member.{seen, unheard_within, IsMember, LastsTo, Moves};
 
 use crate::end::{End, Phase};
 use cop_dcf::Setting;
@@ -16,9 +16,6 @@ use cop_frame::Frame;
 use cop_frame::identifiers::{HEARTBEAT, SDO_RESPONSE};
 use cop_sdo::{Client, Progress};
 use std::alloc::Global;
-
-/// A boot-up is awaited for so many ticks, 5 s.
-const BOOT_LIMIT: u64 = 20_000_000;
 
 /// An answer is awaited for so many ticks, 1 s.
 pub const ANSWER_LIMIT: u64 = 4_000_000;
@@ -28,6 +25,8 @@ pub const ANSWER_LIMIT: u64 = 4_000_000;
 pub struct Member {
     pub node: u8,
     pub settings: Vec<Setting>,
+    // A boot-up is awaited for so many ticks.
+    pub limit: u64,
     pub boots: u8,
     pub phase: Phase,
     pub client: Client,
@@ -53,7 +52,6 @@ fn is_final(phase: Phase) -> bool
 
 // So many ticks are over since a moment.
 fn is_past(since: u64, limit: u64, now: u64) -> bool
-    requires { 1 ≤ limit }
     ensures { result ≡ nat_le (since + limit) now }
 {
     now >= since && now - since >= limit
@@ -75,16 +73,17 @@ fn aborted(node: u8, setting: Setting, code: u32) -> Phase
 }
 
 impl Member {
-    /// A node whose boot has not begun.
-    pub fn new(alloc: Global, node: u8, settings: Vec<Setting>) -> Member
+    /// A node whose boot has not begun, and whose boot-up is awaited for so many ticks.
+    pub fn new(alloc: Global, node: u8, settings: Vec<Setting>, limit: u64) -> Member
         requires node { (1 ≤ node) × (node ≤ 127) }
         requires short { All (λ s. is_short_value s ≡ true) settings.items }
-        ensures node { seen result ≡ unheard (node, settings) }
+        ensures node { seen result ≡ unheard_within limit (node, settings) }
         ensures member { IsMember result }
     {
         Member {
             node,
             settings,
+            limit,
             boots: 0,
             phase: Phase::Waiting { since: 0 },
             client: Client::new(alloc, node),
@@ -179,7 +178,7 @@ impl Member {
         let end = End::Silent { node: self.node };
         match self.phase {
             Phase::Waiting { since } => {
-                if is_past(since, BOOT_LIMIT, now) {
+                if is_past(since, self.limit, now) {
                     self.phase = Phase::Over { end };
                 }
                 None
@@ -198,10 +197,10 @@ impl Member {
 
     /// A moment before which the node is not silent, as long as nothing comes from it.
     pub fn lasts_to(&self) -> u64
-        ensures { LastsTo result self.now.phase }
+        ensures { LastsTo result (seen self.now) }
     {
         match self.phase {
-            Phase::Waiting { since } => since.saturating_add(BOOT_LIMIT),
+            Phase::Waiting { since } => since.saturating_add(self.limit),
             Phase::Sending { since, .. } => since.saturating_add(ANSWER_LIMIT),
             Phase::Over { .. } => u64::MAX,
         }

@@ -1,8 +1,8 @@
 -- A text without its tail, a byte more at its front.
-use Rattle.std.proofs.Common.{◌≡◌, ℕ, zero, suc, ◌+◌, ◌-◌, ◌<◌, ◌≤◌, Bool, true, false, ◌&&◌, List, [], ◌∷◌, length, take, drop, slice_index, get_or, refl, ap, subst, arith}
+use Rattle.std.proofs.Common.{◌≡◌, ℕ, suc, ◌+◌, ◌-◌, ◌≤◌, Bool, true, false, ◌&&◌, List, [], ◌∷◌, length, take, drop, slice_index, get_or, refl, ap, subst, arith}
 use Rattle.std.specs.List.{list_all}
 use Rattle.std.proofs.lemmas.List.{drop_more}
-use Rattle.cop_bytes.specs.Bytes.{is_end_mark, is_padding, is_tail, uncut}
+use Rattle.cop_bytes.specs.Bytes.{is_padding, is_tail, uncut}
 
 all_more : (b : ℕ) (rest : List ℕ) (p : Bool) → p ≡ list_all is_padding rest → is_padding b && p ≡ list_all is_padding (b ∷ rest)
 all_more b rest p e = rw e refl

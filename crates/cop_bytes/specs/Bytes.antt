@@ -95,6 +95,29 @@ ended_letters (Some letters) = ended letters
 unfoldable pub prepared : List ℕ → Option (List ℕ)
 prepared text = ended_letters (letters_of text)
 
+-- ---- where bytes show that they are no text
+
+-- what ends a line: LF, or CR where no LF stands
+abbrev pub line_end : List ℕ → ℕ
+line_end text = if list_any (λ b. b == 10) text then 10 else 13
+
+-- how many lines end before the first 00h
+abbrev pub ends_before_zero : ℕ → List ℕ → ℕ
+ends_before_zero end [] = 0
+ends_before_zero end (b ∷ rest) = if b == 0 then 0 else if b == end then 1 + ends_before_zero end rest else ends_before_zero end rest
+
+-- the line of the first 00h, from 1
+abbrev pub line_of_zero : List ℕ → ℕ
+line_of_zero text = ends_before_zero (line_end text) text + 1
+
+-- the line of the first 00h before the tail, and 0 where the bytes are no UTF-16
+abbrev pub line_of : Option (List ℕ) → ℕ
+line_of None = 0
+line_of (Some letters) = line_of_zero (uncut letters)
+
+unfoldable pub refused_line : List ℕ → ℕ
+refused_line text = line_of (letters_of text)
+
 -- ---- what is told of it
 
 abbrev pub decoding : List ℕ → Option TextChange

@@ -45,7 +45,7 @@ fn new_ends(alloc: Global, text: &[u8]) -> Result<Vec<u8>, AllocError>
     Ok(ended)
 }
 
-fn has_end(text: &[u8]) -> bool
+pub(crate) fn has_end(text: &[u8]) -> bool
     ensures { result ≡ list_any (λ b. b == 10) text.now }
 {
     text.iter().any(|b| *b == b'\n')

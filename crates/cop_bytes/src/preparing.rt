@@ -1,10 +1,10 @@
 //! The bytes that are read as lines.
 
-ghost use Rattle.std.specs.Prelude.{◌≡◌, ◌≤◌, ◌++◌, ◌==◌, length, None, Some, IfOk, IfErr, OnOk, vec_len};
+ghost use Rattle.std.specs.Prelude.{◌≡◌, ◌≤◌, ◌<◌, ◌^◌, ◌++◌, ◌==◌, length, None, Some, IfOk, IfErr, OnOk, vec_len};
 ghost use Rattle.std.specs.List.{list_any};
-ghost use Rattle.cop_bytes.specs.Bytes.{decoding, cutting, uncut, ended, listed, letter_changes, prepared, text_changes};
+ghost use Rattle.cop_bytes.specs.Bytes.{decoding, cutting, uncut, ended, line_end, ends_before_zero, line_of_zero, listed, letter_changes, prepared, refused_line, text_changes};
 
-use crate::ends::{ending, with_ends};
+use crate::ends::{ending, has_end, with_ends};
 use crate::padding::uncut_len;
 use crate::utf16::{is_marked, letters_of};
 use cop_change::TextChange;
@@ -31,17 +31,43 @@ fn has_zero(text: &[u8]) -> bool
     text.iter().any(|b| *b == 0)
 }
 
+/// What ends a line: LF, or CR where no LF stands.
+fn line_end(text: &[u8]) -> u8
+    ensures { result ≡ line_end text.now }
+{
+    if has_end(text) { b'\n' } else { b'\r' }
+}
+
+/// How many lines end before the first 00h.
+fn ends_before_zero(text: &[u8], end: u8) -> usize
+    ensures value { result ≡ ends_before_zero end text.now }
+    ensures bound { result ≤ length text.now }
+{
+    let mut count = 0;
+    for b in text {
+        if *b == 0 {
+            return count;
+        }
+        if *b == end {
+            count += 1;
+        }
+    }
+    count
+}
+
 /// The number of the line of the first 00h.
-fn line_of_zero(text: &[u8]) -> usize {
-    let end = if text.contains(&b'\n') { b'\n' } else { b'\r' };
-    let before = text.iter().take_while(|b| **b != 0);
-    before.filter(|b| **b == end).count().saturating_add(1)
+fn line_of_zero(text: &[u8]) -> usize
+    requires { length text.now < 2 ^ 63 }
+    ensures { result ≡ line_of_zero text.now }
+{
+    ends_before_zero(text, line_end(text)) + 1
 }
 
 /// The text with ends of lines that CiA 306 has, or the line of a 00h, which no text has.
 fn ended(alloc: Global, text: &[u8]) -> Result<Result<Vec<u8>, usize>, AllocError>
     ensures ok { IfOk result (λ r. IfOk r (λ e. ended text.now ≡ Some e.items)) }
     ensures err { IfOk result (λ r. IfErr r (λ line. ended text.now ≡ None)) }
+    ensures line { IfOk result (λ r. IfErr r (λ line. line ≡ line_of_zero (uncut text.now))) }
 {
     let kept = uncut(text);
     if has_zero(kept) {
@@ -94,11 +120,12 @@ fn told(alloc: Global, text: &[u8], letters: &[u8]) -> Result<Vec<TextChange>, A
 }
 
 /// What is read as lines, and what is told of it.
-#[tactic(auto, unfolding(crate::specs::Bytes::prepared, crate::specs::Bytes::text_changes))]
+#[tactic(auto, unfolding(crate::specs::Bytes::prepared, crate::specs::Bytes::refused_line, crate::specs::Bytes::text_changes))]
 fn made(alloc: Global, text: &[u8]) -> Result<Result<Readable, usize>, AllocError>
     ensures text { IfOk result (λ r. IfOk r (λ p. prepared text.now ≡ Some p.text.items)) }
     ensures changes { IfOk result (λ r. IfOk r (λ p. p.changes.items ≡ text_changes text.now)) }
     ensures no_text { IfOk result (λ r. IfErr r (λ line. prepared text.now ≡ None)) }
+    ensures line { IfOk result (λ r. IfErr r (λ line. line ≡ refused_line text.now)) }
 {
     let Some(letters) = letters_of(alloc, text)? else {
         return Ok(Err(0));
@@ -119,6 +146,7 @@ pub fn prepared(alloc: Global, text: &[u8]) -> Result<Result<Readable, usize>, A
     ensures changes { IfOk result (λ r. IfOk r (λ p. p.changes.items ≡ text_changes text.now)) }
     ensures same { IfOk result (λ r. IfOk r (λ p. vec_len p.changes ≡ 0 → p.text.items ≡ text.now)) }
     ensures no_text { IfOk result (λ r. IfErr r (λ line. prepared text.now ≡ None)) }
+    ensures line { IfOk result (λ r. IfErr r (λ line. line ≡ refused_line text.now)) }
 {
     match made(alloc, text)? {
         Ok(readable) => Ok(Ok(readable)),

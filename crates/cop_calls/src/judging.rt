@@ -20,8 +20,8 @@ enum Trace {
     Bytes,
 }
 
-/// The judgement of the trace in a regular file, by what the planner answers. It is read in pieces, and read again as a whole only where
-/// it is not seen by them that it breaks no rule.
+/// The judgement of the trace in a regular file, by what the planner answers. It is read in pieces, and judged as a whole only where
+/// its judgement is not seen by them. Where it breaks a rule its bytes are kept, if they are not too many, for the words on it.
 fn judged_by(
     rt: &HostRuntime,
     name: &str,
@@ -29,11 +29,19 @@ fn judged_by(
     outcome: &Outcome,
     read: &mut Vec<u8>,
 ) -> Result<Judgement, Failure> {
-    if let Some(judgement) = judge_pieces(rt.alloc(), outcome, file) {
-        return Ok(judgement);
+    match judge_pieces(rt.alloc(), outcome, file) {
+        Some(Ok(judgement)) => Ok(judgement),
+        Some(Err(fault)) => {
+            if let Ok(bytes) = read_file(rt, name) {
+                *read = bytes;
+            }
+            Err(Failure::from(fault))
+        }
+        None => {
+            *read = read_file(rt, name)?;
+            Ok(judge_outcome(rt.alloc(), outcome, read)?)
+        }
     }
-    *read = read_file(rt, name)?;
-    Ok(judge_outcome(rt.alloc(), outcome, read)?)
 }
 
 /// What is said of a trace by what the planner answers for the network that was read.

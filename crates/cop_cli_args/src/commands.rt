@@ -30,7 +30,7 @@ fn of_kind<'a>(arg: Arg<'a>, kind: Kind) -> Arg<'a> {
         Kind::PlaceOf(choices) | Kind::OneOf(choices) => {
             arg.value_parser(choices.words()).action(ArgAction::Set)
         }
-        Kind::PlaceOfNumber(most) => arg
+        Kind::PlaceOfNumber(most) | Kind::Positive(most) => arg
             .value_parser(ValueParser::unsigned(1, most))
             .action(ArgAction::Set),
         Kind::Flag => arg.action(ArgAction::SetTrue),

@@ -12,6 +12,9 @@ use cop_plan::Choice;
 use cop_tidy::{Access, Digits, Unlisted, Words};
 use std::alloc::Global;
 
+/// A boot-up is awaited for so many seconds where nothing else is said.
+const BOOT_SECONDS: u64 = 5;
+
 fn network_of<'a>(matches: &ArgMatches<'a>) -> NetworkFiles<'a> {
     NetworkFiles {
         nodes: matches.get_str("NODES").unwrap_or("-"),
@@ -69,6 +72,7 @@ fn boot_order<'a>(matches: &ArgMatches<'a>) -> Order<'a> {
             identify: !matches.get_flag("no-identity"),
             only: node_of(matches, "only"),
             start: !matches.get_flag("no-start"),
+            boot_limit: matches.get_one("boot-limit").unwrap_or(BOOT_SECONDS),
             store: matches.get_flag("store"),
             watch: matches.get_one("watch"),
             limit: matches.get_one("limit"),

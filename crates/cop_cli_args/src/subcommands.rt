@@ -12,6 +12,9 @@ const MOST_NODE: u64 = 127;
 /// The greatest time at a port, a day in seconds.
 const MOST_SECONDS: u64 = 86400;
 
+/// The greatest time for a boot-up, ten minutes in seconds.
+const MOST_BOOT_SECONDS: u64 = 600;
+
 /// The greatest number of a rule.
 const MOST_RULE: u64 = 255;
 
@@ -80,7 +83,7 @@ static CHECK: [Word; 8] = [
     },
 ];
 
-static BOOT: [Word; 15] = [
+static BOOT: [Word; 16] = [
     NODES,
     PDOS,
     LISTED_RATES,
@@ -122,6 +125,12 @@ static BOOT: [Word; 15] = [
         kind: Kind::Flag,
         need: Need::Against("seed"),
         help: "Leaves the nodes in pre-operational, for another manager to start them",
+    },
+    Word {
+        name: "boot-limit",
+        kind: Kind::Positive(MOST_BOOT_SECONDS),
+        need: Need::Against("seed"),
+        help: "The seconds after a reset in which a node has to boot up, before it is silent; 5 where it is left out",
     },
     Word {
         name: "store",

@@ -51,6 +51,8 @@ pub(crate) enum Kind {
     ListOf(Choices),
     /// A number behind a name, up to this one.
     Number(u64),
+    /// A number behind a name, from 1 up to this one.
+    Positive(u64),
     /// How far a clock is wrong at most, behind a name, and the unit.
     Clock(&'static str),
 }

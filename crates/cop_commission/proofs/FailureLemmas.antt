@@ -105,11 +105,11 @@ asks_stop_so reads writes asks own way nodes questions offs f p free q (Err e) e
 -- the devices were asked first, and the boot gave out, or there was no memory
 module _ {P : Type 0} (reads writes : ByteStep P) (asks : ClockStep P) (fails : ByteStep P) {E : Type 0} (net : Net) (ids nodes : List ℕ) (way : Way) (identify store : Bool) (told : List Exchange) (p free q : P) (result : Result Commissioned E) where
   pub boot_fails_so : IsWhole reads writes asks way nodes (questions_for identify net nodes) (off_questions net ids nodes) p told free
-      → IfOk result (λ ended. meeting.if_failed ended (BootingFails reads writes asks fails way (told_manager net ids told nodes) nodes (settings_for store net ids told nodes) free q))
+      → IfOk result (λ ended. meeting.if_failed ended (BootingFails reads writes asks fails way (told_manager way.boot_limit net ids told nodes) nodes (settings_for store net ids told nodes) free q))
       → IfOk result (λ ended. meeting.if_failed ended (MeetingFails reads writes asks fails net ids nodes way identify store p q))
   boot_fails_so whole h = by_result result h
     where
-      by_case : (ended : Commissioned) → meeting.if_failed ended (BootingFails reads writes asks fails way (told_manager net ids told nodes) nodes (settings_for store net ids told nodes) free q) → meeting.if_failed ended (MeetingFails reads writes asks fails net ids nodes way identify store p q)
+      by_case : (ended : Commissioned) → meeting.if_failed ended (BootingFails reads writes asks fails way (told_manager way.boot_limit net ids told nodes) nodes (settings_for store net ids told nodes) free q) → meeting.if_failed ended (MeetingFails reads writes asks fails net ids nodes way identify store p q)
       by_case (commissioned.Failed answer) h = inr (told, free, whole, h)
       by_case (commissioned.Ended answer ready started operational at) h = tt
       by_case (commissioned.Running runner) h = tt
@@ -120,16 +120,16 @@ module _ {P : Type 0} (reads writes : ByteStep P) (asks : ClockStep P) (fails : 
       by_case commissioned.Absent h = tt
       by_case commissioned.NonePasses h = tt
 
-      by_result : (result : Result Commissioned E) → IfOk result (λ ended. meeting.if_failed ended (BootingFails reads writes asks fails way (told_manager net ids told nodes) nodes (settings_for store net ids told nodes) free q))
+      by_result : (result : Result Commissioned E) → IfOk result (λ ended. meeting.if_failed ended (BootingFails reads writes asks fails way (told_manager way.boot_limit net ids told nodes) nodes (settings_for store net ids told nodes) free q))
           → IfOk result (λ ended. meeting.if_failed ended (MeetingFails reads writes asks fails net ids nodes way identify store p q))
       by_result (Ok ended) h = by_case ended h
       by_result (Err e) h = tt
 
   pub boot_stops_so : IsWhole reads writes asks way nodes (questions_for identify net nodes) (off_questions net ids nodes) p told free
-      → OnErr result (BootingStops reads writes asks fails way (told_manager net ids told nodes) nodes (settings_for store net ids told nodes) free q) → OnErr result (MeetingStops reads writes asks fails net ids nodes way identify store p q)
+      → OnErr result (BootingStops reads writes asks fails way (told_manager way.boot_limit net ids told nodes) nodes (settings_for store net ids told nodes) free q) → OnErr result (MeetingStops reads writes asks fails net ids nodes way identify store p q)
   boot_stops_so whole h = by_result result h
     where
-      by_result : (result : Result Commissioned E) → OnErr result (BootingStops reads writes asks fails way (told_manager net ids told nodes) nodes (settings_for store net ids told nodes) free q) → OnErr result (MeetingStops reads writes asks fails net ids nodes way identify store p q)
+      by_result : (result : Result Commissioned E) → OnErr result (BootingStops reads writes asks fails way (told_manager way.boot_limit net ids told nodes) nodes (settings_for store net ids told nodes) free q) → OnErr result (MeetingStops reads writes asks fails net ids nodes way identify store p q)
       by_result (Ok ended) h = tt
       by_result (Err e) h = inr (inr (inr (told, free, whole, inr h)))
 

@@ -15,7 +15,7 @@ use Rattle.cop_dcf.specs.declared.setting.Setting.{Setting}
 use Rattle.cop_dcf.specs.Settings.{node_settings, IsFit}
 use Rattle.cop_dcf.proofs.SettingsLemmas.{all_fit_in}
 use Rattle.cop_boot.specs.Settings.{address_of, is_short_value}
-use Rattle.cop_boot.specs.Member.{unheard, is_managed, CanManage}
+use Rattle.cop_boot.specs.Member.{unheard_within, is_managed, CanManage}
 use Rattle.cop_boot.specs.declared.«end».Phase.TheVariants.{Waiting}
 use Rattle.cop_boot.specs.Node.{Node}
 use Rattle.cop_boot.proofs.PlanLemmas.{Plans}
@@ -35,24 +35,24 @@ insert_last (e ∷ es) k v low =
     rw (← greater) (ap (λ xs. e ∷ xs) (insert_last es k v (All-tail (λ e. e.0 < k) e es low)))
 
 -- nodes with some settings
-module _ (settings : ℕ → List Setting) where
+module _ (limit : ℕ) (settings : ℕ → List Setting) where
   abbrev f : ℕ → Node
-  f n = record { number = n; settings = settings n; boots = 0; phase = Waiting 0 }
+  f n = record { number = n; settings = settings n; limit = limit; boots = 0; phase = Waiting 0 }
 
-  low_keys : (es : Plans) (ns : List ℕ) (k : ℕ) → map unheard es ≡ map f ns → All (λ n. n < k) ns → All (λ e. e.0 < k) es
+  low_keys : (es : Plans) (ns : List ℕ) (k : ℕ) → map (unheard_within limit) es ≡ map f ns → All (λ n. n < k) ns → All (λ e. e.0 < k) es
   low_keys [] ns k same low = All-nil (λ e. e.0 < k)
   low_keys (e ∷ es) [] k same low = absurd (cc)
   low_keys (e ∷ es) (n ∷ ns) k same low =
-      let parts = heads (unheard e) (f n) (map unheard es) (map f ns) same in
+      let parts = heads (unheard_within limit e) (f n) (map (unheard_within limit) es) (map f ns) same in
       let number : e.0 ≡ n = ap (λ (node : Node). node.number) parts.0 in
       All-cons (λ e. e.0 < k) e es (subst (λ x. x < k) (sym number) (All-head (λ n. n < k) n ns low)) (low_keys es ns k parts.1 (All-tail (λ n. n < k) n ns low))
 
   pub one_told : (nodes : List ℕ) (es new : Plans) (i node : ℕ) (v : Vec Setting) → AllPairs (λ node later. node < later) nodes → i < length nodes → node ≡ get_or nodes i node
-      → map unheard es ≡ map f (take i nodes) → v.items ≡ settings node → new ≡ insert_entry nat_cmp es node v → map unheard new ≡ map f (take (i + 1) nodes)
+      → map (unheard_within limit) es ≡ map f (take i nodes) → v.items ≡ settings node → new ≡ insert_entry nat_cmp es node v → map (unheard_within limit) new ≡ map f (take (i + 1) nodes)
   one_told nodes es new i node v rise lt here so_far is put =
-      ap (map unheard) (put ∙ insert_last es node v (low_keys es (take i nodes) node so_far low)) ∙ map-append unheard es ((node, v) ∷ [])
-      ∙ ap (λ xs. xs ++ unheard (node, v) ∷ []) so_far
-      ∙ ap (λ x. map f (take i nodes) ++ x ∷ []) (ap (λ own. let n : Node = record { number = node; settings = own; boots = 0; phase = Waiting 0 } in n) is ∙ ap f here)
+      ap (map (unheard_within limit)) (put ∙ insert_last es node v (low_keys es (take i nodes) node so_far low)) ∙ map-append (unheard_within limit) es ((node, v) ∷ [])
+      ∙ ap (λ xs. xs ++ unheard_within limit (node, v) ∷ []) so_far
+      ∙ ap (λ x. map f (take i nodes) ++ x ∷ []) (ap (λ own. let n : Node = record { number = node; settings = own; limit = limit; boots = 0; phase = Waiting 0 } in n) is ∙ ap f here)
       ∙ sym (ap (map f) (take_more nodes i node lt) ∙ map-append f (take i nodes) (get_or nodes i node ∷ []))
     where
       low : All (λ n. n < node) (take i nodes)
@@ -82,19 +82,19 @@ told_short told n s short = by_test (switches_off s) refl
     by_test false e = short
     by_test true e = by_value (told_at n (address_of s) told) (third (is_communication s.index) (s.sub == 1) (s.bytes == 4) (not (exists_by s.value)) e)
 
-module _ (net : Net) (ids : List ℕ) (told : List Exchange) where
+module _ (limit : ℕ) (net : Net) (ids : List ℕ) (told : List Exchange) where
   all_short : (n : ℕ) (settings : List Setting) → All IsFit settings → list_all is_short_value (told_settings told n settings) ≡ true
   all_short n [] h = refl
   all_short n (s ∷ rest) h = rw (told_short told n s (short_of net ids s (All-head IsFit s rest h))) (all_short n rest (All-tail IsFit s rest h))
 
-  pub can_manage : (es : Plans) (ns : List ℕ) → IsNetwork net → All (λ id. id < 2 ^ 11) ids → All (IsUpTo 127) ns → map unheard es ≡ map (told_node net ids told) ns → CanManage es
+  pub can_manage : (es : Plans) (ns : List ℕ) → IsNetwork net → All (λ id. id < 2 ^ 11) ids → All (IsUpTo 127) ns → map (unheard_within limit) es ≡ map (told_node limit net ids told) ns → CanManage es
   can_manage [] ns is small range same = All-nil (λ e. is_managed e.0 e.1.items ≡ true)
   can_manage (e ∷ es) [] is small range same = absurd (cc)
   can_manage (e ∷ es) (n ∷ ns) is small range same =
-      let parts = heads (unheard e) (told_node net ids told n) (map unheard es) (map (told_node net ids told) ns) same in
+      let parts = heads (unheard_within limit e) (told_node limit net ids told n) (map (unheard_within limit) es) (map (told_node limit net ids told) ns) same in
       All-cons (λ e. is_managed e.0 e.1.items ≡ true) e es (one e n parts.0 (All-head (IsUpTo 127) n ns range)) (can_manage es ns is small (All-tail (IsUpTo 127) n ns range) parts.1)
     where
-      one : (e : ℕ × Vec Setting) (n : ℕ) → unheard e ≡ told_node net ids told n → IsUpTo 127 n → is_managed e.0 e.1.items ≡ true
+      one : (e : ℕ × Vec Setting) (n : ℕ) → unheard_within limit e ≡ told_node limit net ids told n → IsUpTo 127 n → is_managed e.0 e.1.items ≡ true
       one e n same range =
           let number : e.0 ≡ n = ap (λ (node : Node). node.number) same in
           let settings : e.1.items ≡ told_settings told n (node_settings net ids n) = ap (λ (node : Node). node.settings) same in

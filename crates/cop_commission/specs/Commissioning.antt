@@ -87,6 +87,7 @@ way_of net rate ids nodes approach = record {
   senders = senders_of net.rows ids ++ own_senders net approach.reach.only;
   take_over = approach.take_over;
   reach = approach.reach;
+  boot_limit = approach.boot_limit;
   awaited = awaited_for approach.watch net nodes;
   limit = limit_for approach.watch (awaited_for approach.watch net nodes);
 }
@@ -137,14 +138,14 @@ pub record IsEnded {P : Type 0} (reads writes : ByteStep P) (asks : ClockStep P)
   pub told : List Exchange
   pub free : P
   pub whole : IsWhole reads writes asks way nodes (questions_for identify net nodes) (off_questions net ids nodes) p told free
-  pub ends : HasEnded reads writes asks way (told_manager net ids told nodes) nodes (settings_for store net ids told nodes) free q answer ready started operational at
+  pub ends : HasEnded reads writes asks way (told_manager way.boot_limit net ids told nodes) nodes (settings_for store net ids told nodes) free q answer ready started operational at
 
 -- a session whose line failed in the boot
 pub record IsUnended {P : Type 0} (reads writes : ByteStep P) (asks : ClockStep P) (net : Net) (ids nodes : List ℕ) (way : Way) (identify store : Bool) (p : P) (answer : Told) : Type 0 where
   pub told : List Exchange
   pub free : P
   pub whole : IsWhole reads writes asks way nodes (questions_for identify net nodes) (off_questions net ids nodes) p told free
-  pub fails : HasFailed reads writes asks way (told_manager net ids told nodes) nodes (settings_for store net ids told nodes) free answer
+  pub fails : HasFailed reads writes asks way (told_manager way.boot_limit net ids told nodes) nodes (settings_for store net ids told nodes) free answer
 
 -- what came of the boot of some nodes by a plan with a rate and these identifiers; nothing is said where the line failed before the boot
 abbrev pub IsMet : {P : Type 0} → ByteStep P → ByteStep P → ClockStep P → Net → Rate → List ℕ → List ℕ → Approach → P → P → Commissioned → Type 0
@@ -234,7 +235,7 @@ BootingStops reads writes asks fails way m nodes settings p q =
 abbrev pub MeetingFails : {P : Type 0} → ByteStep P → ByteStep P → ClockStep P → ByteStep P → Net → List ℕ → List ℕ → Way → Bool → Bool → P → P → Told → Type 0
 MeetingFails {P} reads writes asks fails net ids nodes way identify store p q answer =
     ((answer ≡ nothing_told) × SessionFails reads writes asks fails way nodes (questions_for identify net nodes) (off_questions net ids nodes) p q)
-    ⊎ ((told : List Exchange) × (free : P) × IsWhole reads writes asks way nodes (questions_for identify net nodes) (off_questions net ids nodes) p told free × BootingFails reads writes asks fails way (told_manager net ids told nodes) nodes (settings_for store net ids told nodes) free q answer)
+    ⊎ ((told : List Exchange) × (free : P) × IsWhole reads writes asks way nodes (questions_for identify net nodes) (off_questions net ids nodes) p told free × BootingFails reads writes asks fails way (told_manager way.boot_limit net ids told nodes) nodes (settings_for store net ids told nodes) free q answer)
 
 -- there was no memory for more: nothing was done yet; or the devices were asked first, some of what they are to be asked; or some device was found to be
 -- another one; or all was asked first, and the boot was not begun, or stopped
@@ -243,7 +244,7 @@ MeetingStops {P} reads writes asks fails net ids nodes way identify store p q =
     (p ≡ q)
     ⊎ (SessionStops reads writes asks way nodes (questions_for identify net nodes) (off_questions net ids nodes) p q
     ⊎ (((all : List Exchange) × IsMistaken reads writes asks way (questions_for identify net nodes) all p q)
-    ⊎ ((told : List Exchange) × (free : P) × IsWhole reads writes asks way nodes (questions_for identify net nodes) (off_questions net ids nodes) p told free × ((free ≡ q) ⊎ BootingStops reads writes asks fails way (told_manager net ids told nodes) nodes (settings_for store net ids told nodes) free q))))
+    ⊎ ((told : List Exchange) × (free : P) × IsWhole reads writes asks way nodes (questions_for identify net nodes) (off_questions net ids nodes) p told free × ((free ≡ q) ⊎ BootingStops reads writes asks fails way (told_manager way.boot_limit net ids told nodes) nodes (settings_for store net ids told nodes) free q))))
 
 -- and so the boot of the nodes of a network that are meant
 abbrev pub CommissionFails : {P : Type 0} → ByteStep P → ByteStep P → ClockStep P → ByteStep P → Net → Rate → List ℕ → Approach → P → P → Told → Type 0

@@ -25,13 +25,14 @@ use Rattle.cop_commission.specs.declared.sessions.Session.TheVariants as session
 use Rattle.cop_commission.specs.declared.sessions.Closing.{Closing}
 use Rattle.cop_commission.specs.declared.sessions.Closing.TheVariants as closings
 
--- how a bus is met: at which rate; to whose PDOs it is listened, unless it is taken over; how far the boot reaches; and whose heartbeats
--- are awaited after the start, for so many ticks
+-- how a bus is met: at which rate; to whose PDOs it is listened, unless it is taken over; how far the boot reaches; for how many ticks a
+-- node's boot-up is awaited after a reset; and whose heartbeats are awaited after the start, for so many ticks
 pub record Way : Type 0 where
   pub rate : Rate
   pub senders : List Sender
   pub take_over : Bool
   pub reach : Reach
+  pub boot_limit : ℕ
   pub awaited : List Awaited
   pub limit : ℕ
 
@@ -94,7 +95,7 @@ IsFree reads writes asks way p q = (f : Found) × (is_free f ≡ true) × IsAppr
 pub record AsksFirst {P : Type 0} (reads writes : ByteStep P) (asks : ClockStep P) (way : Way) (nodes : List ℕ) (questions offs : List Question) (p : P) (told : List Exchange) (q : P) : Type 0 where
   pub known : P
   pub identifies : AreRight reads writes asks questions p known
-  pub tells : WereTold reads writes asks way.reach.only nodes offs known told q
+  pub tells : WereTold reads writes asks way.reach.only nodes way.boot_limit offs known told q
 
 -- the bus is found free and the adapter open, and the devices are asked so: nothing else is done at the port
 pub record IsWhole {P : Type 0} (reads writes : ByteStep P) (asks : ClockStep P) (way : Way) (nodes : List ℕ) (questions offs : List Question) (p : P) (told : List Exchange) (q : P) : Type 0 where
@@ -200,12 +201,12 @@ abbrev pub AskFirstFails : {P : Type 0} → ByteStep P → ByteStep P → ClockS
 AskFirstFails {P} reads writes asks fails way nodes questions offs p q =
     AskingFails reads writes asks fails questions p q
     ⊎ (((all : List Exchange) × (known : P) × AskedAll reads writes asks questions p all known × (has_other all ≡ true) × CloseFails reads writes fails known q)
-    ⊎ ((known : P) × AreRight reads writes asks questions p known × TellFails reads writes asks fails way.reach.only nodes offs known q))
+    ⊎ ((known : P) × AreRight reads writes asks questions p known × TellFails reads writes asks fails way.reach.only nodes way.boot_limit offs known q))
 
 -- and so much of it was done where there was no memory for more
 abbrev pub AskFirstStops : {P : Type 0} → ByteStep P → ByteStep P → ClockStep P → Way → List ℕ → List Question → List Question → P → P → Type 0
 AskFirstStops {P} reads writes asks way nodes questions offs p q =
-    AskedSome reads writes asks questions p q ⊎ ((known : P) × AreRight reads writes asks questions p known × ToldSome reads writes asks way.reach.only nodes offs known q)
+    AskedSome reads writes asks questions p q ⊎ ((known : P) × AreRight reads writes asks questions p known × ToldSome reads writes asks way.reach.only nodes way.boot_limit offs known q)
 
 -- a session gave out before the boot: the approach; or the closing of the adapter, by what was found; or what the devices are asked first. No start
 -- was written, nor a part of it.

@@ -44,9 +44,9 @@ with_told told node s = if switches_off s then off_by s (told_at node (address_o
 abbrev pub told_settings : List Exchange → ℕ → List Setting → List Setting
 told_settings told node settings = map (with_told told node) settings
 
--- a node of a plan with such settings, and its manager
-abbrev pub told_node : Net → List ℕ → List Exchange → ℕ → Node
-told_node net ids told node = record (managed net ids node) { settings = told_settings told node (node_settings net ids node) }
+-- a node of a plan with such settings, whose boot-up is awaited for so many ticks, and its manager
+abbrev pub told_node : ℕ → Net → List ℕ → List Exchange → ℕ → Node
+told_node limit net ids told node = record (managed net ids node) { settings = told_settings told node (node_settings net ids node); limit = limit }
 
-abbrev pub told_manager : Net → List ℕ → List Exchange → List ℕ → Managing
-told_manager net ids told nodes = record (manager_of net ids nodes) { nodes = map (told_node net ids told) nodes }
+abbrev pub told_manager : ℕ → Net → List ℕ → List Exchange → List ℕ → Managing
+told_manager limit net ids told nodes = record (manager_of net ids nodes) { nodes = map (told_node limit net ids told) nodes }

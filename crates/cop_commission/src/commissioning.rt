@@ -50,6 +50,8 @@ pub struct Approach {
     pub identify: bool,
     /// How far the boot reaches.
     pub reach: Reach,
+    /// For how many ticks of 250 ns the boot-up of a node is awaited after a reset, before the node is silent.
+    pub boot_limit: u64,
     /// Whether devices that have their settings store them, where they can.
     pub store: bool,
     /// For how long the heartbeats of nodes that were started are awaited.
@@ -237,6 +239,7 @@ fn bus_of(
         senders,
         take_over: approach.take_over,
         reach: approach.reach,
+        boot_limit: approach.boot_limit,
         awaited,
         limit,
     })
@@ -318,7 +321,8 @@ fn commission_nodes<P: Port>(
     };
     match run_session(alloc, nodes, &bus, &questions, port)? {
         Session::Told { told } => {
-            let mut manager = told_manager(alloc, plan, network, &told, nodes)?;
+            let limit = approach.boot_limit;
+            let mut manager = told_manager(alloc, plan, network, &told, nodes, limit)?;
             let settings = settings_for(alloc, approach.store, plan, network, &told, nodes)?;
             boot_nodes(alloc, &mut manager, nodes, &settings, &bus, port)
         }

@@ -15,14 +15,15 @@ use cop_readback::{Reach, ReadBack, boot_and_read_back};
 use std::alloc::{AllocError, Global};
 use std::marker::Model;
 
-/// How a bus is met: at which rate; to whose PDOs it is listened first, unless it is taken over; how far the boot reaches; and whose
-/// heartbeats are awaited after the start, for so many ticks. Contracts see the lists.
+/// How a bus is met: at which rate; to whose PDOs it is listened first, unless it is taken over; how far the boot reaches; for how many ticks
+/// a node's boot-up is awaited after a reset; and whose heartbeats are awaited after the start, for so many ticks. Contracts see the lists.
 #[derive(Drop)]
 pub struct Bus {
     pub rate: Rate,
     pub senders: Vec<Sender>,
     pub take_over: bool,
     pub reach: Reach,
+    pub boot_limit: u64,
     pub awaited: Vec<Awaited>,
     pub limit: u64,
 }
@@ -32,7 +33,7 @@ impl Model for Bus {
 
     ghost Value = { Way };
 
-    ghost view = { λ bus. record { rate = bus.rate; senders = bus.senders.items; take_over = bus.take_over; reach = bus.reach; awaited = bus.awaited.items; limit = bus.limit } };
+    ghost view = { λ bus. record { rate = bus.rate; senders = bus.senders.items; take_over = bus.take_over; reach = bus.reach; boot_limit = bus.boot_limit; awaited = bus.awaited.items; limit = bus.limit } };
 }
 
 /// What the devices are asked before a boot: who they are, and which COB-IDs they have that are to be switched off.
@@ -160,7 +161,8 @@ fn ask_first<P: Port>(
         }
         return Ok(Session::Failed);
     }
-    match reset_and_ask(alloc, nodes, bus.reach.only, &questions.offs, port)? {
+    let (limit, only) = (bus.boot_limit, bus.reach.only);
+    match reset_and_ask(alloc, nodes, limit, only, &questions.offs, port)? {
         Some(told) => Ok(Session::Told { told }),
         None => Ok(Session::Failed),
     }

@@ -7,7 +7,7 @@ ghost use Rattle.cop_dict.specs.Pdo.{is_communication};
 ghost use Rattle.cop_net.specs.Network.{IsNetwork};
 ghost use Rattle.cop_plan.specs.Plans.{IsPlan};
 ghost use Rattle.cop_dcf.specs.Settings.{node_settings};
-ghost use Rattle.cop_boot.specs.Member.{unheard};
+ghost use Rattle.cop_boot.specs.Member.{unheard_within};
 ghost use Rattle.cop_commission.specs.Told.{question_about, switches_off, offs_of, off_questions, with_told, told_settings, told_node, told_manager};
 
 use cop_boot::{Manager, Setting};
@@ -126,17 +126,18 @@ pub fn told_settings(
         .collect(alloc)
 }
 
-// What is set in each of the nodes.
+// What is set in each of the nodes, whose boot-ups are awaited for so many ticks.
 fn told_by_node(
     alloc: Global,
     plan: &Plan,
     network: &Network<'_>,
     told: &[Exchange],
     nodes: &[u8],
+    limit: u64,
 ) -> Result<BTreeMap<u8, Vec<Setting>>, AllocError>
     requires planned { IsPlan network.now.equipment.rates network.now.set (length network.now.rows) plan.now }
     requires rise { AllPairs (λ node later. node < later) nodes.now }
-    ensures { IfOk result (λ plan_of. map unheard plan_of.entries ≡ map (told_node network.now plan.now.ids told.now) nodes.now) }
+    ensures { IfOk result (λ plan_of. map (unheard_within limit) plan_of.entries ≡ map (told_node limit network.now plan.now.ids told.now) nodes.now) }
 {
     let mut plan_of = BTreeMap::new(alloc);
     for node in nodes {
@@ -145,20 +146,21 @@ fn told_by_node(
     Ok(plan_of)
 }
 
-/// The manager of a plan by what the devices told. Otherwise want of memory.
+/// The manager of a plan by what the devices told, where boot-ups are awaited for so many ticks. Otherwise want of memory.
 pub fn told_manager(
     alloc: Global,
     plan: &Plan,
     network: &Network<'_>,
     told: &[Exchange],
     nodes: &[u8],
+    limit: u64,
 ) -> Result<Manager, AllocError>
     requires network { IsNetwork network.now }
     requires planned { IsPlan network.now.equipment.rates network.now.set (length network.now.rows) plan.now }
     requires nodes { All (λ node. (1 ≤ node) × (node ≤ 127)) nodes.now }
     requires rise { AllPairs (λ node later. node < later) nodes.now }
-    ensures { IfOk result (λ manager. manager ≡ told_manager network.now plan.now.ids told.now nodes.now) }
+    ensures { IfOk result (λ manager. manager ≡ told_manager limit network.now plan.now.ids told.now nodes.now) }
 {
-    let plan_of = told_by_node(alloc, plan, network, told, nodes)?;
-    Manager::new(alloc, plan_of)
+    let plan_of = told_by_node(alloc, plan, network, told, nodes, limit)?;
+    Manager::with_limit(alloc, plan_of, limit)
 }

@@ -153,7 +153,7 @@ module _ (net : Net) (ids : List ℕ) where
   one_managed nodes es new i node v rise lt here so_far is put =
       ap (map unheard) (put ∙ insert_last es node v (low_keys es (take i nodes) node so_far low)) ∙ map-append unheard es ((node, v) ∷ [])
       ∙ ap (λ xs. xs ++ unheard (node, v) ∷ []) so_far
-      ∙ ap (λ x. map (managed net ids) (take i nodes) ++ x ∷ []) (ap (λ settings. let n : Node = record { number = node; settings = settings; boots = 0; phase = Waiting 0 } in n) is ∙ ap (managed net ids) here)
+      ∙ ap (λ x. map (managed net ids) (take i nodes) ++ x ∷ []) (ap (λ settings. let n : Node = record { number = node; settings = settings; limit = 20000000; boots = 0; phase = Waiting 0 } in n) is ∙ ap (managed net ids) here)
       ∙ sym (ap (map (managed net ids)) (take_more nodes i node lt) ∙ map-append (managed net ids) (take i nodes) (get_or nodes i node ∷ []))
     where
       low : All (λ n. n < node) (take i nodes)

@@ -133,6 +133,10 @@ module _ (net : Net) (is : IsNetwork net) (ids : List ℕ) (range : All IsPdoId 
         let f = found_node (IsUpTo 127) (device_nodes net) number node (nodes_low net 127) e in
         let high = f.1.1 in
         omega (arith, high);
+    patient = λ number node e.
+        let f = found_node (IsUpTo 127) (device_nodes net) number node (nodes_low net 127) e in
+        let limit : node.limit ≡ 20000000 = ap (λ (n : Node). n.limit) f.0 in
+        omega (arith, limit);
     each = λ number node e.
         let f = found_node (HasDevice net) (device_nodes net) number node (have_devices net 127) e in
         subst (λ (n : Node). CanBeSet n.settings (dictionary_at net number)) (sym f.0) (can_be_set number f.1);

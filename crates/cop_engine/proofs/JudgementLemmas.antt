@@ -1,5 +1,5 @@
 -- A judged trace has no late instance.
-use Rattle.std.proofs.Common.{◌≡◌, ℕ, ◌+◌, Bool, cond, List, [], ◌∷◌, length, get_or, Option, None, Some, IfSome, Ok, Err, Result, MatchResult, All, refl, sym, subst, ap, ◌∙◌, arith}
+use Rattle.std.proofs.Common.{◌≡◌, ℕ, ◌+◌, Bool, cond, List, [], ◌∷◌, length, get_or, Option, None, Some, IfSome, Ok, Err, Result, MatchResult, inr, All, refl, sym, subst, ap, ◌∙◌, arith}
 use Rattle.std.specs.Prelude.{fold}
 use Rattle.std.proofs.lemmas.Option.{slice_get-get_or}
 use Rattle.cop_frame.specs.Rate.{ticks_of}
@@ -21,7 +21,7 @@ use Rattle.cop_engine.specs.declared.faults.Fault.{Fault}
 use Rattle.cop_engine.specs.declared.faults.Fault.TheVariants as faults
 use Rattle.cop_engine.specs.Networks.{ExplainsNetwork, IsPlannedNetwork}
 use Rattle.cop_watch.specs.Knowing.{is_a_start, sent}
-use Rattle.cop_watch.specs.Reading.{IsLawful}
+use Rattle.cop_watch.specs.Reading.{IsLawful, IsUnlawful}
 use Rattle.cop_table.specs.Pieces.{HoldsOfAll}
 use Rattle.cop_engine.specs.declared.judgements.Judgement.{Judgement}
 use Rattle.cop_engine.specs.Judgements.{IsJudged, IsCleared, IsJudgedBy, ExplainsTrace, IsJudgement, ExplainsJudgement, SaysOnTime, is_start, judged_text, transfers_in, said_of}
@@ -85,14 +85,10 @@ pub cleared_with : (rate : Rate) (streams : List Stream) (left : Option (List �
     → HoldsOfAll left (λ trace. IsLawful (ticks_of rate) streams trace count) → (text : List ℕ) → text ≡ judged_text count None → HoldsOfAll left (λ trace. IsCleared rate streams trace text)
 cleared_with rate streams left count legal h text is = record { bytes = h.bytes; all = h.all; holds = lawful_cleared rate streams h.bytes text count legal h.holds is }
 
-pub cleared_gives : (plan : PlanValue) (left : Option (List ℕ)) (r : Option Judgement) → IfSome r (λ j. HoldsOfAll left (λ trace. IsCleared plan.rate plan.streams trace (said_of j)))
-    → IfSome r (λ j. (asked : Asked) (nodes pdos : List ℕ) (eds : List File) → IsPlannedNetwork asked nodes pdos eds (Planned plan) → HoldsOfAll left (λ trace. IsJudgement asked nodes pdos eds trace (said_of j)))
-cleared_gives plan left None h = h
-cleared_gives plan left (Some j) h = λ asked nodes pdos eds n. record {
-  bytes = h.bytes;
-  all = h.all;
-  holds = record { outcome = Planned plan; network = n; judged = cleared_judged asked nodes pdos eds plan n h.bytes (said_of j) h.holds };
-}
+-- a trace whose first broken rule is seen is explained by it
+pub explained_with : (rate : Rate) (streams : List Stream) (left : Option (List ℕ)) (step rule : ℕ) → HoldsOfAll left (λ trace. IsUnlawful (ticks_of rate) streams trace step rule)
+    → HoldsOfAll left (λ trace. ExplainsTrace rate streams trace (faults.Refused rule step))
+explained_with rate streams left step rule h = record { bytes = h.bytes; all = h.all; holds = inr (h.holds.told, h.holds.is, h.holds.broken) }
 
 -- what is said of every trace
 pub said_of_all : (outcome : Outcome) (left : Option (List ℕ)) (text : List ℕ) → ((trace : List ℕ) → IsJudgedBy outcome trace text)
@@ -128,3 +124,11 @@ module _ (asked : Asked) (nodes pdos : List ℕ) (files : List File) (trace : Li
       go (faults.File name) h = h
       go faults.Usage h = h
       go faults.Memory h = h
+
+-- what is seen of a trace is its judgement, or explains why there is none
+pub seen_gives : (plan : PlanValue) (left : Option (List ℕ)) (r : Option (Result Judgement Fault))
+    → IfSome r (λ judged. HoldsOfAll left (λ trace. MatchResult judged (λ j. IsCleared plan.rate plan.streams trace (said_of j)) (λ fault. ExplainsTrace plan.rate plan.streams trace fault)))
+    → IfSome r (λ judged. (asked : Asked) (nodes pdos : List ℕ) (eds : List File) → IsPlannedNetwork asked nodes pdos eds (Planned plan)
+    → HoldsOfAll left (λ trace. MatchResult judged (λ j. IsJudgement asked nodes pdos eds trace (said_of j)) (λ fault. ExplainsJudgement asked nodes pdos eds trace fault)))
+seen_gives plan left None h = h
+seen_gives plan left (Some judged) h = λ asked nodes pdos eds n. record { bytes = h.bytes; all = h.all; holds = judged_gives asked nodes pdos eds h.bytes plan judged n h.holds }

@@ -35,9 +35,10 @@ nodes_to net (suc n) = nodes_to net n ++ (if is_some (dictionary_of net (suc n))
 abbrev pub device_nodes : Net → List ℕ
 device_nodes net = nodes_to net 127
 
--- a node whose boot has not begun, with the settings that a plan with these identifiers has for it
+-- a node whose boot has not begun, with the settings that a plan with these identifiers has for it; its boot-up is awaited for 20,000,000
+-- ticks (5 s)
 abbrev pub managed : Net → List ℕ → ℕ → Node
-managed net ids node = record { number = node; settings = node_settings net ids node; boots = 0; phase = Waiting 0 }
+managed net ids node = record { number = node; settings = node_settings net ids node; limit = 20000000; boots = 0; phase = Waiting 0 }
 
 -- the manager of a plan
 abbrev pub manager_of : Net → List ℕ → List ℕ → Managing

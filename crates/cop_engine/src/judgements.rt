@@ -12,7 +12,7 @@ use crate::reports::push_number;
 use crate::runs::outcome_of;
 use cop_bus::{Step, clean_is_legal, judge, read_trace};
 use cop_plan::{Asked, Outcome, Plan};
-use cop_watch::sent_if_lawful;
+use cop_watch::{Seen, seen_in_pieces};
 use std::alloc::{AllocError, Global};
 use std::io::Read;
 
@@ -68,16 +68,23 @@ pub fn none_passes(alloc: Global) -> Result<Vec<u8>, AllocError>
     Ok(text)
 }
 
-/// The judgement of the trace that a reader has left, by a plan, if it is seen while it is read that it breaks no rule. No instance of
-/// such a trace is late, which the plan guarantees, so none is looked for.
-fn cleared<R: Read + Drop>(alloc: Global, plan: &Plan, reader: R) -> Option<Judgement>
-    ensures { IfSome result (λ judgement. HoldsOfAll (R.remaining reader) (λ trace. IsCleared plan.now.rate plan.now.streams trace (said_of judgement))) }
+/// The judgement of the trace that a reader has left, by a plan, or the first step that breaks a rule, if that is seen while it is read.
+/// No instance of a trace that breaks none is late, which the plan guarantees, so none is looked for.
+fn seen<R: Read + Drop>(alloc: Global, plan: &Plan, reader: R) -> Option<Result<Judgement, Fault>>
+    ensures { IfSome result (λ judged. HoldsOfAll (R.remaining reader) (λ trace. MatchResult judged (λ judgement. IsCleared plan.now.rate plan.now.streams trace (said_of judgement))
+        (λ fault. ExplainsTrace plan.now.rate plan.now.streams trace fault))) }
 {
     let streams = plan.streams();
     let _distinct = streams.streams();
     clean_is_legal();
-    let transfers = sent_if_lawful(alloc, streams, plan.rate(), reader)?;
-    Some(Judgement::OnTime { transfers })
+    let found = seen_in_pieces(alloc, streams, plan.rate(), reader)?;
+    match found {
+        Seen::Lawful { sent } => Some(Ok(Judgement::OnTime { transfers: sent })),
+        Seen::Broken { step, rule } => Some(Err(Fault::Refused {
+            number: rule,
+            place: step,
+        })),
+    }
 }
 
 /// The judgement of a trace by a plan. Its steps are kept, and the first that breaks a rule is named.
@@ -94,20 +101,21 @@ fn judged(alloc: Global, plan: &Plan, trace: &[u8]) -> Result<Judgement, Fault>
     })
 }
 
-/// The judgement of the trace that a reader has left, by what the planner answers for a network, if it is seen while it is read in
-/// pieces that it breaks no rule. Memory does not grow with the trace. Where there is none, nothing is known of the trace:
-/// a rule may be broken, or it cannot be read, or it has what is rare in a trace, and [`judge_outcome`] judges it.
+/// The judgement of the trace that a reader has left, by what the planner answers for a network. Where the trace breaks a rule, it is the
+/// first step that does. It is there if it is seen while the trace is read in pieces, and memory does not grow with the trace. Where the
+/// answer is none, nothing is known of the trace, and [`judge_outcome`] judges it: it cannot be read, or it has what is rare in a trace.
 pub fn judge_pieces<R: Read + Drop>(
     alloc: Global,
     outcome: &Outcome,
     reader: R,
-) -> Option<Judgement>
-    ensures { IfSome result (λ judgement. (asked : Asked) (nodes pdos : List ℕ) (eds : List File) → IsPlannedNetwork asked nodes pdos eds outcome.now
-        → HoldsOfAll (R.remaining reader) (λ trace. IsJudgement asked nodes pdos eds trace (said_of judgement))) }
+) -> Option<Result<Judgement, Fault>>
+    ensures { IfSome result (λ judged. (asked : Asked) (nodes pdos : List ℕ) (eds : List File) → IsPlannedNetwork asked nodes pdos eds outcome.now
+        → HoldsOfAll (R.remaining reader) (λ trace. MatchResult judged (λ judgement. IsJudgement asked nodes pdos eds trace (said_of judgement))
+        (λ fault. ExplainsJudgement asked nodes pdos eds trace fault))) }
 {
     match outcome {
-        Outcome::Planned(plan) => cleared(alloc, plan, reader),
-        Outcome::Refused(_) => Some(Judgement::NonePasses),
+        Outcome::Planned(plan) => seen(alloc, plan, reader),
+        Outcome::Refused(_) => Some(Ok(Judgement::NonePasses)),
     }
 }
 
@@ -123,13 +131,13 @@ pub fn judge_outcome(alloc: Global, outcome: &Outcome, trace: &[u8]) -> Result<J
     }
 }
 
-/// The same of the bytes of a trace. Its steps are kept only if it is not seen while it is read that it breaks no rule.
+/// The same of the bytes of a trace. Its steps are kept only if its judgement is not seen while it is read.
 pub fn judged_bytes(alloc: Global, outcome: &Outcome, trace: &[u8]) -> Result<Judgement, Fault>
     ensures { (asked : Asked) (nodes pdos : List ℕ) (eds : List File) → IsPlannedNetwork asked nodes pdos eds outcome.now
         → MatchResult result (λ judgement. IsJudgement asked nodes pdos eds trace.now (said_of judgement)) (λ fault. ExplainsJudgement asked nodes pdos eds trace.now fault) }
 {
     match judge_pieces(alloc, outcome, trace) {
-        Some(judgement) => Ok(judgement),
+        Some(judged) => judged,
         None => judge_outcome(alloc, outcome, trace),
     }
 }

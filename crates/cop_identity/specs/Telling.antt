@@ -17,29 +17,30 @@ use Rattle.cop_identity.specs.Asking.{AskedAll, AskingFails, AskedSome}
 abbrev pub of_booted : List Bool → List Question → List Question
 of_booted booted questions = filter (λ question. has_node booted question.node) questions
 
--- the communication of one node alone or of all is reset, the boot-ups of some nodes are awaited, and those that booted up are asked
-pub record AreTold {P : Type 0} (reads writes : ByteStep P) (asks : ClockStep P) (only : Option ℕ) (nodes : List ℕ) (questions : List Question) (p : P) (all : List Exchange) (q : P) : Type 0 where
+-- the communication of one node alone or of all is reset, the boot-ups of some nodes are awaited for so many ticks at most, and those that
+-- booted up are asked
+pub record AreTold {P : Type 0} (reads writes : ByteStep P) (asks : ClockStep P) (only : Option ℕ) (nodes : List ℕ) (limit : ℕ) (questions : List Question) (p : P) (all : List Exchange) (q : P) : Type 0 where
   pub booted : List Bool
   pub awake : P
-  pub awakes : Awoke reads writes asks only nodes p booted awake
+  pub awakes : Awoke reads writes asks only nodes limit p booted awake
   pub asked : AskedAll reads writes asks (of_booted booted questions) awake all q
 
 -- and where there is no question nothing is done
-abbrev pub WereTold : {P : Type 0} → ByteStep P → ByteStep P → ClockStep P → Option ℕ → List ℕ → List Question → P → List Exchange → P → Type 0
-WereTold reads writes asks only nodes [] p all q = (all ≡ []) × (p ≡ q)
-WereTold reads writes asks only nodes (question ∷ rest) p all q = AreTold reads writes asks only nodes (question ∷ rest) p all q
+abbrev pub WereTold : {P : Type 0} → ByteStep P → ByteStep P → ClockStep P → Option ℕ → List ℕ → ℕ → List Question → P → List Exchange → P → Type 0
+WereTold reads writes asks only nodes limit [] p all q = (all ≡ []) × (p ≡ q)
+WereTold reads writes asks only nodes limit (question ∷ rest) p all q = AreTold reads writes asks only nodes limit (question ∷ rest) p all q
 
 -- the reset gave out, or the boot-ups that were awaited; or a question to those that booted up
-abbrev pub TellFails : {P : Type 0} → ByteStep P → ByteStep P → ClockStep P → ByteStep P → Option ℕ → List ℕ → List Question → P → P → Type 0
-TellFails reads writes asks fails only nodes [] p q = ⊥
-TellFails {P} reads writes asks fails only nodes (question ∷ rest) p q =
-    AwaitFails reads writes asks fails only p q ⊎ ((booted : List Bool) × (awake : P) × Awoke reads writes asks only nodes p booted awake × AskingFails reads writes asks fails (of_booted booted (question ∷ rest)) awake q)
+abbrev pub TellFails : {P : Type 0} → ByteStep P → ByteStep P → ClockStep P → ByteStep P → Option ℕ → List ℕ → ℕ → List Question → P → P → Type 0
+TellFails reads writes asks fails only nodes limit [] p q = ⊥
+TellFails {P} reads writes asks fails only nodes limit (question ∷ rest) p q =
+    AwaitFails reads writes asks fails only p q ⊎ ((booted : List Bool) × (awake : P) × Awoke reads writes asks only nodes limit p booted awake × AskingFails reads writes asks fails (of_booted booted (question ∷ rest)) awake q)
 
 -- the boot-ups were awaited, and the first ones of the questions to those that booted up were asked
-abbrev pub ToldSome : {P : Type 0} → ByteStep P → ByteStep P → ClockStep P → Option ℕ → List ℕ → List Question → P → P → Type 0
-ToldSome reads writes asks only nodes [] p q = ⊥
-ToldSome {P} reads writes asks only nodes (question ∷ rest) p q =
-    (booted : List Bool) × (awake : P) × Awoke reads writes asks only nodes p booted awake × AskedSome reads writes asks (of_booted booted (question ∷ rest)) awake q
+abbrev pub ToldSome : {P : Type 0} → ByteStep P → ByteStep P → ClockStep P → Option ℕ → List ℕ → ℕ → List Question → P → P → Type 0
+ToldSome reads writes asks only nodes limit [] p q = ⊥
+ToldSome {P} reads writes asks only nodes limit (question ∷ rest) p q =
+    (booted : List Bool) × (awake : P) × Awoke reads writes asks only nodes limit p booted awake × AskedSome reads writes asks (of_booted booted (question ∷ rest)) awake q
 
 -- the value that an answer tells
 abbrev pub answer_tells : ℕ → Answer → Option ℕ

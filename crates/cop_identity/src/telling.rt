@@ -24,23 +24,24 @@ fn of_booted(
         .collect(alloc)
 }
 
-/// Resets the communication of one node alone, or of all, awaits the boot-ups of some nodes for at most 5 s, and asks the questions to those
-/// that booted up. Where there is no question nothing is done. `None` where the port or its clock fails, and otherwise want of memory.
+/// Resets the communication of one node alone, or of all, awaits the boot-ups of some nodes for so many ticks at most, and asks the questions
+/// to those that booted up. Where there is no question nothing is done. `None` where the port or its clock fails, and otherwise want of memory.
 pub fn reset_and_ask<P: Port>(
     alloc: Global,
     nodes: &[u8],
+    limit: u64,
     only: Option<u8>,
     questions: &[Question],
     port: &mut P,
 ) -> Result<Option<Vec<Exchange>>, AllocError>
-    ensures told { IfOk result (λ told. IfSome told (λ all. WereTold P.reads P.writes P.asks only nodes.now questions.now port.old all.items port.new)) }
-    ensures failed { IfOk result (λ told. IfNone told (TellFails P.reads P.writes P.asks P.fails only nodes.now questions.now port.old port.new)) }
-    ensures short { OnErr result (ToldSome P.reads P.writes P.asks only nodes.now questions.now port.old port.new) }
+    ensures told { IfOk result (λ told. IfSome told (λ all. WereTold P.reads P.writes P.asks only nodes.now limit questions.now port.old all.items port.new)) }
+    ensures failed { IfOk result (λ told. IfNone told (TellFails P.reads P.writes P.asks P.fails only nodes.now limit questions.now port.old port.new)) }
+    ensures short { OnErr result (ToldSome P.reads P.writes P.asks only nodes.now limit questions.now port.old port.new) }
 {
     match questions {
         [] => Ok(Some(Vec::new(alloc))),
         [_, ..] => {
-            let Some(booted) = reset_and_await(nodes, only, port) else {
+            let Some(booted) = reset_and_await(nodes, limit, only, port) else {
                 return Ok(None);
             };
             let asked = of_booted(alloc, &booted, questions)?;

@@ -50,7 +50,7 @@ module _ {P : Type 0} (reads writes : ByteStep P) (asks : ClockStep P) (fails : 
   listen_too_long k pending tally q h enough = let x = too_many reads writes asks fails (Asked began ∷ []) p h.turns k q h.listens.did h.many enough in (began, x.0, x.1)
 
 -- boot-ups are awaited
-module _ {P : Type 0} (reads writes : ByteStep P) (asks : ClockStep P) (fails : ByteStep P) (only : Option ℕ) (nodes : List ℕ) (began : ℕ) (p : P) where
+module _ {P : Type 0} (reads writes : ByteStep P) (asks : ClockStep P) (fails : ByteStep P) (only : Option ℕ) (nodes : List ℕ) (limit began : ℕ) (p : P) where
   abbrev Missed : P → Type 0
   Missed r = AwaitFails reads writes asks fails only p r
 
@@ -60,11 +60,11 @@ module _ {P : Type 0} (reads writes : ByteStep P) (asks : ClockStep P) (fails : 
   pub await_unsent : (m r : P) (frame : Message) → asks p began m → frame ≡ reset_of only → BrokeOff reads writes asks fails m (Sent frame ∷ []) r → Missed r
   await_unsent m r frame asked is h = (began, [], inl (inr (m, asked, subst (λ f. BrokeOff reads writes asks fails m (Sent f ∷ []) r) is h)))
 
-  pub await_unasked : (k : ℕ) (pending : List ℕ) (booted : List Bool) (q r : P) → Waits reads writes asks only nodes began p k pending booted q → fails q [] r → Missed r
+  pub await_unasked : (k : ℕ) (pending : List ℕ) (booted : List Bool) (q r : P) → Waits reads writes asks only nodes limit began p k pending booted q → fails q [] r → Missed r
   await_unasked k pending booted q r h f = let x = clock_failed reads writes asks fails (Asked began ∷ Sent (reset_of only) ∷ []) p h.turns q r h.waits.did f in (began, x.0, x.1)
 
-  pub await_unread : (k : ℕ) (pending : List ℕ) (booted : List Bool) (q a r : P) (now : ℕ) → Waits reads writes asks only nodes began p k pending booted q → asks q now a → fails a [] r → Missed r
+  pub await_unread : (k : ℕ) (pending : List ℕ) (booted : List Bool) (q a r : P) (now : ℕ) → Waits reads writes asks only nodes limit began p k pending booted q → asks q now a → fails a [] r → Missed r
   await_unread k pending booted q a r now h asked f = let x = read_failed reads writes asks fails (Asked began ∷ Sent (reset_of only) ∷ []) p h.turns q a r now h.waits.did asked f in (began, x.0, x.1)
 
-  pub await_too_long : (k : ℕ) (pending : List ℕ) (booted : List Bool) (q : P) → Waits reads writes asks only nodes began p k pending booted q → 18446744073709551615 ≤ k → Missed q
+  pub await_too_long : (k : ℕ) (pending : List ℕ) (booted : List Bool) (q : P) → Waits reads writes asks only nodes limit began p k pending booted q → 18446744073709551615 ≤ k → Missed q
   await_too_long k pending booted q h enough = let x = too_many reads writes asks fails (Asked began ∷ Sent (reset_of only) ∷ []) p h.turns k q h.waits.did h.many enough in (began, x.0, x.1)

@@ -1,5 +1,5 @@
 -- Logs that go on, and what is true of a boot's log.
-use Rattle.std.proofs.Common.{◌≡◌, ℕ, ◌+◌, ◌-◌, ◌<◌, ◌≤◌, List, [], ◌∷◌, ◌++◌, map, length, take, drop, get_or, refl, sym, ◌∙◌, ap, subst, arith, append_assoc, append-nil, Option, Some, None, zero, suc, inl, inr}
+use Rattle.std.proofs.Common.{◌≡◌, ℕ, ◌+◌, ◌-◌, ◌<◌, ◌≤◌, List, [], ◌∷◌, ◌++◌, map, length, take, drop, get_or, refl, sym, ◌∙◌, ap, subst, arith, append_assoc, append-nil, Option, Some, None, inl, inr}
 use Rattle.std.specs.Prelude.{not, Bool, option_to_list}
 use Rattle.std.proofs.lemmas.List.{take_all, map-append}
 use Rattle.std.proofs.lemmas.List.Elements.{filter-append}
@@ -11,7 +11,7 @@ use Rattle.cop_boot.specs.Manager.{Managing, Managed, Meeting, Moment, heard, pa
 use Rattle.cop_boot.proofs.SentLemmas.{reached_some, reached_none}
 use Rattle.cop_boot.proofs.DriveLemmas.{drives}
 use Rattle.cop_boot.proofs.StartLemmas.{ready_was_configured}
-use Rattle.cop_live.specs.Log.{ByteStep, ClockStep, Doing, Asked, Sent, Read, written_by, DidAll, BrokeOff, GaveUp, heard_in, came_after, came}
+use Rattle.cop_live.specs.Log.{ByteStep, ClockStep, Doing, Asked, Sent, Read, DidAll, BrokeOff, heard_in, came_after, came}
 use Rattle.cop_live.specs.Session.{State, told, told_all, is_start, held, boot_up_told, noting, noted, reset_of, turn_log, turn_state, Step, Turn, Request, steps_log, steps_state, turns, first_state, boot_log, IsDriven, Booted, TurnFails, BootFails}
 
 -- ---- logs at a port

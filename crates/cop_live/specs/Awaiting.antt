@@ -16,24 +16,24 @@ abbrev pub booted_by : List ℕ → List Bool → List (ℕ × List ℕ) → Lis
 booted_by pending booted [] = booted
 booted_by pending booted ((now, bytes) ∷ turns) = booted_by (left_from pending bytes) (noted booted (said_from pending bytes)) turns
 
--- turns in which boot-ups are awaited: each is taken while some node has not booted up, and sooner than 20,000,000 ticks (5 s) after a moment
-abbrev pub AreAwaited : List ℕ → ℕ → List ℕ → List Bool → List (ℕ × List ℕ) → Type 0
-AreAwaited nodes began pending booted [] = Unit {0}
-AreAwaited nodes began pending booted ((now, bytes) ∷ turns) =
-    (have_booted booted nodes ≡ false) × ((now - began < 20000000) × AreAwaited nodes began (left_from pending bytes) (noted booted (said_from pending bytes)) turns)
+-- turns in which boot-ups are awaited: each is taken while some node has not booted up, and sooner than so many ticks after a moment
+abbrev pub AreAwaited : List ℕ → ℕ → ℕ → List ℕ → List Bool → List (ℕ × List ℕ) → Type 0
+AreAwaited nodes limit began pending booted [] = Unit {0}
+AreAwaited nodes limit began pending booted ((now, bytes) ∷ turns) =
+    (have_booted booted nodes ≡ false) × ((now - began < limit) × AreAwaited nodes limit began (left_from pending bytes) (noted booted (said_from pending bytes)) turns)
 
 -- the clock is asked, the communication of one node alone or of all is reset, and such turns are taken, in which these nodes boot up
-pub record Awaits {P : Type 0} (reads writes : ByteStep P) (asks : ClockStep P) (only : Option ℕ) (nodes : List ℕ) (began : ℕ) (p : P) (turns : List (ℕ × List ℕ)) (booted : List Bool) (q : P) : Type 0 where
+pub record Awaits {P : Type 0} (reads writes : ByteStep P) (asks : ClockStep P) (only : Option ℕ) (nodes : List ℕ) (limit began : ℕ) (p : P) (turns : List (ℕ × List ℕ)) (booted : List Bool) (q : P) : Type 0 where
   pub did : DidAll reads writes asks p (Asked began ∷ Sent (reset_of only) ∷ listening_log turns) q
-  pub each : AreAwaited nodes began [] nobody turns
+  pub each : AreAwaited nodes limit began [] nobody turns
   pub noted_are : booted ≡ booted_by [] nobody turns
 
--- boot-ups were awaited until each of some nodes had booted up, or until 5 s had passed
-abbrev pub Awoke : {P : Type 0} → ByteStep P → ByteStep P → ClockStep P → Option ℕ → List ℕ → P → List Bool → P → Type 0
-Awoke {P} reads writes asks only nodes p booted q =
-    ((began : ℕ) × (turns : List (ℕ × List ℕ)) × Awaits reads writes asks only nodes began p turns booted q × (have_booted booted nodes ≡ true))
-    ⊎ ((began : ℕ) × (turns : List (ℕ × List ℕ)) × (m : P) × (until : ℕ) × Awaits reads writes asks only nodes began p turns booted m × (have_booted booted nodes ≡ false)
-    × asks m until q × (20000000 ≤ until - began))
+-- boot-ups were awaited until each of some nodes had booted up, or until so many ticks had passed
+abbrev pub Awoke : {P : Type 0} → ByteStep P → ByteStep P → ClockStep P → Option ℕ → List ℕ → ℕ → P → List Bool → P → Type 0
+Awoke {P} reads writes asks only nodes limit p booted q =
+    ((began : ℕ) × (turns : List (ℕ × List ℕ)) × Awaits reads writes asks only nodes limit began p turns booted q × (have_booted booted nodes ≡ true))
+    ⊎ ((began : ℕ) × (turns : List (ℕ × List ℕ)) × (m : P) × (until : ℕ) × Awaits reads writes asks only nodes limit began p turns booted m × (have_booted booted nodes ≡ false)
+    × asks m until q × (limit ≤ until - began))
 
 -- the look at the clock, the reset, or the turns gave out in which boot-ups were awaited
 abbrev pub AwaitFails : {P : Type 0} → ByteStep P → ByteStep P → ClockStep P → ByteStep P → Option ℕ → P → P → Type 0

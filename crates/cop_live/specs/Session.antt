@@ -135,7 +135,7 @@ boot_log only m began steps = Sent (reset_of only) ∷ steps_log began (first_st
 pub record IsDriven (m : Managing) (began : ℕ) (log : List Doing) (later : Managing) : Type 0 where
   pub driven_so : later ≡ (driven m (came began log)).manager
   -- the boot of each node ended as what came from it says
-  pub ends : (number : ℕ) → end_at later.nodes number ≡ option_and_then (λ node. end_of node.number node.settings (events node.number 0 (came began log))) (node_of m.nodes number)
+  pub ends : (number : ℕ) → end_at later.nodes number ≡ option_and_then (λ node. end_of node.number node.limit node.settings (events node.number 0 (came began log))) (node_of m.nodes number)
   -- a node that is ready has, since its last boot-up, confirmed each of its settings in turn by an answer that was read
   pub ready : (number : ℕ) (node : Node) → node_of m.nodes number ≡ Some node → end_at later.nodes number ≡ Some Ready → IsConfigured node.settings (events node.number 0 (came began log))
 

@@ -10,9 +10,6 @@ use crate::port::Port;
 use crate::session::{note, reset_of, send};
 use cop_slcan::Reader;
 
-/// Boot-ups are awaited for so many ticks, 5 s.
-const BOOT_LIMIT: u64 = 20_000_000;
-
 // Whether each of some nodes has booted up.
 fn have_booted(booted: &NodeSet, nodes: &[u8]) -> bool
     ensures { result ≡ have_booted booted.now nodes.now }
@@ -45,10 +42,15 @@ fn note_bytes(booted: &mut NodeSet, reader: &mut Reader, bytes: &[u8])
     }
 }
 
-/// Resets the communication of one node alone, or of all, and reads until each of some nodes has booted up, or for 5 s: gives the nodes that
-/// did. What else comes is dropped. `None` where the port or its clock fails.
-pub fn reset_and_await<P: Port>(nodes: &[u8], only: Option<u8>, port: &mut P) -> Option<NodeSet>
-    ensures awoke { IfSome result (λ booted. Awoke P.reads P.writes P.asks only nodes.now port.old booted port.new) }
+/// Resets the communication of one node alone, or of all, and reads until each of some nodes has booted up, or for so many ticks: gives the
+/// nodes that did. What else comes is dropped. `None` where the port or its clock fails.
+pub fn reset_and_await<P: Port>(
+    nodes: &[u8],
+    limit: u64,
+    only: Option<u8>,
+    port: &mut P,
+) -> Option<NodeSet>
+    ensures awoke { IfSome result (λ booted. Awoke P.reads P.writes P.asks only nodes.now limit port.old booted port.new) }
     ensures failed { IfNone result (AwaitFails P.reads P.writes P.asks P.fails only port.old port.new) }
 {
     let Some(began) = port.now() else {
@@ -66,7 +68,7 @@ pub fn reset_and_await<P: Port>(nodes: &[u8], only: Option<u8>, port: &mut P) ->
         let Some(now) = port.now() else {
             return None;
         };
-        if now.saturating_sub(began) >= BOOT_LIMIT {
+        if now.saturating_sub(began) >= limit {
             return Some(booted);
         }
         let mut buffer = [0; 256];

@@ -278,6 +278,15 @@ fn unknown_premise(is_error: bool) -> &'static str
     }
 }
 
+/// Writes that an identifier is of no sender; of an error frame its name alone.
+fn write_unknown(text: &mut String, id: u32) -> Result<(), AllocError> {
+    write_id(text, id)?;
+    if id & 0x20000000 != 0 {
+        return Ok(());
+    }
+    write!(text, " is of no sender in the tables")
+}
+
 impl Breach {
     /// What does not hold of the machine, or of the clock.
     pub fn premise(&self) -> &'static str
@@ -295,13 +304,7 @@ impl Breach {
     fn write_broken(&self, text: &mut String, clock: Clock) -> Result<(), AllocError> {
         let (id, len) = (self.entry.id, self.entry.len);
         match self.broken {
-            Broken::Unknown => {
-                write_id(text, id)?;
-                if id & 0x20000000 != 0 {
-                    return Ok(());
-                }
-                write!(text, " is of no sender in the tables")
-            }
+            Broken::Unknown => write_unknown(text, id),
             Broken::Length { planned } => {
                 write!(
                     text,

@@ -73,6 +73,8 @@ pub struct MachineOrder<'a> {
     pub only: Option<u8>,
     /// Whether the nodes are started.
     pub start: bool,
+    /// For how many seconds the boot-up of a node is awaited after a reset.
+    pub boot_limit: u64,
     /// Whether the devices store their settings.
     pub store: bool,
     /// For how many seconds the heartbeats of nodes that were started are awaited, 0 for not at all. Otherwise until each has had its time.

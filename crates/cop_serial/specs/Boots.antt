@@ -25,6 +25,7 @@ approach_of order = record {
   take_over = order.take_over;
   identify = order.identify;
   reach = record { only = order.only; start = order.start };
+  boot_limit = ticks_of_seconds order.boot_limit;
   store = order.store;
   watch = watch_of order.watch;
 }

@@ -4,6 +4,7 @@ ghost use Rattle.std.specs.Prelude.{◌≡◌, IfOk, IfErr, Some};
 ghost use Rattle.cop_engine.specs.declared.faults.Fault.TheVariants.{Refused};
 ghost use Rattle.cop_serial.specs.Boots.{watch_of, approach_of, status_of, refused_as, FailsBy};
 
+use crate::heard::{Emergency, NmtCommand};
 use crate::serial::{Serial, open_serial};
 use cop_answers::{
     ABSENT, ERRONEOUS, GARBLED, Inputs, RUNNING, UNOPENED, boot_notes, identity_notes,
@@ -16,6 +17,7 @@ use cop_files::{Failure, Form, Use, file_failure, print, read_network};
 use cop_frame::Rate;
 use cop_orders::MachineOrder;
 use cop_slcan::rate_digit;
+use std::alloc::{AllocError, Global};
 use std::io::Write;
 use std::str;
 
@@ -72,6 +74,38 @@ fn tell_adapter(rt: &HostRuntime, port: &Serial<'_>) {
     }
     let line = format!(in rt.alloc(); "canplan: the adapter refused {refused} of the commands\n");
     if let Ok(line) = line {
+        say(rt, line.as_bytes());
+    }
+}
+
+/// What is said of an error that a node told.
+fn emergency_line(alloc: Global, node: u8, emergency: Emergency) -> Result<String, AllocError> {
+    let (code, register, kind) = (emergency.code, emergency.register, emergency.kind());
+    format!(in alloc;
+        "canplan: node {node} told an error by EMCY: code {code:04X}h ({kind}), error register {register:02X}h\n"
+    )
+}
+
+/// What is said of another manager, by a command of its own.
+fn foreign_line(alloc: Global, command: NmtCommand) -> Result<String, AllocError> {
+    let (number, node) = (command.number, command.node);
+    format!(in alloc;
+        "canplan: another manager is on the bus: the NMT command {number:02X}h {node:02X}h was heard, which was not sent here\n"
+    )
+}
+
+/// Tells of errors that devices told meanwhile, and of another manager.
+fn tell_heard(rt: &HostRuntime, port: &Serial<'_>) {
+    for node in 1..128_u8 {
+        if let Some(emergency) = port.heard.emergency(node)
+            && let Ok(line) = emergency_line(rt.alloc(), node, emergency)
+        {
+            say(rt, line.as_bytes());
+        }
+    }
+    if let Some(command) = port.heard.foreign
+        && let Ok(line) = foreign_line(rt.alloc(), command)
+    {
         say(rt, line.as_bytes());
     }
 }
@@ -245,6 +279,7 @@ fn approach_of(order: MachineOrder<'_>) -> Approach
             only: order.only,
             start: order.start,
         },
+        boot_limit: order.boot_limit.saturating_mul(SECOND),
         store: order.store,
         watch: watch_of(order.watch),
     }
@@ -283,5 +318,6 @@ pub fn boot_machine(
     )?;
     port.close_if_over();
     tell_adapter(rt, &port);
+    tell_heard(rt, &port);
     tell_ended(rt, order, form, &ended, &port)
 }

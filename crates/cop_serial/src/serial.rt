@@ -2,6 +2,7 @@
 
 ghost use Rattle.std.specs.Prelude.{◌≤◌, length, IfOk};
 
+use crate::heard::Heard;
 use cop_live::Port;
 use std::fs::File;
 use std::io::{self, IsTerminal, Read, Write};
@@ -34,6 +35,8 @@ pub struct Serial<'a> {
     pub cannot_listen: bool,
     /// Whether it was set to `S7`, which adapters take in two ways.
     pub is_at_seven: bool,
+    /// What was heard beside what a boot waits for.
+    pub heard: Heard,
     /// The command that was written last, by its letter.
     letter: u8,
     /// What the system said of a read or a write that failed.
@@ -71,6 +74,7 @@ pub fn open_serial<'a>(rt: &'a HostRuntime, name: &str, limit: u64) -> io::Resul
         refused: 0,
         cannot_listen: false,
         is_at_seven: false,
+        heard: Heard::nothing(),
         letter: b'\r',
         error: None,
         limit,
@@ -157,6 +161,9 @@ impl Port for Serial<'_> {
                     .filter(|byte| **byte == BEL)
                     .count();
                 self.refused = self.refused.saturating_add(refused as u64);
+                if let Some(bytes) = buffer.get(..count) {
+                    self.heard.note_read(bytes);
+                }
                 Some(count)
             }
             Err(error) if error.kind() == io::ErrorKind::Interrupted => Some(0),
@@ -169,6 +176,7 @@ impl Port for Serial<'_> {
 
     fn write(&mut self, bytes: &[u8]) -> bool {
         self.note(bytes);
+        self.heard.note_written(bytes);
         match self.write_line(bytes) {
             Ok(()) => true,
             Err(error) => {

@@ -1,12 +1,14 @@
 -- What is worth a look before one relies on a plan.
-use Rattle.std.specs.Prelude.{ℕ, ◌+◌, ◌*◌, ◌/◌, ◌%◌, Bool, not, ◌&&◌, ◌==◌, nat_le, nat_lt, if◌then◌else◌, List, [], ◌∷◌, ◌++◌, get_or, Option, Some, None, option_and_then, option_map, find, ℤ, pos, negsuc}
+use Rattle.std.specs.Prelude.{ℕ, ◌+◌, ◌*◌, ◌/◌, ◌%◌, Bool, false, not, ◌&&◌, ◌||◌, ◌==◌, nat_le, nat_lt, if◌then◌else◌, List, [], ◌∷◌, ◌++◌, get_or, Option, Some, None, option_and_then, option_map, find, int_lt, ℤ, pos, negsuc}
 use Rattle.std.specs.List.{list_any}
 use Rattle.std.specs.Option.{option_to_list, option_map_or}
 use Rattle.cop_dict.specs.Find.{Entry, entry_at, integer_of, unsigned32_of}
+use Rattle.cop_dict.specs.Mapping.{is_between}
 use Rattle.cop_rows.specs.declared.node_table.DeviceRow.{DeviceRow}
 use Rattle.cop_rows.specs.declared.node_table.FrameKind.{FrameKind}
 use Rattle.cop_rows.specs.declared.node_table.FrameKind.TheVariants as kinds
 use Rattle.cop_rows.specs.declared.node_table.FrameRow.{FrameRow}
+use Rattle.cop_rows.specs.declared.pdo_table.Consumer.{Consumer}
 use Rattle.cop_rows.specs.declared.pdo_table.PdoRow.{PdoRow}
 use Rattle.cop_net.specs.Fixed.{rank_of}
 use Rattle.cop_net.specs.Network.{Net}
@@ -149,8 +151,30 @@ period_warning frames node dict = period_by node (sync_period frames) (word_at d
 abbrev pub of_clocks : List FrameRow → ℕ → List Entry → List Warning
 of_clocks frames node dict = option_to_list (time_warning node dict) ++ option_to_list (period_warning frames node dict)
 
+-- an index of the objects that a plan counts on, or that a boot sets or asks (CiA 301, "Communication profile area")
+abbrev pub is_relied : ℕ → Bool
+is_relied index =
+    is_between 0x1005 0x1007 index || (index == 0x1010) || (index == 0x1011) || is_between 0x1014 0x1018 index || (index == 0x1200)
+    || is_between 0x1400 0x1BFF index
+
+-- the low limit of an object is above its high limit, so that it takes no value
+abbrev pub is_shut : Entry → Bool
+is_shut entry = option_map_or (λ high. option_map_or (λ low. int_lt high low) entry.description.low false) entry.description.high false
+
+abbrev pub is_relied_and_shut : Entry → Bool
+is_relied_and_shut entry = is_relied entry.index && is_shut entry
+
+-- the first such object
+abbrev pub limits_by : ℕ → Option Entry → Option Warning
+limits_by node None = None
+limits_by node (Some entry) = Some (warnings.TakesNothing node entry.index entry.sub)
+
+abbrev pub limits_warning : ℕ → List Entry → Option Warning
+limits_warning node dict = limits_by node (find is_relied_and_shut dict)
+
 abbrev pub of_device : List FrameRow → ℕ → List Entry → List Warning
-of_device frames node dict = of_frames frames node dict ++ of_identifiers node dict ++ of_clocks frames node dict
+of_device frames node dict =
+    of_frames frames node dict ++ of_identifiers node dict ++ of_clocks frames node dict ++ option_to_list (limits_warning node dict)
 
 -- ---- the network
 
@@ -162,20 +186,62 @@ abbrev pub of_device_by : List FrameRow → ℕ → Option (List Entry) → List
 of_device_by frames node None = []
 of_device_by frames node (Some dict) = of_device frames node dict
 
+-- of a PDO by SYNC: an RPDO that takes it has the transmission type 254 or 255, by which a device uses what comes at once, before the next SYNC
+-- (CiA 301, "RPDO communication parameter")
+abbrev pub at_once_by : ℕ → Consumer → Option ℕ → Option Warning
+at_once_by place consumer None = None
+at_once_by place consumer (Some kind) = if (kind == 254) || (kind == 255) then Some (warnings.UsedAtOnce place consumer.node consumer.rpdo kind) else None
+
+-- the transmission type of an RPDO
+abbrev pub kind_by : ℕ → Option (List Entry) → Option ℕ
+kind_by rpdo None = None
+kind_by rpdo (Some dict) = natural_at dict (0x13FF + rpdo) 2
+
+abbrev pub at_once_warning : Net → ℕ → Consumer → Option Warning
+at_once_warning net place consumer = at_once_by place consumer (kind_by consumer.rpdo (dictionary_in net consumer.node))
+
+abbrev pub of_consumers : Net → ℕ → List Consumer → List Warning
+of_consumers net place [] = []
+of_consumers net place (consumer ∷ consumers) = option_to_list (at_once_warning net place consumer) ++ of_consumers net place consumers
+
+-- a PDO by SYNC has no period
+abbrev pub of_receivers : Net → ℕ → PdoRow → List Warning
+of_receivers net place row = if row.period == 0 then of_consumers net place row.consumers else []
+
 -- the rows of PDOs, from a record on
 abbrev pub of_rows : Net → ℕ → List PdoRow → List Warning
 of_rows net place [] = []
-of_rows net place (row ∷ rows) = of_row place row (dictionary_in net row.node) ++ of_rows net (place + 1) rows
+of_rows net place (row ∷ rows) = of_row place row (dictionary_in net row.node) ++ of_receivers net place row ++ of_rows net (place + 1) rows
 
 abbrev pub of_devices : Net → List FrameRow → List DeviceRow → List Warning
 of_devices net frames [] = []
 of_devices net frames (row ∷ rows) = of_device_by frames row.node (dictionary_in net row.node) ++ of_devices net frames rows
 
+-- the device of a row makes SYNC, and is not of this node
+abbrev pub makes_sync_by : Option (List Entry) → Bool
+makes_sync_by None = false
+makes_sync_by (Some dict) = option_map_or (λ cob_id. cob_id / 1073741824 % 2 == 1) (word_at dict 0x1005 0) false
+
+abbrev pub is_other_maker : Net → ℕ → DeviceRow → Bool
+is_other_maker net node row = not (row.node == node) && makes_sync_by (dictionary_in net row.node)
+
+-- the first node that makes SYNC, other than this one; 0 is no node
+abbrev pub other_maker : Net → ℕ → List DeviceRow → Option ℕ
+other_maker net node rows = option_map (λ row. row.node) (find (is_other_maker net node) rows)
+
+-- of the devices that make SYNC: there are two, and one alone may (CiA 301, "Synchronization object")
+abbrev pub makers_by : Net → List DeviceRow → Option ℕ → Option Warning
+makers_by net rows None = None
+makers_by net rows (Some first) = option_map (warnings.BothMakeSync first) (other_maker net first rows)
+
+abbrev pub makers_warning : Net → List DeviceRow → Option Warning
+makers_warning net rows = makers_by net rows (other_maker net 0 rows)
+
 -- all of a network, by the frames of its table of nodes
 unfoldable pub warnings_of : List FrameRow → Net → List Warning
-warnings_of frames net = of_rows net 1 net.rows ++ of_devices net frames net.nodes.devices
+warnings_of frames net = of_rows net 1 net.rows ++ of_devices net frames net.nodes.devices ++ option_to_list (makers_warning net net.nodes.devices)
 
--- ---- their numbers: of EMCY 88, of SYNC 89
+-- ---- their numbers: of EMCY 88, of SYNC 89, of limits 118
 
 abbrev pub number_of_kind : FrameKind → Option ℕ
 number_of_kind kind = if rank_of kind == rank_of kinds.Emcy then Some 88 else None
@@ -190,5 +256,8 @@ number_of (warnings.InhibitTime place units) = Some 87
 number_of (warnings.NoRow node kind) = number_of_kind kind
 number_of (warnings.OtherIdentifier node index sub cob_id) = number_of_index index
 number_of (warnings.MakesSync node) = Some 89
+number_of (warnings.BothMakeSync first second) = Some 89
+number_of (warnings.TakesNothing node index sub) = Some 118
+number_of (warnings.UsedAtOnce place node rpdo kind) = None
 number_of (warnings.MakesTime node) = None
 number_of (warnings.SyncPeriod node micros) = None

@@ -3,6 +3,7 @@
 ghost use Rattle.std.specs.Prelude.{◌≡◌, ◌+◌, ◌++◌, OnOk};
 ghost use Rattle.cop_warn.specs.Warnings.{is_row, has_row, no_row, emcy_warning, request_warning, response_warning, heartbeat_warning, other_identifier, sync_warning, time_warning, sync_period, period_warning, of_clocks, of_frames, of_identifiers, of_device};
 
+use crate::limits::limits_warning;
 use crate::numbers::{natural_at, word_at};
 use crate::rows::push_some;
 use crate::warning::Warning;
@@ -211,5 +212,6 @@ pub(crate) fn push_device(
 {
     push_frames(found, frames, node, dict)?;
     push_identifiers(found, node, dict)?;
-    push_clocks(found, frames, node, dict)
+    push_clocks(found, frames, node, dict)?;
+    push_some(found, limits_warning(node, dict))
 }

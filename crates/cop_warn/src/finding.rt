@@ -1,10 +1,13 @@
 //! The warnings of a network.
 
 ghost use Rattle.std.specs.Prelude.{◌≡◌, ◌≤◌, ◌+◌, ◌++◌, [], All, OnOk, IfOk, length};
+ghost use Rattle.cop_rows.specs.Pdos.{IsPdoRow};
 ghost use Rattle.cop_warn.specs.Warnings.{of_rows, of_devices, warnings_of};
 
 use crate::devices::push_device;
-use crate::rows::push_row;
+use crate::makers::makers_warning;
+use crate::receivers::push_receivers;
+use crate::rows::{push_row, push_some};
 use crate::warning::Warning;
 use cop_net::{DeviceRow, FrameRow, Network, NodeTable, PdoRow};
 use std::alloc::{AllocError, Global};
@@ -16,7 +19,7 @@ fn push_rows(
     place: u64,
     rows: &[PdoRow],
 ) -> Result<(), AllocError>
-    requires rows { All (λ row. row.tpdo ≤ 512) rows.now }
+    requires rows { All IsPdoRow rows.now }
     requires count { place + length rows.now ≤ 4294967295 }
     ensures { OnOk result (found.new.items ≡ found.old.items ++ of_rows network.now place rows.now) }
 {
@@ -24,6 +27,7 @@ fn push_rows(
         [] => Ok(()),
         [row, rest @ ..] => {
             push_row(found, place, row, network.dictionary(row.node))?;
+            push_receivers(found, network, place, row)?;
             push_rows(found, network, place + 1, rest)
         }
     }
@@ -52,14 +56,14 @@ fn push_devices(
 /// The rows of the PDOs of a network.
 fn rows_of<'b>(network: &'b Network<'_>) -> &'b [PdoRow]
     ensures rows { result.now ≡ network.now.rows }
-    ensures each { All (λ row. row.tpdo ≤ 512) result.now }
+    ensures each { All IsPdoRow result.now }
     ensures count { length result.now ≤ 512 }
 {
     network.rows()
 }
 
 /// What is worth a look before one relies on a plan of a network, by the frames of its table of nodes: first of the PDOs by record,
-/// and then of the devices in the order of their rows. `Err` is want of memory.
+/// then of the devices in the order of their rows, and last of two that make SYNC. `Err` is want of memory.
 #[tactic(auto, unfolding(crate::specs::Warnings::warnings_of))]
 pub fn warnings_of(
     alloc: Global,
@@ -71,5 +75,6 @@ pub fn warnings_of(
     let mut found = Vec::new(alloc);
     push_rows(&mut found, network, 1, rows_of(network))?;
     push_devices(&mut found, network, nodes.frames(), network.devices())?;
+    push_some(&mut found, makers_warning(network, network.devices()))?;
     Ok(found)
 }

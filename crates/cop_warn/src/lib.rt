@@ -3,7 +3,10 @@
 
 mod devices;
 mod finding;
+mod limits;
+mod makers;
 mod numbers;
+mod receivers;
 mod rows;
 mod warning;
 

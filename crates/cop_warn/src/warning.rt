@@ -24,6 +24,14 @@ pub enum Warning {
         place: u64,
         units: u64,
     },
+    /// The PDO of this record is sent by SYNC, and this RPDO, which takes it, has the transmission type 254 or 255 (1400h sub 2 and on): the
+    /// device uses the values at once, and not by the next SYNC.
+    UsedAtOnce {
+        place: u64,
+        node: u8,
+        rpdo: u16,
+        kind: u64,
+    },
     /// The node's device sends frames of this kind, and the table of nodes has no row for them.
     NoRow {
         node: u8,
@@ -40,6 +48,17 @@ pub enum Warning {
     MakesSync {
         node: u8,
     },
+    /// The object at this index and sub of the node's device, on which a plan counts, has a low limit above its high limit: it takes no value.
+    TakesNothing {
+        node: u8,
+        index: u16,
+        sub: u8,
+    },
+    /// The devices of both nodes make SYNC (bit 30 of 1005h): those of the first two rows that do.
+    BothMakeSync {
+        first: u8,
+        second: u8,
+    },
     /// The node's device sends TIME (bit 30 of 1012h), which goes before all PDOs and has no row.
     MakesTime {
         node: u8,
@@ -52,7 +71,7 @@ pub enum Warning {
 }
 
 impl Warning {
-    /// Its number: 86 of an event timer, 87 of an inhibit time, 88 of EMCY, 89 of SYNC. Others have none.
+    /// Its number: 86 of an event timer, 87 of an inhibit time, 88 of EMCY, 89 of SYNC, 118 of limits. Others have none.
     pub fn number(self) -> Option<u8>
         ensures { result ≡ number_of self }
     {
@@ -64,8 +83,12 @@ impl Warning {
                 ..
             } => Some(88),
             Warning::OtherIdentifier { index: 0x1014, .. } => Some(88),
-            Warning::OtherIdentifier { index: 0x1005, .. } | Warning::MakesSync { .. } => Some(89),
+            Warning::OtherIdentifier { index: 0x1005, .. }
+            | Warning::MakesSync { .. }
+            | Warning::BothMakeSync { .. } => Some(89),
+            Warning::TakesNothing { .. } => Some(118),
             Warning::DeadlineWithinJitter { .. }
+            | Warning::UsedAtOnce { .. }
             | Warning::NoRow { .. }
             | Warning::OtherIdentifier { .. }
             | Warning::MakesTime { .. }

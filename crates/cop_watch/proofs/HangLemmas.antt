@@ -57,7 +57,7 @@ module _ (tau : ℕ) (streams : List Stream) (now later : ℕ) (steps ahead more
     newest-after (Sync s) h = record { number = count-after ∙ h.number; first = anchor-after s.event ∙ h.first; later = λ e l. anchor-after e ∙ h.later e l }
 
     pub syncs-after : (syncs : Syncs) → AreKnown syncs (steps ++ ahead) (length steps) → AreKnown syncs ((steps ++ x ∷ []) ++ more) (length (steps ++ x ∷ []))
-    syncs-after syncs h = record { newest = newest-after syncs.newest h.newest; recent = λ s on. anchor-after s.event ∙ h.recent s on }
+    syncs-after syncs h = record { newest = newest-after syncs.newest h.newest; recent = λ s on. anchor-after s.event ∙ h.recent s on; none = λ v no. anchor-after v ∙ h.none v no }
 
     pub hang-after : (v mark : ℕ) → HangsOn (sync_anchor (steps ++ ahead) (length steps) v) mark → HangsOn (sync_anchor ((steps ++ x ∷ []) ++ more) (length (steps ++ x ∷ [])) v) mark
     hang-after v mark h = subst (λ o. HangsOn o mark) (sym (anchor-after v)) h
@@ -140,6 +140,11 @@ module _ (tau : ℕ) (streams : List Stream) (now : ℕ) (steps : List Step) (at
 
     anchor-is : (v : ℕ) → sync_anchor ((steps ++ e ∷ []) ++ []) (length (steps ++ e ∷ [])) v ≡ or_next (sync_anchor (steps ++ []) (length steps) v) (anchor_if v a (Some (ended event at)))
     anchor-is v = anchor-next v ∙ ap (λ y. or_next (sync_anchor (steps ++ []) (length steps) v) (anchor_if v a y)) number-is
+
+    -- no SYNC with another event comes
+    pub anchor-other : (v : ℕ) → (event ≡ v → ⊥) → sync_anchor (steps ++ []) (length steps) v ≡ None → sync_anchor ((steps ++ e ∷ []) ++ []) (length (steps ++ e ∷ [])) v ≡ None
+    anchor-other v other none =
+        anchor-is v ∙ ap (λ o. or_next o (anchor_if v a (Some (ended event at)))) none ∙ ap (λ b. cond b (Some (record { mark = a; from = at })) None) (ne_eqb event v other)
 
     sync-next : ((v : ℕ) → event ≤ v → sync_anchor (steps ++ []) (length steps) v ≡ None) → IsSync ((steps ++ e ∷ []) ++ []) (length (steps ++ e ∷ [])) event a at
     sync-next none = record {

@@ -4,6 +4,8 @@ pub mod UnendedLemmas
 pub mod SyncLemmas
 pub mod HangLemmas
 pub mod Taken
+pub mod BrokenLemmas
+pub mod BreakLemmas
 pub mod Finished
 pub mod TextLemmas
 pub mod LineLemmas

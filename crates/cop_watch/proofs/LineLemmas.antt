@@ -24,7 +24,7 @@ use Rattle.cop_rta.specs.declared.streams.Stream.{Stream}
 use Rattle.cop_watch.specs.declared.watching.Watch.{Watch}
 use Rattle.cop_watch.specs.declared.reading.Stage.{Stage}
 use Rattle.cop_watch.specs.declared.reading.Stage.TheVariants.{Steps}
-use Rattle.cop_watch.specs.Watching.{HasTaken}
+use Rattle.cop_watch.specs.Found.{Follows}
 use Rattle.cop_watch.specs.Reading.{IsRead, TakesLine}
 
 -- ---- fields
@@ -228,7 +228,7 @@ end_is_line text left at id m =
 -- ---- a step's line that is taken off a text
 
 pub step_is_taken : (rest left : List ℕ) (step : Step) (w w' : Watch) (line : List ℕ) (stage : Stage) → IsStepLine rest step left → line ≡ [] → stage ≡ Steps
-    → ((tau : ℕ) (streams : List Stream) (steps : List Step) → HasTaken tau streams steps w → HasTaken tau streams (steps ++ step ∷ []) w') → TakesLine rest left w line stage w' line stage
+    → ((tau : ℕ) (streams : List Stream) (steps : List Step) → Follows tau streams steps w → Follows tau streams (steps ++ step ∷ []) w') → TakesLine rest left w line stage w' line stage
 step_is_taken rest left step w w' line stage s none at_steps takes =
     let first = s.line ++ line_feed ∷ [] in
     let divided : first ++ left ≡ rest = append_assoc s.line (line_feed ∷ []) left ∙ s.divided in

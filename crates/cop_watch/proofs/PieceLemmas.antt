@@ -3,8 +3,9 @@ use Rattle.std.proofs.Common.{ℕ, List, [], ◌++◌, Option, Some, None, IfSom
 use Rattle.std.specs.Io.KnownBytes.{Consumes, IsAtEnd}
 use Rattle.std.proofs.KnownBytes.{Consumes-trans, Consumes-all}
 use Rattle.cop_rta.specs.declared.streams.Stream.{Stream}
+use Rattle.cop_watch.specs.declared.found.Seen.{Seen}
 use Rattle.cop_watch.specs.declared.reading.TraceWatch.{TraceWatch}
-use Rattle.cop_watch.specs.Reading.{HasRead, IsLawful}
+use Rattle.cop_watch.specs.Reading.{HasRead, Shows}
 use Rattle.cop_table.specs.Pieces.{HoldsOfAll}
 use Rattle.cop_watch.specs.Pieces.{Feeds}
 
@@ -18,11 +19,11 @@ feeds_more left mid rest a b c piece fed given read = record {
       subst (λ (xs : List ℕ). HasRead tau streams xs c) (append_assoc text fed.bytes piece) (read tau streams (text ++ fed.bytes) (fed.read tau streams text h));
 }
 
--- what is told of what was read is told of all that the reader had
-pub lawful_of_all : (left rest : Option (List ℕ)) (a b : TraceWatch) (r : Option ℕ) (tau : ℕ) (streams : List Stream) → Feeds left rest a b → IsAtEnd rest → HasRead tau streams [] a
-    → ((text : List ℕ) → HasRead tau streams text b → IfSome r (IsLawful tau streams text)) → IfSome r (λ sent. HoldsOfAll left (λ trace. IsLawful tau streams trace sent))
-lawful_of_all left rest a b None tau streams fed end begun told = tt
-lawful_of_all left rest a b (Some sent) tau streams fed end begun told = record {
+-- what is seen of what was read is seen of all that the reader had
+pub seen_of_all : (left rest : Option (List ℕ)) (a b : TraceWatch) (r : Option Seen) (tau : ℕ) (streams : List Stream) → Feeds left rest a b → IsAtEnd rest → HasRead tau streams [] a
+    → ((text : List ℕ) → HasRead tau streams text b → IfSome r (Shows tau streams text)) → IfSome r (λ seen. HoldsOfAll left (λ trace. Shows tau streams trace seen))
+seen_of_all left rest a b None tau streams fed end begun told = tt
+seen_of_all left rest a b (Some seen) tau streams fed end begun told = record {
   bytes = fed.bytes;
   all = Consumes-all left rest fed.bytes [] fed.bytes fed.given end refl;
   holds = told fed.bytes (fed.read tau streams [] begun);

@@ -1,5 +1,5 @@
 -- A step that is taken: what is known after it.
-use Rattle.std.proofs.Common.{◌≡◌, ◌≢◌, ℕ, ◌+◌, ◌-◌, ◌*◌, ◌≤◌, ◌<◌, ◌⊎◌, inl, inr, List, [], ◌∷◌, ◌++◌, length, refl, sym, ◌∙◌, ap, subst, arith, suc, zero, true, false, cond, not, ◌&&◌, ◌==◌, nat_lt, nat_le, get_or, get_or-set_same, get_or-set_other, length-append}
+use Rattle.std.proofs.Common.{◌≡◌, ◌≢◌, ℕ, ◌+◌, ◌-◌, ◌*◌, ◌≤◌, ◌<◌, inl, inr, List, [], ◌∷◌, ◌++◌, length, refl, sym, ◌∙◌, ap, subst, arith, suc, zero, true, false, cond, not, ◌&&◌, ◌==◌, nat_lt, nat_le, get_or, get_or-set_same, get_or-set_other, length-append}
 use Rattle.std.specs.Prelude.{Option, None, Some, is_some, slice_index, slice_set}
 use Rattle.std.specs.BTreeSet.{BTreeSet, contains}
 use Rattle.std.specs.Ordering.{nat_cmp}
@@ -28,12 +28,12 @@ use Rattle.cop_watch.specs.declared.syncs.Syncs.{Syncs}
 use Rattle.cop_watch.specs.declared.syncs.EndedSync.{EndedSync}
 use Rattle.cop_watch.specs.declared.syncs.Newest.{Newest}
 use Rattle.cop_watch.specs.declared.syncs.Newest.TheVariants.{Nothing, Sync}
-use Rattle.cop_watch.specs.Syncs.{Recalls, IsAmong, MayCome, HangsOn, IsSync, IsBehind, IsNewest, AreKnown, EndsLast, EndsFirst, events_with}
+use Rattle.cop_watch.specs.Syncs.{IsAmong, IsForgotten, IsNoSync, MayCome, HangsOn, IsSync, IsBehind, IsNewest, AreKnown, EndsLast, EndsFirst, events_with}
 use Rattle.cop_watch.specs.Rings.{ring_of, Waits, Leaves, Stays, ArePassed}
 use Rattle.cop_watch.specs.Knowing.{queues, starts, sent, is_a_start, IsQueued, IsHeld, IsJoiner, AreUnended, Awaits, runs_of, joins}
 use Rattle.cop_watch.specs.Watching.{Knows, IsOpen}
 use Rattle.cop_watch.proofs.Further.{FindsTheSame, finds-more, finds-between, fine-one, running-kept, running-one, keeps-none, order-more, idle-more, runs-idle, start-period, end-period, start-time, end-time, start-length, end-length, count-kept, count-raised, order-is, after-le, now-one, idle-is}
-use Rattle.cop_watch.proofs.HangLemmas.{syncs-after, recent-next, hang-after, period-sync, time-sync, hang-next, newest-next}
+use Rattle.cop_watch.proofs.HangLemmas.{syncs-after, recent-next, anchor-other, hang-after, period-sync, time-sync, hang-next, newest-next}
 use Rattle.cop_watch.proofs.SyncLemmas.{among}
 use Rattle.cop_watch.proofs.UnendedLemmas.{unended-other, unended-queued, unended-first, unended-ended}
 use Rattle.cop_watch.proofs.HeldLemmas.{waits-is, held-other, held-started, held-joiner, held-joined, held-queued}
@@ -626,10 +626,23 @@ module _ (tau : ℕ) (streams : List Stream) (steps : List Step) (bus : Bus) (no
     ended-sync events' syncs' w =
         let newest = ends-so w.event events' w.first syncs'.newest w.ends.newest in
         ended sync_id at sends order is_known syncs' events' (unended-ended steps at w.event events' (subst (AreUnended steps) w.first h.unended))
-        (record { newest = newest; recent = λ s on. recalled s (w.ends.recent s on) newest })
+        (record { newest = newest; recent = λ s on. recalled s (w.ends.recent s on); none = none-has })
         (hang-next tau streams now steps at (h.fine [] none-awaited-sync))
       where
-        recalled : (s : EndedSync) → Recalls syncs s ⊎ (syncs'.newest ≡ Sync s) → IsNewest syncs'.newest ((steps ++ End sync_id at ∷ []) ++ []) (length (steps ++ End sync_id at ∷ []))
-            → sync_anchor ((steps ++ End sync_id at ∷ []) ++ []) (length (steps ++ End sync_id at ∷ [])) s.event ≡ Some (record { mark = s.mark; from = s.from })
-        recalled s (inl on) newest = recent-next tau streams now steps at (h.fine [] none-awaited-sync) s.event s.mark s.from ((h.hangs [] none-awaited-sync).recent s on)
-        recalled s (inr is) newest = (subst (λ n. IsNewest n ((steps ++ End sync_id at ∷ []) ++ []) (length (steps ++ End sync_id at ∷ []))) is newest).first
+        recalled : (s : EndedSync) → IsAmong syncs s → sync_anchor ((steps ++ End sync_id at ∷ []) ++ []) (length (steps ++ End sync_id at ∷ [])) s.event ≡ Some (record { mark = s.mark; from = s.from })
+        recalled s on = recent-next tau streams now steps at (h.fine [] none-awaited-sync) s.event s.mark s.from (among (steps ++ []) (length steps) syncs s (h.hangs [] none-awaited-sync) on)
+
+        none-before : (v : ℕ) → IsNoSync syncs' v → IsNoSync syncs v
+        none-before v lacks = record {
+          recalled = λ s on same. elim (w.ends.kept s on) [ inl there ↦ lacks.recalled s there same | inr gone ↦ lacks.later (subst (IsForgotten syncs'.forgotten) same gone) ];
+          later = λ gone. lacks.later (w.ends.forgotten v gone);
+        }
+
+        other : (v : ℕ) → IsNoSync syncs' v → (newest' : Newest) → syncs'.newest ≡ newest' → EndsLast w.event syncs.newest at newest' → w.event ≡ v → ⊥
+        other v lacks Nothing is last same = absurd last
+        other v lacks (Sync s) is last same = lacks.recalled s (inl is) (last.0 ∙ same)
+
+        none-has : (v : ℕ) → IsNoSync syncs' v → sync_anchor ((steps ++ End sync_id at ∷ []) ++ []) (length (steps ++ End sync_id at ∷ [])) v ≡ None
+        none-has v lacks =
+            anchor-other tau streams now steps at (h.fine [] none-awaited-sync) w.event (unended-first steps w.event events' (subst (AreUnended steps) w.first h.unended)) v (other v lacks syncs'.newest refl w.ends.newest)
+            ((h.hangs [] none-awaited-sync).none v (none-before v lacks))

@@ -1,5 +1,5 @@
 -- The text of a trace, line by line and record by record.
-use Rattle.std.proofs.Common.{◌≡◌, ℕ, suc, ◌+◌, ◌<◌, ◌≤◌, Bool, true, false, cond, List, [], ◌∷◌, ◌++◌, length, take, drop, ◌-◌, length-drop, All, Result, Ok, refl, sym, ap, ◌∙◌, arith, append_assoc, append-nil, true≢false, None}
+use Rattle.std.proofs.Common.{◌≡◌, ℕ, suc, ◌+◌, ◌<◌, ◌≤◌, Bool, true, false, cond, List, [], ◌∷◌, ◌++◌, length, take, drop, ◌-◌, length-drop, All, Option, Some, IfSome, Result, Ok, refl, sym, ap, subst, ◌∙◌, arith, append_assoc, append-nil, true≢false, None}
 use Rattle.std.specs.Prelude.{Err, OnOk, is_err}
 use Rattle.std.proofs.lemmas.List.{take_all}
 use Rattle.std.proofs.lemmas.List.Elements.{All-head}
@@ -14,14 +14,16 @@ use Rattle.cop_bus.specs.declared.entries.Entry.TheVariants.{Taken, Until}
 use Rattle.cop_bus.specs.Format.{Fields}
 use Rattle.cop_bus.specs.Entries.{entry_in}
 use Rattle.cop_bus.specs.Reading.{trace_from, trace_of}
-use Rattle.cop_bus.specs.Judge.{first_broken}
 use Rattle.cop_bus.proofs.TraceLemmas.{goes_on, stops}
 use Rattle.cop_watch.specs.declared.watching.Watch.{Watch}
 use Rattle.cop_watch.specs.declared.reading.Stage.{Stage}
 use Rattle.cop_watch.specs.declared.reading.Stage.TheVariants.{Ended}
-use Rattle.cop_watch.specs.Knowing.{sent}
-use Rattle.cop_watch.specs.Watching.{HasTaken}
-use Rattle.cop_watch.specs.Reading.{trace_in, AreSteps, AreAll, IsAt, IsRead, TakesLine, IsLawful, is_mark_byte}
+use Rattle.cop_watch.specs.declared.found.Found.{Found}
+use Rattle.cop_watch.specs.declared.found.Found.TheVariants as found
+use Rattle.cop_watch.specs.declared.found.Seen.{Seen}
+use Rattle.cop_watch.specs.declared.found.Seen.TheVariants as seen
+use Rattle.cop_watch.specs.Found.{Follows, FollowsBy, Finds, Decides}
+use Rattle.cop_watch.specs.Reading.{trace_in, AreSteps, AreAll, IsAt, IsRead, TakesLine, Shows, is_mark_byte}
 
 -- some piece comes first
 first_piece : (text : List ℕ) → (piece : List ℕ) × (more : List (List ℕ)) × (pieces is_line_end text ≡ piece ∷ more)
@@ -110,7 +112,7 @@ trace-of-text text plain unmarked = ap trace_in (plain_lines text plain ∙ ap (
 -- ---- records
 
 pub at-step : (tau : ℕ) (streams : List Stream) (rows : List Fields) (row : Fields) (step : Step) (w w' : Watch) → entry_in row ≡ Ok (Taken step) →
-    ((steps : List Step) → HasTaken tau streams steps w → HasTaken tau streams (steps ++ step ∷ []) w') → AreSteps tau streams rows w → AreSteps tau streams (rows ++ row ∷ []) w'
+    ((steps : List Step) → Follows tau streams steps w → Follows tau streams (steps ++ step ∷ []) w') → AreSteps tau streams rows w → AreSteps tau streams (rows ++ row ∷ []) w'
 at-step tau streams rows row step w w' e takes a = record {
   steps = a.steps ++ step ∷ [];
   place = a.place + 1;
@@ -171,20 +173,32 @@ line-taken rest line len w w' line' stage stage' e within not_all read =
       read = λ tau streams text r. read tau streams text d.0 d.1 r;
     }
 
+-- a text whose records are those of a trace that was taken to its end
+shown-all : (tau : ℕ) (streams : List Stream) (text : List ℕ) (rows : List Fields) (until : ℕ) (answer : Option Seen) (w : Watch) → All (λ c. is_quote c ≡ false) text → All (λ c. is_mark_byte c ≡ false) text →
+    ((steps : List Step) → Follows tau streams steps w → IfSome answer (Decides tau streams until steps)) → cut_lines (pieces is_line_end text) ≡ rows → AreAll tau streams rows until w → IfSome answer (Shows tau streams text)
+shown-all tau streams text rows until answer w plain unmarked finishes cut a = go answer (finishes a.steps a.taken)
+  where
+    told : trace_of text ≡ Ok (record { until = until; steps = a.steps })
+    told = trace-of-text text plain unmarked ∙ ap trace_in cut ∙ a.all
+
+    go : (o : Option Seen) → IfSome o (Decides tau streams until a.steps) → IfSome o (Shows tau streams text)
+    go None h = tt
+    go (Some (seen.Lawful count)) h = record { told = record { until = until; steps = a.steps }; is = told; clean = h.0; sent_is = h.1 }
+    go (Some (seen.Broken step rule)) h = record { told = record { until = until; steps = a.steps }; is = told; broken = h }
+
 -- the end of a text, of which nothing is left but a line's end that it may do without
-pub lawful : (tau : ℕ) (streams : List Stream) (text : List ℕ) (c until count : ℕ) (w : Watch) → All (λ c. is_quote c ≡ false) text → All (λ c. is_mark_byte c ≡ false) text → is_line_end c ≡ true →
-    ((steps : List Step) → HasTaken tau streams steps w → (first_broken tau streams until steps ≡ None) × (count ≡ sent steps)) → IsRead tau streams (text ++ c ∷ []) w [] (Ended until) → IsLawful tau streams text count
-lawful tau streams text c until count w plain unmarked e finishes r =
-    let a : AreAll tau streams r.rows until w = r.at in
+pub shown : (tau : ℕ) (streams : List Stream) (text : List ℕ) (c until : ℕ) (answer : Option Seen) (w : Watch) → All (λ c. is_quote c ≡ false) text → All (λ c. is_mark_byte c ≡ false) text → is_line_end c ≡ true →
+    ((steps : List Step) → Follows tau streams steps w → IfSome answer (Decides tau streams until steps)) → IsRead tau streams (text ++ c ∷ []) w [] (Ended until) → IfSome answer (Shows tau streams text)
+shown tau streams text c until answer w plain unmarked e finishes r =
     let rows : cut_lines (pieces is_line_end text) ≡ r.rows =
     sym (end-behind text c e) ∙ ap (λ (xs : List ℕ). cut_lines (pieces is_line_end xs)) (sym (append-nil (text ++ c ∷ []))) ∙ r.all [] ∙ append-nil r.rows in
-    let ends = finishes a.steps a.taken in
-    record {
-      told = record { until = until; steps = a.steps };
-      is = trace-of-text text plain unmarked ∙ ap trace_in rows ∙ a.all;
-      clean = ends.0;
-      sent_is = ends.1;
-    }
+    shown-all tau streams text r.rows until answer w plain unmarked finishes rows r.at
+
+-- a step that was found goes on with the steps
+pub goes-on-with : (tau : ℕ) (streams : List Stream) (steps : List Step) (f : Found) (w : Watch) → (f ≡ found.Unknown → ⊥) → Finds tau streams steps f w → Follows tau streams steps w
+goes-on-with tau streams steps found.Taken w known h = subst (λ o. FollowsBy o tau streams steps w) (sym h.1) h.0
+goes-on-with tau streams steps (found.Broken b) w known h = subst (λ o. FollowsBy o tau streams steps w) (sym h.1) h.0
+goes-on-with tau streams steps found.Unknown w known h = absurd (known refl)
 
 pub none-is : (xs : List ℕ) → length xs ≡ 0 → xs ≡ []
 none-is [] e = refl

@@ -3,6 +3,8 @@ pub mod Rules
 pub mod Syncs
 pub mod Knowing
 pub mod Watching
+pub mod Breaking
+pub mod Found
 pub mod Reading
 pub mod Lines
 pub mod Pieces

@@ -1,5 +1,5 @@
 -- The text of a trace, as far as it was read.
-use Rattle.std.specs.Prelude.{◌≡◌, ℕ, ◌<◌, List, [], ◌++◌, Bool, false, All, None, Result, Ok, length, ◌==◌}
+use Rattle.std.specs.Prelude.{◌≡◌, ℕ, ◌<◌, List, [], ◌++◌, Bool, false, All, None, Some, Result, Ok, length, ◌==◌}
 use Rattle.cop_rta.specs.declared.streams.Stream.{Stream}
 use Rattle.cop_table.specs.Reading.{◌>>=◌}
 use Rattle.cop_table.specs.Records.{rest_under}
@@ -14,7 +14,9 @@ use Rattle.cop_watch.specs.declared.reading.Stage.{Stage}
 use Rattle.cop_watch.specs.declared.reading.Stage.TheVariants.{Header, Steps, Ended}
 use Rattle.cop_watch.specs.declared.reading.TraceWatch.{TraceWatch}
 use Rattle.cop_watch.specs.Knowing.{sent}
-use Rattle.cop_watch.specs.Watching.{HasTaken}
+use Rattle.cop_watch.specs.declared.found.Seen.{Seen}
+use Rattle.cop_watch.specs.declared.found.Seen.TheVariants as seen
+use Rattle.cop_watch.specs.Found.{Follows}
 
 -- the first byte of a byte order mark
 abbrev pub is_mark_byte : ℕ → Bool
@@ -28,17 +30,17 @@ trace_in rows = at_header (rest_under header rows) >>= trace_from 0 []
 pub record AreSteps (tau : ℕ) (streams : List Stream) (rows : List Fields) (w : Watch) : Type 0 where
   pub steps : List Step
   pub place : ℕ
-  pub taken : HasTaken tau streams steps w
+  pub taken : Follows tau streams steps w
   pub goes_on : (more : List Fields) → trace_in (rows ++ more) ≡ trace_from place steps more
 
 -- after the record of the end
 pub record AreAll (tau : ℕ) (streams : List Stream) (rows : List Fields) (until : ℕ) (w : Watch) : Type 0 where
   pub steps : List Step
-  pub taken : HasTaken tau streams steps w
+  pub taken : Follows tau streams steps w
   pub all : trace_in rows ≡ Ok (record { until = until; steps = steps })
 
 abbrev pub IsAt : ℕ → List Stream → List Fields → Watch → Stage → Type 0
-IsAt tau streams rows w Header = (rows ≡ []) × HasTaken tau streams [] w
+IsAt tau streams rows w Header = (rows ≡ []) × Follows tau streams [] w
 IsAt tau streams rows w Steps = AreSteps tau streams rows w
 IsAt tau streams rows w (Ended until) = AreAll tau streams rows until w
 
@@ -67,3 +69,14 @@ pub record IsLawful (tau : ℕ) (streams : List Stream) (text : List ℕ) (count
   pub is : trace_of text ≡ Ok told
   pub clean : first_broken tau streams told.until told.steps ≡ None
   pub sent_is : count ≡ sent told.steps
+
+-- the text is that of a trace whose first step that breaks a rule is this, and the least rule that it breaks
+pub record IsUnlawful (tau : ℕ) (streams : List Stream) (text : List ℕ) (step rule : ℕ) : Type 0 where
+  pub told : Told
+  pub is : trace_of text ≡ Ok told
+  pub broken : first_broken tau streams told.until told.steps ≡ Some (step, rule)
+
+-- what is seen of the trace of a text
+abbrev pub Shows : ℕ → List Stream → List ℕ → Seen → Type 0
+Shows tau streams text (seen.Lawful sent) = IsLawful tau streams text sent
+Shows tau streams text (seen.Broken step rule) = IsUnlawful tau streams text step rule

@@ -41,6 +41,7 @@ pub record Knows (tau : ℕ) (streams : List Stream) (steps : List Step) (bus : 
 pub record HasTaken (tau : ℕ) (streams : List Stream) (steps : List Step) (w : Watch) : Type 0 where
   pub ticks : w.ticks ≡ tau
   pub set : w.streams.now ≡ streams
+  pub numbered : w.taken ≡ length steps
   pub knows : Knows tau streams steps w.bus w.at w.rank w.last.items w.marks.items w.syncs w.events.items w.rings.items w.waiting w.sent
 
 -- a queue step may come at a moment, by what the bus does and what waits

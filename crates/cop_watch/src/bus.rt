@@ -2,6 +2,7 @@
 
 ghost use Rattle.std.specs.Prelude.{◌≡◌, ◌+◌, ◌*◌, true, false, IfSome, IfNone};
 ghost use Rattle.cop_watch.specs.Knowing.{joins};
+ghost use Rattle.cop_watch.specs.Breaking.{IsAlone};
 
 /// The transfer that runs, if one does. Moments are in ticks.
 #[derive(Clone, Copy)]
@@ -25,7 +26,8 @@ pub(crate) fn sending(id: u16, start: u64, bits: u32, ticks: u32) -> Bus
 
 impl Bus {
     pub(crate) fn is_idle(self) -> bool
-        ensures { result ≡ true → self ≡ Bus.Idle }
+        ensures idle { result ≡ true → self ≡ Bus.Idle }
+        ensures busy { result ≡ false → self ≡ Bus.Idle → ⊥ }
     {
         match self {
             Bus::Idle => true,
@@ -33,9 +35,20 @@ impl Bus {
         }
     }
 
+    /// Whether a joiner's queue step is still to come.
+    pub(crate) fn is_joining(self) -> bool
+        ensures { result ≡ false → IsAlone self }
+    {
+        match self {
+            Bus::Joining { .. } => true,
+            Bus::Idle | Bus::Sending { .. } => false,
+        }
+    }
+
     /// Whether a transfer of the stream ends at the moment.
     pub(crate) fn ends(self, id: u16, at: u64) -> bool
-        ensures { result ≡ true → self ≡ Bus.Sending id at }
+        ensures ends { result ≡ true → self ≡ Bus.Sending id at }
+        ensures other { result ≡ false → self ≡ Bus.Sending id at → ⊥ }
     {
         match self {
             Bus::Sending { id: sent, end } => sent == id && end == u128::from(at),

@@ -5,8 +5,9 @@ ghost use Rattle.std.specs.Io.KnownBytes.{IsAtEnd};
 ghost use Rattle.cop_frame.specs.Rate.{ticks_of};
 ghost use Rattle.cop_table.specs.Pieces.{HoldsOfAll};
 ghost use Rattle.cop_watch.specs.Pieces.{Feeds};
-ghost use Rattle.cop_watch.specs.Reading.{IsLawful};
+ghost use Rattle.cop_watch.specs.Reading.{Shows};
 
+use crate::found::Seen;
 use crate::reading::TraceWatch;
 use cop_frame::Rate;
 use cop_rta::StreamSet;
@@ -36,16 +37,15 @@ fn feed_all<R: Read>(watch: &mut TraceWatch<'_>, reader: &mut R, piece: &mut [u8
     false
 }
 
-/// How many instances are sent in the trace that a reader has left, if it breaks no rule. It is read in pieces that are not kept, so
-/// memory does not grow with it. Where the answer is none, nothing is known of it: it is not taken, as [`TraceWatch`] says, or cannot be
-/// read, or memory is wanting.
-pub fn sent_if_lawful<R: Read + Drop>(
+/// What is seen of the trace that a reader has left. It is read in pieces that are not kept, so memory does not grow with it. Where the
+/// answer is none, nothing is known of it: it is not taken, as [`TraceWatch`] says, or cannot be read, or memory is wanting.
+pub fn seen_in_pieces<R: Read + Drop>(
     alloc: Global,
     streams: &StreamSet,
     rate: Rate,
     mut reader: R,
-) -> Option<u64>
-    ensures { IfSome result (λ sent. HoldsOfAll (R.remaining reader) (λ trace. IsLawful (ticks_of rate) streams.now trace sent)) }
+) -> Option<Seen>
+    ensures { IfSome result (λ seen. HoldsOfAll (R.remaining reader) (λ trace. Shows (ticks_of rate) streams.now trace seen)) }
 {
     let Ok(mut watch) = TraceWatch::new(alloc, streams, rate) else {
         return None;

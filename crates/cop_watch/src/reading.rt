@@ -7,8 +7,9 @@ ghost use Rattle.cop_table.specs.Plain.{is_comma, is_line_end, pieces};
 ghost use Rattle.cop_table.specs.Lines.{first_line};
 ghost use Rattle.cop_bus.specs.Format.{Fields};
 ghost use Rattle.cop_watch.specs.declared.reading.Stage.TheVariants.{Steps};
-ghost use Rattle.cop_watch.specs.Reading.{IsAt, IsRead, HasRead, IsLawful, TakesLine, is_mark_byte};
+ghost use Rattle.cop_watch.specs.Reading.{IsAt, IsRead, HasRead, Shows, TakesLine, is_mark_byte};
 
+use crate::found::Seen;
 use crate::lines::step_line;
 use crate::watching::Watch;
 use cop_bus::{Entry, entry_in, is_header};
@@ -66,9 +67,10 @@ impl<'a> TraceWatch<'a> {
         })
     }
 
-    /// Reads the next piece. Where it does not say that it did, nothing is known of the trace, and nothing more is to be read: a rule may
-    /// be broken or a record be none, or there is what is rare in a trace, as a quote, a byte order mark or a very long line, or what
-    /// [`Watch::take`](crate::Watch::take) does not take.
+    /// Reads the next piece. Where it does not say that it did, nothing is known of the trace, and nothing more is to be read. A record
+    /// may be none, or there is what is rare in a trace, as a quote, a byte order mark or a very long line. Or there is what
+    /// [`Watch::take`](crate::Watch::take) does not know. Once a step breaks a rule, the records behind it are read all the same. One that is
+    /// none is told before any rule of a step.
     pub fn feed(&mut self, piece: &[u8]) -> bool
         ensures { result ≡ true → (tau : ℕ) (streams : List Stream) (text : List ℕ)
             → HasRead tau streams text self.old → HasRead tau streams (text ++ piece.now) self.new }
@@ -79,22 +81,15 @@ impl<'a> TraceWatch<'a> {
         self.feed_lines(piece)
     }
 
-    /// At the end of the text: how many instances were sent, if the text is that of a trace that breaks no rule. Where it does not say
-    /// so, nothing is known.
-    pub fn finish(&mut self) -> Option<u64>
-        ensures { (tau : ℕ) (streams : List Stream) (text : List ℕ) → HasRead tau streams text self.old → IfSome result (IsLawful tau streams text) }
+    /// At the end of the text: what is seen of the trace of the text. Where the answer is none, nothing is known of it.
+    pub fn finish(&mut self) -> Option<Seen>
+        ensures { (tau : ℕ) (streams : List Stream) (text : List ℕ) → HasRead tau streams text self.old → IfSome result (Shows tau streams text) }
     {
         if !self.end_line() {
             return None;
         }
         match self.stage {
-            Stage::Ended(until) => {
-                if self.watch.finish(until) {
-                    Some(self.watch.sent())
-                } else {
-                    None
-                }
-            }
+            Stage::Ended(until) => self.watch.finish(until),
             Stage::Header | Stage::Steps => None,
         }
     }
@@ -130,11 +125,8 @@ impl<'a> TraceWatch<'a> {
     {
         if self.is_at_step() {
             if let Some((step, left)) = step_line(rest) {
-                return if self.watch.take(&step) {
-                    Some(left)
-                } else {
-                    None
-                };
+                let is_known = self.watch.take(&step).is_known();
+                return if is_known { Some(left) } else { None };
             }
         }
         self.feed_fields(rest)
@@ -213,7 +205,7 @@ impl<'a> TraceWatch<'a> {
                 is_header(&self.row)
             }
             Stage::Steps => match entry_in(&self.row) {
-                Ok(Entry::Taken(step)) => self.watch.take(&step),
+                Ok(Entry::Taken(step)) => self.watch.take(&step).is_known(),
                 Ok(Entry::Until(until)) => {
                     self.stage = Stage::Ended(until);
                     true

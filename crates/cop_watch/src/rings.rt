@@ -5,6 +5,7 @@ ghost use Rattle.std.specs.Prelude.{ℕ};
 ghost use Rattle.std.specs.BTreeSet.{contains};
 ghost use Rattle.std.specs.Ordering.{nat_cmp};
 ghost use Rattle.cop_watch.specs.Rings.{Waits, Leaves, Stays, ArePassed};
+ghost use Rattle.cop_watch.specs.Breaking.{IsLower};
 
 use std::alloc::Global;
 use std::collections::{BTreeSet, VecDeque};
@@ -98,6 +99,16 @@ pub(crate) fn none_lower(waiting: &BTreeSet<u16>, id: u16) -> bool
 {
     match waiting.first() {
         Some(first) => id <= *first,
+        None => false,
+    }
+}
+
+/// Whether an instance of a stream with a lower identifier waits.
+pub(crate) fn lower_waits(waiting: &BTreeSet<u16>, id: u16) -> bool
+    ensures { result ≡ true → IsLower waiting.now id }
+{
+    match waiting.first() {
+        Some(first) => *first < id,
         None => false,
     }
 }

@@ -1,11 +1,13 @@
 //! The rules of a step that ask neither what runs nor what waits.
 
 ghost use Rattle.std.specs.Prelude.{◌≡◌, ◌+◌, ◌≤◌, ℕ, true, Some, IfSome};
-ghost use Rattle.cop_bus.specs.Judge.{stream_of};
+ghost use Rattle.cop_bus.specs.declared.steps.Step.TheVariants.{Queue};
+ghost use Rattle.cop_bus.specs.Judge.{stream_of, is_of_length};
 ghost use Rattle.cop_watch.specs.Rules.{Obeys, IsOfLength, is_after};
 ghost use Rattle.cop_watch.specs.Syncs.{ObeysSync};
+ghost use Rattle.cop_watch.specs.Breaking.{HangsAt, IsMarkBefore, is_far as is_far_by, is_timely, instance_rule};
 
-use crate::syncs::Syncs;
+use crate::syncs::{EndedSync, Syncs};
 use cop_bus::Content;
 use cop_frame::{least_bits, worst_bits};
 use cop_rta::{Stream, StreamSet};
@@ -27,7 +29,8 @@ fn is_later(period: u64, before: Option<u64>, event: u64) -> bool
 }
 
 fn is_of_length(stream: &Stream, frame: &Content) -> bool
-    ensures { result ≡ true → IsOfLength stream.now frame.now }
+    ensures length { result ≡ true → IsOfLength stream.now frame.now }
+    ensures exact { result ≡ is_of_length (Some stream.now) (Queue 0 0 0 frame.now) }
 {
     least_bits(stream.bytes) <= frame.bits
         && frame.bits <= worst_bits(stream.bytes)
@@ -83,6 +86,96 @@ pub(crate) fn sync_obeyed(
         return Some(sync.mark);
     }
     None
+}
+
+/// What an instance of a stream with an event hangs on: its own event, or the SYNC that has the event, or nothing, if no SYNC has it.
+/// Where the outer answer is none, that SYNC may be one that is recalled no more.
+pub(crate) fn hang_of(stream: &Stream, syncs: &Syncs, event: u64) -> Option<Option<EndedSync>>
+    ensures { IfSome result (HangsAt stream.now syncs.now event) }
+{
+    if stream.every == 0 {
+        return Some(Some(EndedSync {
+            event,
+            mark: event,
+            from: event,
+        }));
+    }
+    match syncs.of_event(event) {
+        Some(sync) => Some(Some(sync)),
+        None => {
+            if syncs.has_none(event) {
+                Some(None)
+            } else {
+                None
+            }
+        }
+    }
+}
+
+/// The mark of what the instance before hangs on, by its event and the number of the SYNC that has it.
+pub(crate) fn mark_before(stream: &Stream, before: Option<u64>, mark: u64) -> Option<u64>
+    ensures { IsMarkBefore stream.now before mark result }
+{
+    match before {
+        Some(event) => {
+            if stream.every == 0 {
+                Some(event)
+            } else {
+                Some(mark)
+            }
+        }
+        None => None,
+    }
+}
+
+fn is_far_by(gap: u64, before: Option<u64>, hang: Option<EndedSync>) -> bool
+    ensures { result ≡ is_far_by gap before hang }
+{
+    match (before, hang) {
+        (Some(before), Some(hang)) => {
+            u128::from(before) + u128::from(gap) <= u128::from(hang.mark)
+        }
+        (None, _) | (_, None) => true,
+    }
+}
+
+fn is_timely(jitter: u64, hang: Option<EndedSync>, at: u64) -> bool
+    ensures { result ≡ is_timely jitter hang at }
+{
+    match hang {
+        Some(hang) => {
+            hang.from <= at && u128::from(at) <= u128::from(hang.from) + u128::from(jitter)
+        }
+        None => false,
+    }
+}
+
+/// The least of rules 62 to 64 that an instance breaks, by what it hangs on and the mark of the one before; if it breaks none, what is
+/// next.
+pub(crate) fn instance_rule(
+    stream: &Stream,
+    before: Option<u64>,
+    hang: Option<EndedSync>,
+    at: u64,
+    frame: &Content,
+    next: Option<u8>,
+) -> Option<u8>
+    ensures { result ≡ instance_rule stream.now before hang at frame.now next }
+{
+    let gap = if stream.every == 0 {
+        stream.period
+    } else {
+        u64::from(stream.every)
+    };
+    if !is_far_by(gap, before, hang) {
+        Some(62)
+    } else if !is_timely(stream.jitter, hang, at) {
+        Some(63)
+    } else if !is_of_length(stream, frame) {
+        Some(64)
+    } else {
+        next
+    }
 }
 
 /// The stream of the set that has the identifier.

@@ -1,7 +1,8 @@
 //! The SYNCs that have ended, on which the instances of synchronous streams hang.
 
-ghost use Rattle.std.specs.Prelude.{◌≡◌, true, IfOk, IfSome};
-ghost use Rattle.cop_watch.specs.Syncs.{EndsLast, AreNone, IsAmong, Puts, EndsOne, EndsFirst, events_with};
+ghost use Rattle.std.specs.Prelude.{◌≡◌, ℕ, true, false, Some, IfOk, IfSome, IfNone, slice_get};
+ghost use Rattle.cop_watch.specs.Syncs.{EndsLast, AreNone, IsAmong, Puts, EndsOne, EndsFirst, IsForgotten, IsNoSync, events_with};
+ghost use Rattle.cop_watch.specs.declared.syncs.EndedSync.{EndedSync as Recalled};
 
 use cop_frame::identifiers::SYNC;
 use std::alloc::{AllocError, Global};
@@ -47,14 +48,47 @@ fn ended(newest: Newest, event: u64, at: u64) -> Option<EndedSync>
     })
 }
 
-/// Puts a SYNC in the place of its number among those that are recalled.
-fn put(recent: &mut Vec<Option<EndedSync>>, sync: EndedSync)
-    ensures { Puts recent.old.items recent.new.items sync }
+/// The latest event that is recalled no more, after another.
+fn forget(forgotten: Option<u64>, event: u64) -> Option<u64>
+    ensures its { IsForgotten result event }
+    ensures others { (v : ℕ) → IsForgotten forgotten v → IsForgotten result v }
+{
+    match forgotten {
+        Some(latest) => Some(latest.max(event)),
+        None => Some(event),
+    }
+}
+
+/// Puts a SYNC in the place of its number among those that are recalled, and gives the latest event that is recalled no more.
+fn put(recent: &mut Vec<Option<EndedSync>>, forgotten: Option<u64>, sync: EndedSync) -> Option<u64>
+    ensures { Puts recent.old.items recent.new.items sync forgotten result }
 {
     let place = (sync.mark % MOST) as usize;
-    if place < recent.len() {
-        recent[place] = Some(sync);
+    if place >= recent.len() {
+        return forget(forgotten, sync.event);
     }
+    let before = recent[place];
+    recent[place] = Some(sync);
+    match before {
+        Some(before) => forget(forgotten, before.event),
+        None => forgotten,
+    }
+}
+
+/// The SYNC with an event among some.
+fn recalled(recent: &[Option<EndedSync>], event: u64) -> Option<EndedSync>
+    ensures its { IfSome result (λ sync. sync.event ≡ event) }
+    ensures there { IfSome result (λ sync. (place : ℕ) × (slice_get recent.now place ≡ Some (Some sync))) }
+    ensures none { IfNone result ((place : ℕ) (s : Recalled) → slice_get recent.now place ≡ Some (Some s) → s.event ≡ event → ⊥) }
+{
+    for kept in recent {
+        if let Some(sync) = kept {
+            if sync.event == event {
+                return Some(*sync);
+            }
+        }
+    }
+    None
 }
 
 /// The SYNCs that have ended, as far as they are known: the last of them, and those that ended last, by their numbers.
@@ -62,6 +96,8 @@ fn put(recent: &mut Vec<Option<EndedSync>>, sync: EndedSync)
 pub(crate) struct Syncs {
     newest: Newest,
     recent: Vec<Option<EndedSync>>,
+    // The latest event of those that are recalled no more.
+    forgotten: Option<u64>,
 }
 
 impl Syncs {
@@ -72,6 +108,7 @@ impl Syncs {
         Ok(Syncs {
             newest: Newest::Nothing,
             recent: vec![in alloc; None; MOST as usize]?,
+            forgotten: None,
         })
     }
 
@@ -81,8 +118,13 @@ impl Syncs {
     {
         match ended(self.newest, event, at) {
             Some(sync) => {
+                match self.newest {
+                    Newest::Nothing => {}
+                    Newest::Sync(before) => {
+                        self.forgotten = put(&mut self.recent, self.forgotten, before);
+                    }
+                }
                 self.newest = Newest::Sync(sync);
-                put(&mut self.recent, sync);
                 true
             }
             None => false,
@@ -93,20 +135,38 @@ impl Syncs {
     pub(crate) fn of_event(&self, event: u64) -> Option<EndedSync>
         ensures its { IfSome result (λ sync. sync.event ≡ event) }
         ensures recalled { IfSome result (IsAmong self.now) }
+        ensures none { IfNone result ((s : Recalled) → IsAmong self.now s → s.event ≡ event → ⊥) }
     {
-        if let Newest::Sync(newest) = self.newest {
-            if newest.event == event {
-                return Some(newest);
-            }
-        }
-        for recent in &self.recent {
-            if let Some(sync) = recent {
-                if sync.event == event {
-                    return Some(*sync);
+        match self.newest {
+            Newest::Sync(newest) => {
+                if newest.event == event {
+                    Some(newest)
+                } else {
+                    recalled(&self.recent, event)
                 }
             }
+            Newest::Nothing => recalled(&self.recent, event),
         }
-        None
+    }
+
+    // Whether an event may be that of a SYNC that is recalled no more.
+    fn is_forgotten(&self, event: u64) -> bool
+        ensures { result ≡ false → IsForgotten self.now.forgotten event → ⊥ }
+    {
+        match self.forgotten {
+            Some(latest) => event <= latest,
+            None => false,
+        }
+    }
+
+    /// Whether it is known that no SYNC that has ended has an event.
+    pub(crate) fn has_none(&self, event: u64) -> bool
+        ensures { result ≡ true → IsNoSync self.now event }
+    {
+        match self.of_event(event) {
+            Some(_) => false,
+            None => !self.is_forgotten(event),
+        }
     }
 }
 

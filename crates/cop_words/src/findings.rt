@@ -47,6 +47,8 @@ fn node_of(network: &Network<'_>, warning: Warning) -> Option<u8> {
         Warning::OtherIdentifier { node, .. } => Some(node),
         Warning::MakesSync { node } | Warning::MakesTime { node } => Some(node),
         Warning::SyncPeriod { node, .. } => Some(node),
+        Warning::UsedAtOnce { node, .. } | Warning::TakesNothing { node, .. } => Some(node),
+        Warning::BothMakeSync { second, .. } => Some(second),
         Warning::DeadlineWithinJitter { place }
         | Warning::EventTimer { place, .. }
         | Warning::InhibitTime { place, .. } => match row_at(network, place) {

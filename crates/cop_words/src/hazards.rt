@@ -2,6 +2,7 @@
 
 use crate::devices::{accepted, text_named};
 use crate::findings::{EdsLine, Finding};
+use crate::owners::push_owner;
 use crate::parameters::push_parameters;
 use crate::words::push_shown;
 use cop_eds::Eds;
@@ -159,7 +160,8 @@ fn push_text(
 ) -> Result<(), AllocError> {
     push_hazards(findings, alloc, text, &all_hazards(alloc, text.eds)?)?;
     push_hazards(findings, alloc, text, &miscounts(alloc, text.eds)?)?;
-    push_parameters(findings, alloc, text)
+    push_parameters(findings, alloc, text)?;
+    push_owner(findings, alloc, text)
 }
 
 /// How many rows name the same EDS file as one.

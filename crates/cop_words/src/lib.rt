@@ -7,6 +7,7 @@ mod hazards;
 mod mappings;
 mod margins;
 mod networks;
+mod owners;
 mod paces;
 mod parameters;
 mod pdos;

@@ -119,6 +119,23 @@ fn record_words(
     }
 }
 
+/// Adds what a device's EDS file is, where that is why it describes no PDO: an empty file, one of no object, or that of a modular device, whose
+/// objects its configurator describes (CiA 306, "SupportedModules").
+fn push_nature(words: &mut Vec<u8>, device: &Device<'_>) -> Result<(), AllocError> {
+    if device.eds.source().is_empty() {
+        return words.extend_from_slice(b"its EDS file is empty\n");
+    }
+    if device.dictionary.entries().is_empty() {
+        words.extend_from_slice(b"its EDS file describes no object\n")?;
+    }
+    if device.eds.section(b"SupportedModules").is_some() {
+        words.extend_from_slice(
+            b"its EDS file is of a modular device ([SupportedModules]): name the DCF file of its configurator, which has the objects of its modules\n",
+        )?;
+    }
+    Ok(())
+}
+
 /// Adds what is wrong with the mapping of a PDO, and the line of the EDS text that says it.
 pub(crate) fn push_mapping(
     words: &mut Vec<u8>,
@@ -141,9 +158,7 @@ pub(crate) fn push_mapping(
     let name = pdo_name(alloc, pdo)?;
     let line = format!(in alloc; "{name}: {said}\n")?;
     words.extend_from_slice(line.as_bytes())?;
-    if dict.entries().is_empty() {
-        words.extend_from_slice(b"its EDS file describes no object\n")?;
-    }
+    push_nature(words, device)?;
     push_value_line(words, alloc, &device.eds, mapping, sub)
 }
 

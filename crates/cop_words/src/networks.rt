@@ -186,6 +186,11 @@ fn push_eds_line(
     let Some(text) = text_named(files.eds_files, device.eds.as_bytes()) else {
         return Ok(());
     };
+    if text.starts_with(&[0xFF, 0xFE]) || text.starts_with(&[0xFE, 0xFF]) {
+        return words.extend_from_slice(
+            b"its EDS file is UTF-16: CiA 306 has plain text, and canplan tidy makes one of it\n",
+        );
+    }
     match line_at(text, line) {
         Some(place) => push_place(words, alloc, "its EDS file", &place),
         None => Ok(()),

@@ -45,6 +45,26 @@ fn inhibit_words(alloc: Global, row: &PdoRow, units: u64) -> Result<String, Allo
     )
 }
 
+/// What is said of an RPDO, of this node and number, that uses at once what comes by SYNC.
+fn at_once_words(
+    alloc: Global,
+    row: &PdoRow,
+    receiver: (u8, u16),
+    kind: u64,
+) -> Result<String, AllocError> {
+    let (node, number) = receiver;
+    let rpdo = DevicePdo {
+        direction: Direction::Receive,
+        node,
+        number,
+    };
+    let (name, index) = (pdo_name(alloc, tpdo_of(row))?, communication(rpdo));
+    let receiver_name = pdo_name(alloc, rpdo)?;
+    format!(in alloc;
+        "{name} is sent by SYNC, and {receiver_name} uses it at once ({index:04X}h sub 2 is {kind}): give that RPDO a type of 0 to 240 if the node is to act with SYNC\n"
+    )
+}
+
 /// The row of frames of a kind that devices lack.
 fn row_word(kind: FrameKind) -> &'static str {
     match kind {
@@ -134,6 +154,12 @@ fn row_words(alloc: Global, row: &PdoRow, warning: Warning) -> Result<String, Al
         Warning::DeadlineWithinJitter { .. } => deadline_words(alloc, row),
         Warning::EventTimer { millis, .. } => timer_words(alloc, row, millis),
         Warning::InhibitTime { units, .. } => inhibit_words(alloc, row, units),
+        Warning::UsedAtOnce {
+            node,
+            rpdo,
+            kind,
+            ..
+        } => at_once_words(alloc, row, (node, rpdo), kind),
         _ => Ok(String::new(alloc)),
     }
 }
@@ -149,6 +175,12 @@ fn device_words(alloc: Global, warning: Warning) -> Result<String, AllocError> {
         } => identifier_words(alloc, node, (index, sub), cob_id),
         Warning::MakesSync { node } => format!(in alloc;
             "node {node} makes SYNC itself by its EDS file (bit 30 of 1005h): it alone may, with the period of the row sync\n"
+        ),
+        Warning::TakesNothing { node, index, sub } => format!(in alloc;
+            "node {node}: {index:04X}h sub {sub} takes no value by its EDS file: its LowLimit is above its HighLimit. Correct them, or leave them out\n"
+        ),
+        Warning::BothMakeSync { first, second } => format!(in alloc;
+            "nodes {first} and {second} both make SYNC by their EDS files (bit 30 of 1005h): clear the bit in all devices but one\n"
         ),
         Warning::MakesTime { node } => format!(in alloc;
             "node {node} sends TIME (100h) by its EDS file (bit 30 of 1012h): these frames go before all PDOs, and no row counts them: clear the bit in the device\n"
@@ -166,6 +198,7 @@ pub(crate) fn place_of(warning: Warning) -> Option<u64> {
         Warning::DeadlineWithinJitter { place } => Some(place),
         Warning::EventTimer { place, .. } => Some(place),
         Warning::InhibitTime { place, .. } => Some(place),
+        Warning::UsedAtOnce { place, .. } => Some(place),
         _ => None,
     }
 }

@@ -155,6 +155,7 @@ pub const PLAIN: Approach = Approach {
         only: None,
         start: true,
     },
+    boot_limit: 20_000_000,
     store: false,
     watch: Watch::Never,
 };
@@ -244,6 +245,45 @@ fn boots_over_a_port(rt: HostRuntime) -> Result<(), Fail> {
         assert!(rt; started == *starts);
         assert!(rt; port.written.as_slice() == *written);
     }
+    Ok(())
+}
+
+/// The node boots up 6 s after each reset.
+const BOOTS_LATE: &[Turn] = &[
+    (0, b""),
+    (10, b"t70517F\r"),
+    (8_000_010, b""),
+    (32_000_010, b"t705100\r"),
+    (32_000_100, b"t58584300180185010040\r"),
+    (32_000_200, b""),
+    (56_000_200, b"t705100\r"),
+    (56_000_400, b"t58586000180100000000\r"),
+    (56_000_800, b"t58586000180100000000\r"),
+    (56_001_200, b"t58586017100000000000\r"),
+    (56_001_600, b"t58584300180181010040\r"),
+    (56_002_000, b"t58584B17100064000000\r"),
+    (56_002_400, b""),
+    (56_002_800, b""),
+];
+
+/// A boot-up is awaited for 8 s.
+const PATIENT: Approach = Approach {
+    boot_limit: 32_000_000,
+    ..PLAIN
+};
+
+#[test]
+fn awaits_a_late_boot_up(rt: HostRuntime) -> Result<(), Fail> {
+    let tables = Tables {
+        nodes: NODES,
+        pdos: PDOS,
+        eds: UNIT,
+    };
+    let mut port = Script::new(rt.alloc(), BOOTS_LATE);
+    let (text, started) = told(rt.alloc(), ended(rt.alloc(), tables, PATIENT, &mut port)?)?;
+    assert!(rt; text.as_slice() == b"node 5 ready\nstarted\n".as_slice());
+    assert!(rt; started);
+    assert!(rt; port.written.as_slice() == ALL_WRITTEN);
     Ok(())
 }
 

@@ -125,8 +125,8 @@ fn write_order(text: &mut String, order: Order<'_>) -> Result<(), AllocError> {
             write_network(text, network)
         }
         Order::Machine(order) => {
-            let (port, take_over) = (order.port, order.take_over);
-            write!(text, "machine {port} {take_over}")?;
+            let (port, take_over, boot_limit) = (order.port, order.take_over, order.boot_limit);
+            write!(text, "machine {port} {take_over} {boot_limit}")?;
             write_network(text, order.network)
         }
         Order::Tidy(order) => {
@@ -176,7 +176,11 @@ const ASKED: &[(&str, &str)] = &[
         "boot --seed 18446744073709551615 n p",
         "boot 18446744073709551615 n p",
     ),
-    ("boot --port - --take-over n p", "machine - true n p"),
+    ("boot --port - --take-over n p", "machine - true 5 n p"),
+    (
+        "boot --port - --boot-limit 600 n p",
+        "machine - false 600 n p",
+    ),
     (
         "run --seed 1 --until 1000000000 n p t",
         "run 1 1000000000 t n p",
@@ -221,6 +225,9 @@ const REFUSED: &[&str] = &[
     "test --rate 7 s.csv",
     "boot n p",
     "boot --seed 1 --port x n p",
+    "boot --seed 1 --boot-limit 8 n p",
+    "boot --port x --boot-limit 0 n p",
+    "boot --port x --boot-limit 601 n p",
     "boot --seed 18446744073709551616 n p",
     "run --seed 1 --until 1000000001 n p t",
     "report n p",

@@ -59,6 +59,20 @@ const WARNED: &[(&str, &str, &str, &str, &str)] = &[
         "warning: node 5 makes SYNC itself by its EDS file (bit 30 of 1005h): it alone may, with the period of the row sync\n",
     ),
     (
+        "SupportedObjects=5",
+        "SupportedObjects=6\n6=0x1006",
+        "[1006]\nDataType=7\nAccessType=rw\nDefaultValue=0\nLowLimit=10\nHighLimit=5\n",
+        "5,1,10000,0,670,",
+        "warning: node 5: 1006h sub 0 takes no value by its EDS file: its LowLimit is above its HighLimit. Correct them, or leave them out\n",
+    ),
+    (
+        "BaudRate",
+        "BaudRate",
+        "[DeviceComissioning]\nNodeID=11\n",
+        "5,1,10000,0,670,",
+        "warning: unit.eds, line 57: NodeID=11: this is the DCF of node 11, and Valve is node 5: name the maker's EDS file, or the DCF of this node\n",
+    ),
+    (
         "BaudRate",
         "BaudRate",
         "[1801]\nObjectType=9\n[1801sub1]\nDataType=7\nAccessType=rw\n",
@@ -165,6 +179,34 @@ fn what_devices_say_otherwise_is_warned_of(rt: HostRuntime) -> Result<(), Fail> 
         let said = warned(rt.alloc(), &eds, pdo)?;
         assert!(rt; said.as_str() == wanted, "{said}");
     }
+    Ok(())
+}
+
+/// Two devices of one EDS text, and SYNC.
+const BOTH: &str =
+    "row,node,name,eds,period,jitter\ndevice,5,Valve,unit.eds,0,0\ndevice,6,Pump,unit.eds,0,0\nsync,0,,,10000,0\n";
+
+/// What both devices have beside the unit's objects: an RPDO of type 255, and bit 30 of 1005h.
+const TOGETHER: &str =
+    "[1005]\nDataType=7\nAccessType=rw\nDefaultValue=0x40000080\n[1400sub2]\nDataType=5\nAccessType=rw\nDefaultValue=255\n";
+
+#[test]
+fn what_two_devices_do_together_is_warned_of(rt: HostRuntime) -> Result<(), Fail> {
+    let alloc = rt.alloc();
+    let unit = unit_with(alloc, "DefaultValue=255", "DefaultValue=1")?;
+    let Some((before, after)) = unit.split_once("SupportedObjects=5") else {
+        return Err(Fail::from("no list"));
+    };
+    let eds = format!(in alloc; "{before}SupportedObjects=6\n6=0x1005{after}{TOGETHER}")?;
+    let files = files(alloc, &[("unit.eds", eds.as_str())])?;
+    let nodes = read_nodes(alloc, BOTH.as_bytes())?;
+    let pdos = pdos_of(alloc, "5,1,0,0,5000,6.1")?;
+    let said = text_of(alloc, &words_on(alloc, &nodes, &pdos, &files)?)?;
+    assert!(rt;
+        said.as_str()
+            == "warning: TPDO 1 of node 5 is sent by SYNC, and RPDO 1 of node 6 uses it at once (1400h sub 2 is 255): give that RPDO a type of 0 to 240 if the node is to act with SYNC\nwarning: node 5 makes SYNC itself by its EDS file (bit 30 of 1005h): it alone may, with the period of the row sync\nwarning: node 6 makes SYNC itself by its EDS file (bit 30 of 1005h): it alone may, with the period of the row sync\nwarning: nodes 5 and 6 both make SYNC by their EDS files (bit 30 of 1005h): clear the bit in all devices but one\n",
+        "{said}"
+    );
     Ok(())
 }
 

@@ -57,7 +57,7 @@ fn ran(alloc: Global, until: u64) -> Result<(Vec<u8>, Vec<u8>), Fault>
 fn judged(alloc: Global, trace: &[u8], fails: bool) -> Result<Option<Vec<u8>>, Fault> {
     let outcome = outcome(alloc)?;
     match judge_pieces(alloc, &outcome, in_pieces(trace, fails)) {
-        Some(judgement) => Ok(Some(judgement.text(alloc)?)),
+        Some(judgement) => Ok(Some(judgement?.text(alloc)?)),
         None => Ok(None),
     }
 }

@@ -28,12 +28,12 @@ returns-in_err-settings-in-Told-clause-short g c =
 pub returns-in-Told-clause-failed : goal.returns-in-Told-clause-failed
 returns-in-Told-clause-failed g c =
     boot_fails_so g.P.Port.reads g.P.Port.writes g.P.Port.asks g.P.Port.fails c.args.network.now c.args.plan.now.ids c.args.nodes.now (way_of c.args.network.now c.args.plan.now.rate c.args.plan.now.ids c.args.nodes.now c.args.approach) c.args.approach.identify c.args.approach.store c.in-Told.told.items c.args.port.now c.run_session.new.port _ c.boot_nodes.result (whole_so g.P.Port.reads g.P.Port.writes g.P.Port.asks _ (way_of c.args.network.now c.args.plan.now.rate c.args.plan.now.ids c.args.nodes.now c.args.approach) c.args.nodes.now _ _ _ _ c.in_ok-bus.ensures c.in_ok-questions_for.ensures c.in_ok-off_questions.ensures c.args.port.now c.run_session.new.port c.in-Told.told.items (rw c.in-Told.is at c.in_ok-told.ensures.session))
-    (booting_fails_so g.P.Port.reads g.P.Port.writes g.P.Port.asks g.P.Port.fails _ (way_of c.args.network.now c.args.plan.now.rate c.args.plan.now.ids c.args.nodes.now c.args.approach) _ _ c.args.nodes.now _ _ c.in_ok-bus.ensures (c.in_ok-manager-in-Told.ensures ∙ ap (λ told. told_manager c.args.network.now c.args.plan.now.ids told c.args.nodes.now) c.deref.ensures.value) (c.deref-in-Told-2.ensures.value ∙ c.in_ok-settings-in-Told.ensures ∙ ap (λ told. settings_for c.args.approach.store c.args.network.now c.args.plan.now.ids told c.args.nodes.now) c.deref-in-Told.ensures.value) c.run_session.new.port _ c.boot_nodes.result c.boot_nodes.ensures.failed)
+    (booting_fails_so g.P.Port.reads g.P.Port.writes g.P.Port.asks g.P.Port.fails _ (way_of c.args.network.now c.args.plan.now.rate c.args.plan.now.ids c.args.nodes.now c.args.approach) _ _ c.args.nodes.now _ _ c.in_ok-bus.ensures (c.in_ok-manager-in-Told.ensures ∙ ap (λ told. told_manager c.args.approach.boot_limit c.args.network.now c.args.plan.now.ids told c.args.nodes.now) c.deref.ensures.value) (c.deref-in-Told-2.ensures.value ∙ c.in_ok-settings-in-Told.ensures ∙ ap (λ told. settings_for c.args.approach.store c.args.network.now c.args.plan.now.ids told c.args.nodes.now) c.deref-in-Told.ensures.value) c.run_session.new.port _ c.boot_nodes.result c.boot_nodes.ensures.failed)
 
 pub returns-in-Told-clause-short : goal.returns-in-Told-clause-short
 returns-in-Told-clause-short g c =
     boot_stops_so g.P.Port.reads g.P.Port.writes g.P.Port.asks g.P.Port.fails c.args.network.now c.args.plan.now.ids c.args.nodes.now (way_of c.args.network.now c.args.plan.now.rate c.args.plan.now.ids c.args.nodes.now c.args.approach) c.args.approach.identify c.args.approach.store c.in-Told.told.items c.args.port.now c.run_session.new.port c.boot_nodes.new.port c.boot_nodes.result (whole_so g.P.Port.reads g.P.Port.writes g.P.Port.asks _ (way_of c.args.network.now c.args.plan.now.rate c.args.plan.now.ids c.args.nodes.now c.args.approach) c.args.nodes.now _ _ _ _ c.in_ok-bus.ensures c.in_ok-questions_for.ensures c.in_ok-off_questions.ensures c.args.port.now c.run_session.new.port c.in-Told.told.items (rw c.in-Told.is at c.in_ok-told.ensures.session))
-    (booting_stops_so g.P.Port.reads g.P.Port.writes g.P.Port.asks g.P.Port.fails _ (way_of c.args.network.now c.args.plan.now.rate c.args.plan.now.ids c.args.nodes.now c.args.approach) _ _ c.args.nodes.now _ _ c.in_ok-bus.ensures (c.in_ok-manager-in-Told.ensures ∙ ap (λ told. told_manager c.args.network.now c.args.plan.now.ids told c.args.nodes.now) c.deref.ensures.value) (c.deref-in-Told-2.ensures.value ∙ c.in_ok-settings-in-Told.ensures ∙ ap (λ told. settings_for c.args.approach.store c.args.network.now c.args.plan.now.ids told c.args.nodes.now) c.deref-in-Told.ensures.value) c.run_session.new.port c.boot_nodes.new.port c.boot_nodes.result c.boot_nodes.ensures.short)
+    (booting_stops_so g.P.Port.reads g.P.Port.writes g.P.Port.asks g.P.Port.fails _ (way_of c.args.network.now c.args.plan.now.rate c.args.plan.now.ids c.args.nodes.now c.args.approach) _ _ c.args.nodes.now _ _ c.in_ok-bus.ensures (c.in_ok-manager-in-Told.ensures ∙ ap (λ told. told_manager c.args.approach.boot_limit c.args.network.now c.args.plan.now.ids told c.args.nodes.now) c.deref.ensures.value) (c.deref-in-Told-2.ensures.value ∙ c.in_ok-settings-in-Told.ensures ∙ ap (λ told. settings_for c.args.approach.store c.args.network.now c.args.plan.now.ids told c.args.nodes.now) c.deref-in-Told.ensures.value) c.run_session.new.port c.boot_nodes.new.port c.boot_nodes.result c.boot_nodes.ensures.short)
 
 pub returns-clause-failed : goal.returns-clause-failed
 returns-clause-failed g c =

@@ -1,8 +1,9 @@
-use Rattle.std.proofs.Common.{◌≡◌, ◌+◌, ◌*◌, ◌++◌, ◌∷◌, [], true, subst, sym, ap, ◌∙◌, rules}
+use Rattle.std.proofs.Common.{◌≡◌, ◌+◌, ◌*◌, ◌++◌, ◌∷◌, [], true, subst, sym, ap, ◌∙◌, rules, arith}
 use Rattle.std.specs.Prelude.{is_some, List}
 use Rattle.cop_rta.specs.declared.streams.Stream.{Stream}
 use Rattle.cop_bus.specs.declared.steps.Step.TheVariants.{Start}
 use Rattle.cop_bus.specs.Judge.{stream_of}
+use Rattle.cop_bus.proofs.Appended.{length-one}
 use Rattle.cop_watch.specs.declared.bus.Bus.{Bus}
 use Rattle.cop_watch.specs.declared.bus.Bus.TheVariants.{Sending}
 use Rattle.cop_watch.specs.Watching.{Knows}
@@ -10,8 +11,8 @@ use Rattle.cop_watch.proofs.Taken.{started-first, started-joiner}
 use Rattle.cop_watch.proofs.watching.Watch.take_start.Goals as goal
 use Rattle.cop_watch.proofs.watching.Watch.take_start.Goals.{in-Some, in-None}
 
-pub returns : goal.returns
-returns c = λ is tau streams steps h.
+pub returns-clause-all : goal.returns-clause-all
+returns-clause-all c = λ is tau streams steps h.
     let w = c.args.self.now in
     let id = c.args.id in
     let at = c.args.at in
@@ -21,6 +22,7 @@ returns c = λ is tau streams steps h.
     record {
       ticks = h.ticks;
       set = h.set;
+      numbered = (let n = h.numbered in let l = length-one steps (Start id at) in omega (arith, n, l));
       knows = elim c.match-take_first.branch [
         | in-Some v ↦ (let bits = v.in-Some.bits in
             let sends : Sending id (at + bits * tau) ≡ c.match-take_first.self = ap (λ n. Sending id (at + bits * n)) (sym h.ticks) ∙ sym v.sending-self.ensures ∙ sym v.self-is in
