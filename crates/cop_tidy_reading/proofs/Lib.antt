@@ -1,0 +1,14 @@
+pub mod CutLemmas
+pub mod EarliestLemmas
+pub mod FirstKeyLemmas
+pub mod IndexLemmas
+pub mod ItemsLemmas
+pub mod ListLemmas
+pub mod LoopLemmas
+pub mod PartLemmas
+pub mod ValueLemmas
+pub mod PdoLemmas
+pub mod RepeatLemmas
+pub mod GatheringLemmas
+pub mod SubLemmas
+pub mod ReadingLemmas

@@ -1,0 +1,17 @@
+pub mod Questions
+pub mod Items
+pub mod Gathering
+pub mod Seen
+pub mod Sections
+pub mod Index
+pub mod FirstKeys
+pub mod Repeats
+pub mod Stated
+pub mod Standard
+pub mod Lists
+pub mod SeenLists
+pub mod Pdos
+pub mod Objects
+pub mod Values
+pub mod SeenValues
+pub mod Reading
