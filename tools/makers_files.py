@@ -113,7 +113,7 @@ def of_folder():
             yield "a name that no table of nodes takes is taken"
 
 
-CHOICES = [[], [], ["--decimal"], ["--octal"], ["--access", "rw"], ["--unlisted", "add"], ["--unlisted", "leave"], ["--clamp"]]
+CHOICES = [[], [], ["--decimal"], ["--octal"], ["--access", "rw"], ["--unlisted", "add"], ["--unlisted", "leave"], ["--rates", "125,250"]]
 TAILS = [b" ; x", b" // y", b"\r", b"h", b'"', b"0"]
 VALUES = [b"", b"FFh", b"0377", b"-1", b"$NODEID+0x180", b"true", b"99999999999", b"NODEID"]
 

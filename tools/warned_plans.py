@@ -41,6 +41,8 @@ DEVICES = (
     (None, [], NODES, ROW, None, ""),
     (80, [("", RECORD + "\n")], NODES, ROW, 5, "TPDO 2 of Valve stands in [1801], which no list names: it is not switched off"),
     (80, [("", RECORD + "\n")], TWO, ROW, 5, "TPDO 2 of Valve and 1 more stands in [1801], "),
+    (80, [("", "[1016]\nObjectType=8\n")], NODES, ROW, 5, "The watch on heartbeats of Valve stands in [1016], which no list names: a plan neither sees nor sets it"),
+    (80, [("", "[1A01]\nObjectType=9\n")], NODES, ROW, 5, "The mapping of TPDO 2 of Valve stands in [1A01], which no list names"),
     (81, listed("0x1801", SHORT), NODES, ROW, 5, "TPDO 2 of Valve has no UNSIGNED32 at sub 1 of [1801]"),
     (82, [("[DeviceInfo]\n", "[DeviceInfo]\nCompactPDO=7\n")], NODES, ROW, 5, "by CompactPDO=7 Valve may have PDOs"),
     (83, [("3=0x1A00\n", "3=0x1A00\n4=0x2000\n")], NODES, ROW, 5, "4=0x2000 stands behind the number of entries"),
@@ -63,6 +65,8 @@ DEVICES = (
     (117, [("", "[DeviceComissioning]\nNodeID=11\n")], NODES, ROW, 5, "NodeID=11: this is the DCF of node 11, and Valve is node 5"),
     (117, [("", "[DeviceComissioning]\nNodeID=5\n")], TWO, ROW, 5, "NodeID=5: this is the DCF of node 5, and Valve and 1 more are several nodes"),
     (118, listed("0x1006", "[1006]\nDataType=7\nAccessType=rw\nDefaultValue=0\nLowLimit=10\nHighLimit=5"), NODES, ROW, 5, "node 5: 1006h sub 0 takes no value by its EDS file"),
+    (119, [("", ";left out: DefaultValue=2000 counts\n")], NODES, ROW, 5, "DefaultValue=2000 counts is left out of Valve, since it has no one reading"),
+    (119, [("", ";left out: LowLimit=x\n;left out: HighLimit=y\n")], NODES, ROW, 5, "LowLimit=x and 1 more lines are left out of Valve"),
     (116, [], NODES, "5,1,10000,0,700,\n", 5, "one error on the bus takes up to 664 us, and TPDO 1 of node 5 has 160 us left"),
 )
 
@@ -82,13 +86,13 @@ def changed(parts):
 
 def of_place(text, warning):
     """What is wrong with the place of a warning of an EDS text."""
-    if warning["number"] is None or warning["number"] > 85 and warning["number"] not in (111, 117):
+    if warning["number"] is None or warning["number"] > 85 and warning["number"] not in (111, 117, 119):
         if warning["file"] is not None or warning["line"] is not None:
             yield f"a place: {warning}"
         return
     line = text.splitlines()[warning["line"] - 1]
-    shown = line if line.startswith("[0x") or "=" in line else "[1801]"
-    if warning["file"] != "unit.eds" or (line != shown) or shown not in warning["words"]:
+    shown = line.removeprefix(";left out: ")
+    if warning["file"] != "unit.eds" or not (shown.startswith("[") or "=" in shown) or shown not in warning["words"]:
         yield f"another line: {warning}"
 
 

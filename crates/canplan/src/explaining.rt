@@ -1,8 +1,9 @@
 //! What is said of a failure in words, below its line.
 
-use cop_answers::{Inputs, words_on_file, words_on_network, words_on_refusal};
+use cop_answers::{Inputs, refused_eds, words_on_file, words_on_network, words_on_refusal};
 use cop_engine::Fault;
 use cop_files::Failure;
+use cop_makers::mend_words;
 use cop_orders::{Order, PlanOrder};
 use std::alloc::AllocError;
 use std::fs;
@@ -41,6 +42,10 @@ pub fn explain(
         Fault::Network(refusal) => {
             let said = words_on_network(alloc, order, inputs, refusal)?;
             words.extend_from_slice(&said)?;
+            if let Some(eds) = refused_eds(alloc, order, inputs, refusal)? {
+                let said = mend_words(alloc, &eds.path, eds.text)?;
+                words.extend_from_slice(said.as_bytes())?;
+            }
             push_earlier(&mut words, rt, order)?;
         }
         Fault::Refused { number, place } => {

@@ -3,17 +3,15 @@
 use crate::booting::{is_machine_rule, machine_words};
 use crate::log_rules::log_rule_words;
 use crate::texts::{Inputs, beside};
-use crate::tidying::mend_words;
 use cop_net::{Refusal, Rule, read_nodes};
 use cop_orders::{NetworkFiles, Order};
-use cop_tidy::refusal_words;
-use cop_words::{Network, Source, line_at, network_words, record_words, rule_words};
+use cop_words::{Network, Source, maker_words, network_words, record_words, rule_words};
 use std::alloc::{AllocError, Global};
 use std::str;
 
 /// An EDS file: its path, and its text.
 #[derive(Drop)]
-pub(crate) struct EdsText<'a> {
+pub struct EdsText<'a> {
     pub path: String,
     pub text: &'a [u8],
 }
@@ -88,18 +86,6 @@ fn refused_network(
     network_words(alloc, network, refusal)
 }
 
-/// What is said of an EDS file that is not made one that plan reads.
-fn refused_text(
-    alloc: Global,
-    name: &str,
-    text: &[u8],
-    number: u8,
-    line: u64,
-) -> Result<Vec<u8>, AllocError> {
-    let found = line_at(text, line as usize);
-    refusal_words(alloc, name, number, line, found.map(|found| found.text))
-}
-
 /// What is said of a refusal by a rule that is none of a network's: of what was read, where the rule is broken and what it is.
 pub fn words_on_refusal(
     alloc: Global,
@@ -109,7 +95,11 @@ pub fn words_on_refusal(
     place: u64,
 ) -> Result<Vec<u8>, AllocError> {
     if let Order::Tidy(order) = order {
-        return refused_text(alloc, order.input, &inputs.other, number, place);
+        let source = Source {
+            name: order.input,
+            text: &inputs.other,
+        };
+        return maker_words(alloc, source, number, place as usize);
     }
     if is_of_log(order, number) {
         return log_words(alloc, number, place);
@@ -196,21 +186,28 @@ pub(crate) fn eds_of_record<'a>(
     Ok(None)
 }
 
-/// What is said of a network that is refused; of an EDS file also whether it can be mended, and how.
+/// What is said of a network that is refused.
 pub fn words_on_network(
     alloc: Global,
     order: Order<'_>,
     inputs: &Inputs,
     refusal: &Refusal,
 ) -> Result<Vec<u8>, AllocError> {
-    let Some(files) = network_of(order) else {
-        return rule_words(alloc, refusal.rule.number());
-    };
-    let mut words = refused_network(alloc, files, inputs, refusal)?;
-    if let Rule::Eds(_) = refusal.rule {
-        if let Some(eds) = eds_of_record(alloc, files, inputs, refusal.place)? {
-            words.extend_from_slice(mend_words(alloc, &eds.path, eds.text)?.as_bytes())?;
-        }
+    match network_of(order) {
+        Some(files) => refused_network(alloc, files, inputs, refusal),
+        None => rule_words(alloc, refusal.rule.number()),
     }
-    Ok(words)
+}
+
+/// The EDS file by which a network is refused, where it is by one.
+pub fn refused_eds<'a>(
+    alloc: Global,
+    order: Order<'_>,
+    inputs: &'a Inputs,
+    refusal: &Refusal,
+) -> Result<Option<EdsText<'a>>, AllocError> {
+    match (refusal.rule, network_of(order)) {
+        (Rule::Eds(_), Some(files)) => eds_of_record(alloc, files, inputs, refusal.place),
+        _ => Ok(None),
+    }
 }

@@ -30,6 +30,9 @@ pub fn warning_rule_words(number: u8) -> &'static str {
         118 => {
             "warning 118: LowLimit of an object of the device is above its HighLimit, so that it takes no value: 1005h to 1007h, 1010h, 1011h, 1014h to 1018h, 1200h, and those of PDOs\nusually: limits that were exchanged, or of another type\nright: limits that the device has, or none\n"
         }
+        119 => {
+            "warning 119: canplan tidy left a value or a limit out of an EDS file, since it has no one reading; the line stands there as a comment\nusually: a unit or a word behind the number, or a limit of a wider type\nright: the number alone, where the machine needs it\n"
+        }
         _ => "",
     }
 }

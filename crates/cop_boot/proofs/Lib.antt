@@ -19,5 +19,6 @@ pub mod InTurn
 pub mod PlanInTurn
 pub mod NetworkAdmits
 pub mod PlannedLemmas
+pub mod PayloadLemmas
 pub mod PdoLemmas
 pub mod UnderWayLemmas

@@ -1,12 +1,14 @@
 //! Laws of the definitions that contracts cite: when settings are accepted in turn, and what they give.
 
-ghost use Rattle.std.specs.Prelude.{◌≡◌, ℕ, List, [], filter, All, Contains, true, Option, Some, None};
+ghost use Rattle.std.specs.Prelude.{◌≡◌, ◌≤◌, ℕ, List, [], filter, All, Contains, true, Option, Some, None};
 ghost use Rattle.std.specs.Option.{option_and_then};
 ghost use Rattle.std.specs.List.{AllByRecursion};
+ghost use Rattle.cop_dict.specs.declared.mapping.Direction.{Direction};
 ghost use Rattle.cop_dict.specs.Find.{Entry, entry_at, unsigned32_of};
 ghost use Rattle.cop_dict.specs.Pdo.{is_cob_id};
 ghost use Rattle.cop_dict.specs.Dict.{valued, refused_alone};
 ghost use Rattle.cop_pdo.specs.CobIds.{off, on};
+ghost use Rattle.cop_pdo.specs.Payload.{payload_of};
 ghost use Rattle.cop_net.specs.Heartbeats.{heartbeat_of};
 ghost use Rattle.cop_net.specs.Network.{Net, IsNetwork};
 ghost use Rattle.cop_net.specs.Settings.{word, takes};
@@ -67,6 +69,13 @@ pub fn planned_pdos_exist()
         → IsAsPlanned (id_at net.rows ids node e.index) (option_and_then unsigned32_of (entry_at (planned dict (node_settings net ids node)) e.index 1)) }
     ensures records { (net : Net) (ids : List ℕ) (node : ℕ) (dict : List Entry) → IsNetwork net → All IsPdoId ids → dictionary_of net node ≡ Some dict
         → HasPlannedPdos (id_at net.rows ids node) (planned dict (node_settings net ids node)) }
+{}
+
+/// A device that has the settings of a plan of its network moves by each of its 512 RPDOs and 512 TPDOs exactly what its EDS file says: the
+/// same objects, in the same order, with the same bits. So the frames of a booted machine are those that the plan counted.
+pub fn planned_payloads()
+    ensures { (net : Net) (ids : List ℕ) (node : ℕ) (dict : List Entry) (direction : Direction) (number : ℕ) → dictionary_of net node ≡ Some dict → 1 ≤ number → number ≤ 512
+        → payload_of (planned dict (node_settings net ids node)) direction number ≡ payload_of dict direction number }
 {}
 
 /// What a boot makes of the devices of a network is what the network's DCF files say: where a node is ready, the dictionary that

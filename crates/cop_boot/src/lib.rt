@@ -19,8 +19,8 @@ pub use end::End;
 pub use input::Input;
 pub use laws::{
     apart_are_accepted, networks_take_their_settings, nothing_else_is_sent, plan_is_accepted,
-    planned_pdos_exist, ready_devices_have_what_their_dcf_says, ready_nodes_are_configured,
-    switched_off_then_on,
+    planned_payloads, planned_pdos_exist, ready_devices_have_what_their_dcf_says,
+    ready_nodes_are_configured, switched_off_then_on,
 };
 pub use manager::{Manager, can_manage};
 pub use schedule::{Boot, run_schedule};

@@ -1,7 +1,7 @@
 -- Where nothing is told of the bytes of a text, they are as they were.
 use Rattle.std.proofs.Common.{◌≡◌, ℕ, zero, suc, ◌<◌, ◌≤◌, Bool, true, false, ◌==◌, List, [], ◌∷◌, ◌++◌, length, map, Option, Some, None, refl, ap, sym, ◌∙◌, arith, rules}
 use Rattle.std.specs.List.{list_any}
-use Rattle.cop_change.specs.declared.change.TextChange.{TextChange}
+use Rattle.cop_bytes.specs.declared.change.TextChange.{TextChange}
 use Rattle.cop_bytes.specs.Bytes.{is_marked, letters_of, is_tail, uncut, ends_line, is_spare, short_ends, new_end, with_ends, ended, ended_letters, prepared, cutting, old_ends, is_last_spare, long_ends, unless_none, ending, listed, decoding, letter_changes, text_changes}
 
 whole_by : (b : ℕ) (rest : List ℕ) (is : Bool) → is_tail b rest ≡ is → (length (uncut rest) ≡ length rest → uncut rest ≡ rest)

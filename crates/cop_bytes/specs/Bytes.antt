@@ -3,8 +3,8 @@ use Rattle.std.specs.Prelude.{ℕ, ◌+◌, ◌-◌, ◌*◌, ◌%◌, Bool, fal
 use Rattle.std.specs.List.{list_any, list_all}
 use Rattle.std.specs.Char.Utf16.{utf16_lossy_chars, has_unpaired_surrogate}
 use Rattle.std.specs.Str.{encode_utf8_all}
-use Rattle.cop_change.specs.declared.change.TextChange.{TextChange}
-use Rattle.cop_change.specs.declared.change.TextChange.TheVariants.{Decoded, Cut, OldEnds, LongEnds}
+use Rattle.cop_bytes.specs.declared.change.TextChange.{TextChange}
+use Rattle.cop_bytes.specs.declared.change.TextChange.TheVariants.{Decoded, Cut, OldEnds, LongEnds}
 
 -- ---- UTF-16 (Unicode, "Byte order mark")
 

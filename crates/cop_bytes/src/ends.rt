@@ -4,7 +4,7 @@ ghost use Rattle.std.specs.Prelude.{◌≡◌, ◌==◌, map, IfOk};
 ghost use Rattle.std.specs.List.{list_any};
 ghost use Rattle.cop_bytes.specs.Bytes.{short_ends, new_end, with_ends, old_ends, is_last_spare, long_ends, unless_none, ending};
 
-use cop_change::TextChange;
+use crate::change::TextChange;
 use std::alloc::{AllocError, Global};
 
 /// The text with one CR of each run of them before LF.

@@ -4,10 +4,10 @@ ghost use Rattle.std.specs.Prelude.{◌≡◌, ◌≤◌, ◌<◌, ◌^◌, ◌+
 ghost use Rattle.std.specs.List.{list_any};
 ghost use Rattle.cop_bytes.specs.Bytes.{decoding, cutting, uncut, ended, line_end, ends_before_zero, line_of_zero, listed, letter_changes, prepared, refused_line, text_changes};
 
+use crate::change::TextChange;
 use crate::ends::{ending, has_end, with_ends};
 use crate::padding::uncut_len;
 use crate::utf16::{is_marked, letters_of};
-use cop_change::TextChange;
 use std::alloc::{AllocError, Global};
 
 /// The bytes that are read as lines, and what was changed to come to them.

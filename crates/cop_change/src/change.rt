@@ -7,7 +7,7 @@ pub enum Cause {
     Blank,
     /// A comment or a rule.
     Ruled,
-    /// Another spelling of a header.
+    /// Another spelling of a header or a key.
     Spelling,
     /// Text before the first section.
     Before,
@@ -41,6 +41,10 @@ pub enum Cause {
     Access,
     /// Another spelling of a value or a limit.
     Value,
+    /// A value or a limit that is left out.
+    LeftOut,
+    /// The rates of a device that states none.
+    Rates,
     /// The compact form whose sub sections are written out.
     Compact,
     /// A line of a compact form that stands at this line.
@@ -60,17 +64,4 @@ pub struct Change {
     /// The text now.
     pub new: Vec<u8>,
     pub cause: Cause,
-}
-
-/// What was changed in the bytes before they were read as lines.
-#[derive(Clone, Copy, Debug, PartialEq, Eq)]
-pub enum TextChange {
-    /// UTF-16 became UTF-8.
-    Decoded,
-    /// So many bytes of an end mark or padding were cut.
-    Cut(usize),
-    /// So many CR became LF.
-    OldEnds(usize),
-    /// So many runs of CR before LF became one CR.
-    LongEnds(usize),
 }

@@ -2,14 +2,15 @@
 
 use crate::commands::command;
 use clap::{ArgMatches, Error};
+use cop_eds::Access;
 use cop_engine::rate_of;
 use cop_frame::Rate;
 use cop_orders::{
-    Format, MachineOrder, NetworkFiles, Order, PlanOrder, Rates, Request, Shown, TidyOrder,
-    WatchOrder,
+    Format, MachineOrder, NetworkFiles, Order, PlanOrder, Rates, Request, Shown, TidyChoices,
+    TidyOrder, WatchOrder,
 };
 use cop_plan::Choice;
-use cop_tidy::{Access, Digits, Unlisted, Words};
+use cop_tidy_lines::{Digits, Unlisted};
 use std::alloc::Global;
 
 /// A boot-up is awaited for so many seconds where nothing else is said.
@@ -164,16 +165,18 @@ fn access_of(word: Option<&str>) -> Option<Access> {
 }
 
 fn tidy_order<'a>(matches: &ArgMatches<'a>) -> Order<'a> {
-    let words = Words {
+    let choices = TidyChoices {
         digits: digits_of(matches),
         access: access_of(matches.get_str("access")),
         unlisted: unlisted_of(matches.get_str("unlisted")),
-        clamp: matches.get_flag("clamp"),
+        rates: matches
+            .get_strs("rates")
+            .map(|words| Rates::listed(Some(words))),
     };
     Order::Tidy(TidyOrder {
         input: matches.get_str("IN").unwrap_or("-"),
         out: matches.get_str("OUT"),
-        words,
+        choices,
     })
 }
 

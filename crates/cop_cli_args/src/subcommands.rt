@@ -301,13 +301,13 @@ static TIDY: [Word; 9] = [
         name: "unlisted",
         kind: Kind::OneOf(Choices::Unlisted),
         need: Need::Optional,
-        help: "Whether PDOs that no list names are listed, or left as they are",
+        help: "Whether sections that no list names are listed, or left as they are",
     },
     Word {
-        name: "clamp",
-        kind: Kind::Flag,
+        name: "rates",
+        kind: Kind::ListOf(Choices::Rates),
         need: Need::Optional,
-        help: "A limit outside of its type becomes the end of the type",
+        help: "The rates in kbit/s of a device that states none, as 125,250",
     },
 ];
 

@@ -8,7 +8,10 @@ use cop_orders::NetworkFiles;
 use cop_plan::Asked;
 use std::collections::BTreeSet;
 use std::fs::File;
-use std::str;
+use std::{io, str};
+
+/// The greatest size of a file that is read as a whole: 64 MiB.
+const GREATEST: u64 = 64 * 1024 * 1024;
 
 /// A file that is to be read.
 pub fn open_file(rt: &HostRuntime, name: &str) -> Result<File, Failure> {
@@ -31,9 +34,13 @@ fn length_of(file: &File) -> u64 {
     }
 }
 
-/// The bytes of an open file of at most 64 MiB.
+/// The bytes of an open file of at most 64 MiB. Nothing is read of one that says that it has more.
 pub fn read_opened(rt: &HostRuntime, name: &str, file: File) -> Result<Vec<u8>, Failure> {
     let expected = length_of(&file);
+    if expected > GREATEST {
+        let error = io::Error::from(io::ErrorKind::FileTooLarge);
+        return Err(file_failure(rt, name, Use::Read, &error));
+    }
     match read_all(rt.alloc(), file, expected) {
         Ok(bytes) => Ok(bytes),
         Err(error) => Err(file_failure(rt, name, Use::Read, &error)),

@@ -1,4 +1,4 @@
--- The records of PDOs (CiA 301: RPDO at 1400h to 15FFh, TPDO at 1800h to 19FFh).
+-- Objects by which a device does something on the bus, and the records of PDOs (CiA 301: RPDO at 1400h to 15FFh, TPDO at 1800h to 19FFh).
 use Rattle.std.specs.Prelude.{ℕ, Bool, false, ◌&&◌, ◌||◌, ◌-◌, ◌/◌, ◌%◌, ◌==◌, not, nat_le, List, slice_get, codes, if◌then◌else◌, Option, Some, None}
 use Rattle.std.specs.Option.{option_map, option_map_or, option_and_then}
 use Rattle.cop_eds.specs.declared.line.Kind.TheVariants.{Header}
@@ -14,15 +14,22 @@ use Rattle.cop_hazard.specs.Listed.{names, is_listed}
 abbrev pub is_record : ℕ → Bool
 is_record index = (nat_le 0x1400 index && nat_le index 0x15FF) || (nat_le 0x1800 index && nat_le index 0x19FF)
 
+-- the index is of an object by which a device does something on the bus: SYNC (1005h, 1006h), EMCY (1014h, 1015h), heartbeats (1016h, 1017h), the SDO
+-- server (1200h), and the records and mappings of PDOs (1400h to 1BFFh)
+abbrev pub is_guarded : ℕ → Bool
+is_guarded index =
+    ((index == 0x1005) || (index == 0x1006) || (nat_le 0x1014 index && nat_le index 0x1017))
+    || ((index == 0x1200) || (nat_le 0x1400 index && nat_le index 0x1BFF))
+
 -- the number of the object's section that a line begins
 abbrev pub begun : List ℕ → Line → Option ℕ
 begun text line = if is_kind line.kind Header then code_of (name_of (text_of text line)) else None
 
--- the object's section of this number is of a PDO's communication record that no list names
+-- the object's section of this number is of such an object, and no list names it
 abbrev pub is_unlisted_code : List ℕ → ℕ → Bool
-is_unlisted_code text code = is_record (code / 257) && not (is_listed text (code / 257))
+is_unlisted_code text code = is_guarded (code / 257) && not (is_listed text (code / 257))
 
--- hazard 80: the line begins a section of a PDO's communication record that no list names
+-- hazard 80: the line begins a section of an object by which a device does something on the bus, and no list names it
 unfoldable pub is_unlisted : List ℕ → Line → Bool
 is_unlisted text line = option_map_or (is_unlisted_code text) (begun text line) false
 

@@ -54,7 +54,7 @@ fn beyond_line(
     Ok(mandatory.or(optional.or(manufacturer)))
 }
 
-/// The first line of a PDO's record that no list names, unless such sections are left as they are.
+/// The first line of an object by which a device does something on the bus and which no list names, unless such sections are left as they are.
 fn unlisted_line(
     alloc: Global,
     eds: &Eds<'_>,
@@ -81,8 +81,8 @@ pub fn hazard_at(number: u8, line: Option<usize>) -> Option<Hazard>
     }
 }
 
-/// The first hazard of a text, by its number: 80 a section of a PDO's record that no list names, unless such sections are
-/// left as they are; 81 a listed record of a PDO without an identifier; 82 PDOs that CompactPDO leaves out; 83 an entry
+/// The first hazard of a text, by its number: 80 a section by which a device does something on the bus and that no list names,
+/// unless such sections are left as they are; 81 a listed record of a PDO without an identifier; 82 PDOs that CompactPDO leaves out; 83 an entry
 /// behind the number of entries of its list; 84 a section in another spelling, which nothing reads.
 #[tactic(auto, unfolding(crate::specs::Hazards::hazard_of))]
 pub fn first_hazard(

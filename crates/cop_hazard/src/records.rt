@@ -1,9 +1,9 @@
-//! The records of PDOs.
+//! Objects by which a device does something on the bus, and the records of PDOs.
 
 ghost use Rattle.std.specs.Prelude.{◌≡◌, length};
 ghost use Rattle.cop_eds.specs.Lines.{IsInside};
 ghost use Rattle.cop_hazard.specs.Listed.{AreListed};
-ghost use Rattle.cop_hazard.specs.Records.{is_record, begun, is_unlisted_code, is_unlisted, is_unsigned, has_identifier, is_unidentified_code, is_unidentified, index_at};
+ghost use Rattle.cop_hazard.specs.Records.{is_record, is_guarded, begun, is_unlisted_code, is_unlisted, is_unsigned, has_identifier, is_unidentified_code, is_unidentified, index_at};
 
 use crate::listed::is_listed;
 use crate::stated::stated;
@@ -16,6 +16,18 @@ fn is_record(index: u64) -> bool
     ensures { result ≡ is_record index }
 {
     (0x1400 <= index && index <= 0x15FF) || (0x1800 <= index && index <= 0x19FF)
+}
+
+/// Whether an index is of an object by which a device does something on the bus: SYNC, EMCY, heartbeats, the SDO server, and the records
+/// and mappings of PDOs (CiA 301).
+fn is_guarded(index: u64) -> bool
+    ensures { result ≡ is_guarded index }
+{
+    index == 0x1005
+        || index == 0x1006
+        || (0x1014 <= index && index <= 0x1017)
+        || index == 0x1200
+        || (0x1400 <= index && index <= 0x1BFF)
 }
 
 /// The number of the object's section that a line begins.
@@ -34,10 +46,10 @@ fn is_unlisted_code(eds: &Eds<'_>, indexes: &BTreeSet<u64>, code: u64) -> bool
     ensures { result ≡ is_unlisted_code eds.now code }
 {
     let index = code / 257;
-    is_record(index) && !is_listed(eds, indexes, index)
+    is_guarded(index) && !is_listed(eds, indexes, index)
 }
 
-/// Whether a line begins a section of a PDO's communication record that no list names.
+/// Whether a line begins a section of an object by which a device does something on the bus, and no list names it.
 #[tactic(auto, unfolding(crate::specs::Records::is_unlisted))]
 pub fn is_unlisted(eds: &Eds<'_>, indexes: &BTreeSet<u64>, line: &Line) -> bool
     requires listed { AreListed eds.now indexes.now }

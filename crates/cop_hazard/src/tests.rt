@@ -16,7 +16,7 @@ use std::collections::BTreeSet;
 /// What a line is tested for.
 #[derive(Clone, Copy)]
 pub enum Test {
-    /// A section of a PDO's record that no list names.
+    /// A section of an object by which a device does something on the bus, which no list names.
     Unlisted,
     /// A record without an identifier.
     Unidentified,

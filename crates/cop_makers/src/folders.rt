@@ -1,11 +1,11 @@
 //! All EDS files of a folder, made such that plan reads them.
 
-use crate::tidying::{Answer, answer_for, check_name};
-use cop_answers::is_same;
+use crate::tidying::{Answer, answer_for, check_name, words_of};
+use crate::words::is_same;
 use cop_files::{Failure, Form, Use, file_failure, print, read_file, write_file};
 use cop_orders::TidyOrder;
-use cop_tidy::{Refusal, Tidied, refusal_words, told};
-use cop_words::line_at;
+use cop_tidy::{Refusal, Tidied, Words, told};
+use cop_words::{Source, maker_words};
 use std::fs;
 use std::io::{self, Write};
 
@@ -49,14 +49,7 @@ fn tell_refused(
     let fault = format!(in alloc; "canplan: refused {number} {line} {name}\n")?;
     let _ = rt.stderr().write_all(fault.as_bytes());
     if form == Form::Told {
-        let found = line_at(text, line);
-        let words = refusal_words(
-            alloc,
-            name,
-            number,
-            line as u64,
-            found.map(|found| found.text),
-        )?;
+        let words = maker_words(alloc, Source { name, text }, number, line)?;
         let _ = rt.stderr().write_all(&words);
     }
     Ok(())
@@ -65,14 +58,14 @@ fn tell_refused(
 /// What becomes of a file of the folder; nothing of one that is refused, which is said.
 fn mend_file(
     rt: &HostRuntime,
-    order: TidyOrder<'_>,
+    folder: &str,
+    words: &Words,
     name: &str,
     form: Form,
 ) -> Result<Option<Tidied>, Failure> {
-    let folder = order.input;
     let path = format!(in rt.alloc(); "{folder}/{name}")?;
     let text = read_file(rt, &path)?;
-    match answer_for(rt.alloc(), &text, &order.words)? {
+    match answer_for(rt.alloc(), &text, words)? {
         Answer::Tidied(tidied) => Ok(Some(tidied)),
         Answer::Refused(refusal) => {
             tell_refused(rt, name, &text, refusal, form)?;
@@ -90,8 +83,9 @@ fn mend_files(
 ) -> Result<(Vec<Mended>, bool), Failure> {
     let mut files = Vec::new(rt.alloc());
     let mut is_refused = false;
+    let words = words_of(rt.alloc(), order.choices)?;
     for name in names {
-        match mend_file(rt, order, &name, form)? {
+        match mend_file(rt, order.input, &words, &name, form)? {
             Some(tidied) => files.push(Mended { name, tidied })?,
             None => is_refused = true,
         }

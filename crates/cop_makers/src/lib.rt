@@ -3,5 +3,7 @@
 
 mod folders;
 mod tidying;
+mod words;
 
 pub use tidying::carry_tidy;
+pub use words::mend_words;

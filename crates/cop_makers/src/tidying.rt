@@ -1,12 +1,14 @@
 //! An EDS file as a maker ships it, made such that plan reads it.
 
 use crate::folders::tidy_folder;
-use cop_answers::{Inputs, is_same, is_taken, last_part, left_words};
+use crate::words::{is_same, is_taken, last_part, left_words};
+use cop_answers::Inputs;
 use cop_engine::Fault;
 use cop_files::{Failure, Form, print, read_file, write_file};
-use cop_orders::TidyOrder;
+use cop_frame::Rate;
+use cop_orders::{TidyChoices, TidyOrder};
 use cop_tidy::{Refusal, Tidied, TidyFault, Words, tidy, told};
-use std::alloc::Global;
+use std::alloc::{AllocError, Global};
 use std::fs;
 
 fn refused(alloc: Global, refusal: Refusal) -> Failure {
@@ -20,6 +22,25 @@ fn refused(alloc: Global, refusal: Refusal) -> Failure {
         },
         Err(error) => Failure::from(error),
     }
+}
+
+/// The choices that are made, as words of the reading.
+pub(crate) fn words_of(alloc: Global, choices: TidyChoices) -> Result<Words, AllocError> {
+    let mut rates = Vec::new(alloc);
+    if let Some(chosen) = choices.rates {
+        let set = chosen.set();
+        for rate in Rate::ALL {
+            if set.contains(rate) {
+                rates.push(rate)?;
+            }
+        }
+    }
+    Ok(Words {
+        digits: choices.digits,
+        access: choices.access,
+        unlisted: choices.unlisted,
+        rates,
+    })
 }
 
 /// What becomes of a text.
@@ -58,7 +79,8 @@ fn tidy_file(rt: &HostRuntime, order: TidyOrder<'_>, inputs: &mut Inputs) -> Res
         check_name(rt.alloc(), out)?;
     }
     inputs.other = read_file(rt, order.input)?;
-    let tidied = match answer_for(rt.alloc(), &inputs.other, &order.words)? {
+    let words = words_of(rt.alloc(), order.choices)?;
+    let tidied = match answer_for(rt.alloc(), &inputs.other, &words)? {
         Answer::Tidied(tidied) => tidied,
         Answer::Refused(refusal) => return Err(refused(rt.alloc(), refusal)),
     };

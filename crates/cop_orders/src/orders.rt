@@ -1,9 +1,10 @@
 //! What the command line asks for.
 
+use cop_eds::Access;
 use cop_engine::rate_of;
 use cop_frame::{Rate, RateSet};
 use cop_plan::Choice;
-use cop_tidy::Words;
+use cop_tidy_lines::{Digits, Unlisted};
 
 /// The greatest end of a run, in microseconds.
 pub const MOST_UNTIL: u64 = 1000000000;
@@ -83,14 +84,24 @@ pub struct MachineOrder<'a> {
     pub limit: Option<u64>,
 }
 
+/// The choices that are made where the text of an EDS file leaves two meanings open.
+#[derive(Clone, Copy)]
+pub struct TidyChoices {
+    pub digits: Option<Digits>,
+    /// The access of objects that state none.
+    pub access: Option<Access>,
+    pub unlisted: Option<Unlisted>,
+    /// The rates of a device that states none.
+    pub rates: Option<Rates>,
+}
+
 /// An EDS file that is to be made one that plan reads.
 #[derive(Clone, Copy)]
 pub struct TidyOrder<'a> {
     pub input: &'a str,
     /// The file that the text is written to; none where the changes are told alone.
     pub out: Option<&'a str>,
-    /// The choices that are made where two meanings are possible.
-    pub words: Words,
+    pub choices: TidyChoices,
 }
 
 /// What a plan is exported as.

@@ -1,9 +1,7 @@
 pub mod AcceptedLemmas
-pub mod KeptLemmas
 pub mod LineLemmas
 pub mod LoopLemmas
-pub mod RateLemmas
+pub mod MeantLemmas
+pub mod SpareLemmas
 pub mod StandingLemmas
 pub mod EachNode
-pub mod AddedLemmas
-pub mod EachAdds

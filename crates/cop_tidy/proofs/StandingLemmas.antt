@@ -1,5 +1,5 @@
 -- What follows where nothing stands against a text.
-use Rattle.std.proofs.Common.{◌≡◌, ℕ, ◌≤◌, Bool, true, false, cond, List, Option, Some, None, Result, Ok, Err, IsOk, IfSome, refl, sym, subst, arith, All}
+use Rattle.std.proofs.Common.{◌≡◌, ◌↔◌, inl, inr, ℕ, ◌≤◌, Bool, true, false, cond, true≢false, List, Option, Some, None, Result, Ok, Err, IsOk, IsTrue, IfOk, IfSome, refl, sym, subst, ◌∙◌, arith, All}
 use Rattle.std.specs.List.{list_all}
 use Rattle.std.specs.Option.{option_map, option_or}
 use Rattle.std.proofs.lemmas.List.Sums.{AllPass-from_list_all, list_all-from_AllPass}
@@ -7,15 +7,21 @@ use Rattle.cop_eds.specs.declared.fault.Refusal.{Refusal}
 use Rattle.cop_eds.specs.Reading.{reading}
 use Rattle.cop_dict.specs.Find.{Entry}
 use Rattle.cop_dict.specs.Build.{built}
-use Rattle.cop_change.specs.declared.words.Words.{Words}
+use Rattle.cop_tidy_device.specs.Device.{Meaning}
+use Rattle.cop_tidy_reading.specs.declared.question.Question as reading
+use Rattle.cop_tidy_reading.specs.declared.words.Words.{Words}
+use Rattle.cop_tidy_reading.specs.Reading.{loosely}
 use Rattle.cop_hazard.specs.declared.hazards.Hazard.{Hazard}
 use Rattle.cop_hazard.specs.declared.tests.Test.TheVariants as tests
 use Rattle.cop_hazard.specs.Compact.{implicit_line}
 use Rattle.cop_hazard.specs.Hazards.{first_line, unlisted_line, beyond_line, hazard_at, hazard_of}
+use Rattle.cop_tidy.specs.declared.fault.TidyFault.{TidyFault}
 use Rattle.cop_tidy.specs.declared.judging.Left.{Left}
+use Rattle.cop_tidy.specs.declared.tidying.Tidied.{Tidied}
 use Rattle.cop_tidy.specs.Accepted.{IsAccepted}
 use Rattle.cop_tidy.specs.Identified.{identified, IsIdentified, AreIdentified}
-use Rattle.cop_tidy.specs.Standing.{is_leaving, left_of, left_at, unidentified, standing_built, standing_read, standing}
+use Rattle.cop_tidy.specs.Standing.{is_leaving, left_of, left_at, unidentified, standing_built, standing_read, standing, misread, IsFound, Stands}
+use Rattle.cop_tidy.specs.Meant.{IsOf, IsMeant}
 use Rattle.cop_tidy.proofs.AcceptedLemmas.{read_as_itself}
 
 neither : {X : Type 0} (a b : Option X) → option_or a b ≡ None → (a ≡ None) × (b ≡ None)
@@ -138,20 +144,94 @@ pub hazards_alone : (words : Words) (text : List ℕ) → IsAccepted text → If
 unfolding standing
 hazards_alone words text a = rw a.read (hazards_built (is_leaving words) text (built text 1) (built text 127) a.first a.last)
 
--- the same of what was found
-pub found_hazard : (words : Words) (text : List ℕ) (found : Option Left) → found ≡ standing words text → IfSome found (λ left. IsAccepted text → 80 ≤ left.number)
-found_hazard words text None e = tt
-found_hazard words text (Some left) e = λ a. subst (λ (o : Option Left). IfSome o (λ left. 80 ≤ left.number)) (sym e) (hazards_alone words text a)
+-- the same of what is found
+hazard_left : (words : Words) (text : List ℕ) (device : Meaning) (left : Left) → IsFound (standing words text) (IsOf text device) (Some left) → IsAccepted text → 80 ≤ left.number
+hazard_left words text device left (inl e) a = subst (λ (o : Option Left). IfSome o (λ left. 80 ≤ left.number)) e (hazards_alone words text a)
+hazard_left words text device left (inr h) a = subst (λ (l : Left). 80 ≤ l.number) (sym h.1.0) (omega arith)
 
--- what stands against a text that is read is that of its dictionaries and hazards
-pub stands_by : (words : Words) (text x : List ℕ) (found : Option Left) → reading text ≡ Ok x
-    → found ≡ standing_built (is_leaving words) x (built x 1) (built x 127) → standing words text ≡ found
-unfolding standing
-stands_by words text x found e h =
-    let P : List ℕ → Type 0 = λ t. found ≡ standing_built (is_leaving words) t (built t 1) (built t 127) in
-    rw e (sym (subst P (read_as_itself text x e) h))
+some_hazard : (words : Words) (text : List ℕ) (device : Meaning) (left : Left) (found : Option Left) → IsFound (standing words text) (IsOf text device) (Some left) → found ≡ Some left
+    → IfSome found (λ left. IsAccepted text → 80 ≤ left.number)
+some_hazard words text device left found h e =
+    subst (λ (o : Option Left). IfSome o (λ left. IsAccepted text → 80 ≤ left.number)) (sym e) (hazard_left words text device left h)
 
--- and against one that is refused it is the refusal
-pub refused_by : (words : Words) (text : List ℕ) (refusal : Refusal) → reading text ≡ Err refusal → standing words text ≡ Some (left_of refusal)
+pub found_hazard : (words : Words) (text : List ℕ) (device : Meaning) (left : Left) (some : Option Left) (result : Result Tidied TidyFault)
+    → IsFound (standing words text) (IsOf text device) some → some ≡ Some left → IfOk result (λ t. t.found ≡ Some left)
+    → IfOk result (λ t. IfSome t.found (λ left. IsAccepted text → 80 ≤ left.number))
+found_hazard words text device left some (Err fault) h is e = tt
+found_hazard words text device left some (Ok t) h is e =
+    some_hazard words text device left t.found (subst (λ (o : Option Left). IsFound (standing words text) (IsOf text device) o) is h) e
+
+-- ---- what is found, step by step
+
+-- of a text with two dictionaries
+pub found_standing : (stands : Option Left) (text : List ℕ) (device : Meaning) (left : Left) → Some left ≡ stands → IsFound stands (IsOf text device) (Some left)
+found_standing stands text device left e = inl (sym e)
+
+pub found_nothing : (stands : Option Left) (text : List ℕ) (device : Meaning) (b : Bool) → None ≡ stands → (IsTrue b ↔ IsOf text device) → b ≡ true → IsFound stands (IsOf text device) None
+found_nothing stands text device b e h so = (sym e, h.0 so)
+
+pub found_misread : (stands : Option Left) (text : List ℕ) (device : Meaning) (b : Bool) → None ≡ stands → (IsTrue b ↔ IsOf text device) → b ≡ false → IsFound stands (IsOf text device) (Some misread)
+found_misread stands text device b e h none = inr (sym e, (refl, λ is. absurd (true≢false (sym (h.1 is) ∙ none))))
+
+-- of a text that is read
+pub found_first : (is_left : Bool) (text : List ℕ) (device : Meaning) (last : Result (List Entry) Refusal) (refusal : Refusal) → built text 1 ≡ Err refusal
+    → IsFound (standing_built is_left text (built text 1) last) (IsOf text device) (Some (left_of refusal))
+found_first is_left text device last refusal e = inl (rw e refl)
+
+pub found_last : (is_left : Bool) (text : List ℕ) (device : Meaning) (first : List Entry) (refusal : Refusal) → built text 1 ≡ Ok first → built text 127 ≡ Err refusal
+    → IsFound (standing_built is_left text (built text 1) (built text 127)) (IsOf text device) (Some (left_of refusal))
+found_last is_left text device first refusal e f = inl (rw (e, f) refl)
+
+pub found_by : (is_left : Bool) (text : List ℕ) (device : Meaning) (first last : List Entry) (found : Option Left) → built text 1 ≡ Ok first → built text 127 ≡ Ok last
+    → IsFound (standing_built is_left text (Ok first) (Ok last)) (IsOf text device) found
+    → IsFound (standing_built is_left text (built text 1) (built text 127)) (IsOf text device) found
+found_by is_left text device first last found e f h = rw (e, f) h
+
+-- of any text
+as_read : (words : Words) (text : List ℕ) → reading text ≡ Ok text → standing words text ≡ standing_built (is_leaving words) text (built text 1) (built text 127)
 unfolding standing
-refused_by words text refusal e = rw e refl
+as_read words text e = rw e refl
+
+pub found_in : (words : Words) (text x : List ℕ) (device : Meaning) (found : Option Left) → reading text ≡ Ok x
+    → IsFound (standing_built (is_leaving words) x (built x 1) (built x 127)) (IsOf x device) found → IsFound (standing words text) (IsOf text device) found
+found_in words text x device found e h =
+    let same = read_as_itself text x e in
+    let P : List ℕ → Type 0 = λ t. IsFound (standing_built (is_leaving words) t (built t 1) (built t 127)) (IsOf t device) found in
+    let Q : Option Left → Type 0 = λ stands. IsFound stands (IsOf text device) found in
+    let read : reading text ≡ Ok text = subst (λ t. reading text ≡ Ok t) same e in
+    subst Q (sym (as_read words text read)) (subst P same h)
+
+refused_as : (words : Words) (text : List ℕ) (refusal : Refusal) → reading text ≡ Err refusal → standing words text ≡ Some (left_of refusal)
+unfolding standing
+refused_as words text refusal e = rw e refl
+
+pub found_refused : (words : Words) (text : List ℕ) (device : Meaning) (refusal : Refusal) → reading text ≡ Err refusal
+    → IsFound (standing words text) (IsOf text device) (Some (left_of refusal))
+found_refused words text device refusal e = inl (refused_as words text refusal e)
+
+-- ---- what is found, and the device that a text describes
+
+-- a text describes one device
+of_meant : (words : Words) (source result : List ℕ) (device : Meaning) → loosely source words ≡ Ok device → IsMeant words source result → IsOf result device
+of_meant words source result device read m =
+    let same : m.device ≡ device = by_ok m.device device (sym m.read ∙ read) in
+    subst (IsOf result) same m.same
+  where
+    by_ok : (a b : Meaning) → ◌≡◌ {A = Result Meaning reading.Question} (Ok a) (Ok b) → a ≡ b
+    by_ok a b e = cc
+
+pub stands_as : (words : Words) (text : List ℕ) (device : Meaning) (found : Option Left) → loosely text words ≡ Ok device
+    → IsFound (standing words text) (IsOf text device) found → Stands words text found
+stands_as words text device None read h = (h.0, record { device = device; read = read; same = h.1 })
+stands_as words text device (Some left) read (inl e) = inl e
+stands_as words text device (Some left) read (inr h) = inr (h.0, (h.1.0, λ m. h.1.1 (of_meant words text text device read m)))
+
+-- what is found is one thing
+pub never_none : (stands : Option Left) (Means : Type 0) (left : Left) → IsFound stands Means (Some left) → IsFound stands Means None → ⊥
+never_none stands Means left (inl e) none = absurd (let n = none.0 in cc)
+never_none stands Means left (inr h) none = h.1.1 none.1
+
+-- nothing stands against a safe text
+pub none_against : (words : Words) (text : List ℕ) → IsAccepted text → hazard_of (is_leaving words) text ≡ None → AreIdentified 1 text → AreIdentified 127 text
+    → IsMeant words text text → Stands words text None
+none_against words text a h f l m = (none_stands words text a h f l, m)

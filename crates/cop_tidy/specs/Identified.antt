@@ -1,8 +1,18 @@
 -- PDOs that a dictionary can switch off.
-use Rattle.std.specs.Prelude.{ℕ, ◌≡◌, Bool, true, not, ◌||◌, List, Ok, All}
+use Rattle.std.specs.Prelude.{ℕ, ◌≡◌, Bool, true, false, not, ◌||◌, List, Option, Some, None, Ok, All}
+use Rattle.cop_dict.specs.Types.{is_unsigned32}
 use Rattle.cop_dict.specs.Find.{Entry, entry_at}
+use Rattle.cop_dict.specs.Mapping.{is_between}
 use Rattle.cop_dict.specs.Build.{built}
-use Rattle.cop_tidy.specs.Kept.{is_record, is_identifier}
+
+-- the index of a PDO's communication record
+abbrev pub is_record : ℕ → Bool
+is_record index = is_between 0x1400 0x15FF index || is_between 0x1800 0x19FF index
+
+-- an entry is an UNSIGNED32, as an identifier is
+abbrev pub is_identifier : Option Entry → Bool
+is_identifier None = false
+is_identifier (Some entry) = is_unsigned32 entry.description.data_type
 
 -- an entry is of no PDO's communication record, or has an UNSIGNED32 beside it at sub 1
 abbrev pub identified : List Entry → Entry → Bool

@@ -1,7 +1,6 @@
 pub mod Accepted
-pub mod Added
-pub mod Chosen
+pub mod Fault
 pub mod Identified
-pub mod Kept
-pub mod Rates
+pub mod Meant
+pub mod Spared
 pub mod Standing

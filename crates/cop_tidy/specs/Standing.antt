@@ -1,5 +1,5 @@
--- What stands against a text: the first refusal of the strict reading, or a hazard.
-use Rattle.std.specs.Prelude.{ℕ, Bool, true, false, List, Option, Some, None, IsSome, Result, Ok, Err, if◌then◌else◌}
+-- What stands against a text: the first refusal of the strict reading, a hazard, or that it is read as another device than it describes.
+use Rattle.std.specs.Prelude.{ℕ, ◌≡◌, ◌⊎◌, Bool, true, false, List, Option, Some, None, Result, Ok, Err, if◌then◌else◌}
 use Rattle.std.specs.List.{list_all}
 use Rattle.std.specs.Option.{option_map, option_or}
 use Rattle.cop_eds.specs.declared.fault.Refusal.{Refusal}
@@ -7,15 +7,14 @@ use Rattle.cop_eds.specs.Rules.{number_of}
 use Rattle.cop_eds.specs.Reading.{reading}
 use Rattle.cop_dict.specs.Find.{Entry}
 use Rattle.cop_dict.specs.Build.{built}
-use Rattle.cop_change.specs.declared.words.Unlisted.{Unlisted}
-use Rattle.cop_change.specs.declared.words.Unlisted.TheVariants.{Add, Leave}
-use Rattle.cop_change.specs.declared.words.Words.{Words}
-use Rattle.cop_change.specs.declared.fault.TidyFault.{TidyFault}
-use Rattle.cop_change.specs.declared.fault.TidyFault.TheVariants.{Refused, Memory}
 use Rattle.cop_hazard.specs.declared.hazards.Hazard.{Hazard}
 use Rattle.cop_hazard.specs.Hazards.{hazard_of}
+use Rattle.cop_tidy_lines.specs.declared.choices.Unlisted.{Unlisted}
+use Rattle.cop_tidy_lines.specs.declared.choices.Unlisted.TheVariants.{Add, Leave}
+use Rattle.cop_tidy_reading.specs.declared.words.Words.{Words}
 use Rattle.cop_tidy.specs.declared.judging.Left.{Left}
 use Rattle.cop_tidy.specs.Identified.{identified}
+use Rattle.cop_tidy.specs.Meant.{IsMeant}
 
 -- the choice is made to leave sections of PDOs as they are that no list names
 abbrev pub is_leave : Option Unlisted → Bool
@@ -48,11 +47,20 @@ abbrev pub standing_read : Bool → List ℕ → Result (List ℕ) Refusal → O
 standing_read is_left text (Err refusal) = Some (left_of refusal)
 standing_read is_left text (Ok same) = standing_built is_left text (built text 1) (built text 127)
 
--- what stands against a text, where these choices are made; nothing against one that is accepted and has no hazard
+-- what stands against a text by itself, where these choices are made; nothing against one that is accepted and has no hazard
 unfoldable pub standing : Words → List ℕ → Option Left
 standing words text = standing_read (is_leaving words) text (reading text)
 
--- a text is refused for a reason: something stands against it
-abbrev pub IsReason : TidyFault → Option Left → Type 0
-IsReason Memory left = Unit {0}
-IsReason (Refused refusal) left = IsSome left
+-- hazard 84, at no line: the strict reading takes the text for another device than it describes
+abbrev pub misread : Left
+misread = record { number = 84; line = 0 }
+
+-- What is found against a text: nothing, where nothing stands against it by itself and it means what it is read as; else what stands, or that it
+-- is misread.
+abbrev pub IsFound : Option Left → Type 0 → Option Left → Type 0
+IsFound stands Means None = (stands ≡ None) × Means
+IsFound stands Means (Some left) = (stands ≡ Some left) ⊎ ((stands ≡ None) × ((left ≡ misread) × (Means → ⊥)))
+
+-- this is what stands against a text, where these choices are made
+abbrev pub Stands : Words → List ℕ → Option Left → Type 0
+Stands words text found = IsFound (standing words text) (IsMeant words text text) found

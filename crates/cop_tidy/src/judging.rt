@@ -1,20 +1,23 @@
 //! What stands against a text.
 
-ghost use Rattle.std.specs.Prelude.{◌≡◌, ◌≤◌, None, Some, IfOk, IfErr, IfSome};
+ghost use Rattle.std.specs.Prelude.{◌≡◌, None, Some, Ok, IfOk, IfErr};
 ghost use Rattle.std.specs.Option.{option_map};
 ghost use Rattle.cop_dict.specs.Build.{built};
-ghost use Rattle.cop_tidy.specs.Accepted.{IsAccepted};
-ghost use Rattle.cop_tidy.specs.Standing.{is_leaving, left_at, left_of, standing, standing_built, unidentified};
 ghost use Rattle.cop_hazard.specs.Hazards.{hazard_of};
+ghost use Rattle.cop_tidy.specs.Meant.{IsOf};
+ghost use Rattle.cop_tidy.specs.Standing.{is_leaving, left_at, left_of, standing, standing_built, unidentified, IsFound};
 
-use crate::keeping::are_identified;
-use cop_change::{Unlisted, Words};
+use crate::identifying::are_identified;
+use crate::meaning::is_of;
 use cop_dict::{Dictionary, build};
 use cop_eds::{Eds, EdsFault, Refusal, parse};
 use cop_hazard::first_hazard;
+use cop_tidy_device::Device;
+use cop_tidy_reading::{Unlisted, Words};
 use std::alloc::{AllocError, Global};
 
-/// What stands against a text: the number of a refusal of the strict reading, below 80, or of a hazard, and the line.
+/// What stands against a text: the number of a refusal of the strict reading, below 80, or of a hazard, and the line; 84 at line 0 where
+/// the strict reading takes the text for another device than it describes.
 #[derive(Clone, Copy, Debug, PartialEq, Eq)]
 pub struct Left {
     pub number: u8,
@@ -32,7 +35,7 @@ fn left_of(refusal: Refusal) -> Left
 }
 
 /// The dictionary of an accepted text for a node, or what stands against it.
-pub(crate) fn built_for(
+fn built_for(
     alloc: Global,
     eds: &Eds<'_>,
     node: u8,
@@ -95,9 +98,46 @@ fn judged_built(
     Ok(hazard.or(unidentified(first).or(unidentified(last))))
 }
 
-/// What stands against a text that is read: a refusal of a dictionary's value, or a hazard.
-fn judged_eds(alloc: Global, eds: &Eds<'_>, words: &Words) -> Result<Option<Left>, AllocError>
-    ensures { IfOk result (λ found. found ≡ standing_built (is_leaving words.now) eds.now (built eds.now 1) (built eds.now 127)) }
+/// Hazard 84, at no line: the strict reading takes a text for another device than it describes.
+const MISREAD: Left = Left {
+    number: 84,
+    line: 0,
+};
+
+/// What is found against a text of which these are the dictionaries for the first and for the last node: what stands against it by itself, or that
+/// it is not of a device.
+#[tactic(auto, using(crate::proofs::StandingLemmas::found_standing, crate::proofs::StandingLemmas::found_nothing, crate::proofs::StandingLemmas::found_misread))]
+fn found_built(
+    alloc: Global,
+    eds: &Eds<'_>,
+    first: &Dictionary,
+    last: &Dictionary,
+    words: &Words,
+    device: &Device,
+) -> Result<Option<Left>, AllocError>
+    requires first { built eds.now 1 ≡ Ok first.now }
+    requires last { built eds.now 127 ≡ Ok last.now }
+    ensures { IfOk result (λ found. IsFound (standing_built (is_leaving words.now) eds.now (Ok first.now) (Ok last.now)) (IsOf eds.now device.now) found) }
+{
+    if let Some(left) = judged_built(alloc, eds, first, last, words)? {
+        return Ok(Some(left));
+    }
+    if is_of(alloc, eds, first, last, device)? {
+        Ok(None)
+    } else {
+        Ok(Some(MISREAD))
+    }
+}
+
+/// What is found against a text that is read.
+#[tactic(auto, using(crate::proofs::StandingLemmas::found_first, crate::proofs::StandingLemmas::found_last, crate::proofs::StandingLemmas::found_by))]
+fn found_read(
+    alloc: Global,
+    eds: &Eds<'_>,
+    words: &Words,
+    device: &Device,
+) -> Result<Option<Left>, AllocError>
+    ensures { IfOk result (λ found. IsFound (standing_built (is_leaving words.now) eds.now (built eds.now 1) (built eds.now 127)) (IsOf eds.now device.now) found) }
 {
     let first = match built_for(alloc, eds, 1)? {
         Ok(dict) => dict,
@@ -107,44 +147,27 @@ fn judged_eds(alloc: Global, eds: &Eds<'_>, words: &Words) -> Result<Option<Left
         Ok(dict) => dict,
         Err(refusal) => return Ok(Some(left_of(refusal))),
     };
-    judged_built(alloc, eds, &first, &last, words)
+    found_built(alloc, eds, &first, &last, words, device)
 }
 
-/// A text against which nothing stands, by the strict reading of it, or what does.
-#[tactic(auto, using(crate::proofs::AcceptedLemmas::read_as_itself, crate::proofs::StandingLemmas::stands_by, crate::proofs::StandingLemmas::refused_by))]
-pub fn settled<'a>(
+/// What is found against a text, by the strict reading of it: the first refusal or a hazard, else that it is not of a device. It is read once.
+#[tactic(auto, using(crate::proofs::AcceptedLemmas::read_as_itself, crate::proofs::StandingLemmas::found_in, crate::proofs::StandingLemmas::found_refused))]
+pub fn found_against(
     alloc: Global,
-    text: &'a [u8],
+    text: &[u8],
     words: &Words,
-) -> Result<Result<Eds<'a>, Left>, AllocError>
-    ensures same { IfOk result (λ r. IfOk r (λ eds. eds ≡ text.now)) }
-    ensures settled { IfOk result (λ r. IfOk r (λ eds. standing words.now text.now ≡ None)) }
-    ensures left { IfOk result (λ r. IfErr r (λ left. standing words.now text.now ≡ Some left)) }
+    device: &Device,
+) -> Result<Option<Left>, AllocError>
+    ensures { IfOk result (λ found. IsFound (standing words.now text.now) (IsOf text.now device.now) found) }
 {
-    let eds = match parse(alloc, text) {
-        Ok(eds) => eds,
-        Err(EdsFault::Refused(refusal)) => return Ok(Err(left_of(refusal))),
-        Err(EdsFault::Memory) => return Err(AllocError),
-    };
-    match judged_eds(alloc, &eds, words)? {
-        Some(left) => Ok(Err(left)),
-        None => Ok(Ok(eds)),
+    match parse(alloc, text) {
+        Ok(eds) => found_read(alloc, &eds, words, device),
+        Err(EdsFault::Refused(refusal)) => Ok(Some(left_of(refusal))),
+        Err(EdsFault::Memory) => Err(AllocError),
     }
 }
 
-/// What stands against a text, by the strict reading of it.
-fn judged_text(alloc: Global, text: &[u8], words: &Words) -> Result<Option<Left>, AllocError>
-    ensures { IfOk result (λ found. found ≡ standing words.now text.now) }
-{
-    Ok(settled(alloc, text, words)?.err())
-}
-
-/// What stands against a text: the first refusal of the strict reading, or a hazard. Against one that is accepted nothing stands but
-/// a hazard.
-pub fn judged(alloc: Global, text: &[u8], words: &Words) -> Result<Option<Left>, AllocError>
-    ensures found { IfOk result (λ found. found ≡ standing words.now text.now) }
-    ensures hazard { IfOk result (λ found. IfSome found (λ left. IsAccepted text.now → 80 ≤ left.number)) }
-{
-    let found = judged_text(alloc, text, words)?;
-    Ok(found)
+/// The number of what stands against a text that was made; 0 where it is of another device.
+pub fn number_left(left: Left) -> u8 {
+    if left == MISREAD { 0 } else { left.number }
 }

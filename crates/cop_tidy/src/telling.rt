@@ -1,10 +1,10 @@
 //! What was changed, in words.
 
 use crate::tidying::Tidied;
-use cop_change::{Cause, Change, TextChange};
+use cop_bytes::TextChange;
+use cop_change::{Cause, Change};
 use cop_eds::{Eds, EdsFault, parse};
 use cop_hazard::{Hazard, all_hazards, index_at, miscounts};
-use cop_spelling::text::NOTHING;
 use std::alloc::{AllocError, Global};
 use std::collections::BTreeSet;
 
@@ -33,6 +33,8 @@ fn reason(cause: Cause) -> &'static str {
         Cause::DataType => "T2: the DataType of CiA 301, of the array, or of a sub-index 0",
         Cause::Access => "T3: the access of CiA 301, of the array, of a sub-index 0, or --access",
         Cause::Value => "V: the same number in another spelling, or no number",
+        Cause::LeftOut => "V: left out, since it has no one reading",
+        Cause::Rates => "R: the rates that --rates gives",
         Cause::Compact => "C1: its sub sections are written out",
         Cause::CompactOf(_) => "C1: CompactSubObj of line ",
         Cause::PdoOf(_) => "C2: CompactPDO; the device has PDO ",
@@ -56,7 +58,7 @@ fn put_reason(alloc: Global, text: &mut Vec<u8>, cause: Cause) -> Result<(), All
 }
 
 /// Adds the text of a line, with `?` for what cannot be shown.
-pub(crate) fn put_shown(text: &mut Vec<u8>, line: &[u8]) -> Result<(), AllocError> {
+fn put_shown(text: &mut Vec<u8>, line: &[u8]) -> Result<(), AllocError> {
     if line.is_empty() {
         return text.extend_from_slice(b"nothing");
     }
@@ -134,14 +136,22 @@ fn put_all_warnings(alloc: Global, text: &mut Vec<u8>, source: &[u8]) -> Result<
 }
 
 /// What was changed: a line for each change of the whole text, one for each change of a line, one for each warning on the text that
-/// came of it, by its line, and the number of changes.
+/// came of it, by its line, the number of lines that are left out, and that of changes.
 pub fn told(alloc: Global, tidied: &Tidied) -> Result<Vec<u8>, AllocError> {
-    let mut text = Vec::from_slice(alloc, NOTHING)?;
+    let mut text = Vec::new(alloc);
     for change in tidied.text_changes.iter() {
         text.extend_from_slice(text_change(alloc, *change)?.as_bytes())?;
     }
     put_changes(alloc, &mut text, &tidied.changes)?;
     put_all_warnings(alloc, &mut text, &tidied.text)?;
+    let left_out = tidied
+        .changes
+        .iter()
+        .filter(|change| change.cause == Cause::LeftOut)
+        .count();
+    if left_out > 0 {
+        text.extend_from_slice(format!(in alloc; "left out {left_out}\n")?.as_bytes())?;
+    }
     let count = tidied
         .changes
         .len()

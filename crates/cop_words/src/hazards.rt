@@ -2,6 +2,7 @@
 
 use crate::devices::{accepted, text_named};
 use crate::findings::{EdsLine, Finding};
+use crate::left_outs::push_left_out;
 use crate::owners::push_owner;
 use crate::parameters::push_parameters;
 use crate::words::push_shown;
@@ -43,14 +44,29 @@ fn name_in(line: &[u8]) -> &[u8] {
     inside.split(|byte| *byte == b']').next().unwrap_or(inside)
 }
 
-/// The PDO of a communication record: TPDO 2 of 1801h.
-fn pdo_at(alloc: Global, index: u64) -> Result<String, AllocError> {
-    if index < 0x1800 {
-        let number = index.saturating_sub(0x13FF);
-        return format!(in alloc; "RPDO {number}");
+/// The object of a section by which a device does something on the bus: TPDO 2 of 1801h.
+fn object_at(alloc: Global, index: u64) -> Result<String, AllocError> {
+    let number = (index & 0x1FF).saturating_add(1);
+    match index {
+        0x1005 | 0x1006 => String::from_str(alloc, "SYNC"),
+        0x1014 | 0x1015 => String::from_str(alloc, "EMCY"),
+        0x1016 => String::from_str(alloc, "The watch on heartbeats"),
+        0x1017 => String::from_str(alloc, "The heartbeat"),
+        0x1400..=0x15FF => format!(in alloc; "RPDO {number}"),
+        0x1600..=0x17FF => format!(in alloc; "The mapping of RPDO {number}"),
+        0x1800..=0x19FF => format!(in alloc; "TPDO {number}"),
+        0x1A00..=0x1BFF => format!(in alloc; "The mapping of TPDO {number}"),
+        _ => String::from_str(alloc, "The SDO server"),
     }
-    let number = index.saturating_sub(0x17FF);
-    format!(in alloc; "TPDO {number}")
+}
+
+/// What becomes of an object that no list names.
+fn unseen(index: u64) -> &'static str {
+    if matches!(index, 0x1400..=0x15FF | 0x1800..=0x19FF) {
+        "it is not switched off"
+    } else {
+        "a plan neither sees nor sets it"
+    }
 }
 
 /// The devices that have a text: Valve, or Valve and 2 more.
@@ -73,22 +89,24 @@ pub(crate) fn shown(alloc: Global, bytes: &[u8]) -> Result<String, AllocError> {
     }
 }
 
-/// What is said of a record of a PDO.
-fn record_words(
+/// What is said of a section by which a device does something on the bus.
+fn object_words(
     alloc: Global,
     text: Text<'_, '_, '_>,
     hazard: Hazard,
 ) -> Result<String, AllocError> {
     let name = name_in(line_of(text.eds, hazard.line));
-    let pdo = pdo_at(alloc, index_at(text.eds, hazard.line).unwrap_or(0))?;
+    let index = index_at(text.eds, hazard.line).unwrap_or(0);
+    let object = object_at(alloc, index)?;
     let (devices, section) = (devices_of(alloc, text)?, shown(alloc, name)?);
     if hazard.number == 80 {
+        let unseen = unseen(index);
         return format!(in alloc;
-            "{pdo} of {devices} stands in [{section}], which no list names: it is not switched off. canplan tidy --unlisted add lists it"
+            "{object} of {devices} stands in [{section}], which no list names: {unseen}. canplan tidy --unlisted add lists it"
         );
     }
     format!(in alloc;
-        "{pdo} of {devices} has no UNSIGNED32 at sub 1 of [{section}]: it is not switched off. Describe the record (ObjectType=9) and its sub 1 as the device has them"
+        "{object} of {devices} has no UNSIGNED32 at sub 1 of [{section}]: it is not switched off. Describe the record (ObjectType=9) and its sub 1 as the device has them"
     )
 }
 
@@ -119,7 +137,7 @@ fn finding_of(
     hazard: Hazard,
 ) -> Result<Finding, AllocError> {
     let words = match hazard.number {
-        80 | 81 => record_words(alloc, text, hazard)?,
+        80 | 81 => object_words(alloc, text, hazard)?,
         _ => line_words(alloc, text, hazard)?,
     };
     let file = str::from_utf8(text.row.eds.as_bytes()).unwrap_or("");
@@ -135,7 +153,7 @@ fn finding_of(
     })
 }
 
-/// Adds hazards of a text. A PDO's record that no list names is told at its first section alone.
+/// Adds hazards of a text. An object that no list names is told at its first section alone.
 fn push_hazards(
     findings: &mut Vec<Finding>,
     alloc: Global,
@@ -161,7 +179,8 @@ fn push_text(
     push_hazards(findings, alloc, text, &all_hazards(alloc, text.eds)?)?;
     push_hazards(findings, alloc, text, &miscounts(alloc, text.eds)?)?;
     push_parameters(findings, alloc, text)?;
-    push_owner(findings, alloc, text)
+    push_owner(findings, alloc, text)?;
+    push_left_out(findings, alloc, text)
 }
 
 /// How many rows name the same EDS file as one.

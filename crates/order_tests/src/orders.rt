@@ -2,7 +2,7 @@
 
 use cop_cli_args::read_request;
 use cop_frame::Rate;
-use cop_orders::{Format, NetworkFiles, Order, WatchOrder};
+use cop_orders::{Format, NetworkFiles, Order, Rates, WatchOrder};
 use cop_plan::Choice;
 use std::alloc::{AllocError, Global};
 use std::test::Fail;
@@ -17,18 +17,24 @@ fn words_of(alloc: Global, line: &str) -> Result<Vec<String>, AllocError> {
     Ok(words)
 }
 
+/// Adds rates, slowest first, each behind a word.
+fn write_rates(text: &mut String, word: &str, rates: Rates) -> Result<(), AllocError> {
+    let set = rates.set();
+    for rate in Rate::ALL {
+        if set.contains(rate) {
+            let kbits = rate.kbits();
+            write!(text, " {word} {kbits}")?;
+        }
+    }
+    Ok(())
+}
+
 /// Adds the tables of a network, the rates that its plan may have if they are listed, and whether its margin is wanted.
 fn write_network(text: &mut String, network: NetworkFiles<'_>) -> Result<(), AllocError> {
     let (nodes, pdos) = (network.nodes, network.pdos);
     write!(text, " {nodes} {pdos}")?;
     if network.rates.are_listed() {
-        let set = network.rates.set();
-        for rate in Rate::ALL {
-            if set.contains(rate) {
-                let kbits = rate.kbits();
-                write!(text, " at {kbits}")?;
-            }
-        }
+        write_rates(text, "at", network.rates)?;
     }
     match network.choice {
         Choice::Margin => text.push_str(" margin"),
@@ -130,8 +136,12 @@ fn write_order(text: &mut String, order: Order<'_>) -> Result<(), AllocError> {
             write_network(text, order.network)
         }
         Order::Tidy(order) => {
-            let (input, out, clamp) = (order.input, order.out.unwrap_or("no"), order.words.clamp);
-            write!(text, "tidy {input} {out} {clamp}")
+            let (input, out) = (order.input, order.out.unwrap_or("no"));
+            write!(text, "tidy {input} {out}")?;
+            match order.choices.rates {
+                Some(rates) => write_rates(text, "of", rates),
+                None => Ok(()),
+            }
         }
         Order::Explain {
             number: Some(number),
@@ -197,8 +207,8 @@ const ASKED: &[(&str, &str)] = &[
         "export cdcf of a manager out n p",
     ),
     ("export dbc n p out", "export dbc out n p"),
-    ("tidy --clamp in out", "tidy in out true"),
-    ("tidy --check in", "tidy in no false"),
+    ("tidy --rates 125,500 in out", "tidy in out of 125 of 500"),
+    ("tidy --check in", "tidy in no"),
     (
         "watch --json --drift 9 --channel can1 n p -",
         "watch log - 1000 9 can1 n p json",

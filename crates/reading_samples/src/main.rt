@@ -1,12 +1,9 @@
-//! Tries the tolerant reading on samples of EDS files as makers write them. `list` has those that have a tidy text beside them, or
-//! that ask a question: the device of the sample is that which the strict reading gives of the tidy text. `rows` has short texts,
-//! each for one rule, and an index whose objects are printed.
+//! Tries the tolerant reading on short texts as makers write them, each for one rule. `rows` has them, each with an index whose objects
+//! are printed, and the choices that are made.
 #![tactic(auto)]
 
-use cop_dict::build;
-use cop_eds::{Amount, Eds, parse};
+use cop_eds::Amount;
 use cop_frame::Rate;
-use cop_tidy_device::is_dictionary_of;
 use cop_tidy_reading::{
     Device, DeviceObject, Digits, ReadingFault, Unlisted, Value, Words, loosely,
 };
@@ -27,33 +24,6 @@ fn words_of(rt: &HostRuntime, word: &str) -> io::Result<Words> {
         _ => {}
     }
     Ok(words)
-}
-
-/// Whether a device supports exactly the rates of a text.
-fn has_rates(device: &Device, eds: &Eds<'_>) -> bool {
-    let rates = eds.rates();
-    Rate::ALL.iter().all(|rate| rates.contains(*rate) == device.rates.contains(rate))
-}
-
-/// Compares a device with what the strict reading gives of a tidy text.
-fn compare(rt: &HostRuntime, name: &str, device: &Device) -> io::Result<()> {
-    let wanted = fs::read(rt, format!(in rt.alloc(); "{name}/out.eds")?.as_str())?;
-    let Ok(eds) = parse(rt.alloc(), &wanted) else {
-        return println!(rt; "{name}: the tidy text is not read");
-    };
-    if !has_rates(device, &eds) {
-        return println!(rt; "{name}: other rates");
-    }
-    for node in [1u8, 127] {
-        let Ok(built) = build(rt.alloc(), &eds, node) else {
-            return println!(rt; "{name}: the tidy text is not built");
-        };
-        if !is_dictionary_of(&built, device, node) {
-            return println!(rt; "{name}: node {node} has another dictionary in the tidy text");
-        }
-    }
-    let objects = device.objects.len();
-    println!(rt; "{name}: the device of its tidy text, {objects} objects")
 }
 
 /// The words for an amount.
@@ -121,16 +91,6 @@ fn tell(rt: &HostRuntime, name: &str, fault: &ReadingFault) -> io::Result<()> {
     }
 }
 
-/// Tries a sample.
-fn try_sample(rt: &HostRuntime, name: &str, word: &str) -> io::Result<()> {
-    let text = fs::read(rt, format!(in rt.alloc(); "{name}/in.eds")?.as_str())?;
-    let words = words_of(rt, word)?;
-    match loosely(rt.alloc(), &text, &words) {
-        Ok(device) => compare(rt, name, &device),
-        Err(fault) => tell(rt, name, &fault),
-    }
-}
-
 /// Tries a short text, and prints its objects at an index.
 fn try_row(rt: &HostRuntime, name: &str, index: &str, word: &str) -> io::Result<()> {
     let text = fs::read(rt, format!(in rt.alloc(); "rules/{name}.eds")?.as_str())?;
@@ -143,13 +103,6 @@ fn try_row(rt: &HostRuntime, name: &str, index: &str, word: &str) -> io::Result<
 }
 
 fn main(rt: HostRuntime) -> io::Result<()> {
-    let list = fs::read_to_string(&rt, "list")?;
-    for line in list.as_str().lines() {
-        match line.split_once(' ') {
-            Some((name, word)) => try_sample(&rt, name, word)?,
-            None => try_sample(&rt, line, "")?,
-        }
-    }
     let rows = fs::read_to_string(&rt, "rows")?;
     for line in rows.as_str().lines() {
         let (name, rest) = line.split_once(' ').unwrap_or((line, ""));

@@ -2,20 +2,25 @@
 //! beside it, or to be refused.
 #![tactic(auto)]
 
-use cop_tidy::{Digits, TidyFault, Unlisted, Words, tidy, told};
+use cop_frame::Rate;
+use cop_tidy::{Access, Digits, TidyFault, Unlisted, Words, tidy, told};
 use std::{fs, io};
 
 /// The choices that a word stands for.
-fn words_of(word: &str) -> Words {
-    let mut words = Words::none();
+fn words_of(rt: &HostRuntime, word: &str) -> io::Result<Words> {
+    let mut words = Words::none(rt.alloc());
     match word {
         "--octal" => words.digits = Some(Digits::Octal),
         "--decimal" => words.digits = Some(Digits::Decimal),
-        "--clamp" => words.clamp = true,
+        "--access rw" => words.access = Some(Access::ReadWrite),
+        "--unlisted add" => words.unlisted = Some(Unlisted::Add),
         "--unlisted leave" => words.unlisted = Some(Unlisted::Leave),
+        "--rates 125,250" => words
+            .rates
+            .extend_from_slice(&[Rate::Kbit125, Rate::Kbit250])?,
         _ => {}
     }
-    words
+    Ok(words)
 }
 
 /// Compares a text and the changes that were told with those of the sample.
@@ -34,7 +39,7 @@ fn compare(rt: &HostRuntime, name: &str, text: &[u8], told: &[u8]) -> io::Result
 /// Tries a sample.
 fn try_sample(rt: &HostRuntime, name: &str, word: &str) -> io::Result<()> {
     let text = fs::read(rt, format!(in rt.alloc(); "{name}/in.eds")?.as_str())?;
-    match tidy(rt.alloc(), &text, &words_of(word)) {
+    match tidy(rt.alloc(), &text, &words_of(rt, word)?) {
         Ok(tidied) => {
             let told = told(rt.alloc(), &tidied)?;
             compare(rt, name, &tidied.text, &told)

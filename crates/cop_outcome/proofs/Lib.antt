@@ -1,2 +1,0 @@
-pub mod FormerLemmas
-pub mod SubLemmas

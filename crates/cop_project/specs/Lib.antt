@@ -1,0 +1,5 @@
+pub mod Numbers
+pub mod Lines
+pub mod Project
+pub mod Refused
+pub mod Words
