@@ -155,25 +155,30 @@ REACHES = {
     "pulled out while heartbeats are awaited": ("valve", "--gone 13", ["--watch", "20"], "node 5 ready\nstarted\n", 5, RESET + ["0100"], [5]),
     "stored": ("storing", "", ["--store"], "node 5 ready\nstarted\n", 0, RESET + ["0100"], [5]),
     "not stored": ("storing", "--abort 5:1010:1:08000020", ["--store"], "node 5 aborted 1010 01 08000020\nnot started\n", 3, RESET, [5]),
+    "restored": ("storing", "--has 5:1800:2:1", ["--restore"], "node 5 ready\nstarted\n", 0, ["8100"] + RESET + ["0100"], [5]),
+    "not restored without the word": ("storing", "--has 5:1800:2:1", [], "node 5 differs 1800 02 00000001\nnot started\n", 3, RESET, []),
+    "refuses to be restored": ("storing", "--abort 5:1011:1:08000020", ["--restore"], "node 5 aborted 1011 01 08000020\nnot started\n", 3, [], []),
+    "restored by none": ("conveyor", "", ["--restore"], READY + "started\n", 0, RESET + ["0100"], CONVEYOR),
     "stored by none": ("conveyor", "", ["--store"], READY + "started\n", 0, RESET + ["0100"], CONVEYOR),
 }
 
 # Examples whose devices are booted twice with what they stored; each of them can store its settings.
 TWICE = {f"twice, {example}": example for example in ("valve", "conveyor", "crane", "drives", "second-range")}
 
-# What makes of an EDS file that of a device that can store its settings.
-STORE = "[1010]\nObjectType=0x8\nSubNumber=2\n[1010sub0]\nDataType=0x0005\nAccessType=ro\nDefaultValue=1\n[1010sub1]\nDataType=0x0007\nAccessType=rw\n"
+# What makes of an EDS file that of a device that can store its settings, and go back to those that it left the factory with.
+SIGNED = "[{0}]\nObjectType=0x8\nSubNumber=2\n[{0}sub0]\nDataType=0x0005\nAccessType=ro\nDefaultValue=1\n[{0}sub1]\nDataType=0x0007\nAccessType=rw\n"
+STORE = SIGNED.format("1010") + SIGNED.format("1011")
 
 
 def that_stores(text):
-    """An EDS text with 1010h, if it does not have it already."""
+    """An EDS text with 1010h and 1011h, if it does not have them already."""
     if "[1010]" in text:
         return text
     end = "\r\n" if "\r\n" in text else "\n"
     before, after = text.split("[OptionalObjects]", 1)
     count = int(re.search(r"SupportedObjects=(\d+)", after).group(1))
-    after = re.sub(r"SupportedObjects=\d+", f"SupportedObjects={count + 1}", after, count=1)
-    listed = re.sub(rf"(?m)^{count}=(0x[0-9A-Fa-f]+)", rf"{count}=\1{end}{count + 1}=0x1010", after, count=1)
+    after = re.sub(r"SupportedObjects=\d+", f"SupportedObjects={count + 2}", after, count=1)
+    listed = re.sub(rf"(?m)^{count}=(0x[0-9A-Fa-f]+)", rf"{count}=\1{end}{count + 1}=0x1010{end}{count + 2}=0x1011", after, count=1)
     return f"{before}[OptionalObjects]{listed}{'' if listed.endswith(end) else end}{STORE.replace(chr(10), end)}"
 
 

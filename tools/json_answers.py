@@ -3,7 +3,7 @@
 
     python3 tools/json_answers.py
 
-Each example is planned, checked, booted, judged and watched, and tables that are refused are tried: each answer is one document that meets
+Each example is planned, checked, booted, judged, watched and asked for its room, and tables that are refused are tried: each answer is one document that meets
 the schema (Debian's python3-jsonschema), says what the lines say, and ends with their status.
 """
 import csv
@@ -69,6 +69,18 @@ def example(folder):
     lines, _, value = answers("judge", *tables, f"{folder}/run.csv")
     assert lines == [f"transfers {value['transfers']}", "on time"] and value["on_time"] and value["planned"], lines
     watch(tables, f"{folder}/run.csv")
+    room(tables)
+
+
+def room(tables):
+    lines, _, value = answers("room", *tables)
+    if value["rate"] is None:
+        assert lines == ["no rate passes"] and value["room"] is None, lines
+        return
+    found = value["room"]
+    wanted = [f"pdo {it['pdo']['node']}.{it['pdo']['tpdo']} id {it['id']:X}h" for it in found["pdos"]]
+    assert [" ".join(it.split()[:4]) for it in lines if it.startswith("pdo ")] == wanted, wanted
+    assert f"periods {found['periods']}" in lines and f"clock {found['clock']}" in lines, lines
 
 
 def watch(tables, trace):

@@ -5,7 +5,7 @@
 
 Makes COUNT random tables of up to five PDOs of one device (100 where nothing is said). The rate has to be the slowest of the device's at
 which some order passes the response-time test (Davis et al. 2007), computed here for each order, and the margin the greatest least
-one of all orders there. With `--explain` the PDOs that limit it have to be told: those that have just so much left. `plan` without the
+one of all orders there. If in some order those that can have more keep more, the greatest such margin has to be told as `others`. With `--explain` the PDOs that limit it have to be told: those that have just so much left. `plan` without the
 word has to give the same rate.
 """
 import itertools
@@ -61,23 +61,32 @@ def response(streams, order, place, rate):
     return greatest
 
 
-def margin_of(streams, order, rate):
-    """The least margin of an order, or None where a stream is late."""
+def cap_of(streams, own, rate):
+    """What a stream has left above all others."""
+    order = [own, *(k for k in range(len(streams)) if k != own)]
+    return streams[own]["deadline"] - response(streams, order, 0, rate)
+
+
+def margins_of(streams, order, rate):
+    """The least margin of an order, and the least of those that have less than above all others; None where a stream is late."""
     margins = []
     for place, own in enumerate(order):
         needed = response(streams, order, place, rate)
         if needed is None or needed > streams[own]["deadline"]:
             return None
         margins.append(streams[own]["deadline"] - needed)
-    return min(margins)
+    caps = [cap_of(streams, own, rate) for own in order]
+    return min(margins), min((left for left, cap in zip(margins, caps) if left < cap), default=max(caps))
 
 
 def by_all_orders(streams, rates):
+    """The slowest rate, the greatest margin there, and the greatest of the others, if that is more."""
     for rate in rates:
-        margins = [margin_of(streams, order, rate) for order in itertools.permutations(range(len(streams)))]
+        margins = [margins_of(streams, order, rate) for order in itertools.permutations(range(len(streams)))]
         passing = [margin for margin in margins if margin is not None]
         if passing:
-            return rate, max(passing)
+            margin, others = max(all_keep for all_keep, _ in passing), max(others for _, others in passing)
+            return rate, margin, others if others > margin else None
     return None
 
 
@@ -90,14 +99,15 @@ def called(*words):
 
 
 def planned(folder, *words):
-    """The rate and the margin that the program tells; None where no rate passes."""
+    """The rate and the margins that the program tells; None where no rate passes."""
     done = called("plan", *words, f"{folder}/nodes.csv", f"{folder}/pdos.csv", f"{folder}/out")
     if done.returncode == 4:
         return None
     assert done.returncode == 0, done.stderr
     rate = re.search(r"^rate (\d+)$", done.stdout, re.M)
     margin = re.search(r"^margin (\d+)$", done.stdout, re.M)
-    return int(rate[1]), int(margin[1]) if margin else None
+    others = re.search(r"^others (\d+)$", done.stdout, re.M)
+    return int(rate[1]), int(margin[1]) if margin else None, int(others[1]) if others else None
 
 
 def tell_limits(folder, streams):

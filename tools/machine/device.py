@@ -12,7 +12,7 @@ class Device:
         self.boot_at, self.boots, self.pending = None, 0, []
         self.upload = self.download = None
         self.resets = self.starts = self.reads = self.read_back = 0
-        self.stored = None
+        self.stored, self.restores = None, False
         if faults.get("running"):
             self.state, self.next_beat = 0x05, now
 
@@ -54,6 +54,8 @@ class Device:
     def command(self, cs, now):
         if cs in (0x81, 0x82):
             self.resets += 1
+            if cs == 0x81 and self.restores:
+                self.stored, self.restores = None, False
             for key, e in self.entries.items():
                 if cs == 0x81 or 0x1000 <= e.index <= 0x1FFF:
                     e.value = self.kept(key, e)
@@ -115,6 +117,8 @@ class Device:
         code = 0 if self.faults.get("stores_nothing") else self.check(index, sub, data)
         if (index, sub) == (0x1010, 1):
             return self.save(data, code)
+        if (index, sub) == (0x1011, 1):
+            return self.load(data, code)
         self.writes.append((index, sub, data.hex(), code))
         if code:
             return self.refuse(index, sub, code)
@@ -139,6 +143,15 @@ class Device:
             return self.refuse(0x1010, 1, code)
         self.stored = {key: e.value for key, e in self.entries.items()}
         return bytes([0x60, 0x10, 0x10, 1, 0, 0, 0, 0])
+
+    def load(self, data, code):
+        """Restore default parameters (CiA 301, object 1011h): the signature is wanted, and they count after a reset of the node."""
+        if data != b"load":
+            code = code or 0x08000020
+        if code:
+            return self.refuse(0x1011, 1, code)
+        self.restores = True
+        return bytes([0x60, 0x11, 0x10, 1, 0, 0, 0, 0])
 
     def fall_over(self, now):
         for key, x in self.entries.items():

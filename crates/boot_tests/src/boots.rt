@@ -2,7 +2,9 @@ mod hostile;
 
 ghost use Rattle.std.specs.Prelude.{◌≡◌, ◌≤◌, false, IfOk};
 
-use cop_boot::{Device, End, Input, Manager, Setting, Turn, can_manage, drive, run_schedule};
+use cop_boot::{
+    Device, End, Input, Manager, Setting, Turn, Width, can_manage, drive, run_schedule,
+};
 use cop_dict::{Dictionary, build};
 use cop_eds::{EdsFault, parse};
 use cop_frame::Frame;
@@ -41,7 +43,7 @@ fn cob_id(value: u32) -> Setting {
         index: 0x1800,
         sub: 1,
         value,
-        bytes: 4,
+        width: Width::Four,
     }
 }
 
@@ -427,14 +429,15 @@ fn a_device(rt: HostRuntime) -> Result<(), Fail> {
     Ok(())
 }
 
-/// A node, the value and the bytes of its setting of 1017h, and whether it can be managed.
-const PLANS: &[(u8, u32, u8, bool)] = &[
-    (1, 0xFFFF, 2, true),
-    (127, 0xFFFF_FFFF, 4, true),
-    (0, 0, 2, false),
-    (128, 0, 2, false),
-    (5, 0x1_0000, 2, false),
-    (5, 0, 1, false),
+/// A node, the value and the width of its setting of 1017h, and whether it can be managed.
+const PLANS: &[(u8, u32, Width, bool)] = &[
+    (5, 0xFF, Width::One, true),
+    (1, 0xFFFF, Width::Two, true),
+    (127, 0xFFFF_FFFF, Width::Four, true),
+    (0, 0, Width::Two, false),
+    (128, 0, Width::Two, false),
+    (5, 0x100, Width::One, false),
+    (5, 0x1_0000, Width::Two, false),
 ];
 
 /// Whether a plan of one node with one setting can be managed.
@@ -447,12 +450,12 @@ fn can_manage_one(alloc: Global, node: u8, setting: Setting) -> Result<bool, Fai
 #[test]
 fn plans(rt: HostRuntime) -> Result<(), Fail> {
     for case in PLANS {
-        let (node, value, bytes, can) = *case;
+        let (node, value, width, can) = *case;
         let setting = Setting {
             index: 0x1017,
             sub: 0,
             value,
-            bytes,
+            width,
         };
         assert!(rt;
             can_manage_one(rt.alloc(), node, setting)? == can,

@@ -3,7 +3,7 @@
 use crate::faults::tell;
 use cop_answers::{Inputs, explained_line, page_of_rules, words_of_rule};
 use cop_calls::{
-    Drawn, Wanted, boot, check, export, judge, plan, run, test, watch_bus, write_report,
+    Drawn, Wanted, boot, check, export, judge, plan, room, run, test, watch_bus, write_report,
 };
 use cop_engine::{Fault, status, test_status};
 use cop_files::{Failure, Form, print};
@@ -52,6 +52,7 @@ pub fn carry_out(
             Ok(test_status(all_pass || !strict))
         }
         Order::Plan(order) => plan(rt, order, form, inputs),
+        Order::Room(network) => room(rt, network, form, inputs),
         Order::Check {
             network,
             refusals,

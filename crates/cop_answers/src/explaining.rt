@@ -24,6 +24,7 @@ pub(crate) fn network_of<'a>(order: Order<'a>) -> Option<NetworkFiles<'a>> {
         Order::Boot { network, .. } => Some(network),
         Order::Judge { network, .. } => Some(network),
         Order::Run { network, .. } => Some(network),
+        Order::Room(network) => Some(network),
         Order::Report { network, .. } | Order::Export { network, .. } => Some(network),
         Order::Watch(order) => Some(order.network),
         Order::Machine(order) => Some(order.network),

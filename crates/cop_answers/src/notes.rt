@@ -5,8 +5,8 @@ use crate::warnings::finding_lines;
 use cop_engine::PlannedNetwork;
 use cop_figures::{Figures, figures_of};
 use cop_net::{Network, NodeTable};
-use cop_plan::Outcome;
-use cop_words::{margin_words, refused_words};
+use cop_plan::{Outcome, Plan};
+use cop_words::{margin_words, others_words, refused_words};
 use std::alloc::{AllocError, Global};
 
 /// What is said of a plan.
@@ -30,7 +30,7 @@ impl Notes {
     }
 }
 
-/// What limits the margin of a plan, where its identifiers were chosen by it.
+/// What limits the margin of a plan, and what the others have, where its identifiers were chosen by it.
 fn limits(
     alloc: Global,
     network: &Network<'_>,
@@ -38,12 +38,26 @@ fn limits(
     figures: &Figures,
 ) -> Result<Vec<u8>, AllocError> {
     match outcome {
-        Outcome::Planned(plan) => match plan.margin() {
-            Some(margin) => margin_words(alloc, network, figures, margin),
-            None => Ok(Vec::new(alloc)),
-        },
+        Outcome::Planned(plan) => margins_of(alloc, network, figures, plan),
         Outcome::Refused(_) => Ok(Vec::new(alloc)),
     }
+}
+
+/// The same of a plan.
+fn margins_of(
+    alloc: Global,
+    network: &Network<'_>,
+    figures: &Figures,
+    plan: &Plan,
+) -> Result<Vec<u8>, AllocError> {
+    let Some(margin) = plan.margin() else {
+        return Ok(Vec::new(alloc));
+    };
+    let mut words = margin_words(alloc, network, figures, margin)?;
+    if let Some(others) = plan.others() {
+        words.extend_from_slice(others_words(alloc, others)?.as_bytes())?;
+    }
+    Ok(words)
 }
 
 /// What is said of a plan: why each rate is refused, what limits its margin, and what is worth a look before one relies on it.

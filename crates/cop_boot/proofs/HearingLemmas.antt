@@ -10,7 +10,7 @@ use Rattle.cop_sdo.specs.Message.{Message, message_of}
 use Rattle.cop_sdo.specs.Reply.{is_answer}
 use Rattle.cop_boot.specs.declared.member.Member.{Member}
 use Rattle.cop_sdo.specs.Reply.{Reply, reply_of}
-use Rattle.cop_dcf.specs.declared.setting.Setting.{Setting}
+use Rattle.cop_setup.specs.declared.setting.Setting.{Setting}
 use Rattle.cop_boot.specs.declared.«end».End.TheVariants.{Restarting}
 use Rattle.cop_boot.specs.declared.«end».Phase.{Phase}
 use Rattle.cop_boot.specs.declared.«end».Phase.TheVariants.{Waiting, Sending, Over}

@@ -15,8 +15,9 @@ pub mod PlanLemmas
 pub mod SentLemmas
 pub mod BusLemmas
 pub mod TurnLemmas
-pub mod InTurn
+pub mod SwitchLemmas
 pub mod PlanInTurn
+pub mod SetupLemmas
 pub mod NetworkAdmits
 pub mod PlannedLemmas
 pub mod PayloadLemmas

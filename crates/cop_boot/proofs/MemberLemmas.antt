@@ -1,6 +1,5 @@
 -- What the client of a member does with a setting and with its answer.
-use Rattle.std.proofs.Common.{◌≡◌, ℕ, zero, suc, ◌<◌, ◌≤◌, Bool, true, false, ◌&&◌, ◌||◌, List, [], ◌∷◌, length, take, refl, ap, sym, subst, ◌∙◌, arith, nat_lt, nat_le, ◌==◌, Option, Some, None, Ok, Err, get_or}
-use Rattle.std.proofs.lemmas.Bool.{eqb-true}
+use Rattle.std.proofs.Common.{◌≡◌, ℕ, zero, suc, ◌<◌, ◌≤◌, Bool, true, false, ◌&&◌, List, [], ◌∷◌, length, take, refl, ap, sym, subst, ◌∙◌, arith, nat_lt, nat_le, Option, Some, None, Ok, Err, get_or}
 use Rattle.std.specs.Prelude.{slice_get, if◌then◌else◌}
 use Rattle.std.specs.Int.{bytes_low_first}
 use Rattle.std.proofs.lemmas.Bool.Decides.{nat_tests}
@@ -18,10 +17,13 @@ use Rattle.cop_sdo.specs.Calls.{Started, downloading, given, is_short}
 use Rattle.cop_sdo.specs.declared.fault.ClientFault.{ClientFault}
 use Rattle.cop_sdo.proofs.Confirmed.{started_so}
 use Rattle.cop_sdo.specs.declared.address.Address.{Address}
-use Rattle.cop_dcf.specs.declared.setting.Setting.{Setting}
+use Rattle.cop_setup.specs.declared.setting.Setting.{Setting}
+use Rattle.cop_setup.specs.declared.setting.Width.{Width}
+use Rattle.cop_setup.specs.declared.setting.Width.TheVariants.{One, Two, Four}
+use Rattle.cop_setup.specs.Width.{size_of}
 use Rattle.cop_boot.specs.declared.«end».Phase.TheVariants.{Sending, Over}
-use Rattle.cop_dcf.specs.Dcf.{bytes_of}
-use Rattle.cop_boot.specs.Settings.{address_of, is_short_value}
+use Rattle.cop_setup.specs.Settings.{bytes_of}
+use Rattle.cop_boot.specs.Settings.{address_of}
 use Rattle.cop_boot.specs.Node.{Node, Moved, goes_on, sends, request_of, refusal, own_abort, ended_at, answered, answered_in, answer_to, judged}
 use Rattle.cop_boot.specs.Member.{IsAsking}
 
@@ -29,27 +31,21 @@ use Rattle.cop_boot.specs.Member.{IsAsking}
 pub four_bytes : (v : ℕ) → u32_bytes v ≡ bytes_low_first 0 4 v
 four_bytes v = refl
 
-pub taken_bytes : (s : Setting) → is_short_value s ≡ true → take s.bytes (u32_bytes s.value) ≡ bytes_of s
-taken_bytes s h = by_four (s.bytes == 4) refl h
+pub taken_bytes : (s : Setting) → take (size_of s.width) (u32_bytes s.value) ≡ bytes_of s
+taken_bytes s = by_width s.width
   where
-    by_two : (b : Bool) → (s.bytes == 2) ≡ b → (b && nat_lt s.value 65536) ≡ true → take s.bytes (u32_bytes s.value) ≡ bytes_of s
-    by_two true e h = rw (eqb-true s.bytes 2 e) (ap (take 2) (four_bytes s.value))
-    by_two false e h = cc
+    by_width : (w : Width) → take (size_of w) (u32_bytes s.value) ≡ bytes_low_first 0 (size_of w) s.value
+    by_width One = refl
+    by_width Two = refl
+    by_width Four = refl
 
-    by_four : (b : Bool) → (s.bytes == 4) ≡ b → (b || ((s.bytes == 2) && nat_lt s.value 65536)) ≡ true → take s.bytes (u32_bytes s.value) ≡ bytes_of s
-    by_four true e h = rw (eqb-true s.bytes 4 e) (four_bytes s.value)
-    by_four false e h = by_two (s.bytes == 2) refl h
-
-pub short_so : (s : Setting) → is_short_value s ≡ true → is_short (bytes_of s) ≡ true
-short_so s h = by_four (s.bytes == 4) refl h
+pub short_so : (s : Setting) → is_short (bytes_of s) ≡ true
+short_so s = by_width s.width
   where
-    by_two : (b : Bool) → (s.bytes == 2) ≡ b → (b && nat_lt s.value 65536) ≡ true → is_short (bytes_of s) ≡ true
-    by_two true e h = rw (eqb-true s.bytes 2 e) refl
-    by_two false e h = cc
-
-    by_four : (b : Bool) → (s.bytes == 4) ≡ b → (b || ((s.bytes == 2) && nat_lt s.value 65536)) ≡ true → is_short (bytes_of s) ≡ true
-    by_four true e h = rw (eqb-true s.bytes 4 e) refl
-    by_four false e h = by_two (s.bytes == 2) refl h
+    by_width : (w : Width) → is_short (bytes_low_first 0 (size_of w) s.value) ≡ true
+    by_width One = refl
+    by_width Two = refl
+    by_width Four = refl
 
 pub few_bytes : (bytes : List ℕ) → is_short bytes ≡ true → (1 ≤ length bytes) × (length bytes ≤ 4)
 few_bytes bytes h = (least (length bytes) h, most (length bytes) h)
@@ -65,12 +61,12 @@ pub record Downloads (client new : Calling) (s : Setting) (frame : Message) : Ty
   pub client_is : new ≡ (given client.node (address_of s) (bytes_of s)).client
   pub frame_is : frame ≡ request_of client.node s
 
-pub downloads : (client new : Calling) (s : Setting) (bytes : List ℕ) (frame : Message) → is_idle client.asking.task ≡ true → is_short_value s ≡ true
-    → bytes ≡ take s.bytes (u32_bytes s.value)
+pub downloads : (client new : Calling) (s : Setting) (bytes : List ℕ) (frame : Message) → is_idle client.asking.task ≡ true
+    → bytes ≡ take (size_of s.width) (u32_bytes s.value)
     → (1 ≤ length bytes → length bytes ≤ 4 → downloading client (address_of s) bytes ≡ Ok (let x : Started = record { client = new; frame = frame } in x)) → Downloads client new s frame
-downloads client new s bytes frame idle short is call =
-    let same : bytes ≡ bytes_of s = is ∙ taken_bytes s short in
-    let few : is_short bytes ≡ true = ap is_short same ∙ short_so s short in
+downloads client new s bytes frame idle is call =
+    let same : bytes ≡ bytes_of s = is ∙ taken_bytes s in
+    let few : is_short bytes ≡ true = ap is_short same ∙ short_so s in
     let size = few_bytes bytes few in
     let e = sym (started_so client (address_of s) bytes idle few) ∙ call size.0 size.1 in
     let g : given client.node (address_of s) bytes ≡ record { client = new; frame = frame } = cc in
@@ -89,11 +85,10 @@ get_past [] j l = refl
 get_past (x ∷ settings) zero l = absurd (let g : ⊥ = omega arith in g)
 get_past (x ∷ settings) (suc j) l = get_past settings j (omega arith)
 
-pub size_at_most : (s : Setting) → is_short_value s ≡ true → s.bytes ≤ 4
-size_at_most s h = most s.bytes s.value h
-  where
-    most : (n v : ℕ) → ((n == 4) || ((n == 2) && nat_lt v 65536)) ≡ true → n ≤ 4
-    most n v h = grind (arith, nat_tests)
+pub size_at_most : (w : Width) → size_of w ≤ 4
+size_at_most One = omega arith
+size_at_most Two = omega arith
+size_at_most Four = omega arith
 
 pub take_size : (n v : ℕ) → n ≤ 4 → n ≡ length (take n (u32_bytes v))
 take_size zero v h = refl
@@ -104,12 +99,12 @@ take_size (suc (suc (suc (suc zero)))) v h = refl
 take_size (suc (suc (suc (suc (suc n))))) v h = absurd (let g : ⊥ = omega arith in g)
 
 -- a setting is never refused
-pub never_refused : (client new : Calling) (s : Setting) (bytes : List ℕ) (fault : ClientFault) → is_idle client.asking.task ≡ true → is_short_value s ≡ true
-    → bytes ≡ take s.bytes (u32_bytes s.value)
+pub never_refused : (client new : Calling) (s : Setting) (bytes : List ℕ) (fault : ClientFault) → is_idle client.asking.task ≡ true
+    → bytes ≡ take (size_of s.width) (u32_bytes s.value)
     → (1 ≤ length bytes → length bytes ≤ 4 → (downloading client (address_of s) bytes ≡ Err fault) × (new ≡ client)) → ⊥
-never_refused client new s bytes fault idle short is call =
-    let same : bytes ≡ bytes_of s = is ∙ taken_bytes s short in
-    let few : is_short bytes ≡ true = ap is_short same ∙ short_so s short in
+never_refused client new s bytes fault idle is call =
+    let same : bytes ≡ bytes_of s = is ∙ taken_bytes s in
+    let few : is_short bytes ≡ true = ap is_short same ∙ short_so s in
     let size = few_bytes bytes few in
     let e : Ok (given client.node (address_of s) bytes) ≡ Err fault = sym (started_so client (address_of s) bytes idle few) ∙ (call size.0 size.1).0 in
     cc

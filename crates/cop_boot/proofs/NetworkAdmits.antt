@@ -44,7 +44,7 @@ use Rattle.cop_dcf.specs.Identifiers.{id_at, uses}
 use Rattle.cop_dcf.specs.Settings.{dictionary_of}
 use Rattle.cop_dcf.proofs.DeviceLemmas.{IsDevice, equipped, others, device, dictionary, beating}
 use Rattle.cop_boot.specs.PlanSettings.{Admits}
-use Rattle.cop_boot.proofs.PlanInTurn.{sub_of}
+use Rattle.cop_setup.proofs.CobIdLemmas.{sub_of}
 
 not_both : (a b : Bool) → (a && not b) ≡ false → b ≡ false → a ≡ false
 not_both true true h e = absurd (true≢false e)

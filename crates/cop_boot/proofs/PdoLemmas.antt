@@ -14,10 +14,10 @@ use Rattle.cop_rows.specs.declared.node_table.DeviceRow.{DeviceRow}
 use Rattle.cop_net.specs.Devices.{File}
 use Rattle.cop_net.specs.Heartbeats.{heartbeat_of}
 use Rattle.cop_net.specs.Network.{Net, IsNetwork}
-use Rattle.cop_dcf.specs.declared.setting.Setting.{Setting}
-use Rattle.cop_dcf.specs.Dcf.{bytes_of}
+use Rattle.cop_setup.specs.declared.setting.Setting.{Setting}
+use Rattle.cop_setup.specs.Settings.{bytes_of, with_setting, planned}
 use Rattle.cop_dcf.specs.Identifiers.{id_at}
-use Rattle.cop_dcf.specs.Planned.{with_setting, planned, settled, IsNodeReadAgain}
+use Rattle.cop_dcf.specs.Planned.{settled, IsNodeReadAgain}
 use Rattle.cop_dcf.specs.Settings.{dictionary_of, node_settings, settings_by}
 use Rattle.cop_boot.specs.declared.«end».End.TheVariants.{Ready}
 use Rattle.cop_boot.specs.Manager.{Managing, end_at}

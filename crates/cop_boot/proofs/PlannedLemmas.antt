@@ -17,15 +17,15 @@ use Rattle.cop_dict.proofs.DictLemmas.{own_place}
 use Rattle.cop_dict.proofs.PatternLemmas.{own_number}
 use Rattle.cop_pdo.specs.CobIds as pdo
 use Rattle.cop_net.specs.Settings.{word, whole_of}
-use Rattle.cop_dcf.specs.declared.setting.Setting.{Setting}
-use Rattle.cop_dcf.specs.Settings.{cob_id_set, off_set, on_set, set_of, time_set, heartbeat_set, settings_of}
-use Rattle.cop_dcf.specs.Dcf.{bytes_of}
-use Rattle.cop_dcf.specs.Planned.{planned}
-use Rattle.cop_boot.specs.Accepts.{IsElsewhere}
+use Rattle.cop_setup.specs.declared.setting.Setting.{Setting}
+use Rattle.cop_dcf.specs.Settings.{off_set, on_set, set_of, time_set, heartbeat_set, settings_of}
+use Rattle.cop_setup.specs.Settings.{cob_id_set, bytes_of, planned}
+use Rattle.cop_setup.specs.InTurn.{IsElsewhere}
 use Rattle.cop_boot.specs.PlanSettings.{Admits}
 use Rattle.cop_boot.specs.PlannedPdos.{IsAsPlanned}
-use Rattle.cop_boot.proofs.InTurn.{kept_by_all, planned_append, have_values}
-use Rattle.cop_boot.proofs.PlanInTurn.{Own, AtCobId, off_own, on_own, apart_of, values_of, sub_of}
+use Rattle.cop_setup.proofs.InTurn.{kept_by_all, planned_append, have_values}
+use Rattle.cop_boot.proofs.PlanInTurn.{off_own, on_own}
+use Rattle.cop_setup.proofs.CobIdLemmas.{Own, AtCobId, apart_of, values_of, sub_of}
 
 -- ---- numbers
 

@@ -6,7 +6,7 @@ use Rattle.std.proofs.lemmas.Bool.Decides.{nat_tests}
 use Rattle.cop_dict.specs.Find.{Entry}
 use Rattle.cop_sdo.specs.Message.{Message}
 use Rattle.cop_sdo.proofs.Confirmed.{same_number}
-use Rattle.cop_dcf.specs.declared.setting.Setting.{Setting}
+use Rattle.cop_setup.specs.declared.setting.Setting.{Setting}
 use Rattle.cop_boot.specs.declared.turn.Turn.{Turn}
 use Rattle.cop_boot.specs.declared.turn.Turn.TheVariants.{ToNode, FromNode, Moment}
 use Rattle.cop_boot.specs.Node.{Node}

@@ -1,6 +1,5 @@
 -- One node of a boot, whatever stands around it: where it and its channels are, and where each delivery takes them.
-use Rattle.std.proofs.Common.{◌≡◌, ℕ, zero, suc, ◌+◌, ◌*◌, ◌/◌, ◌%◌, Bool, true, false, cond, ◌&&◌, ◌||◌, List, [], ◌∷◌, ◌++◌, drop, refl, ap, sym, subst, ◌∙◌, arith, nat_lt, nat_le, ◌==◌, Option, Some, None, ◌⊎◌, inl, inr}
-use Rattle.std.proofs.lemmas.Bool.{eqb-true}
+use Rattle.std.proofs.Common.{◌≡◌, ℕ, zero, suc, ◌+◌, ◌*◌, ◌/◌, ◌%◌, Bool, true, false, cond, List, [], ◌∷◌, ◌++◌, drop, refl, ap, sym, subst, ◌∙◌, arith, nat_le, ◌==◌, Option, Some, None, ◌⊎◌, inl, inr}
 use Rattle.std.specs.Prelude.{slice_get, option_to_list, option_map, is_some}
 use Rattle.std.proofs.lemmas.Bool.Decides.{nat_tests}
 use Rattle.std.proofs.lemmas.List.{append-nil}
@@ -24,19 +23,20 @@ use Rattle.cop_sdo.specs.Request as requests
 use Rattle.cop_sdo.specs.Server as acts
 use Rattle.cop_sdo.specs.Server.{Moved as Act, short_of_memory}
 use Rattle.cop_sdo.proofs.Confirmed.{same_number, served_so, request_again}
-use Rattle.cop_dcf.specs.declared.setting.Setting.{Setting}
+use Rattle.cop_setup.specs.declared.setting.Setting.{Setting}
 use Rattle.cop_boot.specs.declared.«end».End.{End}
 use Rattle.cop_boot.specs.declared.«end».End.TheVariants.{Ready, Silent}
 use Rattle.cop_boot.specs.declared.«end».Phase.{Phase}
 use Rattle.cop_boot.specs.declared.«end».Phase.TheVariants.{Waiting, Sending, Over}
-use Rattle.cop_dcf.specs.Dcf.{bytes_of}
-use Rattle.cop_dcf.specs.Planned.{with_setting, planned}
-use Rattle.cop_boot.specs.Settings.{address_of, AcceptsInTurn, is_short_value}
+use Rattle.cop_setup.specs.Settings.{bytes_of, with_setting, planned}
+use Rattle.cop_boot.specs.Settings.{address_of}
+use Rattle.cop_setup.specs.InTurn.{AcceptsInTurn}
 use Rattle.cop_boot.specs.Node.{Node, Moved, stays, over, goes_on, request_of, awaited, gives_up}
 use Rattle.cop_boot.specs.Manager.{heard_by, is_boot_up, reset_all, start_all, is_ready, end_in}
 use Rattle.cop_boot.specs.Device.{Attached, Responded, MayRespond, MayServeIn, boot_up, stepped_by, reset_to, served_as, ignores, MayRespondTo}
 use Rattle.cop_boot.specs.Schedule.{Line}
-use Rattle.cop_boot.specs.Booted.{EachSetting, CanBeSet}
+use Rattle.cop_boot.specs.Booted.{CanBeSet}
+use Rattle.cop_boot.proofs.MemberLemmas.{short_so}
 
 -- numbers of different kinds of frames
 no_nmt : (n : ℕ) → (0x600 + n == 0) ≡ false
@@ -139,7 +139,7 @@ IsAt p Done node line = (device : Attached) × (starts : List Message) × (node 
 IsAt p Lost node line = (device : Option Attached) × (to from : List Message) × (boots : ℕ) × (node ≡ node_at p boots (Over (Silent p.number))) × (line ≡ line_at p to from device)
     × Each (ComesFrom p.number) from × IfThere (IsDeviceOf p.number) device
 
--- settings that can be planned: of two or four bytes, and accepted in turn by a dictionary that a reset leaves as it is
+-- settings that can be planned: of one, two or four bytes, and accepted in turn by a dictionary that a reset leaves as it is
 abbrev pub IsSound : Plan → Type 0
 IsSound p = CanBeSet p.settings p.dict
 
@@ -148,17 +148,6 @@ heads x y xs ys h = (cc, cc)
 
 pub no_front : {A : Type 0} (x : A) (xs : List A) → [] ≡ x ∷ xs → ⊥
 no_front x xs h = cc
-
-short_bytes : (s : Setting) → is_short_value s ≡ true → is_short (bytes_of s) ≡ true
-short_bytes s h = by_four (s.bytes == 4) refl h
-  where
-    by_two : (b : Bool) → (s.bytes == 2) ≡ b → (b && nat_lt s.value 65536) ≡ true → is_short (bytes_of s) ≡ true
-    by_two true e h = rw (eqb-true s.bytes 2 e) refl
-    by_two false e h = cc
-
-    by_four : (b : Bool) → (s.bytes == 4) ≡ b → (b || ((s.bytes == 2) && nat_lt s.value 65536)) ≡ true → is_short (bytes_of s) ≡ true
-    by_four true e h = rw (eqb-true s.bytes 4 e) refl
-    by_four false e h = by_two (s.bytes == 2) refl h
 
 -- a server does not hear a frame for another
 deaf : (server : Serving) (dict : List Entry) (frame : Message) (served : Served) → is_heard server.node frame ≡ false → MayServe server dict frame served
@@ -204,14 +193,14 @@ module _ (p : Plan) (sound : IsSound p) where
       )
 
   -- it stores a setting
-  to_request : (done since : ℕ) (s : Setting) (more : List Setting) (d : Attached) (dict : List Entry) (r : Responded) → is_short_value s ≡ true
+  to_request : (done since : ℕ) (s : Setting) (more : List Setting) (d : Attached) (dict : List Entry) (r : Responded)
       → drop done p.settings ≡ s ∷ more → IsQuiet p.number dict d → IsLeft p (s ∷ more) dict → MayRespond d (request_of p.number s) r
       → IsAt p (Confirmed done since s more) (node_at p 1 (Sending done since)) (line_at p [] (option_to_list r.answer) (Some r.device))
-  to_request done since s more d dict r short at quiet left h =
+  to_request done since s more d dict r at quiet left h =
       by_serving (in_state (is_allowed d.state Sdo) quiet.serves (rw (no_nmt p.number) at h))
     where
       bytes : is_short (bytes_of s) ≡ true
-      bytes = short_bytes s short
+      bytes = short_so s
 
       by_due : (served : Served) → r ≡ served_as d served
           → served ≡ record { server = record { node = p.number; state = idle }; dict = with_setting dict s; answer = Some (reply p.number (download_answer (address_of s))) }
@@ -312,12 +301,6 @@ after_to (Confirmed done since s more) = Confirmed done since s more
 after_to Done = Done
 after_to Lost = Lost
 
-all_at : (P : Setting → Type 0) (settings : List Setting) (j : ℕ) (s : Setting) (more : List Setting) → EachSetting P settings → drop j settings ≡ s ∷ more → P s
-all_at P [] zero s more h e = cc
-all_at P [] (suc j) s more h e = cc
-all_at P (x ∷ rest) zero s more h e = subst P (heads x s rest more e).0 h.0
-all_at P (x ∷ rest) (suc j) s more h e = all_at P rest j s more h.1 e
-
 module _ (p : Plan) (sound : IsSound p) where
   pub delivered : (stage : Stage) (node : Node) (line : Line) (frame : Message) (rest : List Message) (d : Attached) (r : Responded) → IsAt p stage node line
       → line.to ≡ frame ∷ rest → line.device ≡ Some d → MayRespond d frame r
@@ -342,7 +325,7 @@ module _ (p : Plan) (sound : IsSound p) where
       let after : record line { to = rest; from = line.from ++ option_to_list r.answer; device = Some r.device } ≡ line_at p [] (option_to_list r.answer) (Some r.device) = rw (el, sym front.1) refl in
       subst (λ l. IsAt p (Confirmed done since s more) node l) (sym after)
       (subst (λ n. IsAt p (Confirmed done since s more) n (line_at p [] (option_to_list r.answer) (Some r.device))) (sym en)
-      (to_request p sound done since s more d dict r (all_at (λ s. is_short_value s ≡ true) p.settings done s more sound.short at) at quiet' left may'))
+      (to_request p sound done since s more d dict r at quiet' left may'))
   delivered (Confirmed done since s more) node line frame rest d r (device, en, el, at, dict, quiet, left) to here may = absurd (no_front frame rest (sym (ap (λ l. l.to) el) ∙ to))
   delivered Done node line frame rest d r (device, starts, en, el, all, quiet) to here may =
       let is : starts ≡ frame ∷ rest = sym (ap (λ l. l.to) el) ∙ to in

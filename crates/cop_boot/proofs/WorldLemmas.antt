@@ -10,7 +10,7 @@ use Rattle.cop_sdo.specs.Message.{Message}
 use Rattle.cop_sdo.specs.Reply.{Reply, Confirm, ConfirmSegment, Value, Size, Segment, Abort, Other, reply_of, is_answer}
 use Rattle.cop_sdo.specs.declared.address.Address.{Address}
 use Rattle.cop_sdo.proofs.Confirmed.{same_number}
-use Rattle.cop_dcf.specs.declared.setting.Setting.{Setting}
+use Rattle.cop_setup.specs.declared.setting.Setting.{Setting}
 use Rattle.cop_boot.specs.declared.«end».End.TheVariants.{Silent, Restarting}
 use Rattle.cop_boot.specs.declared.«end».Phase.{Phase}
 use Rattle.cop_boot.specs.declared.«end».Phase.TheVariants.{Waiting, Sending, Over}

@@ -6,7 +6,7 @@ use Rattle.cop_boot.specs.declared.turn.Turn.{Turn}
 use Rattle.cop_dict.specs.Find.{Entry}
 use Rattle.cop_boot.specs.declared.«end».End.{End}
 use Rattle.cop_boot.specs.declared.«end».End.TheVariants.{Ready, Silent}
-use Rattle.cop_dcf.specs.Planned.{planned}
+use Rattle.cop_setup.specs.Settings.{planned}
 use Rattle.cop_boot.specs.Node.{Node}
 use Rattle.cop_boot.specs.Manager.{Managing, node_of, end_at, all_ready, is_command, commands_of}
 use Rattle.cop_boot.specs.Device.{Attached}

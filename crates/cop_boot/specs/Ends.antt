@@ -3,7 +3,7 @@ use Rattle.std.specs.Prelude.{◌≡◌, ℕ, suc, ◌+◌, max, Bool, ◌&&◌,
 use Rattle.std.specs.Option.{option_or}
 use Rattle.cop_sdo.specs.Message.{Message}
 use Rattle.cop_sdo.specs.Reply.{is_answer, reply_of}
-use Rattle.cop_dcf.specs.declared.setting.Setting.{Setting}
+use Rattle.cop_setup.specs.declared.setting.Setting.{Setting}
 use Rattle.cop_boot.specs.declared.«end».End.{End}
 use Rattle.cop_boot.specs.declared.«end».End.TheVariants.{Ready, Silent, Restarting}
 use Rattle.cop_boot.specs.Settings.{address_of}

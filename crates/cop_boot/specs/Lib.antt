@@ -9,7 +9,6 @@ pub mod Booted
 pub mod Member
 pub mod Bus
 pub mod UnderWay
-pub mod Accepts
 pub mod PlanSettings
 pub mod PlannedPdos
 pub mod NetworkBoot

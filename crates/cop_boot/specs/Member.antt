@@ -6,7 +6,7 @@ use Rattle.cop_frame.specs.declared.frames.Frame.{Frame}
 use Rattle.cop_sdo.specs.Message.{message_of}
 use Rattle.cop_sdo.specs.Client.{Calling, is_idle}
 use Rattle.cop_sdo.specs.declared.task.Task.TheVariants as tasks
-use Rattle.cop_dcf.specs.declared.setting.Setting.{Setting}
+use Rattle.cop_setup.specs.declared.setting.Setting.{Setting}
 use Rattle.cop_boot.specs.declared.«end».Phase.{Phase}
 use Rattle.cop_boot.specs.declared.«end».Phase.TheVariants.{Waiting, Sending, Over}
 use Rattle.cop_boot.specs.declared.member.Member.{Member}

@@ -7,12 +7,12 @@ use Rattle.cop_sdo.specs.Message.{Message}
 use Rattle.cop_sdo.specs.Reply.{Reply, Confirm, Abort, reply_of}
 use Rattle.cop_sdo.specs.Answers.{abort_body}
 use Rattle.cop_sdo.specs.Client.{request, give_body, same_address}
-use Rattle.cop_dcf.specs.declared.setting.Setting.{Setting}
+use Rattle.cop_setup.specs.declared.setting.Setting.{Setting}
 use Rattle.cop_boot.specs.declared.«end».End.{End}
 use Rattle.cop_boot.specs.declared.«end».End.TheVariants.{Ready, Aborted, Silent, Restarting}
 use Rattle.cop_boot.specs.declared.«end».Phase.{Phase}
 use Rattle.cop_boot.specs.declared.«end».Phase.TheVariants.{Waiting, Sending, Over}
-use Rattle.cop_dcf.specs.Dcf.{bytes_of}
+use Rattle.cop_setup.specs.Settings.{bytes_of}
 use Rattle.cop_boot.specs.Settings.{address_of}
 
 -- what a manager knows of a node: its settings, for how many ticks its boot-up is awaited, how many boot-ups began the settings, and

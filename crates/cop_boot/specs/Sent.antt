@@ -3,7 +3,7 @@ use Rattle.std.specs.Prelude.{◌≡◌, ℕ, List, [], ◌∷◌, ◌++◌, sli
 use Rattle.cop_sdo.specs.Message.{Message}
 use Rattle.cop_sdo.specs.Answers.{abort_body}
 use Rattle.cop_sdo.specs.Client.{request}
-use Rattle.cop_dcf.specs.declared.setting.Setting.{Setting}
+use Rattle.cop_setup.specs.declared.setting.Setting.{Setting}
 use Rattle.cop_boot.specs.Settings.{address_of}
 use Rattle.cop_boot.specs.Node.{Node, request_of}
 use Rattle.cop_boot.specs.Manager.{Meeting, reset_all, start_all, node_of}

@@ -1,22 +1,23 @@
 //! Laws of the definitions that contracts cite: when settings are accepted in turn, and what they give.
 
-ghost use Rattle.std.specs.Prelude.{◌≡◌, ◌≤◌, ℕ, List, [], filter, All, Contains, true, Option, Some, None};
+ghost use Rattle.std.specs.Prelude.{◌≡◌, ◌≤◌, ◌++◌, ℕ, List, [], filter, All, Contains, true, Option, Some, None};
 ghost use Rattle.std.specs.Option.{option_and_then};
-ghost use Rattle.std.specs.List.{AllByRecursion};
+ghost use Rattle.std.specs.List.{AllByRecursion, filter_map};
 ghost use Rattle.cop_dict.specs.declared.mapping.Direction.{Direction};
 ghost use Rattle.cop_dict.specs.Find.{Entry, entry_at, unsigned32_of};
-ghost use Rattle.cop_dict.specs.Pdo.{is_cob_id};
+ghost use Rattle.cop_dict.specs.Pdo.{is_cob_id, is_communication};
 ghost use Rattle.cop_dict.specs.Dict.{valued, refused_alone};
 ghost use Rattle.cop_pdo.specs.CobIds.{off, on};
 ghost use Rattle.cop_pdo.specs.Payload.{payload_of};
 ghost use Rattle.cop_net.specs.Heartbeats.{heartbeat_of};
 ghost use Rattle.cop_net.specs.Network.{Net, IsNetwork};
 ghost use Rattle.cop_net.specs.Settings.{word, takes};
-ghost use Rattle.cop_dcf.specs.declared.setting.Setting.{Setting};
+ghost use Rattle.cop_setup.specs.declared.setting.Setting.{Setting};
 ghost use Rattle.cop_frame.specs.declared.rates.Rate.{Rate};
 ghost use Rattle.cop_rows.specs.declared.node_table.DeviceRow.{DeviceRow};
 ghost use Rattle.cop_net.specs.Devices.{File};
-ghost use Rattle.cop_dcf.specs.Planned.{planned, IsNodeReadAgain};
+ghost use Rattle.cop_dcf.specs.Planned.{IsNodeReadAgain};
+ghost use Rattle.cop_setup.specs.Settings.{planned};
 ghost use Rattle.cop_boot.specs.declared.«end».End.TheVariants.{Ready};
 ghost use Rattle.cop_boot.specs.Manager.{Managing, Meeting, driven, node_of, end_at, start_all, all_ready, is_command, commands_of};
 ghost use Rattle.cop_boot.specs.Ends.{IsConfigured, events, first_end};
@@ -25,21 +26,13 @@ ghost use Rattle.cop_boot.specs.Sent.{MaySend, WereConfigured};
 ghost use Rattle.cop_boot.specs.Device.{Attached};
 ghost use Rattle.cop_boot.specs.Bus.{Made};
 ghost use Rattle.cop_boot.specs.NetworkBoot.{IsPlanOf, HasWhatItsDcfSays};
-ghost use Rattle.cop_boot.specs.Settings.{AcceptsInTurn};
+ghost use Rattle.cop_setup.specs.InTurn.{AcceptsInTurn, IsElsewhere};
+ghost use Rattle.cop_setup.specs.Offs.{every_off};
 ghost use Rattle.cop_dcf.specs.Identifiers.{id_at};
-ghost use Rattle.cop_dcf.specs.Settings.{settings_of, node_settings, dictionary_of};
+ghost use Rattle.cop_dcf.specs.Settings.{on_set, set_of, settings_of, node_settings, dictionary_of};
 ghost use Rattle.cop_net.specs.Signals.{IsPdoId};
 ghost use Rattle.cop_boot.specs.PlanSettings.{Admits};
 ghost use Rattle.cop_boot.specs.PlannedPdos.{IsAsPlanned, HasPlannedPdos};
-ghost use Rattle.cop_boot.specs.Accepts.{AreApart, IsElsewhere, TakesEach, HaveValues};
-
-/// Settings at different addresses are accepted in turn, where each is accepted alone. Afterwards each has its value, and
-/// each other object is as it was.
-pub fn apart_are_accepted()
-    ensures accepted { (settings : List Setting) (dict : List Entry) → AreApart settings → TakesEach dict settings → AcceptsInTurn dict settings }
-    ensures values { (settings : List Setting) (dict : List Entry) → AreApart settings → HaveValues dict (planned dict settings) settings }
-    ensures others { (settings : List Setting) (dict : List Entry) (index sub : ℕ) → IsElsewhere index sub settings → entry_at (planned dict settings) index sub ≡ entry_at dict index sub }
-{}
 
 /// A COB-ID that can be switched off and then on in one dictionary can be so in each in which its entry is the same.
 pub fn switched_off_then_on()
@@ -51,6 +44,13 @@ pub fn switched_off_then_on()
 /// switches on with their identifiers, at last the heartbeat's time.
 pub fn plan_is_accepted()
     ensures { (dict : List Entry) (ids : ℕ → Option ℕ) (time : ℕ) → Admits dict ids time → AcceptsInTurn dict (settings_of dict ids time) }
+{}
+
+/// The same around a setup of a device that is configured whole: each PDO that can be is switched off, then comes the setup, which the
+/// device takes in turn from there on and which names no COB-ID, and at last those that are used are switched on with their identifiers.
+pub fn setups_are_taken()
+    ensures { (dict : List Entry) (ids : ℕ → Option ℕ) (time : ℕ) (setup : List Setting) → Admits dict ids time → AcceptsInTurn (planned dict (every_off dict)) setup
+        → ((index : ℕ) → is_communication index ≡ true → IsElsewhere index 1 setup) → AcceptsInTurn dict ((every_off dict ++ setup) ++ filter_map (set_of on_set ids) dict) }
 {}
 
 /// The device of each node of an accepted network admits what a plan sets in it, so its settings, written in their order to

@@ -12,15 +12,15 @@ mod member;
 mod schedule;
 mod turn;
 
-pub use cop_dcf::Setting;
+pub use cop_setup::{Setting, Width, apart_are_accepted};
 pub use device::Device;
 pub use driving::drive;
 pub use end::End;
 pub use input::Input;
 pub use laws::{
-    apart_are_accepted, networks_take_their_settings, nothing_else_is_sent, plan_is_accepted,
-    planned_payloads, planned_pdos_exist, ready_devices_have_what_their_dcf_says,
-    ready_nodes_are_configured, switched_off_then_on,
+    networks_take_their_settings, nothing_else_is_sent, plan_is_accepted, planned_payloads,
+    planned_pdos_exist, ready_devices_have_what_their_dcf_says, ready_nodes_are_configured,
+    setups_are_taken, switched_off_then_on,
 };
 pub use manager::{Manager, can_manage};
 pub use schedule::{Boot, run_schedule};

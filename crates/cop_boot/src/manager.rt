@@ -10,10 +10,10 @@ ghost use Rattle.cop_boot.specs.Settings.{is_short_value};
 
 use crate::end::{End, Phase};
 use crate::member::{ANSWER_LIMIT, Member};
-use cop_dcf::Setting;
 use cop_frame::Frame;
 use cop_frame::identifiers::{HEARTBEAT, SDO_RESPONSE};
 use cop_nmt::{Command, command};
+use cop_setup::{Setting, Width};
 use std::alloc::{AllocError, Global};
 use std::collections::BTreeMap;
 use std::marker::Model;
@@ -136,12 +136,15 @@ fn all_ready(members: &[Member]) -> bool
     !members.is_empty() && members.iter().all(is_ready)
 }
 
-// Whether a value has two or four bytes that hold it.
+// Whether a value has one, two or four bytes that hold it.
 fn is_short_value(setting: &Setting) -> bool
     ensures { result ≡ is_short_value setting.now }
 {
-    let Setting { value, bytes, .. } = *setting;
-    bytes == 4 || bytes == 2 && value < 0x1_0000
+    match setting.width {
+        Width::One => setting.value < 0x100,
+        Width::Two => setting.value < 0x1_0000,
+        Width::Four => true,
+    }
 }
 
 // Whether a number is a node's.
@@ -158,8 +161,8 @@ fn is_managed(node: u8, settings: &[Setting]) -> bool
     is_node(node) && settings.iter().all(is_short_value)
 }
 
-/// Whether a plan can be handed to [`Manager::new`]: the nodes are 1 to 127, and the values of their settings have two or
-/// four bytes that hold them. It takes no memory.
+/// Whether a plan can be handed to [`Manager::new`]: the nodes are 1 to 127, and the values of their settings have one,
+/// two or four bytes that hold them. It takes no memory.
 pub fn can_manage(plan: &BTreeMap<u8, Vec<Setting>>) -> bool
     ensures { IsTrue result ↔ CanManage plan.now.entries }
 {
@@ -172,8 +175,8 @@ pub fn can_manage(plan: &BTreeMap<u8, Vec<Setting>>) -> bool
 }
 
 impl Manager {
-    /// A manager of nodes, 1 to 127, each with the settings that it is to have, whose values are of two or four
-    /// bytes that hold them. A boot-up is awaited for 20,000,000 ticks (5 s). It makes all room here: no later call
+    /// A manager of nodes, 1 to 127, each with the settings that it is to have, whose values are of one, two or
+    /// four bytes that hold them. A boot-up is awaited for 20,000,000 ticks (5 s). It makes all room here: no later call
     /// takes memory.
     pub fn new(alloc: Global, plan: BTreeMap<u8, Vec<Setting>>) -> Result<Manager, AllocError>
         requires { CanManage plan.entries }

@@ -11,10 +11,10 @@ ghost use Rattle.cop_boot.specs.declared.«end».Phase.TheVariants.{Over};
 ghost use Rattle.cop_boot.specs.Member.{seen, unheard_within, IsMember, LastsTo, Moves};
 
 use crate::end::{End, Phase};
-use cop_dcf::Setting;
 use cop_frame::Frame;
 use cop_frame::identifiers::{HEARTBEAT, SDO_RESPONSE};
 use cop_sdo::{Client, Progress};
+use cop_setup::Setting;
 use std::alloc::Global;
 
 /// An answer is awaited for so many ticks, 1 s.
@@ -103,10 +103,13 @@ impl Member {
                 index,
                 sub,
                 value,
-                bytes,
+                width,
             } = setting;
             let all = value.to_le_bytes();
-            match self.client.download(index, sub, &all[..usize::from(bytes)]) {
+            match self
+                .client
+                .download(index, sub, &all[..usize::from(width.bytes())])
+            {
                 Ok(frame) => {
                     self.phase = Phase::Sending { done, since: now };
                     Some(frame)

@@ -3,7 +3,7 @@ use Rattle.std.specs.Prelude.{ℕ, ◌-◌, ◌^◌, Bool, false, true, List, []
 use Rattle.std.specs.List.{flat_map}
 use Rattle.std.specs.Fmt.{digits, padded_integral, format_spec}
 use Rattle.cop_boot_answer.specs.declared.states.State.{State}
-use Rattle.cop_boot_answer.specs.declared.states.State.TheVariants.{Ready, Undecided, Unfinished, Silent, Restarting, Aborted, Differs, Unasked, AsPlanned, Other, Operational, Unheard, Late}
+use Rattle.cop_boot_answer.specs.declared.states.State.TheVariants.{Ready, Undecided, Unfinished, Silent, Restarting, Aborted, Differs, Restored, Unasked, AsPlanned, Other, Operational, Unheard, Late}
 use Rattle.cop_boot_answer.specs.declared.states.Detail.{Detail}
 use Rattle.cop_boot_answer.specs.declared.answers.NodeLine.{NodeLine}
 
@@ -30,6 +30,7 @@ word_of Silent = codes "silent"
 word_of Restarting = codes "restarting"
 word_of (Aborted at code) = codes "aborted"
 word_of (Differs at found) = codes "differs"
+word_of Restored = codes "restored"
 word_of Unasked = codes "unasked"
 word_of AsPlanned = codes "as planned"
 word_of (Other at found) = codes "other"
@@ -46,6 +47,7 @@ detail_of Silent = None
 detail_of Restarting = None
 detail_of (Aborted at code) = Some (record { at = at; value = code })
 detail_of (Differs at found) = Some (record { at = at; value = found })
+detail_of Restored = None
 detail_of Unasked = None
 detail_of AsPlanned = None
 detail_of (Other at found) = Some (record { at = at; value = found })

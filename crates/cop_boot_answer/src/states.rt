@@ -22,6 +22,8 @@ pub enum State {
     Aborted { at: Address, code: u32 },
     /// It has another value at an address than the plan has.
     Differs { at: Address, found: u32 },
+    /// It takes the values that it left the factory with, after its next reset.
+    Restored,
     /// It was asked nothing about its device.
     Unasked,
     /// Its device is the one that its EDS file describes.
@@ -56,6 +58,7 @@ impl State {
             State::Restarting => "restarting",
             State::Aborted { .. } => "aborted",
             State::Differs { .. } => "differs",
+            State::Restored => "restored",
             State::Unasked => "unasked",
             State::AsPlanned => "as planned",
             State::Other { .. } => "other",
@@ -79,6 +82,7 @@ impl State {
             | State::Unfinished
             | State::Silent
             | State::Restarting
+            | State::Restored
             | State::Unasked
             | State::AsPlanned
             | State::Operational

@@ -3,10 +3,10 @@
 ghost use Rattle.std.specs.Prelude.{◌≡◌, ◌++◌, IfOk, OnOk};
 ghost use Rattle.cop_cdcf.specs.Concise.{number_bytes, entry_of, concise_of};
 
-use cop_dcf::Setting;
+use cop_setup::Setting;
 use std::alloc::{AllocError, Global};
 
-/// How many bytes a setting of a plan takes.
+/// How many bytes a setting takes at most.
 const BYTES_OF_SETTING: usize = 11;
 
 /// Adds a number in so many bytes, the least significant first.
@@ -27,8 +27,8 @@ fn put_setting(bytes: &mut Vec<u8>, setting: &Setting) -> Result<(), AllocError>
 {
     put_number(bytes, u64::from(setting.index), 2)?;
     put_number(bytes, u64::from(setting.sub), 1)?;
-    put_number(bytes, u64::from(setting.bytes), 4)?;
-    put_number(bytes, u64::from(setting.value), setting.bytes)?;
+    put_number(bytes, u64::from(setting.width.bytes()), 4)?;
+    put_number(bytes, u64::from(setting.value), setting.width.bytes())?;
     Ok(())
 }
 

@@ -57,6 +57,10 @@ fn check_order<'a>(matches: &ArgMatches<'a>) -> Order<'a> {
     }
 }
 
+fn room_order<'a>(matches: &ArgMatches<'a>) -> Order<'a> {
+    Order::Room(network_of(matches))
+}
+
 /// The node that a word names; 0, which is no node's number, if the word is none.
 fn node_of(matches: &ArgMatches<'_>, name: &str) -> Option<u8> {
     let number: u64 = matches.get_one(name)?;
@@ -74,6 +78,7 @@ fn boot_order<'a>(matches: &ArgMatches<'a>) -> Order<'a> {
             only: node_of(matches, "only"),
             start: !matches.get_flag("no-start"),
             boot_limit: matches.get_one("boot-limit").unwrap_or(BOOT_SECONDS),
+            restore: matches.get_flag("restore"),
             store: matches.get_flag("store"),
             watch: matches.get_one("watch"),
             limit: matches.get_one("limit"),
@@ -211,6 +216,7 @@ fn explain_order<'a>(matches: &ArgMatches<'a>) -> Order<'a> {
 fn order_of<'a>(name: &str, matches: &ArgMatches<'a>) -> Order<'a> {
     match name {
         "plan" => plan_order(matches),
+        "room" => room_order(matches),
         "check" => check_order(matches),
         "boot" => boot_order(matches),
         "judge" => judge_order(matches),
@@ -226,7 +232,10 @@ fn order_of<'a>(name: &str, matches: &ArgMatches<'a>) -> Order<'a> {
 
 /// Whether the answer of a subcommand can be a document.
 fn has_document(name: &str) -> bool {
-    matches!(name, "plan" | "check" | "test" | "judge" | "boot" | "watch")
+    matches!(
+        name,
+        "plan" | "room" | "check" | "test" | "judge" | "boot" | "watch"
+    )
 }
 
 /// What the words ask for, the program's name being the first. With no other word it is `test --rate 125 -`.

@@ -62,6 +62,8 @@ static PLAN: [Word; 8] = [
     },
 ];
 
+static ROOM: [Word; 6] = [NODES, PDOS, LISTED_RATES, MARGIN, EXPLAIN, JSON];
+
 static CHECK: [Word; 8] = [
     NODES,
     PDOS,
@@ -83,7 +85,7 @@ static CHECK: [Word; 8] = [
     },
 ];
 
-static BOOT: [Word; 16] = [
+static BOOT: [Word; 17] = [
     NODES,
     PDOS,
     LISTED_RATES,
@@ -131,6 +133,12 @@ static BOOT: [Word; 16] = [
         kind: Kind::Positive(MOST_BOOT_SECONDS),
         need: Need::Against("seed"),
         help: "The seconds after a reset in which a node has to boot up, before it is silent; 5 where it is left out",
+    },
+    Word {
+        name: "restore",
+        kind: Kind::Flag,
+        need: Need::Against("seed"),
+        help: "Has each device go back to the values that it left the factory with first (1011h sub 1), where its EDS file has that",
     },
     Word {
         name: "store",
@@ -350,6 +358,7 @@ static EXPLAIN_RULE: [Word; 2] = [
 pub(crate) enum Subcommand {
     Test,
     Plan,
+    Room,
     Check,
     Boot,
     Run,
@@ -363,9 +372,10 @@ pub(crate) enum Subcommand {
 
 impl Subcommand {
     /// All of them, as a help lists them.
-    pub const ALL: [Subcommand; 11] = [
+    pub const ALL: [Subcommand; 12] = [
         Subcommand::Test,
         Subcommand::Plan,
+        Subcommand::Room,
         Subcommand::Check,
         Subcommand::Boot,
         Subcommand::Run,
@@ -381,6 +391,7 @@ impl Subcommand {
         match self {
             Subcommand::Test => "test",
             Subcommand::Plan => "plan",
+            Subcommand::Room => "room",
             Subcommand::Check => "check",
             Subcommand::Boot => "boot",
             Subcommand::Run => "run",
@@ -399,6 +410,9 @@ impl Subcommand {
             Subcommand::Test => "Runs the response-time test on a table of streams",
             Subcommand::Plan => {
                 "Gives the slowest rate and the identifiers that pass, and a DCF file for each device"
+            }
+            Subcommand::Room => {
+                "Says how far each number of the tables can go with the identifiers of the plan"
             }
             Subcommand::Check => {
                 "Checks of each refusal that no choice of identifiers passes at its rate"
@@ -429,6 +443,7 @@ impl Subcommand {
         match self {
             Subcommand::Test => "Example: canplan test --rate 125 streams.csv",
             Subcommand::Plan => "Example: canplan plan nodes.csv pdos.csv out",
+            Subcommand::Room => "Example: canplan room nodes.csv pdos.csv",
             Subcommand::Check => "Example: canplan check nodes.csv pdos.csv out/refusals.csv",
             Subcommand::Boot => {
                 "Examples: canplan boot --seed 1 nodes.csv pdos.csv
@@ -451,6 +466,7 @@ impl Subcommand {
         match self {
             Subcommand::Test => TEST.as_slice(),
             Subcommand::Plan => PLAN.as_slice(),
+            Subcommand::Room => ROOM.as_slice(),
             Subcommand::Check => CHECK.as_slice(),
             Subcommand::Boot => BOOT.as_slice(),
             Subcommand::Run => RUN.as_slice(),

@@ -28,23 +28,24 @@ errs_alone : {P : Type 0} (reads writes : ByteStep P) (asks : ClockStep P) (rate
 errs_alone reads writes asks rate senders only true p q flags h = absurd h
 errs_alone reads writes asks rate senders only false p q flags h = (refl, h)
 
-pub refrained_so : {P : Type 0} (reads writes : ByteStep P) (asks : ClockStep P) (own way : Way) (nodes : List ℕ) (questions offs : List Question) (f : Found) (p heard q : P) (session : Session)
-    → own ≡ way → IsApproached reads writes asks own p f heard → Refrains reads writes f heard session q → IsSession reads writes asks way nodes questions offs p q session
-refrained_so reads writes asks own way nodes questions offs f p heard q (sessions.Told told) e a r = absurd r
-refrained_so reads writes asks own way nodes questions offs f p heard q (sessions.Running runner) e a r =
+pub refrained_so : {P : Type 0} (reads writes : ByteStep P) (asks : ClockStep P) (own way : Way) (nodes : List ℕ) (questions restores offs : List Question) (f : Found) (p heard q : P) (session : Session)
+    → own ≡ way → IsApproached reads writes asks own p f heard → Refrains reads writes f heard session q → IsSession reads writes asks way nodes questions restores offs p q session
+refrained_so reads writes asks own way nodes questions restores offs f p heard q (sessions.Told told) e a r = absurd r
+refrained_so reads writes asks own way nodes questions restores offs f p heard q (sessions.Running runner) e a r =
     let h : IsApproached reads writes asks way p (found.Running runner) heard = subst (λ w. IsApproached reads writes asks w p (found.Running runner) heard) e (subst (λ f. IsApproached reads writes asks own p f heard) r.0 a) in
     let so = runs_alone reads writes asks way.rate way.senders way.reach.only way.take_over p heard runner h in
     record { heard = heard; left_alone = so.0; looks = so.1; closes = r.1 }
-refrained_so reads writes asks own way nodes questions offs f p heard q (sessions.Garbled lines) e a r =
+refrained_so reads writes asks own way nodes questions restores offs f p heard q (sessions.Garbled lines) e a r =
     let h : IsApproached reads writes asks way p (found.Garbled lines) heard = subst (λ w. IsApproached reads writes asks w p (found.Garbled lines) heard) e (subst (λ f. IsApproached reads writes asks own p f heard) r.0 a) in
     let so = garbled_alone reads writes asks way.rate way.senders way.reach.only way.take_over p heard lines h in
     record { heard = heard; left_alone = so.0; looks = so.1; closes = r.1 }
-refrained_so reads writes asks own way nodes questions offs f p heard q (sessions.Erroneous flags) e a r =
+refrained_so reads writes asks own way nodes questions restores offs f p heard q (sessions.Erroneous flags) e a r =
     let h : IsApproached reads writes asks way p (found.Erroneous flags) heard = subst (λ w. IsApproached reads writes asks w p (found.Erroneous flags) heard) e (subst (λ f. IsApproached reads writes asks own p f heard) r.0 a) in
     let so = errs_alone reads writes asks way.rate way.senders way.reach.only way.take_over p heard flags h in
     record { heard = heard; left_alone = so.0; looks = so.1; closes = r.1 }
-refrained_so reads writes asks own way nodes questions offs f p heard q (sessions.Unopened command) e a r =
+refrained_so reads writes asks own way nodes questions restores offs f p heard q (sessions.Unopened command) e a r =
     let h : IsApproached reads writes asks way p (found.Refused command) heard = subst (λ w. IsApproached reads writes asks w p (found.Refused command) heard) e (subst (λ f. IsApproached reads writes asks own p f heard) r.0 a) in
     record { refused = heard; approaches = h; closes = r.1 }
-refrained_so reads writes asks own way nodes questions offs f p heard q (sessions.Others all) e a r = absurd r
-refrained_so reads writes asks own way nodes questions offs f p heard q sessions.Failed e a r = tt
+refrained_so reads writes asks own way nodes questions restores offs f p heard q (sessions.Others all) e a r = absurd r
+refrained_so reads writes asks own way nodes questions restores offs f p heard q (sessions.Unrestored all) e a r = absurd r
+refrained_so reads writes asks own way nodes questions restores offs f p heard q sessions.Failed e a r = tt

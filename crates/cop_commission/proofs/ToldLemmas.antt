@@ -10,11 +10,16 @@ use Rattle.std.proofs.lemmas.List.{take_more, map-append, get_or-take, get_or_de
 use Rattle.std.proofs.lemmas.List.Elements.{All-nil, All-cons, All-head, All-tail}
 use Rattle.std.specs.Prelude.{not}
 use Rattle.cop_dict.specs.Pdo.{is_communication, exists_by}
+use Rattle.cop_pdo.specs.CobIds.{off}
 use Rattle.cop_net.specs.Network.{Net, IsNetwork}
-use Rattle.cop_dcf.specs.declared.setting.Setting.{Setting}
-use Rattle.cop_dcf.specs.Settings.{node_settings, IsFit}
+use Rattle.cop_setup.specs.declared.setting.Setting.{Setting}
+use Rattle.cop_setup.specs.declared.setting.Width.{Width}
+use Rattle.cop_setup.specs.declared.setting.Width.TheVariants.{One, Two, Four}
+use Rattle.cop_setup.specs.Width.{size_of}
+use Rattle.cop_dcf.specs.Settings.{node_settings}
+use Rattle.cop_setup.specs.Settings.{IsFit}
 use Rattle.cop_dcf.proofs.SettingsLemmas.{all_fit_in}
-use Rattle.cop_boot.specs.Settings.{address_of, is_short_value}
+use Rattle.cop_boot.specs.Settings.{address_of, is_short_in, is_short_value}
 use Rattle.cop_boot.specs.Member.{unheard_within, is_managed, CanManage}
 use Rattle.cop_boot.specs.declared.«end».Phase.TheVariants.{Waiting}
 use Rattle.cop_boot.specs.Node.{Node}
@@ -74,13 +79,18 @@ third false b false d e = absurd (cc)
 told_short : (told : List Exchange) (n : ℕ) (s : Setting) → is_short_value s ≡ true → is_short_value (with_told told n s) ≡ true
 told_short told n s short = by_test (switches_off s) refl
   where
-    by_value : (told : Option ℕ) → (s.bytes == 4) ≡ true → is_short_value (off_by s told) ≡ true
+    by_width : (w : Width) (value : ℕ) → (size_of w == 4) ≡ true → is_short_in w value ≡ true
+    by_width One value four = cc
+    by_width Two value four = cc
+    by_width Four value four = refl
+
+    by_value : (told : Option ℕ) → (size_of s.width == 4) ≡ true → is_short_value (off_by s told) ≡ true
     by_value None four = short
-    by_value (Some value) four = rw four refl
+    by_value (Some value) four = by_width s.width (off value) four
 
     by_test : (b : Bool) → switches_off s ≡ b → is_short_value (if b then off_by s (told_at n (address_of s) told) else s) ≡ true
     by_test false e = short
-    by_test true e = by_value (told_at n (address_of s) told) (third (is_communication s.index) (s.sub == 1) (s.bytes == 4) (not (exists_by s.value)) e)
+    by_test true e = by_value (told_at n (address_of s) told) (third (is_communication s.index) (s.sub == 1) (size_of s.width == 4) (not (exists_by s.value)) e)
 
 module _ (limit : ℕ) (net : Net) (ids : List ℕ) (told : List Exchange) where
   all_short : (n : ℕ) (settings : List Setting) → All IsFit settings → list_all is_short_value (told_settings told n settings) ≡ true

@@ -27,13 +27,14 @@ use Rattle.cop_commission.specs.declared.commissioning.Watch.{Watch}
 use Rattle.cop_commission.specs.declared.commissioning.Watch.TheVariants.{Never, OnceEach, For}
 use Rattle.cop_commission.specs.declared.commissioning.Approach.{Approach}
 use Rattle.cop_commission.specs.declared.commissioning.Commissioned.{Commissioned}
-use Rattle.cop_commission.specs.declared.commissioning.Commissioned.TheVariants.{Ended, Running, Garbled, Erroneous, Unopened, Others, Absent, NonePasses, Failed}
+use Rattle.cop_commission.specs.declared.commissioning.Commissioned.TheVariants.{Ended, Running, Garbled, Erroneous, Unopened, Others, Unrestored, Absent, NonePasses, Failed}
 use Rattle.cop_commission.specs.Heartbeats.{awaited_of, attendance_lines}
 use Rattle.cop_commission.specs.Identities.{questions_of, identity_answer}
+use Rattle.cop_commission.specs.Restoring.{restores_for, restoring_answer}
 use Rattle.cop_commission.specs.Senders.{own_senders}
 use Rattle.cop_commission.specs.Readings.{settings_questions, storing_questions, standing_lines}
 use Rattle.cop_readback.specs.Session.{ReadBackStops}
-use Rattle.cop_commission.specs.Sessions.{Way, awaited_if, BootsAndCloses, HasStarted, IsWhole, IsRefrained, IsUnopened, IsMistaken, ClosingFails, SessionFails, SessionStops}
+use Rattle.cop_commission.specs.Sessions.{Way, awaited_if, BootsAndCloses, HasStarted, IsWhole, IsRefrained, IsUnopened, IsMistaken, IsUnrestored, ClosingFails, SessionFails, SessionStops}
 use Rattle.cop_commission.specs.Told.{off_questions, told_manager}
 use Rattle.cop_commission.specs.Unended.{unended_answer}
 
@@ -129,37 +130,40 @@ IsBooting reads writes asks way m nodes settings p q (Garbled lines) = ⊥
 IsBooting reads writes asks way m nodes settings p q (Erroneous flags at) = ⊥
 IsBooting reads writes asks way m nodes settings p q (Unopened command at) = ⊥
 IsBooting reads writes asks way m nodes settings p q (Others answer all) = ⊥
+IsBooting reads writes asks way m nodes settings p q (Unrestored answer) = ⊥
 IsBooting reads writes asks way m nodes settings p q Absent = ⊥
 IsBooting reads writes asks way m nodes settings p q NonePasses = ⊥
 
 -- a session: the devices tell which COB-IDs they have that are to be switched off, and then the manager boots the nodes that has the settings
 -- of a plan with these identifiers by what they told
-pub record IsEnded {P : Type 0} (reads writes : ByteStep P) (asks : ClockStep P) (net : Net) (ids nodes : List ℕ) (way : Way) (identify store : Bool) (p q : P) (answer : Told) (ready started operational : Bool) (at : Rate) : Type 0 where
+pub record IsEnded {P : Type 0} (reads writes : ByteStep P) (asks : ClockStep P) (net : Net) (ids nodes : List ℕ) (way : Way) (identify restore store : Bool) (p q : P) (answer : Told) (ready started operational : Bool) (at : Rate) : Type 0 where
   pub told : List Exchange
   pub free : P
-  pub whole : IsWhole reads writes asks way nodes (questions_for identify net nodes) (off_questions net ids nodes) p told free
+  pub whole : IsWhole reads writes asks way nodes (questions_for identify net nodes) (restores_for restore net nodes) (off_questions net ids nodes) p told free
   pub ends : HasEnded reads writes asks way (told_manager way.boot_limit net ids told nodes) nodes (settings_for store net ids told nodes) free q answer ready started operational at
 
 -- a session whose line failed in the boot
-pub record IsUnended {P : Type 0} (reads writes : ByteStep P) (asks : ClockStep P) (net : Net) (ids nodes : List ℕ) (way : Way) (identify store : Bool) (p : P) (answer : Told) : Type 0 where
+pub record IsUnended {P : Type 0} (reads writes : ByteStep P) (asks : ClockStep P) (net : Net) (ids nodes : List ℕ) (way : Way) (identify restore store : Bool) (p : P) (answer : Told) : Type 0 where
   pub told : List Exchange
   pub free : P
-  pub whole : IsWhole reads writes asks way nodes (questions_for identify net nodes) (off_questions net ids nodes) p told free
+  pub whole : IsWhole reads writes asks way nodes (questions_for identify net nodes) (restores_for restore net nodes) (off_questions net ids nodes) p told free
   pub fails : HasFailed reads writes asks way (told_manager way.boot_limit net ids told nodes) nodes (settings_for store net ids told nodes) free answer
 
 -- what came of the boot of some nodes by a plan with a rate and these identifiers; nothing is said where the line failed before the boot
 abbrev pub IsMet : {P : Type 0} → ByteStep P → ByteStep P → ClockStep P → Net → Rate → List ℕ → List ℕ → Approach → P → P → Commissioned → Type 0
 IsMet reads writes asks net rate ids nodes approach p q (Ended answer ready started operational at) =
-    IsEnded reads writes asks net ids nodes (way_of net rate ids nodes approach) approach.identify approach.store p q answer ready started operational at
+    IsEnded reads writes asks net ids nodes (way_of net rate ids nodes approach) approach.identify approach.restore approach.store p q answer ready started operational at
 IsMet reads writes asks net rate ids nodes approach p q (Running runner) = IsRefrained reads writes asks (way_of net rate ids nodes approach) (found.Running runner) p q
 IsMet reads writes asks net rate ids nodes approach p q (Garbled lines) = IsRefrained reads writes asks (way_of net rate ids nodes approach) (found.Garbled lines) p q
 IsMet reads writes asks net rate ids nodes approach p q (Erroneous flags at) = IsRefrained reads writes asks (way_of net rate ids nodes approach) (found.Erroneous flags) p q × (at ≡ rate)
 IsMet reads writes asks net rate ids nodes approach p q (Unopened command at) = IsUnopened reads writes asks (way_of net rate ids nodes approach) command p q × (at ≡ rate)
 IsMet reads writes asks net rate ids nodes approach p q (Others answer all) =
     IsMistaken reads writes asks (way_of net rate ids nodes approach) (questions_for approach.identify net nodes) all.items p q × (answer ≡ identity_answer nodes all.items)
+IsMet reads writes asks net rate ids nodes approach p q (Unrestored answer) =
+    (all : List Exchange) × IsUnrestored reads writes asks (way_of net rate ids nodes approach) (questions_for approach.identify net nodes) (restores_for approach.restore net nodes) all p q × (answer ≡ restoring_answer nodes all)
 IsMet reads writes asks net rate ids nodes approach p q Absent = ⊥
 IsMet reads writes asks net rate ids nodes approach p q NonePasses = ⊥
-IsMet reads writes asks net rate ids nodes approach p q (Failed answer) = (answer ≡ nothing_told) ⊎ IsUnended reads writes asks net ids nodes (way_of net rate ids nodes approach) approach.identify approach.store p answer
+IsMet reads writes asks net rate ids nodes approach p q (Failed answer) = (answer ≡ nothing_told) ⊎ IsUnended reads writes asks net ids nodes (way_of net rate ids nodes approach) approach.identify approach.restore approach.store p answer
 
 -- where there is no such node nothing is done at the port
 abbrev pub IsWithoutNode : {P : Type 0} → P → P → Commissioned → Type 0
@@ -170,6 +174,7 @@ IsWithoutNode p q (Garbled lines) = ⊥
 IsWithoutNode p q (Erroneous flags at) = ⊥
 IsWithoutNode p q (Unopened command at) = ⊥
 IsWithoutNode p q (Others answer all) = ⊥
+IsWithoutNode p q (Unrestored answer) = ⊥
 IsWithoutNode p q NonePasses = ⊥
 IsWithoutNode p q (Failed answer) = ⊥
 
@@ -190,6 +195,7 @@ IsWithoutPlan p q (Garbled lines) = ⊥
 IsWithoutPlan p q (Erroneous flags at) = ⊥
 IsWithoutPlan p q (Unopened command at) = ⊥
 IsWithoutPlan p q (Others answer all) = ⊥
+IsWithoutPlan p q (Unrestored answer) = ⊥
 IsWithoutPlan p q Absent = ⊥
 IsWithoutPlan p q (Failed answer) = ⊥
 
@@ -217,6 +223,7 @@ if_failed (Garbled lines) claim = Unit {0}
 if_failed (Erroneous flags at) claim = Unit {0}
 if_failed (Unopened command at) claim = Unit {0}
 if_failed (Others answer all) claim = Unit {0}
+if_failed (Unrestored answer) claim = Unit {0}
 if_failed Absent claim = Unit {0}
 if_failed NonePasses claim = Unit {0}
 
@@ -232,28 +239,28 @@ BootingStops reads writes asks fails way m nodes settings p q =
     ⊎ ((later : Managing) × (started : Bool) × ClosingFails reads writes asks fails way m nodes settings p later started q))
 
 -- the boot of some nodes by a plan gave out: before the settings were begun, and nothing is told; or later
-abbrev pub MeetingFails : {P : Type 0} → ByteStep P → ByteStep P → ClockStep P → ByteStep P → Net → List ℕ → List ℕ → Way → Bool → Bool → P → P → Told → Type 0
-MeetingFails {P} reads writes asks fails net ids nodes way identify store p q answer =
-    ((answer ≡ nothing_told) × SessionFails reads writes asks fails way nodes (questions_for identify net nodes) (off_questions net ids nodes) p q)
-    ⊎ ((told : List Exchange) × (free : P) × IsWhole reads writes asks way nodes (questions_for identify net nodes) (off_questions net ids nodes) p told free × BootingFails reads writes asks fails way (told_manager way.boot_limit net ids told nodes) nodes (settings_for store net ids told nodes) free q answer)
+abbrev pub MeetingFails : {P : Type 0} → ByteStep P → ByteStep P → ClockStep P → ByteStep P → Net → List ℕ → List ℕ → Way → Bool → Bool → Bool → P → P → Told → Type 0
+MeetingFails {P} reads writes asks fails net ids nodes way identify restore store p q answer =
+    ((answer ≡ nothing_told) × SessionFails reads writes asks fails way nodes (questions_for identify net nodes) (restores_for restore net nodes) (off_questions net ids nodes) p q)
+    ⊎ ((told : List Exchange) × (free : P) × IsWhole reads writes asks way nodes (questions_for identify net nodes) (restores_for restore net nodes) (off_questions net ids nodes) p told free × BootingFails reads writes asks fails way (told_manager way.boot_limit net ids told nodes) nodes (settings_for store net ids told nodes) free q answer)
 
 -- there was no memory for more: nothing was done yet; or the devices were asked first, some of what they are to be asked; or some device was found to be
--- another one; or all was asked first, and the boot was not begun, or stopped
-abbrev pub MeetingStops : {P : Type 0} → ByteStep P → ByteStep P → ClockStep P → ByteStep P → Net → List ℕ → List ℕ → Way → Bool → Bool → P → P → Type 0
-MeetingStops {P} reads writes asks fails net ids nodes way identify store p q =
+-- another one, or did not take the factory's values; or all was asked first, and the boot was not begun, or stopped
+abbrev pub MeetingStops : {P : Type 0} → ByteStep P → ByteStep P → ClockStep P → ByteStep P → Net → List ℕ → List ℕ → Way → Bool → Bool → Bool → P → P → Type 0
+MeetingStops {P} reads writes asks fails net ids nodes way identify restore store p q =
     (p ≡ q)
-    ⊎ (SessionStops reads writes asks way nodes (questions_for identify net nodes) (off_questions net ids nodes) p q
-    ⊎ (((all : List Exchange) × IsMistaken reads writes asks way (questions_for identify net nodes) all p q)
-    ⊎ ((told : List Exchange) × (free : P) × IsWhole reads writes asks way nodes (questions_for identify net nodes) (off_questions net ids nodes) p told free × ((free ≡ q) ⊎ BootingStops reads writes asks fails way (told_manager way.boot_limit net ids told nodes) nodes (settings_for store net ids told nodes) free q))))
+    ⊎ (SessionStops reads writes asks way nodes (questions_for identify net nodes) (restores_for restore net nodes) (off_questions net ids nodes) p q
+    ⊎ (((all : List Exchange) × (IsMistaken reads writes asks way (questions_for identify net nodes) all p q ⊎ IsUnrestored reads writes asks way (questions_for identify net nodes) (restores_for restore net nodes) all p q))
+    ⊎ ((told : List Exchange) × (free : P) × IsWhole reads writes asks way nodes (questions_for identify net nodes) (restores_for restore net nodes) (off_questions net ids nodes) p told free × ((free ≡ q) ⊎ BootingStops reads writes asks fails way (told_manager way.boot_limit net ids told nodes) nodes (settings_for store net ids told nodes) free q))))
 
 -- and so the boot of the nodes of a network that are meant
 abbrev pub CommissionFails : {P : Type 0} → ByteStep P → ByteStep P → ClockStep P → ByteStep P → Net → Rate → List ℕ → Approach → P → P → Told → Type 0
 CommissionFails reads writes asks fails net rate ids approach p q answer =
-    MeetingFails reads writes asks fails net ids (meant_nodes net approach.reach.only) (way_of net rate ids (meant_nodes net approach.reach.only) approach) approach.identify approach.store p q answer
+    MeetingFails reads writes asks fails net ids (meant_nodes net approach.reach.only) (way_of net rate ids (meant_nodes net approach.reach.only) approach) approach.identify approach.restore approach.store p q answer
 
 abbrev pub CommissionStops : {P : Type 0} → ByteStep P → ByteStep P → ClockStep P → ByteStep P → Net → Rate → List ℕ → Approach → P → P → Type 0
 CommissionStops reads writes asks fails net rate ids approach p q =
-    MeetingStops reads writes asks fails net ids (meant_nodes net approach.reach.only) (way_of net rate ids (meant_nodes net approach.reach.only) approach) approach.identify approach.store p q
+    MeetingStops reads writes asks fails net ids (meant_nodes net approach.reach.only) (way_of net rate ids (meant_nodes net approach.reach.only) approach) approach.identify approach.restore approach.store p q
 
 -- by what the planner answers
 abbrev pub FailsFor : {P : Type 0} → ByteStep P → ByteStep P → ClockStep P → ByteStep P → Net → Outcome → Approach → P → P → Told → Type 0

@@ -4,6 +4,7 @@ pub mod Heartbeats
 pub mod Identities
 pub mod Readings
 pub mod Relied
+pub mod Restoring
 pub mod Sessions
 pub mod Told
 pub mod Unended

@@ -4,7 +4,7 @@ use Rattle.std.specs.List.{flat_map, list_any}
 use Rattle.cop_dict.specs.Find.{Entry, entry_at}
 use Rattle.cop_sdo.specs.declared.address.Address.{Address}
 use Rattle.cop_net.specs.Network.{Net}
-use Rattle.cop_dcf.specs.declared.setting.Setting.{Setting}
+use Rattle.cop_setup.specs.declared.setting.Setting.{Setting}
 use Rattle.cop_dcf.specs.Settings.{node_settings, dictionary_of}
 use Rattle.cop_boot.specs.declared.«end».End.{End}
 use Rattle.cop_boot.specs.declared.«end».End.TheVariants as ends

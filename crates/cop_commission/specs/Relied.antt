@@ -4,7 +4,7 @@ use Rattle.std.specs.List.{flat_map, list_any}
 use Rattle.std.specs.Option.{option_map_or, option_to_list}
 use Rattle.cop_dict.specs.Find.{Entry, entry_at}
 use Rattle.cop_dict.specs.Pdo.{is_communication, is_mapping, is_cob_id}
-use Rattle.cop_dcf.specs.declared.setting.Setting.{Setting}
+use Rattle.cop_setup.specs.declared.setting.Setting.{Setting}
 use Rattle.cop_identity.specs.declared.questions.Demand.{Demand}
 use Rattle.cop_identity.specs.declared.questions.Demand.TheVariants.{Tell, TellOff}
 use Rattle.cop_identity.specs.declared.questions.Question.{Question}

@@ -1,21 +1,22 @@
 -- A boot by a manager over a port, from the opening of the adapter to its closing.
-use Rattle.std.specs.Prelude.{ℕ, List, [], ◌∷◌, Bool, true, false, ◌≡◌, ◌⊎◌, if◌then◌else◌}
+use Rattle.std.specs.Prelude.{ℕ, List, [], ◌∷◌, Bool, true, false, ◌≡◌, ◌⊎◌, Option, if◌then◌else◌}
 use Rattle.cop_frame.specs.declared.rates.Rate.{Rate}
 use Rattle.cop_boot.specs.Manager.{Managing}
-use Rattle.cop_live.specs.Log.{ByteStep, ClockStep}
+use Rattle.cop_live.specs.Log.{ByteStep, ClockStep, Sent, DidAll, BrokeOff}
 use Rattle.cop_live.specs.declared.listening.Sender.{Sender}
 use Rattle.cop_live.specs.declared.listening.Found.{Found}
 use Rattle.cop_live.specs.declared.listening.Found.TheVariants as found
 use Rattle.cop_live.specs.Nodes.{nobody}
 use Rattle.cop_live.specs.Approach.{Approached, Looked, ApproachFails}
 use Rattle.cop_live.specs.declared.opening.Command.{Command}
-use Rattle.cop_live.specs.Session.{Closed, CloseFails}
+use Rattle.cop_live.specs.Session.{Closed, CloseFails, node_reset_of}
 use Rattle.cop_heartbeats.specs.declared.attending.Awaited.{Awaited}
 use Rattle.cop_heartbeats.specs.declared.attending.Heartbeats.{Heartbeats}
 use Rattle.cop_heartbeats.specs.Attending.{Attended, AttendFails}
 use Rattle.cop_identity.specs.declared.questions.Question.{Question}
 use Rattle.cop_identity.specs.declared.asking.Exchange.{Exchange}
 use Rattle.cop_identity.specs.Asking.{AskedAll, AskingFails, AskedSome, has_other}
+use Rattle.cop_commission.specs.Restoring.{has_untaken}
 use Rattle.cop_identity.specs.Telling.{WereTold, TellFails, ToldSome}
 use Rattle.cop_readback.specs.declared.session.Reach.{Reach}
 use Rattle.cop_readback.specs.declared.session.ReadBack.{ReadBack}
@@ -90,18 +91,38 @@ is_free found.Failed = false
 abbrev pub IsFree : {P : Type 0} → ByteStep P → ByteStep P → ClockStep P → Way → P → P → Type 0
 IsFree reads writes asks way p q = (f : Found) × (is_free f ≡ true) × IsApproached reads writes asks way p f q
 
--- some devices are asked who they are, none is found to be another one, and those of the nodes that boot up after a reset are asked which COB-IDs
--- they have, if there are such questions
-pub record AsksFirst {P : Type 0} (reads writes : ByteStep P) (asks : ClockStep P) (way : Way) (nodes : List ℕ) (questions offs : List Question) (p : P) (told : List Exchange) (q : P) : Type 0 where
+-- one node alone or all are reset whole, where some devices were told to take other values
+abbrev pub AreReset : {P : Type 0} → ByteStep P → ByteStep P → ClockStep P → Option ℕ → List Question → P → P → Type 0
+AreReset reads writes asks only [] p q = p ≡ q
+AreReset reads writes asks only (question ∷ rest) p q = DidAll reads writes asks p (Sent (node_reset_of only) ∷ []) q
+
+-- some devices are told to take the values that they left the factory with, each does, and then they are reset
+pub record AreRestored {P : Type 0} (reads writes : ByteStep P) (asks : ClockStep P) (only : Option ℕ) (restores : List Question) (p q : P) : Type 0 where
+  pub all : List Exchange
+  pub told : P
+  pub asked : AskedAll reads writes asks restores p all told
+  pub each : has_untaken all ≡ false
+  pub resets : AreReset reads writes asks only restores told q
+
+-- the devices are known, some take the values that they left the factory with, and those of the nodes that boot up after a reset are asked which COB-IDs they
+-- have, if there are such questions
+pub record RestoresFirst {P : Type 0} (reads writes : ByteStep P) (asks : ClockStep P) (way : Way) (nodes : List ℕ) (restores offs : List Question) (p : P) (told : List Exchange) (q : P) : Type 0 where
+  pub restored : P
+  pub takes : AreRestored reads writes asks way.reach.only restores p restored
+  pub tells : WereTold reads writes asks way.reach.only nodes way.boot_limit offs restored told q
+
+-- some devices are asked who they are, and none is found to be another one; some take the values that they left the factory with; and those of the nodes
+-- that boot up after a reset are asked which COB-IDs they have, if there are such questions
+pub record AsksFirst {P : Type 0} (reads writes : ByteStep P) (asks : ClockStep P) (way : Way) (nodes : List ℕ) (questions restores offs : List Question) (p : P) (told : List Exchange) (q : P) : Type 0 where
   pub known : P
   pub identifies : AreRight reads writes asks questions p known
-  pub tells : WereTold reads writes asks way.reach.only nodes way.boot_limit offs known told q
+  pub restores_first : RestoresFirst reads writes asks way nodes restores offs known told q
 
 -- the bus is found free and the adapter open, and the devices are asked so: nothing else is done at the port
-pub record IsWhole {P : Type 0} (reads writes : ByteStep P) (asks : ClockStep P) (way : Way) (nodes : List ℕ) (questions offs : List Question) (p : P) (told : List Exchange) (q : P) : Type 0 where
+pub record IsWhole {P : Type 0} (reads writes : ByteStep P) (asks : ClockStep P) (way : Way) (nodes : List ℕ) (questions restores offs : List Question) (p : P) (told : List Exchange) (q : P) : Type 0 where
   pub free : P
   pub frees : IsFree reads writes asks way p free
-  pub asked : AsksFirst reads writes asks way nodes questions offs free told q
+  pub asked : AsksFirst reads writes asks way nodes questions restores offs free told q
 
 -- some devices are asked who they are, one answers with another value than is wanted, and the adapter is closed
 pub record FindsOther {P : Type 0} (reads writes : ByteStep P) (asks : ClockStep P) (questions : List Question) (all : List Exchange) (p q : P) : Type 0 where
@@ -116,6 +137,26 @@ pub record IsMistaken {P : Type 0} (reads writes : ByteStep P) (asks : ClockStep
   pub free : P
   pub frees : IsFree reads writes asks way p free
   pub finds : FindsOther reads writes asks questions all free q
+
+-- some device does not take the values that it left the factory with, and the adapter is closed
+pub record HasUnrestored {P : Type 0} (reads writes : ByteStep P) (asks : ClockStep P) (restores : List Question) (all : List Exchange) (p q : P) : Type 0 where
+  pub told : P
+  pub asked : AskedAll reads writes asks restores p all told
+  pub some_untaken : has_untaken all ≡ true
+  pub closes : Closed reads writes told q
+
+-- the same of devices that are known
+pub record FindsUnrestored {P : Type 0} (reads writes : ByteStep P) (asks : ClockStep P) (questions restores : List Question) (all : List Exchange) (p q : P) : Type 0 where
+  pub known : P
+  pub identifies : AreRight reads writes asks questions p known
+  pub finds : HasUnrestored reads writes asks restores all known q
+
+-- the bus is found free and the adapter open, some device does not take these values, and the adapter is closed: of frames the requests of uploads alone
+-- are sent, and the downloads to 1011h sub 1
+pub record IsUnrestored {P : Type 0} (reads writes : ByteStep P) (asks : ClockStep P) (way : Way) (questions restores : List Question) (all : List Exchange) (p q : P) : Type 0 where
+  pub free : P
+  pub frees : IsFree reads writes asks way p free
+  pub finds : FindsUnrestored reads writes asks questions restores all free q
 
 -- the bus is not taken over, the adapter is opened to listen (to listen only, if it can), somebody who is meant is heard to run, or lines come of which none
 -- is a frame, or none comes and its flags tell of errors, and the adapter is closed: no frame is sent
@@ -132,14 +173,15 @@ pub record IsUnopened {P : Type 0} (reads writes : ByteStep P) (asks : ClockStep
   pub closes : Closed reads writes refused q
 
 -- what the beginning of a session says
-abbrev pub IsSession : {P : Type 0} → ByteStep P → ByteStep P → ClockStep P → Way → List ℕ → List Question → List Question → P → P → Session → Type 0
-IsSession reads writes asks way nodes questions offs p q (sessions.Told told) = IsWhole reads writes asks way nodes questions offs p told.items q
-IsSession reads writes asks way nodes questions offs p q (sessions.Running runner) = IsRefrained reads writes asks way (found.Running runner) p q
-IsSession reads writes asks way nodes questions offs p q (sessions.Garbled lines) = IsRefrained reads writes asks way (found.Garbled lines) p q
-IsSession reads writes asks way nodes questions offs p q (sessions.Erroneous flags) = IsRefrained reads writes asks way (found.Erroneous flags) p q
-IsSession reads writes asks way nodes questions offs p q (sessions.Unopened command) = IsUnopened reads writes asks way command p q
-IsSession reads writes asks way nodes questions offs p q (sessions.Others all) = IsMistaken reads writes asks way questions all.items p q
-IsSession reads writes asks way nodes questions offs p q sessions.Failed = Unit {0}
+abbrev pub IsSession : {P : Type 0} → ByteStep P → ByteStep P → ClockStep P → Way → List ℕ → List Question → List Question → List Question → P → P → Session → Type 0
+IsSession reads writes asks way nodes questions restores offs p q (sessions.Told told) = IsWhole reads writes asks way nodes questions restores offs p told.items q
+IsSession reads writes asks way nodes questions restores offs p q (sessions.Running runner) = IsRefrained reads writes asks way (found.Running runner) p q
+IsSession reads writes asks way nodes questions restores offs p q (sessions.Garbled lines) = IsRefrained reads writes asks way (found.Garbled lines) p q
+IsSession reads writes asks way nodes questions restores offs p q (sessions.Erroneous flags) = IsRefrained reads writes asks way (found.Erroneous flags) p q
+IsSession reads writes asks way nodes questions restores offs p q (sessions.Unopened command) = IsUnopened reads writes asks way command p q
+IsSession reads writes asks way nodes questions restores offs p q (sessions.Others all) = IsMistaken reads writes asks way questions all.items p q
+IsSession reads writes asks way nodes questions restores offs p q (sessions.Unrestored all) = IsUnrestored reads writes asks way questions restores all.items p q
+IsSession reads writes asks way nodes questions restores offs p q sessions.Failed = Unit {0}
 
 -- the adapter is closed where nothing is to be sent, for what was found
 abbrev pub Refrains : {P : Type 0} → ByteStep P → ByteStep P → Found → P → Session → P → Type 0
@@ -149,17 +191,30 @@ Refrains reads writes f p (sessions.Garbled lines) q = (f ≡ found.Garbled line
 Refrains reads writes f p (sessions.Erroneous flags) q = (f ≡ found.Erroneous flags) × Closed reads writes p q
 Refrains reads writes f p (sessions.Unopened command) q = (f ≡ found.Refused command) × Closed reads writes p q
 Refrains reads writes f p (sessions.Others all) q = ⊥
+Refrains reads writes f p (sessions.Unrestored all) q = ⊥
 Refrains reads writes f p sessions.Failed q = Unit {0}
 
+-- how a session goes on where the devices are known
+abbrev pub Restores : {P : Type 0} → ByteStep P → ByteStep P → ClockStep P → Way → List ℕ → List Question → List Question → P → P → Session → Type 0
+Restores reads writes asks way nodes restores offs p q (sessions.Told told) = RestoresFirst reads writes asks way nodes restores offs p told.items q
+Restores reads writes asks way nodes restores offs p q (sessions.Running runner) = ⊥
+Restores reads writes asks way nodes restores offs p q (sessions.Garbled lines) = ⊥
+Restores reads writes asks way nodes restores offs p q (sessions.Erroneous flags) = ⊥
+Restores reads writes asks way nodes restores offs p q (sessions.Unopened command) = ⊥
+Restores reads writes asks way nodes restores offs p q (sessions.Others all) = ⊥
+Restores reads writes asks way nodes restores offs p q (sessions.Unrestored all) = HasUnrestored reads writes asks restores all.items p q
+Restores reads writes asks way nodes restores offs p q sessions.Failed = Unit {0}
+
 -- how a session goes on where nobody that is meant is heard to run
-abbrev pub GoesOn : {P : Type 0} → ByteStep P → ByteStep P → ClockStep P → Way → List ℕ → List Question → List Question → P → P → Session → Type 0
-GoesOn reads writes asks way nodes questions offs p q (sessions.Told told) = AsksFirst reads writes asks way nodes questions offs p told.items q
-GoesOn reads writes asks way nodes questions offs p q (sessions.Running runner) = ⊥
-GoesOn reads writes asks way nodes questions offs p q (sessions.Garbled lines) = ⊥
-GoesOn reads writes asks way nodes questions offs p q (sessions.Erroneous flags) = ⊥
-GoesOn reads writes asks way nodes questions offs p q (sessions.Unopened command) = ⊥
-GoesOn reads writes asks way nodes questions offs p q (sessions.Others all) = FindsOther reads writes asks questions all.items p q
-GoesOn reads writes asks way nodes questions offs p q sessions.Failed = Unit {0}
+abbrev pub GoesOn : {P : Type 0} → ByteStep P → ByteStep P → ClockStep P → Way → List ℕ → List Question → List Question → List Question → P → P → Session → Type 0
+GoesOn reads writes asks way nodes questions restores offs p q (sessions.Told told) = AsksFirst reads writes asks way nodes questions restores offs p told.items q
+GoesOn reads writes asks way nodes questions restores offs p q (sessions.Running runner) = ⊥
+GoesOn reads writes asks way nodes questions restores offs p q (sessions.Garbled lines) = ⊥
+GoesOn reads writes asks way nodes questions restores offs p q (sessions.Erroneous flags) = ⊥
+GoesOn reads writes asks way nodes questions restores offs p q (sessions.Unopened command) = ⊥
+GoesOn reads writes asks way nodes questions restores offs p q (sessions.Others all) = FindsOther reads writes asks questions all.items p q
+GoesOn reads writes asks way nodes questions restores offs p q (sessions.Unrestored all) = FindsUnrestored reads writes asks questions restores all.items p q
+GoesOn reads writes asks way nodes questions restores offs p q sessions.Failed = Unit {0}
 
 -- the heartbeats that are awaited gave out, if there are such
 abbrev pub WatchFails : {P : Type 0} → ByteStep P → ByteStep P → ClockStep P → ByteStep P → List Awaited → P → P → Type 0
@@ -196,29 +251,50 @@ is_kept_off (found.Erroneous flags) = true
 is_kept_off (found.Refused command) = true
 is_kept_off found.Failed = false
 
--- what the devices are asked first gave out: who they are; or the closing of the adapter where one is another one; or which COB-IDs they have
-abbrev pub AskFirstFails : {P : Type 0} → ByteStep P → ByteStep P → ClockStep P → ByteStep P → Way → List ℕ → List Question → List Question → P → P → Type 0
-AskFirstFails {P} reads writes asks fails way nodes questions offs p q =
+-- the devices are known, and then it gave out that some take the values that they left the factory with; or the closing of the adapter where one does not; or
+-- their reset
+abbrev pub RestoringFails : {P : Type 0} → ByteStep P → ByteStep P → ClockStep P → ByteStep P → Option ℕ → List Question → P → P → Type 0
+RestoringFails {P} reads writes asks fails only restores p q =
+    AskingFails reads writes asks fails restores p q
+    ⊎ (((all : List Exchange) × (told : P) × AskedAll reads writes asks restores p all told × (has_untaken all ≡ true) × CloseFails reads writes fails told q)
+    ⊎ ((all : List Exchange) × (told : P) × AskedAll reads writes asks restores p all told × (has_untaken all ≡ false) × BrokeOff reads writes asks fails told (Sent (node_reset_of only) ∷ []) q))
+
+-- the devices are known and restored, and then it gave out which COB-IDs they have
+abbrev pub TellingFails : {P : Type 0} → ByteStep P → ByteStep P → ClockStep P → ByteStep P → Way → List ℕ → List Question → List Question → P → P → Type 0
+TellingFails {P} reads writes asks fails way nodes restores offs p q =
+    (restored : P) × AreRestored reads writes asks way.reach.only restores p restored × TellFails reads writes asks fails way.reach.only nodes way.boot_limit offs restored q
+
+-- what the devices are asked first gave out: who they are; or the closing of the adapter where one is another one; or what they take of the factory's values;
+-- or which COB-IDs they have
+abbrev pub AskFirstFails : {P : Type 0} → ByteStep P → ByteStep P → ClockStep P → ByteStep P → Way → List ℕ → List Question → List Question → List Question → P → P → Type 0
+AskFirstFails {P} reads writes asks fails way nodes questions restores offs p q =
     AskingFails reads writes asks fails questions p q
     ⊎ (((all : List Exchange) × (known : P) × AskedAll reads writes asks questions p all known × (has_other all ≡ true) × CloseFails reads writes fails known q)
-    ⊎ ((known : P) × AreRight reads writes asks questions p known × TellFails reads writes asks fails way.reach.only nodes way.boot_limit offs known q))
+    ⊎ ((known : P) × AreRight reads writes asks questions p known × (RestoringFails reads writes asks fails way.reach.only restores known q ⊎ TellingFails reads writes asks fails way nodes restores offs known q)))
+
+-- the devices are known, and there was no memory for what they take, or for which COB-IDs they have
+abbrev pub RestoringStops : {P : Type 0} → ByteStep P → ByteStep P → ClockStep P → Way → List ℕ → List Question → List Question → P → P → Type 0
+RestoringStops {P} reads writes asks way nodes restores offs p q =
+    AskedSome reads writes asks restores p q
+    ⊎ ((restored : P) × AreRestored reads writes asks way.reach.only restores p restored × ToldSome reads writes asks way.reach.only nodes way.boot_limit offs restored q)
 
 -- and so much of it was done where there was no memory for more
-abbrev pub AskFirstStops : {P : Type 0} → ByteStep P → ByteStep P → ClockStep P → Way → List ℕ → List Question → List Question → P → P → Type 0
-AskFirstStops {P} reads writes asks way nodes questions offs p q =
-    AskedSome reads writes asks questions p q ⊎ ((known : P) × AreRight reads writes asks questions p known × ToldSome reads writes asks way.reach.only nodes way.boot_limit offs known q)
+abbrev pub AskFirstStops : {P : Type 0} → ByteStep P → ByteStep P → ClockStep P → Way → List ℕ → List Question → List Question → List Question → P → P → Type 0
+AskFirstStops {P} reads writes asks way nodes questions restores offs p q =
+    AskedSome reads writes asks questions p q
+    ⊎ ((known : P) × AreRight reads writes asks questions p known × RestoringStops reads writes asks way nodes restores offs known q)
 
 -- a session gave out before the boot: the approach; or the closing of the adapter, by what was found; or what the devices are asked first. No start
 -- was written, nor a part of it.
-abbrev pub SessionFails : {P : Type 0} → ByteStep P → ByteStep P → ClockStep P → ByteStep P → Way → List ℕ → List Question → List Question → P → P → Type 0
-SessionFails {P} reads writes asks fails way nodes questions offs p q =
+abbrev pub SessionFails : {P : Type 0} → ByteStep P → ByteStep P → ClockStep P → ByteStep P → Way → List ℕ → List Question → List Question → List Question → P → P → Type 0
+SessionFails {P} reads writes asks fails way nodes questions restores offs p q =
     ApproachFails reads writes asks fails way.rate way.senders way.reach.only way.take_over p q
     ⊎ (((f : Found) × (heard : P) × (is_kept_off f ≡ true) × IsApproached reads writes asks way p f heard × CloseFails reads writes fails heard q)
-    ⊎ ((free : P) × IsFree reads writes asks way p free × AskFirstFails reads writes asks fails way nodes questions offs free q))
+    ⊎ ((free : P) × IsFree reads writes asks way p free × AskFirstFails reads writes asks fails way nodes questions restores offs free q))
 
 -- and so much of it was done where there was no memory for more
-abbrev pub SessionStops : {P : Type 0} → ByteStep P → ByteStep P → ClockStep P → Way → List ℕ → List Question → List Question → P → P → Type 0
-SessionStops {P} reads writes asks way nodes questions offs p q = (free : P) × IsFree reads writes asks way p free × AskFirstStops reads writes asks way nodes questions offs free q
+abbrev pub SessionStops : {P : Type 0} → ByteStep P → ByteStep P → ClockStep P → Way → List ℕ → List Question → List Question → List Question → P → P → Type 0
+SessionStops {P} reads writes asks way nodes questions restores offs p q = (free : P) × IsFree reads writes asks way p free × AskFirstStops reads writes asks way nodes questions restores offs free q
 
 -- what holds where the port failed before the boot
 abbrev pub if_failed : Session → Type 0 → Type 0
@@ -228,4 +304,5 @@ if_failed (sessions.Garbled lines) claim = Unit {0}
 if_failed (sessions.Erroneous flags) claim = Unit {0}
 if_failed (sessions.Unopened command) claim = Unit {0}
 if_failed (sessions.Others all) claim = Unit {0}
+if_failed (sessions.Unrestored all) claim = Unit {0}
 if_failed sessions.Failed claim = claim

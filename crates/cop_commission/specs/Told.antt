@@ -4,7 +4,8 @@ use Rattle.std.specs.List.{flat_map}
 use Rattle.cop_dict.specs.Pdo.{is_communication, exists_by}
 use Rattle.cop_pdo.specs.CobIds.{off}
 use Rattle.cop_net.specs.Network.{Net}
-use Rattle.cop_dcf.specs.declared.setting.Setting.{Setting}
+use Rattle.cop_setup.specs.declared.setting.Setting.{Setting}
+use Rattle.cop_setup.specs.Width.{size_of}
 use Rattle.cop_dcf.specs.Settings.{node_settings}
 use Rattle.cop_boot.specs.Settings.{address_of}
 use Rattle.cop_boot.specs.Node.{Node}
@@ -21,7 +22,7 @@ question_about node s = record { node = node; demand = Tell; at = record { index
 
 -- a setting switches a PDO off: it is of a COB-ID (sub 1 of 1400h to 15FFh, or of 1800h to 19FFh), and sets its bit 31
 abbrev pub switches_off : Setting → Bool
-switches_off s = is_communication s.index && (s.sub == 1) && (s.bytes == 4) && not (exists_by s.value)
+switches_off s = is_communication s.index && (s.sub == 1) && (size_of s.width == 4) && not (exists_by s.value)
 
 -- a node is asked for the object of each setting that does
 abbrev pub offs_of : ℕ → List Setting → List Question

@@ -13,6 +13,7 @@ ghost use Rattle.cop_commission.specs.Commissioning.{if_failed, BootingFails, Bo
 use crate::heartbeats::{attendance_lines, awaited_of};
 use crate::identities::{identity_answer, questions_of};
 use crate::readings::{settings_questions, standing_lines, storing_questions};
+use crate::restoring::{restores_for, restoring_answer};
 use crate::senders::add_own_senders;
 use crate::sessions::{Bus, Closing, Questions, Session, awaited_if, boot_and_close, run_session};
 use crate::told::{off_questions, told_manager};
@@ -48,6 +49,8 @@ pub struct Approach {
     pub take_over: bool,
     /// Whether the devices are asked who they are.
     pub identify: bool,
+    /// Whether devices take the values that they left the factory with first, where they can.
+    pub restore: bool,
     /// How far the boot reaches.
     pub reach: Reach,
     /// For how many ticks of 250 ns the boot-up of a node is awaited after a reset, before the node is silent.
@@ -92,6 +95,10 @@ pub enum Commissioned {
     Others {
         answer: BootAnswer,
         exchanges: Vec<Exchange>,
+    },
+    /// Some device does not take the values that it left the factory with: besides questions, no frame but downloads to 1011h was sent.
+    Unrestored {
+        answer: BootAnswer,
     },
     /// The node that is meant alone has no device row: nothing was done at the port.
     Absent,
@@ -311,12 +318,13 @@ fn commission_nodes<P: Port>(
     requires planned { IsPlan network.now.equipment.rates network.now.set (length network.now.rows) plan.now }
     requires meant { nodes.now ≡ meant_nodes network.now approach.reach.only }
     ensures met { IfOk result (λ ended. IsMet P.reads P.writes P.asks network.now plan.now.rate plan.now.ids nodes.now approach port.old port.new ended) }
-    ensures failed { IfOk result (λ ended. if_failed ended (MeetingFails P.reads P.writes P.asks P.fails network.now plan.now.ids nodes.now (way_of network.now plan.now.rate plan.now.ids nodes.now approach) approach.identify approach.store port.old port.new)) }
-    ensures short { OnErr result (MeetingStops P.reads P.writes P.asks P.fails network.now plan.now.ids nodes.now (way_of network.now plan.now.rate plan.now.ids nodes.now approach) approach.identify approach.store port.old port.new) }
+    ensures failed { IfOk result (λ ended. if_failed ended (MeetingFails P.reads P.writes P.asks P.fails network.now plan.now.ids nodes.now (way_of network.now plan.now.rate plan.now.ids nodes.now approach) approach.identify approach.restore approach.store port.old port.new)) }
+    ensures short { OnErr result (MeetingStops P.reads P.writes P.asks P.fails network.now plan.now.ids nodes.now (way_of network.now plan.now.rate plan.now.ids nodes.now approach) approach.identify approach.restore approach.store port.old port.new) }
 {
     let bus = bus_of(alloc, network, plan, nodes, approach)?;
     let questions = Questions {
         identity: questions_for(alloc, approach.identify, network, nodes)?,
+        restores: restores_for(alloc, approach.restore, network, nodes)?,
         offs: off_questions(alloc, plan, network, nodes)?,
     };
     match run_session(alloc, nodes, &bus, &questions, port)? {
@@ -339,6 +347,9 @@ fn commission_nodes<P: Port>(
         Session::Others { exchanges } => Ok(Commissioned::Others {
             answer: identity_answer(alloc, nodes, &exchanges)?,
             exchanges,
+        }),
+        Session::Unrestored { exchanges } => Ok(Commissioned::Unrestored {
+            answer: restoring_answer(alloc, nodes, &exchanges)?,
         }),
         Session::Failed => Ok(Commissioned::Failed {
             answer: BootAnswer::nothing(alloc),
@@ -390,7 +401,8 @@ fn commission_network<P: Port>(
 /// The boot of the devices of a planned network over a port, of one node alone or of all. The network is planned, and the adapter is opened
 /// at its rate. Unless the bus is taken over, it is opened to listen only, if it can, for 2 s, and where somebody who is meant is heard to run,
 /// or lines come of which none is a frame, or none comes and the adapter's flags tell of errors, no frame is sent. If
-/// they are to be identified, the devices are asked who they are, and where one is another than its EDS file says nothing else is sent.
+/// they are to be identified, the devices are asked who they are, and where one is another than its EDS file says nothing else is sent. If they are to, those that can take the values that they left the factory with, and where one
+/// does not nothing else is sent.
 /// Where PDOs are to be switched off the nodes are reset then, and those that boot up are asked which COB-IDs these have, which are switched
 /// off as they are. Then the nodes are reset; the settings of each node are sent to it, and read back once the boot of each has ended; devices that have theirs store them, if
 /// they are to and can; the nodes are started if they are to be, where each has its settings; and the adapter is closed. Otherwise the

@@ -162,7 +162,7 @@ fn worse(first: Finding, second: Finding) -> Finding
 }
 
 // What the answers of a node say of its device.
-fn finding_of(node: u8, all: &[Exchange]) -> Finding
+pub(crate) fn finding_of(node: u8, all: &[Exchange]) -> Finding
     ensures { result ≡ finding_of node all.now }
 {
     match all {
@@ -179,7 +179,7 @@ fn finding_of(node: u8, all: &[Exchange]) -> Finding
 }
 
 // What is said of a node's device.
-fn finding_said(finding: Finding) -> State
+pub(crate) fn finding_said(finding: Finding) -> State
     ensures { result ≡ finding_said finding }
 {
     match finding {

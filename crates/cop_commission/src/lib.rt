@@ -6,6 +6,7 @@ mod heartbeats;
 mod identities;
 mod readings;
 mod relied;
+mod restoring;
 mod senders;
 mod sessions;
 mod told;

@@ -1,16 +1,18 @@
 //! A boot by a manager over a port, from the opening of the adapter to its closing: what goes before it, and the boot itself.
 
-ghost use Rattle.std.specs.Prelude.{◌≡◌, true, IfOk, IfSome, IfNone, OnErr};
-ghost use Rattle.cop_live.specs.Session.{CloseFails};
+ghost use Rattle.std.specs.Prelude.{◌≡◌, ◌⊎◌, [], ◌∷◌, true, false, IfOk, IfSome, IfNone, OnErr};
+ghost use Rattle.cop_live.specs.Log.{Sent, BrokeOff};
+ghost use Rattle.cop_live.specs.Session.{CloseFails, node_reset_of};
 ghost use Rattle.cop_readback.specs.Session.{ReadBackStops};
-ghost use Rattle.cop_commission.specs.Sessions.{awaited_if, IsWatched, IsClosing, Refrains, GoesOn, IsSession};
-ghost use Rattle.cop_commission.specs.Sessions.{WatchFails, ClosingFails, if_unclosed, is_kept_off, AskFirstFails, AskFirstStops, SessionFails, SessionStops, if_failed};
+ghost use Rattle.cop_commission.specs.Sessions.{awaited_if, IsWatched, IsClosing, Refrains, AreReset, GoesOn, IsSession};
+ghost use Rattle.cop_commission.specs.Sessions.{WatchFails, ClosingFails, if_unclosed, is_kept_off, AskFirstFails, AskFirstStops, Restores, RestoringFails, RestoringStops, TellingFails, SessionFails, SessionStops, if_failed};
 
+use crate::restoring::has_untaken;
 use cop_boot::Manager;
 use cop_frame::Rate;
 use cop_heartbeats::{Awaited, Heartbeats, attend};
 use cop_identity::{Exchange, Question, ask_all, has_other, reset_and_ask};
-use cop_live::{Command, Found, Port, Runner, Sender, approach, close};
+use cop_live::{Command, Found, Port, Runner, Sender, approach, close, node_reset_of, send};
 use cop_readback::{Reach, ReadBack, boot_and_read_back};
 use std::alloc::{AllocError, Global};
 use std::marker::Model;
@@ -36,10 +38,12 @@ impl Model for Bus {
     ghost view = { λ bus. record { rate = bus.rate; senders = bus.senders.items; take_over = bus.take_over; reach = bus.reach; boot_limit = bus.boot_limit; awaited = bus.awaited.items; limit = bus.limit } };
 }
 
-/// What the devices are asked before a boot: who they are, and which COB-IDs they have that are to be switched off.
+/// What the devices are asked before a boot: who they are, to take the values that they left the factory with, and which COB-IDs they have that
+/// are to be switched off.
 #[derive(Drop)]
 pub struct Questions {
     pub identity: Vec<Question>,
+    pub restores: Vec<Question>,
     pub offs: Vec<Question>,
 }
 
@@ -58,6 +62,8 @@ pub enum Session {
     Unopened { command: Command },
     /// Some device is another one: of frames questions alone were sent.
     Others { exchanges: Vec<Exchange> },
+    /// Some device does not take the values that it left the factory with: besides questions, no frame but downloads to 1011h was sent.
+    Unrestored { exchanges: Vec<Exchange> },
     /// The port or its clock failed.
     Failed,
 }
@@ -140,6 +146,49 @@ fn refrain<P: Port>(found: Found, port: &mut P) -> Session
     }
 }
 
+// Resets one node alone, or all, whole, where some devices were told to take other values. `false` where the port fails.
+fn reset_restored<P: Port>(restores: &[Question], only: Option<u8>, port: &mut P) -> bool
+    ensures resets { result ≡ true → AreReset P.reads P.writes P.asks only restores.now port.old port.new }
+    ensures failed { result ≡ false → BrokeOff P.reads P.writes P.asks P.fails port.old (Sent (node_reset_of only) ∷ []) port.new }
+{
+    match restores {
+        [] => true,
+        [_, ..] => send(port, &node_reset_of(only)),
+    }
+}
+
+// Has some devices that are known take the values that they left the factory with, and unless one does not, resets the nodes and asks which
+// COB-IDs they have.
+fn restore_first<P: Port>(
+    alloc: Global,
+    nodes: &[u8],
+    questions: &Questions,
+    bus: &Bus,
+    port: &mut P,
+) -> Result<Session, AllocError>
+    ensures goes_on { IfOk result (λ session. Restores P.reads P.writes P.asks bus.now nodes.now questions.now.restores.items questions.now.offs.items port.old port.new session) }
+    ensures failed { IfOk result (λ session. if_failed session (RestoringFails P.reads P.writes P.asks P.fails bus.now.reach.only questions.now.restores.items port.old port.new ⊎ TellingFails P.reads P.writes P.asks P.fails bus.now nodes.now questions.now.restores.items questions.now.offs.items port.old port.new)) }
+    ensures short { OnErr result (RestoringStops P.reads P.writes P.asks bus.now nodes.now questions.now.restores.items questions.now.offs.items port.old port.new) }
+{
+    let Some(exchanges) = ask_all(alloc, &questions.restores, port)? else {
+        return Ok(Session::Failed);
+    };
+    if has_untaken(&exchanges) {
+        if close(port) {
+            return Ok(Session::Unrestored { exchanges });
+        }
+        return Ok(Session::Failed);
+    }
+    let (limit, only) = (bus.boot_limit, bus.reach.only);
+    if !reset_restored(&questions.restores, only, port) {
+        return Ok(Session::Failed);
+    }
+    match reset_and_ask(alloc, nodes, limit, only, &questions.offs, port)? {
+        Some(told) => Ok(Session::Told { told }),
+        None => Ok(Session::Failed),
+    }
+}
+
 // Asks the devices at an open adapter who they are, and unless one is another resets the nodes and asks which COB-IDs they have.
 fn ask_first<P: Port>(
     alloc: Global,
@@ -148,9 +197,9 @@ fn ask_first<P: Port>(
     bus: &Bus,
     port: &mut P,
 ) -> Result<Session, AllocError>
-    ensures goes_on { IfOk result (λ session. GoesOn P.reads P.writes P.asks bus.now nodes.now questions.now.identity.items questions.now.offs.items port.old port.new session) }
-    ensures failed { IfOk result (λ session. if_failed session (AskFirstFails P.reads P.writes P.asks P.fails bus.now nodes.now questions.now.identity.items questions.now.offs.items port.old port.new)) }
-    ensures short { OnErr result (AskFirstStops P.reads P.writes P.asks bus.now nodes.now questions.now.identity.items questions.now.offs.items port.old port.new) }
+    ensures goes_on { IfOk result (λ session. GoesOn P.reads P.writes P.asks bus.now nodes.now questions.now.identity.items questions.now.restores.items questions.now.offs.items port.old port.new session) }
+    ensures failed { IfOk result (λ session. if_failed session (AskFirstFails P.reads P.writes P.asks P.fails bus.now nodes.now questions.now.identity.items questions.now.restores.items questions.now.offs.items port.old port.new)) }
+    ensures short { OnErr result (AskFirstStops P.reads P.writes P.asks bus.now nodes.now questions.now.identity.items questions.now.restores.items questions.now.offs.items port.old port.new) }
 {
     let Some(exchanges) = ask_all(alloc, &questions.identity, port)? else {
         return Ok(Session::Failed);
@@ -161,16 +210,12 @@ fn ask_first<P: Port>(
         }
         return Ok(Session::Failed);
     }
-    let (limit, only) = (bus.boot_limit, bus.reach.only);
-    match reset_and_ask(alloc, nodes, limit, only, &questions.offs, port)? {
-        Some(told) => Ok(Session::Told { told }),
-        None => Ok(Session::Failed),
-    }
+    restore_first(alloc, nodes, questions, bus, port)
 }
 
 /// Opens the adapter at a port at the bus's rate to listen only, and listens for 2 s, unless the bus is taken over. If nobody that is meant
 /// is heard to run, nor errors without a frame, it opens it to send and asks the devices who they are. Unless a device is found to be another
-/// one, it resets the nodes and asks those that boot up which COB-IDs they have, if some are to be switched off. `Failed` if the port or its
+/// one, some take the values that they left the factory with; and unless one does not, it resets the nodes and asks those that boot up which COB-IDs they have, if some are to be switched off. `Failed` if the port or its
 /// clock fails, and otherwise want of memory.
 pub fn run_session<P: Port>(
     alloc: Global,
@@ -179,9 +224,9 @@ pub fn run_session<P: Port>(
     questions: &Questions,
     port: &mut P,
 ) -> Result<Session, AllocError>
-    ensures session { IfOk result (λ session. IsSession P.reads P.writes P.asks bus.now nodes.now questions.now.identity.items questions.now.offs.items port.old port.new session) }
-    ensures failed { IfOk result (λ session. if_failed session (SessionFails P.reads P.writes P.asks P.fails bus.now nodes.now questions.now.identity.items questions.now.offs.items port.old port.new)) }
-    ensures short { OnErr result (SessionStops P.reads P.writes P.asks bus.now nodes.now questions.now.identity.items questions.now.offs.items port.old port.new) }
+    ensures session { IfOk result (λ session. IsSession P.reads P.writes P.asks bus.now nodes.now questions.now.identity.items questions.now.restores.items questions.now.offs.items port.old port.new session) }
+    ensures failed { IfOk result (λ session. if_failed session (SessionFails P.reads P.writes P.asks P.fails bus.now nodes.now questions.now.identity.items questions.now.restores.items questions.now.offs.items port.old port.new)) }
+    ensures short { OnErr result (SessionStops P.reads P.writes P.asks bus.now nodes.now questions.now.identity.items questions.now.restores.items questions.now.offs.items port.old port.new) }
 {
     let (only, take_over) = (bus.reach.only, bus.take_over);
     match approach(bus.rate, &bus.senders, only, take_over, port) {

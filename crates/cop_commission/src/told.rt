@@ -52,9 +52,9 @@ fn switches_off(setting: &Setting) -> bool
         index,
         sub,
         value,
-        bytes,
+        width,
     } = *setting;
-    is_communication(index) && sub == 1 && bytes == 4 && !exists(value)
+    is_communication(index) && sub == 1 && width.bytes() == 4 && !exists(value)
 }
 
 // Adds the questions to a node which COB-IDs it has that are to be switched off.

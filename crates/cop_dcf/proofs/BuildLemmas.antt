@@ -1,5 +1,5 @@
 -- The dictionary of a text with values set is the old one with these values.
-use Rattle.std.proofs.Common.{◌≡◌, ◌<◌, ℕ, zero, suc, ◌-◌, ◌^◌, Bool, true, false, nat_le, List, [], ◌∷◌, map, Option, Some, None, Ok, refl, ap, ◌∙◌, codes, arith, ℤ}
+use Rattle.std.proofs.Common.{◌≡◌, ◌<◌, ℕ, zero, suc, ◌-◌, ◌*◌, ◌^◌, Bool, true, false, nat_le, List, [], ◌∷◌, map, Option, Some, None, Ok, refl, ap, ◌∙◌, codes, arith, ℤ}
 use Rattle.std.proofs.lemmas.Bool.Decides.{nat_tests}
 use Rattle.std.specs.Int.{bytes_low_first}
 use Rattle.std.specs.Option.{option_map_or}
@@ -30,16 +30,16 @@ pub record Word : Type 0 where
 abbrev pub word_bytes : Word → List ℕ
 word_bytes word = bytes_low_first 0 word.width word.value
 
--- an UNSIGNED16 or an UNSIGNED32 holds the number
+-- a type holds the number in so many bytes
 unfoldable pub Holds : DataType → Word → Type 0
+Holds types.Boolean word = (word.width ≡ 1) × (word.value < 2)
+Holds types.Integer8 word = (word.width ≡ 1) × (word.value < 2 ^ 8)
+Holds types.Integer16 word = (word.width ≡ 2) × (word.value < 2 ^ 16)
+Holds types.Integer32 word = (word.width ≡ 4) × (word.value < 2 ^ 32)
+Holds types.Integer64 word = ⊥
+Holds types.Unsigned8 word = (word.width ≡ 1) × (word.value < 2 ^ 8)
 Holds types.Unsigned16 word = (word.width ≡ 2) × (word.value < 2 ^ 16)
 Holds types.Unsigned32 word = (word.width ≡ 4) × (word.value < 2 ^ 32)
-Holds types.Boolean word = ⊥
-Holds types.Integer8 word = ⊥
-Holds types.Integer16 word = ⊥
-Holds types.Integer32 word = ⊥
-Holds types.Integer64 word = ⊥
-Holds types.Unsigned8 word = ⊥
 Holds types.Unsigned64 word = ⊥
 Holds types.Real32 word = ⊥
 Holds types.Real64 word = ⊥
@@ -54,33 +54,54 @@ low_are_bytes i zero n = tt
 low_are_bytes zero (suc k) n = (omega arith, low_are_bytes 1 k n)
 low_are_bytes (suc i) (suc k) n = (omega arith, low_are_bytes (suc (suc i)) k n)
 
+-- bytes are read again
+one_read : (v : ℕ) → v < 2 ^ 8 → amount_of (hexadecimal (bytes_low_first 0 1 v)) ≡ Ok (Hexadecimal v)
+one_read v small =
+    let n : number (bytes_low_first 0 1 v) ≡ v = own_number 1 v (omega arith) in
+    amount_is (bytes_low_first 0 1 v) (low_are_bytes 0 1 v) (omega arith) (rw n (omega arith)) ∙ ap (λ n. Ok (Hexadecimal n)) n
+
+two_read : (v : ℕ) → v < 2 ^ 16 → amount_of (hexadecimal (bytes_low_first 0 2 v)) ≡ Ok (Hexadecimal v)
+two_read v small =
+    let n : number (bytes_low_first 0 2 v) ≡ v = own_number 2 v (omega arith) in
+    amount_is (bytes_low_first 0 2 v) (low_are_bytes 0 2 v) (omega arith) (rw n (omega arith)) ∙ ap (λ n. Ok (Hexadecimal n)) n
+
+four_read : (v : ℕ) → v < 2 ^ 32 → amount_of (hexadecimal (bytes_low_first 0 4 v)) ≡ Ok (Hexadecimal v)
+four_read v small =
+    let n : number (bytes_low_first 0 4 v) ≡ v = own_number 4 v (omega arith) in
+    amount_is (bytes_low_first 0 4 v) (low_are_bytes 0 4 v) (omega arith) (rw n (omega arith)) ∙ ap (λ n. Ok (Hexadecimal n)) n
+
 -- a number that is set is read again
 initial_set : (t : DataType) (node line : ℕ) (word : Word) → Holds t word → initial_of t node (Some (line, hexadecimal (word_bytes word))) ≡ Ok (word_bytes word)
 unfolding Holds
-initial_set types.Unsigned16 node line word h = two word h.0 h.1
-  where
-    two : (word : Word) → word.width ≡ 2 → word.value < 2 ^ 16 → initial_of types.Unsigned16 node (Some (line, hexadecimal (word_bytes word))) ≡ Ok (word_bytes word)
-    two word e small =
-        let n : number (bytes_low_first 0 2 word.value) ≡ word.value = own_number 2 word.value (omega arith) in
-        let amount : amount_of (hexadecimal (bytes_low_first 0 2 word.value)) ≡ Ok (Hexadecimal (number (bytes_low_first 0 2 word.value))) =
-        amount_is (bytes_low_first 0 2 word.value) (low_are_bytes 0 2 word.value) (omega arith) (rw n (omega arith)) in
-        let fits : nat_le word.value (2 ^ 16 - 1) ≡ true = grind (arith, nat_tests) in
-        rw (e, amount, n, fits) refl
-initial_set types.Unsigned32 node line word h = four word h.0 h.1
-  where
-    four : (word : Word) → word.width ≡ 4 → word.value < 2 ^ 32 → initial_of types.Unsigned32 node (Some (line, hexadecimal (word_bytes word))) ≡ Ok (word_bytes word)
-    four word e small =
-        let n : number (bytes_low_first 0 4 word.value) ≡ word.value = own_number 4 word.value (omega arith) in
-        let amount : amount_of (hexadecimal (bytes_low_first 0 4 word.value)) ≡ Ok (Hexadecimal (number (bytes_low_first 0 4 word.value))) =
-        amount_is (bytes_low_first 0 4 word.value) (low_are_bytes 0 4 word.value) (omega arith) (rw n (omega arith)) in
-        let fits : nat_le word.value (2 ^ 32 - 1) ≡ true = grind (arith, nat_tests) in
-        rw (e, amount, n, fits) refl
-initial_set types.Boolean node line word h = absurd h
-initial_set types.Integer8 node line word h = absurd h
-initial_set types.Integer16 node line word h = absurd h
-initial_set types.Integer32 node line word h = absurd h
+initial_set types.Boolean node line word h =
+    let wide : word.width ≡ 1 = h.0 in
+    let fits : nat_le word.value (1) ≡ true = let small = h.1 in grind (arith, nat_tests) in
+    rw (wide, one_read word.value (omega (arith, h.1)), fits) refl
+initial_set types.Integer8 node line word h =
+    let wide : word.width ≡ 1 = h.0 in
+    let fits : nat_le word.value (2 * 2 ^ 7 - 1) ≡ true = let small = h.1 in grind (arith, nat_tests) in
+    rw (wide, one_read word.value h.1, fits) refl
+initial_set types.Integer16 node line word h =
+    let wide : word.width ≡ 2 = h.0 in
+    let fits : nat_le word.value (2 * 2 ^ 15 - 1) ≡ true = let small = h.1 in grind (arith, nat_tests) in
+    rw (wide, two_read word.value h.1, fits) refl
+initial_set types.Integer32 node line word h =
+    let wide : word.width ≡ 4 = h.0 in
+    let fits : nat_le word.value (2 * 2 ^ 31 - 1) ≡ true = let small = h.1 in grind (arith, nat_tests) in
+    rw (wide, four_read word.value h.1, fits) refl
+initial_set types.Unsigned8 node line word h =
+    let wide : word.width ≡ 1 = h.0 in
+    let fits : nat_le word.value (2 ^ 8 - 1) ≡ true = let small = h.1 in grind (arith, nat_tests) in
+    rw (wide, one_read word.value h.1, fits) refl
+initial_set types.Unsigned16 node line word h =
+    let wide : word.width ≡ 2 = h.0 in
+    let fits : nat_le word.value (2 ^ 16 - 1) ≡ true = let small = h.1 in grind (arith, nat_tests) in
+    rw (wide, two_read word.value h.1, fits) refl
+initial_set types.Unsigned32 node line word h =
+    let wide : word.width ≡ 4 = h.0 in
+    let fits : nat_le word.value (2 ^ 32 - 1) ≡ true = let small = h.1 in grind (arith, nat_tests) in
+    rw (wide, four_read word.value h.1, fits) refl
 initial_set types.Integer64 node line word h = absurd h
-initial_set types.Unsigned8 node line word h = absurd h
 initial_set types.Unsigned64 node line word h = absurd h
 initial_set types.Real32 node line word h = absurd h
 initial_set types.Real64 node line word h = absurd h

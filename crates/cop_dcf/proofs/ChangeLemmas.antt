@@ -21,8 +21,9 @@ use Rattle.cop_eds.specs.Edits.{Change, pair_of, header_row, newline_of, section
 use Rattle.cop_eds.proofs.EditLemmas.{hits, AreClean, AreApart, and_left, found_test}
 use Rattle.cop_eds.proofs.KeepsLemmas.{is_set, AreOurs, with_both}
 use Rattle.cop_eds.proofs.SpelledLemmas.{AreSpelled, IsLine, AreLines}
-use Rattle.cop_dcf.specs.declared.setting.Setting.{Setting}
-use Rattle.cop_dcf.specs.Dcf.{bytes_of, hexadecimal, value_set, values_from, origin_set, device_set, number_of, file_number, device_number}
+use Rattle.cop_setup.specs.declared.setting.Setting.{Setting}
+use Rattle.cop_dcf.specs.Dcf.{hexadecimal, value_set, values_from, origin_set, device_set, number_of, file_number, device_number}
+use Rattle.cop_setup.specs.Settings.{bytes_of}
 use Rattle.cop_dcf.proofs.HomeLemmas.{spelled_rows, header_past, kind_is_header}
 use Rattle.cop_dcf.proofs.WrittenLemmas.{both_spelled}
 

@@ -37,7 +37,8 @@ use Rattle.cop_net.proofs.TextLemmas.{read_as_itself}
 use Rattle.cop_dcf.specs.Identifiers.{id_at}
 use Rattle.cop_dcf.specs.Settings.{settings_by, dictionary_of, node_settings}
 use Rattle.cop_dcf.specs.Dcf.{dcf_of}
-use Rattle.cop_dcf.specs.Planned.{IsNumber, IsReadAgain, IsNodeReadAgain}
+use Rattle.cop_dcf.specs.Planned.{IsReadAgain, IsNodeReadAgain}
+use Rattle.cop_setup.specs.Settings.{IsNumber}
 use Rattle.cop_dcf.proofs.IdentifierLemmas.{id_small}
 use Rattle.cop_dcf.proofs.SettingsLemmas.{short_time}
 use Rattle.cop_dcf.proofs.NumberLemmas.{all_numbers}

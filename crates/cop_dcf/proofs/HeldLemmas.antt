@@ -1,6 +1,6 @@
 -- The DCF says of each object what the settings say.
 use Rattle.std.specs.Prelude.{slice_index}
-use Rattle.std.proofs.Common.{◌≡◌, ◌≤◌, ◌<◌, ◌+◌, ◌-◌, ◌*◌, ◌^◌, ℕ, zero, suc, Bool, true, false, cond, ◌&&◌, ◌||◌, ◌==◌, nat_lt, List, [], ◌∷◌, ◌++◌, length, reverse, get_or, find, All, Option, Some, None, Ok, refl, sym, ap, ◌∙◌, subst, codes, arith}
+use Rattle.std.proofs.Common.{◌≡◌, ◌≤◌, ◌<◌, ◌+◌, ◌-◌, ◌*◌, ◌^◌, ℕ, zero, suc, Bool, true, false, cond, ◌&&◌, ◌||◌, ◌==◌, nat_lt, List, [], ◌∷◌, ◌++◌, length, reverse, get_or, find, All, IfSome, Option, Some, None, Ok, refl, sym, ap, ◌∙◌, subst, codes, arith}
 use Rattle.std.specs.List.{list_all, list_any, cons_option, flat_map}
 use Rattle.std.specs.Option.{option_map, option_map_or, option_and_then, option_or}
 use Rattle.std.proofs.lemmas.Bool.Decides.{nat_tests}
@@ -25,12 +25,15 @@ use Rattle.cop_eds.proofs.ReadingLemmas.{bind_ok}
 use Rattle.cop_eds.proofs.SpelledLemmas.{AreSpelled}
 use Rattle.cop_dict.specs.declared.data_type.DataType.{DataType}
 use Rattle.cop_dict.specs.declared.data_type.DataType.TheVariants as types
-use Rattle.cop_dict.specs.Types.{type_numbered}
+use Rattle.cop_dict.specs.Types.{type_numbered, bits_of}
 use Rattle.cop_dict.specs.Find as dictionary
 use Rattle.cop_dict.specs.Build.{entry_of_type, entry_built, collected, built}
-use Rattle.cop_dcf.specs.declared.setting.Setting.{Setting}
-use Rattle.cop_dcf.specs.Dcf.{bytes_of, digits_of, hexadecimal, is_of, setting_in, value_set, values_from}
-use Rattle.cop_dcf.specs.Planned.{has_numbers, IsNumber}
+use Rattle.cop_setup.specs.declared.setting.Setting.{Setting}
+use Rattle.cop_setup.specs.declared.setting.Width.{Width}
+use Rattle.cop_setup.specs.declared.setting.Width.TheVariants.{One, Two, Four}
+use Rattle.cop_setup.specs.Width.{size_of}
+use Rattle.cop_dcf.specs.Dcf.{digits_of, hexadecimal, is_of, setting_in, value_set, values_from}
+use Rattle.cop_setup.specs.Settings.{bytes_of, has_numbers, IsNumber}
 use Rattle.cop_dcf.proofs.HomeLemmas.{IsHome, found_home, objects_home, spelled_rows, home_row, home_past, home_entry, same_home}
 use Rattle.cop_dcf.proofs.WrittenLemmas.{last_section, count_is}
 use Rattle.cop_dcf.proofs.ChangeLemmas.{other_none, places_set, places_other, values_past, has_still}
@@ -254,7 +257,7 @@ fine_trim xs h =
 set_value : (r : Row) (section : ℕ) (s : Setting) → r.body ≡ pair_of (value_set section s) → row_value r ≡ Some (hexadecimal (bytes_of s))
 set_value r section s body =
     let value : List ℕ = hexadecimal (bytes_of s) in
-    let own : trim value ≡ value = fine_trim value (all_fine (bytes_of s) (low_are_bytes 0 s.bytes s.value)) in
+    let own : trim value ≡ value = fine_trim value (all_fine (bytes_of s) (low_are_bytes 0 (size_of s.width) s.value)) in
     ap (λ b. row_value (record r { body = b })) body ∙ by_value value own (long (flat_map digits_of (reverse (bytes_of s))))
   where
     long : (xs : List ℕ) → (length (48 ∷ 120 ∷ xs) == 0) ≡ false
@@ -342,17 +345,22 @@ type_there text node index sub o e (x ∷ xs) es h f g =
         go false is k l later = later k l
 
 -- a number that an object can have is held by its type
-holds : (t : DataType) (s : Setting) → has_numbers t s.bytes ≡ true → s.value < 2 ^ (8 * s.bytes) → Holds t (word_of s)
+no_eight : (w : Width) → (8 == size_of w) ≡ true → ⊥
+no_eight One e = cc
+no_eight Two e = cc
+no_eight Four e = cc
+
+holds : (t : DataType) (s : Setting) → has_numbers t s.width ≡ true → IfSome (bits_of t) (λ bits. s.value < 2 ^ bits) → Holds t (word_of s)
 unfolding Holds
-holds types.Unsigned16 s e small = let two : s.bytes ≡ 2 = sections_equal s.bytes 2 e in (two, subst (λ n. s.value < 2 ^ (8 * n)) two small)
-holds types.Unsigned32 s e small = let four : s.bytes ≡ 4 = sections_equal s.bytes 4 e in (four, subst (λ n. s.value < 2 ^ (8 * n)) four small)
-holds types.Boolean s e small = cc
-holds types.Integer8 s e small = cc
-holds types.Integer16 s e small = cc
-holds types.Integer32 s e small = cc
-holds types.Integer64 s e small = cc
-holds types.Unsigned8 s e small = cc
-holds types.Unsigned64 s e small = cc
+holds types.Boolean s e small = (sym (sections_equal 1 (size_of s.width) e), small)
+holds types.Integer8 s e small = (sym (sections_equal 1 (size_of s.width) e), small)
+holds types.Integer16 s e small = (sym (sections_equal 2 (size_of s.width) e), small)
+holds types.Integer32 s e small = (sym (sections_equal 4 (size_of s.width) e), small)
+holds types.Unsigned8 s e small = (sym (sections_equal 1 (size_of s.width) e), small)
+holds types.Unsigned16 s e small = (sym (sections_equal 2 (size_of s.width) e), small)
+holds types.Unsigned32 s e small = (sym (sections_equal 4 (size_of s.width) e), small)
+holds types.Integer64 s e small = absurd (no_eight s.width e)
+holds types.Unsigned64 s e small = absurd (no_eight s.width e)
 holds types.Real32 s e small = cc
 holds types.Real64 s e small = cc
 holds types.VisibleString s e small = cc

@@ -12,50 +12,34 @@ use Rattle.std.proofs.lemmas.List.Elements.{All-append, All-cons, All-nil}
 use Rattle.cop_eds.proofs.EditLemmas.{and_left, and_right, sections_equal}
 use Rattle.cop_dict.specs.declared.data_type.DataType.{DataType}
 use Rattle.cop_dict.specs.declared.data_type.DataType.TheVariants as types
-use Rattle.cop_dict.specs.Types.{is_unsigned32}
+use Rattle.cop_dict.specs.Types.{is_unsigned32, bits_of}
 use Rattle.cop_dict.specs.Number.{number}
 use Rattle.cop_dict.specs.Find.{Entry, entry_at, IsSorted}
 use Rattle.cop_dict.specs.Pdo.{is_cob_id, is_communication, exists_by}
 use Rattle.cop_dict.proofs.DictLemmas.{own_place}
 use Rattle.cop_pdo.specs.CobIds.{off, on}
 use Rattle.cop_net.specs.Settings.{whole_of, is_unsigned16, has_or_takes, beats, beats_by}
-use Rattle.cop_dcf.specs.Settings.{cob_id_set, off_set, on_set, set_of, time_set, heartbeat_set, settings_of}
-use Rattle.cop_dcf.specs.Planned.{has_numbers, IsNumber}
+use Rattle.cop_setup.specs.declared.setting.Width.TheVariants.{Two, Four}
+use Rattle.cop_dcf.specs.Settings.{off_set, on_set, set_of, time_set, heartbeat_set, settings_of}
+use Rattle.cop_setup.specs.Settings.{cob_id_set, has_numbers, IsNumber}
 use Rattle.cop_dcf.proofs.SettingsLemmas.{all_given}
 
-wide : (t : DataType) → is_unsigned32 t ≡ true → has_numbers t 4 ≡ true
+-- an UNSIGNED32 has each number of four bytes, an UNSIGNED16 each of two
+wide : (t : DataType) → is_unsigned32 t ≡ true → has_numbers t Four ≡ true
 wide types.Unsigned32 e = refl
-wide types.Unsigned16 e = cc
-wide types.Boolean e = cc
-wide types.Integer8 e = cc
-wide types.Integer16 e = cc
-wide types.Integer32 e = cc
-wide types.Integer64 e = cc
-wide types.Unsigned8 e = cc
-wide types.Unsigned64 e = cc
-wide types.Real32 e = cc
-wide types.Real64 e = cc
-wide types.VisibleString e = cc
-wide types.OctetString e = cc
-wide types.Domain e = cc
-wide types.Opaque e = cc
+wide _ e = cc
 
-short : (t : DataType) → is_unsigned16 t ≡ true → has_numbers t 2 ≡ true
+wide_fits : (t : DataType) (v : ℕ) → is_unsigned32 t ≡ true → v < 2 ^ 32 → IfSome (bits_of t) (λ bits. v < 2 ^ bits)
+wide_fits types.Unsigned32 v e small = small
+wide_fits _ v e small = cc
+
+short : (t : DataType) → is_unsigned16 t ≡ true → has_numbers t Two ≡ true
 short types.Unsigned16 e = refl
-short types.Unsigned32 e = cc
-short types.Boolean e = cc
-short types.Integer8 e = cc
-short types.Integer16 e = cc
-short types.Integer32 e = cc
-short types.Integer64 e = cc
-short types.Unsigned8 e = cc
-short types.Unsigned64 e = cc
-short types.Real32 e = cc
-short types.Real64 e = cc
-short types.VisibleString e = cc
-short types.OctetString e = cc
-short types.Domain e = cc
-short types.Opaque e = cc
+short _ e = cc
+
+short_fits : (t : DataType) (v : ℕ) → is_unsigned16 t ≡ true → v < 2 ^ 16 → IfSome (bits_of t) (λ bits. v < 2 ^ bits)
+short_fits types.Unsigned16 v e small = small
+short_fits _ v e small = cc
 
 inside : (dict : List Entry) (k : ℕ) (d : Entry) → k < length dict → Contains dict (get_or dict k d)
 inside dict k d lt = (k, lt, get_or_default dict k (get_or dict k d) d lt)
@@ -64,7 +48,7 @@ module _ (dict : List Entry) (sorted : IsSorted dict) where
   cob_id_number : (e : Entry) (value : ℕ) → Contains dict e → is_cob_id e ≡ true → is_unsigned32 e.description.data_type ≡ true → value < 2 ^ 32 → IsNumber dict (cob_id_set e.index value)
   cob_id_number e value inside own kind small =
       let sub : e.sub ≡ 1 = sections_equal e.sub 1 (and_right (is_communication e.index) _ own) in
-      record { entry = e; here = ap (λ n. entry_at dict e.index n) (sym sub) ∙ own_place dict e sorted inside; numbers = wide e.description.data_type kind; fits = small }
+      record { entry = e; here = ap (λ n. entry_at dict e.index n) (sym sub) ∙ own_place dict e sorted inside; numbers = wide e.description.data_type kind; fits = wide_fits e.description.data_type value kind small }
 
   off_number : (ids : ℕ → Option ℕ) (e : Entry) → Contains dict e → IfSome (set_of off_set ids e) (IsNumber dict)
   off_number ids e inside = by_test (is_cob_id e) refl (is_unsigned32 e.description.data_type) refl
@@ -103,7 +87,7 @@ module _ (dict : List Entry) (sorted : IsSorted dict) where
           by_test true l = none
           by_test false l =
               All-cons (IsNumber dict) (heartbeat_set time) []
-              (record { entry = e; here = is; numbers = short e.description.data_type (and_left _ _ l); fits = small }) none
+              (record { entry = e; here = is; numbers = short e.description.data_type (and_left _ _ l); fits = short_fits e.description.data_type time (and_left _ _ l) small }) none
 
       by_entry : (o : Option Entry) → entry_at dict 0x1017 0 ≡ o → beats_by dict time o ≡ true → All (IsNumber dict) (time_set time (option_and_then whole_of o))
       by_entry None is k = none

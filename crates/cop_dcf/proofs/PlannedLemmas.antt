@@ -3,13 +3,13 @@ use Rattle.std.proofs.Common.{◌≡◌, ℕ, Bool, true, false, cond, ◌&&◌,
 use Rattle.std.specs.Option.{option_or, option_map_or}
 use Rattle.cop_dict.specs.Find.{Entry, is_at}
 use Rattle.cop_dict.specs.Dict.{valued}
-use Rattle.cop_dcf.specs.declared.setting.Setting.{Setting}
-use Rattle.cop_dcf.specs.Dcf.{bytes_of}
-use Rattle.cop_dcf.specs.Planned.{with_setting, planned}
+use Rattle.cop_setup.specs.declared.setting.Setting.{Setting}
+use Rattle.cop_setup.specs.Width.{size_of}
+use Rattle.cop_setup.specs.Settings.{bytes_of, with_setting, planned}
 use Rattle.cop_dcf.proofs.BuildLemmas.{Word, word_bytes, entry_set}
 
 abbrev pub word_of : Setting → Word
-word_of setting = record { width = setting.bytes; value = setting.value }
+word_of setting = record { width = size_of setting.width; value = setting.value }
 
 -- the last number that is set at an index and a sub
 abbrev pub last_word : List Setting → ℕ → ℕ → Option Word

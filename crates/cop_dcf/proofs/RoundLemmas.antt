@@ -11,9 +11,11 @@ use Rattle.cop_eds.proofs.KeepsLemmas.{IsEdit, with_both}
 use Rattle.cop_dict.specs.Find.{Entry}
 use Rattle.cop_dict.specs.Build.{built}
 use Rattle.cop_rows.specs.Names.{is_name, is_name_code}
-use Rattle.cop_dcf.specs.declared.setting.Setting.{Setting}
-use Rattle.cop_dcf.specs.Dcf.{bytes_of, hexadecimal, setting_in, values_from, origin_set, device_set, file_number, device_number, changes_of, dcf_of}
-use Rattle.cop_dcf.specs.Planned.{settled, IsNumber, IsReadAgain}
+use Rattle.cop_setup.specs.declared.setting.Setting.{Setting}
+use Rattle.cop_setup.specs.Width.{size_of}
+use Rattle.cop_dcf.specs.Dcf.{hexadecimal, setting_in, values_from, origin_set, device_set, file_number, device_number, changes_of, dcf_of}
+use Rattle.cop_setup.specs.Settings.{bytes_of, IsNumber}
+use Rattle.cop_dcf.specs.Planned.{settled, IsReadAgain}
 use Rattle.cop_dcf.proofs.WrittenLemmas.{rows_written}
 use Rattle.cop_dcf.proofs.ChangeLemmas.{is_plain, places_set, AreGood, all_good, file_past, device_past}
 use Rattle.cop_dcf.proofs.HexLemmas.{is_fine, all_fine}
@@ -30,7 +32,7 @@ plainer (x ∷ xs) h =
     rw here (plainer xs (and_right (nat_lt 47 x) _ h))
 
 number_plain : (s : Setting) → list_all is_plain (hexadecimal (bytes_of s)) ≡ true
-number_plain s = plainer (hexadecimal (bytes_of s)) (all_fine (bytes_of s) (low_are_bytes 0 s.bytes s.value))
+number_plain s = plainer (hexadecimal (bytes_of s)) (all_fine (bytes_of s) (low_are_bytes 0 (size_of s.width) s.value))
 
 code_plain : (c : ℕ) → is_name_code c ≡ true → nat_lt 31 c ≡ true
 code_plain c h = by_test (nat_lt 31 c) refl

@@ -21,7 +21,7 @@ use Rattle.cop_eds.specs.Edits.{Change, pair_of, is_entry, with_section, with_ke
 use Rattle.cop_eds.proofs.RowLemmas.{row_value, value_row, section_row}
 use Rattle.cop_eds.proofs.EditLemmas.{hits, set_key_line, found_test, any_found, and_left}
 use Rattle.cop_eds.proofs.KeepsLemmas.{IsEdit, with_both, kept_header}
-use Rattle.cop_dcf.specs.declared.setting.Setting.{Setting}
+use Rattle.cop_setup.specs.declared.setting.Setting.{Setting}
 use Rattle.cop_dcf.specs.Dcf.{setting_in, value_set, values_from, number_of, file_number, device_number}
 use Rattle.cop_dcf.proofs.ChangeLemmas.{places_set, has_still, has_own, own_file, own_device}
 use Rattle.cop_eds.specs.Reading.{reading}

@@ -25,9 +25,10 @@ use Rattle.cop_net.proofs.FixedLemmas.{found_all}
 use Rattle.cop_net.proofs.NetworkLemmas.{timed}
 use Rattle.cop_plan.specs.Plans.{IsPlan}
 use Rattle.cop_plan.specs.Values.{PlanValue}
-use Rattle.cop_dcf.specs.declared.setting.Setting.{Setting}
+use Rattle.cop_setup.specs.declared.setting.Setting.{Setting}
 use Rattle.cop_dcf.specs.Identifiers.{id_at, id_in, KnowsIds}
-use Rattle.cop_dcf.specs.Settings.{cob_id_set, off_set, on_set, set_of, time_set, heartbeat_set, settings_of, settings_by, dictionary_of, node_settings, IsFit, HasObject}
+use Rattle.cop_dcf.specs.Settings.{off_set, on_set, set_of, time_set, heartbeat_set, settings_of, settings_by, dictionary_of, node_settings}
+use Rattle.cop_setup.specs.Settings.{cob_id_set, IsFit, HasObject}
 use Rattle.cop_dcf.proofs.IdentifierLemmas.{id_small}
 
 -- one element more
@@ -124,10 +125,10 @@ all_given {Y = Y} P f (x ∷ xs) each = by_first (f x) (each 0 x (omega arith)) 
     by_first (Some y) own later = All-cons P y (filter_map f xs) own later
 
 off_fits : (index cob_id : ℕ) → IsFit (cob_id_set index (off cob_id))
-off_fits index cob_id = record { size = inr refl; value = omega arith }
+off_fits index cob_id = record { value = omega arith }
 
 on_fits : (index cob_id id : ℕ) → id < 2 ^ 11 → IsFit (cob_id_set index (on cob_id id))
-on_fits index cob_id id small = record { size = inr refl; value = omega arith }
+on_fits index cob_id id small = record { value = omega arith }
 
 off_all_fit : (ids : ℕ → Option ℕ) (entry : Entry) → IfSome (set_of off_set ids entry) IsFit
 off_all_fit ids entry = by_test (is_cob_id entry) (unsigned32_of entry)
@@ -156,7 +157,7 @@ time_fits time (Some now) small = by_test (int_eq now (pos time))
   where
     by_test : (b : Bool) → All IsFit (cond b [] (heartbeat_set time ∷ []))
     by_test true = λ k d lt. absurd (omega arith)
-    by_test false = All-cons IsFit (heartbeat_set time) [] (record { size = inl refl; value = omega arith }) (λ k d lt. absurd (omega arith))
+    by_test false = All-cons IsFit (heartbeat_set time) [] (record { value = omega arith }) (λ k d lt. absurd (omega arith))
 
 pub all_fit : (dict : List Entry) (ids : ℕ → Option ℕ) (time : ℕ) → ((index : ℕ) → IfSome (ids index) (λ id. id < 2 ^ 11)) → time < 2 ^ 16 → All IsFit (settings_of dict ids time)
 all_fit dict ids time small short =

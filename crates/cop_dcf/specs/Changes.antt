@@ -2,7 +2,7 @@
 use Rattle.std.specs.Prelude.{◌≡◌, ◌<◌, ℕ, Bool, ◌==◌, List, [], get_or, length, Option, None}
 use Rattle.std.specs.List.{filter}
 use Rattle.cop_eds.specs.Edits.{Change}
-use Rattle.cop_dcf.specs.declared.setting.Setting.{Setting}
+use Rattle.cop_setup.specs.declared.setting.Setting.{Setting}
 use Rattle.cop_dcf.specs.Dcf.{setting_in}
 
 -- a table has the last setting of each section's object

@@ -1,18 +1,14 @@
 -- The DCF text of a node (CiA 306, "Device configuration file").
 use Rattle.std.specs.Prelude.{ℕ, zero, suc, ◌+◌, ◌/◌, ◌%◌, Bool, false, ◌==◌, List, [], ◌∷◌, ◌++◌, codes, decimal, reverse, nat_lt, if◌then◌else◌, Option, find}
 use Rattle.std.specs.List.{cons_option, flat_map}
-use Rattle.std.specs.Int.{bytes_low_first}
 use Rattle.std.specs.Option.{option_map, option_map_or}
 use Rattle.cop_frame.specs.declared.rates.Rate.{Rate}
 use Rattle.cop_frame.specs.Rate.{kbits_of}
 use Rattle.cop_eds.specs.Objects.{object_section}
 use Rattle.cop_eds.specs.Rows.{Row, rows_of, has_name}
 use Rattle.cop_eds.specs.Edits.{Change, with_keys, with_section, section_count, text_with}
-use Rattle.cop_dcf.specs.declared.setting.Setting.{Setting}
-
--- the bytes of a setting's value
-abbrev pub bytes_of : Setting → List ℕ
-bytes_of setting = bytes_low_first 0 setting.bytes setting.value
+use Rattle.cop_setup.specs.declared.setting.Setting.{Setting}
+use Rattle.cop_setup.specs.Settings.{bytes_of}
 
 -- a hexadecimal digit in upper case
 abbrev pub digit : ℕ → ℕ

@@ -1,46 +1,23 @@
 -- The planned dictionary of a node, and what its DCF says when it is read again.
-use Rattle.std.specs.Prelude.{◌≡◌, ◌<◌, ◌≤◌, ◌^◌, ◌*◌, ℕ, Bool, true, false, ◌==◌, if◌then◌else◌, List, length, map, fold, codes, decimal, Some, None, Ok}
+use Rattle.std.specs.Prelude.{◌≡◌, ◌≤◌, ◌*◌, ℕ, ◌==◌, if◌then◌else◌, List, length, map, codes, decimal, Some, None, Ok}
 use Rattle.cop_frame.specs.declared.rates.Rate.{Rate}
 use Rattle.cop_frame.specs.Rate.{kbits_of}
 use Rattle.cop_eds.specs.Text.{trim}
 use Rattle.cop_eds.specs.Sections.{section_of, value_in}
 use Rattle.cop_eds.specs.Reading.{reading}
-use Rattle.cop_dict.specs.declared.data_type.DataType.{DataType}
-use Rattle.cop_dict.specs.declared.data_type.DataType.TheVariants as types
-use Rattle.cop_dict.specs.Find.{Entry, entry_at}
-use Rattle.cop_dict.specs.Dict.{with_value}
+use Rattle.cop_dict.specs.Find.{Entry}
 use Rattle.cop_dict.specs.Build.{built}
 use Rattle.cop_rows.specs.declared.node_table.DeviceRow.{DeviceRow}
 use Rattle.cop_net.specs.Devices.{File, text_of}
 use Rattle.cop_net.specs.Network.{Net}
-use Rattle.cop_dcf.specs.declared.setting.Setting.{Setting}
-use Rattle.cop_dcf.specs.Dcf.{bytes_of, dcf_of}
+use Rattle.cop_setup.specs.declared.setting.Setting.{Setting}
+use Rattle.cop_dcf.specs.Dcf.{dcf_of}
+use Rattle.cop_setup.specs.Settings.{planned}
 use Rattle.cop_dcf.specs.Settings.{dictionary_of, node_settings}
-
--- the dictionary with the value of a setting
-abbrev pub with_setting : List Entry → Setting → List Entry
-with_setting dict setting = with_value setting.index setting.sub (bytes_of setting) dict
-
--- the dictionary with each setting's last value
-abbrev pub planned : List Entry → List Setting → List Entry
-planned dict settings = fold with_setting dict settings
 
 -- an entry whose initial value is the one that it has
 abbrev pub settled : Entry → Entry
 settled entry = record entry { initial = entry.value }
-
--- values of the type have so many bytes, and each number that fits them is one: an UNSIGNED16, an UNSIGNED32
-abbrev pub has_numbers : DataType → ℕ → Bool
-has_numbers types.Unsigned16 bytes = bytes == 2
-has_numbers types.Unsigned32 bytes = bytes == 4
-has_numbers _ bytes = false
-
--- a setting is a number that its object can have
-pub record IsNumber (dict : List Entry) (setting : Setting) : Type 0 where
-  pub entry : Entry
-  pub here : entry_at dict setting.index setting.sub ≡ Some entry
-  pub numbers : has_numbers entry.description.data_type setting.bytes ≡ true
-  pub fits : setting.value < 2 ^ (8 * setting.bytes)
 
 -- The DCF, where it is not too long for a text, is accepted, and the dictionary that it describes is the planned one,
 -- whose values are its initial values too.

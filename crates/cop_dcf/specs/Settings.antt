@@ -1,5 +1,5 @@
 -- What a plan sets in a node (CiA 301, "PDO communication parameter record", "Producer heartbeat time").
-use Rattle.std.specs.Prelude.{ℕ, ℤ, pos, ◌≡◌, ◌⊎◌, ◌<◌, ◌*◌, ◌^◌, ◌||◌, List, [], ◌∷◌, ◌++◌, if◌then◌else◌, Option, Some, None, IsSome, is_some, option_and_then, option_map, get_or}
+use Rattle.std.specs.Prelude.{ℕ, ℤ, pos, ◌||◌, List, [], ◌∷◌, ◌++◌, if◌then◌else◌, Option, Some, None, is_some, option_and_then, option_map, get_or}
 use Rattle.std.specs.List.{filter_map}
 use Rattle.std.specs.Ordering.{int_eq}
 use Rattle.cop_dict.specs.Find.{Entry, unsigned32_of, entry_at}
@@ -8,12 +8,10 @@ use Rattle.cop_pdo.specs.CobIds.{off, on}
 use Rattle.cop_net.specs.Settings.{whole_of}
 use Rattle.cop_net.specs.Heartbeats.{heartbeat_of}
 use Rattle.cop_net.specs.Network.{Net}
-use Rattle.cop_dcf.specs.declared.setting.Setting.{Setting}
+use Rattle.cop_setup.specs.declared.setting.Setting.{Setting}
+use Rattle.cop_setup.specs.declared.setting.Width.TheVariants.{Two}
+use Rattle.cop_setup.specs.Settings.{cob_id_set}
 use Rattle.cop_dcf.specs.Identifiers.{id_at}
-
--- the COB-ID of the PDO with this communication record
-abbrev pub cob_id_set : ℕ → ℕ → Setting
-cob_id_set index cob_id = record { index = index; sub = 1; value = cob_id; bytes = 4 }
 
 -- a PDO that is used, or that exists, is switched off
 abbrev pub off_set : Option ℕ → ℕ → ℕ → Option Setting
@@ -30,7 +28,7 @@ set_of set ids entry = if is_cob_id entry then option_and_then (set (ids entry.i
 
 -- the setting of the heartbeat's time, in ms
 abbrev pub heartbeat_set : ℕ → Setting
-heartbeat_set time = record { index = 0x1017; sub = 0; value = time; bytes = 2 }
+heartbeat_set time = record { index = 0x1017; sub = 0; value = time; width = Two }
 
 -- the heartbeat gets its time, where it has another
 abbrev pub time_set : ℕ → Option ℤ → List Setting
@@ -57,12 +55,3 @@ dictionary_of net node = option_map (λ device. device.dictionary) (get_or net.e
 -- what a plan with these identifiers sets in a node of its network; a node without a device has no settings
 abbrev pub node_settings : Net → List ℕ → ℕ → List Setting
 node_settings net ids node = settings_by (id_at net.rows ids node) (heartbeat_of net.nodes.frames node) (dictionary_of net node)
-
--- a setting has 2 or 4 bytes, and its value fits them
-pub record IsFit (setting : Setting) : Type 0 where
-  pub size : (setting.bytes ≡ 2) ⊎ (setting.bytes ≡ 4)
-  pub value : setting.value < 2 ^ (8 * setting.bytes)
-
--- a setting is of an object that a dictionary has
-abbrev pub HasObject : List Entry → Setting → Type 0
-HasObject dict setting = IsSome (entry_at dict setting.index setting.sub)

@@ -3,9 +3,10 @@
 ghost use Rattle.std.specs.Prelude.{◌≡◌, ◌<◌, ◌++◌, reverse, IfOk, OnOk};
 ghost use Rattle.std.specs.List.{flat_map};
 ghost use Rattle.std.specs.Int.{bytes_low_first};
-ghost use Rattle.cop_dcf.specs.Dcf.{bytes_of, digit, digits_of, hexadecimal};
+ghost use Rattle.cop_dcf.specs.Dcf.{digit, digits_of, hexadecimal};
+ghost use Rattle.cop_setup.specs.Settings.{bytes_of};
 
-use crate::setting::Setting;
+use cop_setup::Setting;
 use std::alloc::{AllocError, Global};
 
 /// A hexadecimal digit in upper case.
@@ -35,6 +36,6 @@ pub fn hexadecimal(alloc: Global, setting: Setting) -> Result<Vec<u8>, AllocErro
     ensures { IfOk result (λ v. v.items ≡ hexadecimal (bytes_of setting)) }
 {
     let mut text = Vec::from_slice(alloc, b"0x")?;
-    put_digits(&mut text, setting.value, setting.bytes)?;
+    put_digits(&mut text, setting.value, setting.width.bytes())?;
     Ok(text)
 }

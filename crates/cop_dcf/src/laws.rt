@@ -11,13 +11,14 @@ ghost use Rattle.cop_rows.specs.Names.{is_name};
 ghost use Rattle.cop_rows.specs.Nodes.{IsNodeTable};
 ghost use Rattle.cop_net.specs.Devices.{File};
 ghost use Rattle.cop_net.specs.Network.{Net, IsNetwork, accepted, network_of};
-ghost use Rattle.cop_dcf.specs.Settings.{settings_of, node_settings, dictionary_of, IsFit, HasObject};
-ghost use Rattle.cop_dcf.specs.declared.setting.Setting.{Setting};
+ghost use Rattle.cop_dcf.specs.Settings.{settings_of, node_settings, dictionary_of};
+ghost use Rattle.cop_setup.specs.Settings.{IsFit, HasObject, IsNumber};
+ghost use Rattle.cop_setup.specs.declared.setting.Setting.{Setting};
 ghost use Rattle.cop_dcf.specs.Dcf.{with_sections, changes_of, dcf_of};
 ghost use Rattle.cop_dcf.specs.Free.{free_rows};
-ghost use Rattle.cop_dcf.specs.Planned.{IsNumber, IsReadAgain, SaysNode, IsNodeReadAgain};
+ghost use Rattle.cop_dcf.specs.Planned.{IsReadAgain, SaysNode, IsNodeReadAgain};
 
-/// Each setting has 2 or 4 bytes, and its value fits them.
+/// The value of each setting fits its bytes.
 pub fn settings_fit()
     ensures dictionary { (dict : List Entry) (ids : ℕ → Option ℕ) (time : ℕ) → ((index : ℕ) → IfSome (ids index) (λ id. id < 2 ^ 11)) → time < 2 ^ 16
         → All IsFit (settings_of dict ids time) }

@@ -7,13 +7,12 @@ mod key_line;
 mod laws;
 mod node_settings;
 mod section_keys;
-mod setting;
 mod writing;
 
+pub use cop_setup::{Setting, Width};
 pub use laws::{
     dcf_keeps_other_lines, dcf_says_its_node, node_round_trip, round_trip, settings_fit,
     settings_have_objects,
 };
 pub use node_settings::settings;
-pub use setting::Setting;
 pub use writing::write;

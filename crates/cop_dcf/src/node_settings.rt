@@ -7,14 +7,15 @@ ghost use Rattle.cop_dict.specs.Pdo.{is_cob_id};
 ghost use Rattle.cop_net.specs.Settings.{whole_of};
 ghost use Rattle.cop_plan.specs.Plans.{IsPlan};
 ghost use Rattle.cop_dcf.specs.Identifiers.{id_in};
-ghost use Rattle.cop_dcf.specs.Settings.{cob_id_set, off_set, on_set, set_of, time_set, node_settings};
+ghost use Rattle.cop_dcf.specs.Settings.{off_set, on_set, set_of, time_set, node_settings};
+ghost use Rattle.cop_setup.specs.Settings.{cob_id_set};
 
 use crate::identifiers::{Places, id_in, identifiers};
-use crate::setting::Setting;
 use cop_dict::{DataType, Dictionary, Object};
 use cop_net::Network;
 use cop_pdo::{exists, off, on};
 use cop_plan::Plan;
+use cop_setup::{Setting, Width};
 use std::alloc::{AllocError, Global};
 
 /// The COB-ID of an entry that is one.
@@ -39,7 +40,7 @@ fn cob_id_set(index: u16, cob_id: u32) -> Setting
         index,
         sub: 1,
         value: cob_id,
-        bytes: 4,
+        width: Width::Four,
     }
 }
 
@@ -81,7 +82,7 @@ fn time_set(dict: &Dictionary, time: u16) -> Option<Setting>
         index: 0x1017,
         sub: 0,
         value: u32::from(time),
-        bytes: 2,
+        width: Width::Two,
     })
 }
 

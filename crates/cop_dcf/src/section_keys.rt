@@ -9,9 +9,9 @@ ghost use Rattle.cop_dcf.specs.Changes.{KnowsSettings, AreBySection};
 
 use crate::hexadecimal::hexadecimal;
 use crate::key_line::{KeyLine, SectionKeys};
-use crate::setting::Setting;
 use cop_eds::Eds;
 use cop_frame::Rate;
+use cop_setup::Setting;
 use std::alloc::{AllocError, Global};
 
 /// How many sections a text has.

@@ -13,9 +13,9 @@ ghost use Rattle.cop_dcf.specs.Pieces.{pair_follows, ends_entries, is_wanting, n
 
 use crate::key_line::{KeyLine, SectionKeys};
 use crate::section_keys::{named_sections, section_keys};
-use crate::setting::Setting;
 use cop_eds::{Eds, Kind, Line};
 use cop_frame::Rate;
+use cop_setup::Setting;
 use std::alloc::{AllocError, Global};
 
 /// About how many bytes a key takes that is set.

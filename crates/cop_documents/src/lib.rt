@@ -6,6 +6,7 @@ mod faults;
 mod logs;
 mod objects;
 mod plans;
+mod rooms;
 mod values;
 mod warnings;
 
@@ -13,4 +14,5 @@ pub use answers::{boot_document, check_document, judge_document, test_document};
 pub use faults::{Told, fault_document};
 pub use logs::watch_document;
 pub use plans::plan_document;
+pub use rooms::{no_room_document, room_document};
 pub use warnings::Warned;

@@ -24,7 +24,7 @@ fn stream_of(alloc: Global, stream: &Stream, response: u64) -> Result<Value, All
 }
 
 /// The node and the number of a PDO by its row.
-fn pdo_name(alloc: Global, row: Option<&PdoRow>) -> Result<Value, AllocError> {
+pub(crate) fn pdo_name(alloc: Global, row: Option<&PdoRow>) -> Result<Value, AllocError> {
     match row {
         Some(row) => Object::new(alloc)
             .plain("node", row.node)
@@ -121,9 +121,9 @@ pub fn plan_document(
         Some(rate) => Value::from(rate.kbits()),
         None => Value::Null,
     };
-    let margin = match outcome {
-        Outcome::Planned(plan) => time_if(alloc, plan.margin()),
-        Outcome::Refused(_) => Ok(Value::Null),
+    let (margin, others) = match outcome {
+        Outcome::Planned(plan) => (plan.margin(), plan.others()),
+        Outcome::Refused(_) => (None, None),
     };
     let document = Object::new(alloc)
         .text("command", "plan")
@@ -131,7 +131,8 @@ pub fn plan_document(
         .with("pdos", pdos_of(alloc, network, &figures.pdos))
         .with("sync", sync_of(alloc, figures.sync))
         .with("sdo_frames", frames_of(alloc, &figures.frames))
-        .with("margin", margin)
+        .with("margin", time_if(alloc, margin))
+        .with("others", time_if(alloc, others))
         .with("loads", loads_of(alloc, &figures.loads))
         .with("refused", refused_of(alloc, network, &figures.refused))
         .with("warnings", warnings_of(alloc, warnings))

@@ -1,5 +1,5 @@
 -- The nodes of a network that have devices, and what a plan sets in them.
-use Rattle.std.proofs.Common.{◌≡◌, ℕ, zero, suc, ◌+◌, ◌-◌, ◌*◌, ◌<◌, ◌≤◌, ◌^◌, inl, inr, ◌||◌, nat_lt, Bool, true, false, cond, ◌&&◌, nat_le, ◌==◌, List, [], ◌∷◌, ◌++◌, length, map, take, get_or, is_some, All, refl, sym, ap, subst, ◌∙◌, arith, append-nil}
+use Rattle.std.proofs.Common.{◌≡◌, ℕ, zero, suc, ◌+◌, ◌-◌, ◌*◌, ◌<◌, ◌≤◌, ◌^◌, Bool, true, false, cond, nat_le, List, [], ◌∷◌, ◌++◌, length, map, take, get_or, is_some, All, refl, sym, ap, subst, ◌∙◌, arith, append-nil}
 use Rattle.std.specs.List.{AllPairs, list_all}
 use Rattle.std.specs.BTreeMap.{insert_entry}
 use Rattle.std.specs.Cmp.{nat_cmp_is}
@@ -13,13 +13,17 @@ use Rattle.std.specs.Ordering.{nat_cmp}
 use Rattle.std.proofs.lemmas.List.Elements.{All-nil, All-cons, All-append, All-head, All-tail}
 use Rattle.std.proofs.lemmas.Bool.Decides.{nat_tests}
 use Rattle.cop_net.specs.Network.{Net, IsNetwork}
-use Rattle.cop_dcf.specs.declared.setting.Setting.{Setting}
+use Rattle.cop_setup.specs.declared.setting.Setting.{Setting}
 use Rattle.std.proofs.lemmas.List.{get_or_default}
-use Rattle.cop_dcf.specs.Settings.{dictionary_of, node_settings, IsFit}
+use Rattle.cop_setup.specs.declared.setting.Width.{Width}
+use Rattle.cop_setup.specs.declared.setting.Width.TheVariants.{One, Two, Four}
+use Rattle.cop_setup.specs.Width.{size_of}
+use Rattle.cop_dcf.specs.Settings.{dictionary_of, node_settings}
+use Rattle.cop_setup.specs.Settings.{IsFit}
 use Rattle.cop_dcf.proofs.SettingsLemmas.{all_fit_in}
 use Rattle.cop_boot.specs.declared.«end».Phase.TheVariants.{Waiting}
 use Rattle.cop_boot.proofs.PlanLemmas.{Plans}
-use Rattle.cop_boot.specs.Settings.{is_short_value}
+use Rattle.cop_boot.specs.Settings.{is_short_in, is_short_value}
 use Rattle.cop_boot.specs.Member.{unheard, is_managed, CanManage}
 use Rattle.cop_boot.specs.Node.{Node}
 use Rattle.std.proofs.Common.{Result, Ok, Err, IfOk}
@@ -166,13 +170,12 @@ module _ (net : Net) (ids : List ℕ) where
           omega arith
 
   pub short_of : (s : Setting) → IsFit s → is_short_value s ≡ true
-  short_of s fit = elim fit.size [
-    | inl two ↦ let small : s.value < 2 ^ (8 * 2) = subst (λ bytes. s.value < 2 ^ (8 * bytes)) two fit.value in two_short s.bytes s.value two small
-    | inr four ↦ rw four refl
-  ]
+  short_of s fit = by_width s.width s.value fit.value
     where
-      two_short : (bytes value : ℕ) → bytes ≡ 2 → value < 2 ^ (8 * 2) → ((bytes == 4) || ((bytes == 2) && nat_lt value 65536)) ≡ true
-      two_short bytes value two small = let t : nat_lt value 65536 ≡ true = grind (arith, nat_tests) in rw (two, t) refl
+      by_width : (w : Width) (value : ℕ) → value < 2 ^ (8 * size_of w) → is_short_in w value ≡ true
+      by_width One value small = grind (arith, nat_tests)
+      by_width Two value small = grind (arith, nat_tests)
+      by_width Four value small = refl
 
   all_short : (settings : List Setting) → All IsFit settings → list_all is_short_value settings ≡ true
   all_short [] h = refl

@@ -13,11 +13,13 @@ use Rattle.cop_net.specs.Heartbeats.{heartbeat_of}
 use Rattle.cop_net.specs.Network.{Net, IsNetwork}
 use Rattle.cop_plan.specs.Values.{PlanValue}
 use Rattle.cop_plan.specs.Plans.{IsPlan}
-use Rattle.cop_dcf.specs.declared.setting.Setting.{Setting}
+use Rattle.cop_setup.specs.declared.setting.Setting.{Setting}
 use Rattle.cop_dcf.specs.Identifiers.{id_at}
-use Rattle.cop_dcf.specs.Settings.{dictionary_of, node_settings, settings_by, IsFit}
+use Rattle.cop_dcf.specs.Settings.{dictionary_of, node_settings, settings_by}
+use Rattle.cop_setup.specs.Settings.{IsFit}
 use Rattle.cop_dcf.proofs.SettingsLemmas.{all_fit_in}
-use Rattle.cop_boot.specs.Settings.{is_short_value, AcceptsInTurn}
+use Rattle.cop_boot.specs.Settings.{is_short_value}
+use Rattle.cop_setup.specs.InTurn.{AcceptsInTurn}
 use Rattle.cop_net.specs.Signals.{IsPdoId}
 use Rattle.cop_boot.specs.Node.{Node}
 use Rattle.cop_boot.specs.Manager.{node_of}

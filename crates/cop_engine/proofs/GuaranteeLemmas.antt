@@ -110,7 +110,7 @@ module _ (net : Net) (is : IsNetwork net) where
         is_kept = tight_kept until run legal
 
         tested : length plan.ids ≤ p → IsTested lowered.0 (length plan.ids) p
-        tested past = tested_after (margin_of plan) plan.streams lowered.0 lowered.1 plan.rate (length plan.ids) p (tested_at net is plan planned p k d past here dated)
+        tested past = tested_after (λ _. margin_of plan) plan.streams lowered.0 lowered.1 plan.rate (length plan.ids) p (tested_at net is plan planned p k d past here dated)
 
     -- the same by what is known of the stream
     on_time : (p : ℕ) (k : Stream) (id d : ℕ) → slice_get plan.streams p ≡ Some k → k.id ≡ id → k.deadline ≡ Some d → AreOnTimeIn plan id (d - margin_of plan)

@@ -1,13 +1,12 @@
 -- A run of streams is one of the same streams with other deadlines.
 use Rattle.std.proofs.Common.{◌≡◌, ℕ, ◌-◌, ◌<◌, List, length, get_or, slice_get, Some, option_map, All, refl, sym, ap, ◌∙◌, arith}
-use Rattle.std.proofs.lemmas.List.{get_or-map}
 use Rattle.std.proofs.lemmas.Option.{slice_get_within, slice_get-get_or, get_or_from_slice_get}
 use Rattle.cop_rta.specs.declared.streams.Stream.{Stream}
 use Rattle.cop_rta.specs.Entries.{Entry, entry_of}
 use Rattle.cop_bus.specs.declared.anchors.Anchor.{Anchor}
 use Rattle.cop_bus.specs.Run.{Instance, HasLengthOf, IsKnown, IsLegal, IsAnchor, IsObeying, gap_of}
 use Rattle.cop_plan.specs.Margins.{lower, AreLowered}
-use Rattle.cop_plan.proofs.MarginLemmas.{lowered_length}
+use Rattle.cop_plan.proofs.MarginLemmas.{lowered_length, lowered_entry}
 
 -- of two streams the same but for their deadlines
 record AreSame (k t : Stream) : Type 0 where
@@ -54,10 +53,7 @@ module _ (tau until : ℕ) (run : List Instance) (k t : Stream) (same : AreSame 
 
 module _ (margin : ℕ) (streams lowered : List Stream) (is : AreLowered margin streams lowered) where
   entry_at : (k : ℕ) (d : Stream) → k < length lowered → entry_of (get_or lowered k d) ≡ lower margin (entry_of (get_or streams k d))
-  entry_at k d low =
-      sym (get_or-map entry_of lowered k d (entry_of d) low)
-      ∙ ap (λ (es : List Entry). get_or es k (entry_of d)) is
-      ∙ get_or-map (λ s. lower margin (entry_of s)) streams k d (entry_of d) (omega (arith, low, lowered_length margin streams lowered is))
+  entry_at k d low = lowered_entry (λ _. margin) streams lowered is k d low (omega (arith, low, lowered_length (λ _. margin) streams lowered is))
 
   same_at : (k : ℕ) (d : Stream) → k < length lowered → AreSame (get_or streams k d) (get_or lowered k d)
   same_at k d low = record {
@@ -69,7 +65,7 @@ module _ (margin : ℕ) (streams lowered : List Stream) (is : AreLowered margin 
   }
 
   size : length lowered ≡ length streams
-  size = lowered_length margin streams lowered is
+  size = lowered_length (λ _. margin) streams lowered is
 
   module _ (tau until : ℕ) (run : List Instance) where
     known_lowered : (y : Instance) → IsKnown streams y → IsKnown lowered y

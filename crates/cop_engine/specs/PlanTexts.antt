@@ -1,5 +1,5 @@
 -- The text of a plan.
-use Rattle.std.specs.Prelude.{ℕ, ◌<◌, List, [], ◌++◌, Bool, true, false, codes, decimal, length, get_or, slice_get, Option, None, Some}
+use Rattle.std.specs.Prelude.{ℕ, ◌<◌, List, [], ◌++◌, Bool, true, false, codes, decimal, length, get_or, slice_get, option_map, Option, None, Some}
 use Rattle.std.specs.List.{flat_map}
 use Rattle.std.specs.Option.{option_map_or}
 use Rattle.cop_frame.specs.declared.rates.Rate.{Rate}
@@ -13,6 +13,7 @@ use Rattle.cop_cert.specs.declared.refusals.Refusal.{Refusal}
 use Rattle.cop_rows.specs.declared.pdo_table.PdoRow.{PdoRow}
 use Rattle.cop_plan.specs.declared.assigning.Outcome.{Outcome}
 use Rattle.cop_plan.specs.declared.assigning.Outcome.TheVariants.{Planned, Refused}
+use Rattle.cop_plan.specs.Values.{others_beyond}
 use Rattle.cop_engine.specs.Reports.{hexadecimal, lines_below}
 
 abbrev pub rate_line : Rate → List ℕ
@@ -37,6 +38,11 @@ abbrev pub margin_line : Option ℕ → List ℕ
 margin_line None = []
 margin_line (Some margin) = codes "margin " ++ decimal margin ++ codes "\n"
 
+-- the margin that is kept by those deadlines that can have it, if it is greater than that of all
+abbrev pub others_line : Option ℕ → List ℕ
+others_line None = []
+others_line (Some margin) = codes "others " ++ decimal margin ++ codes "\n"
+
 -- why a rate is refused: how many members its refusal has, or SYNC, or the identifier of an SDO frame
 abbrev pub cause_text : Cause → List ℕ
 cause_text (Places members) = codes "members " ++ decimal (length members)
@@ -53,9 +59,9 @@ HasIdentifier (Places members) = Unit {0}
 HasIdentifier (Sync busy) = Unit {0}
 HasIdentifier (Sdo up id evidence) = id < 2048
 
--- the plan's rate, a line for each PDO in the order of the table, the margin, and a line for each refused rate
+-- the plan's rate, a line for each PDO in the order of the table, the margins, and a line for each refused rate
 abbrev pub plan_text : List PdoRow → List Verdict → Outcome → List ℕ
-plan_text rows verdicts (Planned plan) = rate_line plan.rate ++ lines_below (pdo_line_at rows plan.ids verdicts) (length rows) ++ margin_line plan.margin ++ flat_map refused_line plan.refusals
+plan_text rows verdicts (Planned plan) = rate_line plan.rate ++ lines_below (pdo_line_at rows plan.ids verdicts) (length rows) ++ margin_line (option_map (λ kept. kept.all) plan.margin) ++ others_line (others_beyond plan.margin) ++ flat_map refused_line plan.refusals
 plan_text rows verdicts (Refused refusals) = codes "no rate passes\n" ++ flat_map refused_line refusals
 
 abbrev pub is_planned : Outcome → Bool

@@ -1,9 +1,10 @@
 //! The text of a plan.
 
-ghost use Rattle.std.specs.Prelude.{◌≡◌, ◌<◌, ◌++◌, length, OnOk, IfOk, codes, All};
+ghost use Rattle.std.specs.Prelude.{◌≡◌, ◌<◌, ◌++◌, length, option_map, OnOk, IfOk, codes, All};
 ghost use Rattle.std.specs.List.{flat_map};
+ghost use Rattle.cop_plan.specs.Values.{others_beyond};
 ghost use Rattle.cop_engine.specs.Reports.{lines_below};
-ghost use Rattle.cop_engine.specs.PlanTexts.{rate_line, pdo_name, response_end, pdo_line, pdo_line_at, margin_line, cause_text, refused_line, HasIdentifier};
+ghost use Rattle.cop_engine.specs.PlanTexts.{rate_line, pdo_name, response_end, pdo_line, pdo_line_at, margin_line, others_line, cause_text, refused_line, HasIdentifier};
 
 use crate::reports::{push_id, push_number};
 use cop_cert::{Cause, Refusal};
@@ -113,6 +114,18 @@ fn push_margin(text: &mut Vec<u8>, margin: Option<u64>) -> Result<(), AllocError
     Ok(())
 }
 
+/// The line of the margin that is kept by those deadlines that can have it, if it is greater than that of all.
+fn push_others(text: &mut Vec<u8>, others: Option<u64>) -> Result<(), AllocError>
+    ensures { OnOk result (text.new.items ≡ text.old.items ++ others_line others) }
+{
+    if let Some(ticks) = others {
+        text.extend_from_slice(b"others ")?;
+        push_number(text, ticks)?;
+        text.extend_from_slice(b"\n")?;
+    }
+    Ok(())
+}
+
 #[tactic(auto, using(crate::proofs::PlanTextLemmas::refused_more))]
 /// The line of each refused rate.
 fn push_all_refused(text: &mut Vec<u8>, refusals: &[Refusal]) -> Result<(), AllocError>
@@ -125,7 +138,7 @@ fn push_all_refused(text: &mut Vec<u8>, refusals: &[Refusal]) -> Result<(), Allo
     Ok(())
 }
 
-/// The text of a plan: its rate, a line for each PDO in the order of the table, its margin, where it was chosen by one, and a line for each
+/// The text of a plan: its rate, a line for each PDO in the order of the table, its margins, where it was chosen by them, and a line for each
 /// refused rate.
 pub fn planned_text(
     alloc: Global,
@@ -137,12 +150,13 @@ pub fn planned_text(
     requires verdicts { length verdicts.now ≡ length rows.now }
     requires range { All (λ id. id < 2048) plan.now.ids }
     requires causes { All (λ r. HasIdentifier r.cause) plan.now.refusals }
-    ensures { IfOk result (λ text. text.items ≡ rate_line plan.now.rate ++ lines_below (pdo_line_at rows.now plan.now.ids verdicts.now) (length rows.now) ++ margin_line plan.now.margin ++ flat_map refused_line plan.now.refusals) }
+    ensures { IfOk result (λ text. text.items ≡ rate_line plan.now.rate ++ lines_below (pdo_line_at rows.now plan.now.ids verdicts.now) (length rows.now) ++ margin_line (option_map (λ kept. kept.all) plan.now.margin) ++ others_line (others_beyond plan.now.margin) ++ flat_map refused_line plan.now.refusals) }
 {
     let mut text = Vec::new(alloc);
     push_rate(&mut text, plan.rate())?;
     push_pdos(&mut text, rows, plan.ids(), verdicts)?;
     push_margin(&mut text, plan.margin())?;
+    push_others(&mut text, plan.others())?;
     push_all_refused(&mut text, plan.refusals())?;
     Ok(text)
 }

@@ -15,6 +15,7 @@ use Rattle.cop_cert.specs.Assignments.{id_at, IsSdo, IsTested}
 use Rattle.cop_cert.specs.Sets.{is_in_trial}
 use Rattle.cop_cert.proofs.AboveLemmas.{id_of_fixed, trial_of_pdo, trial_of_fixed}
 use Rattle.cop_plan.specs.Fillings.{number}
+use Rattle.cop_plan.specs.declared.choices.Kept.{Kept}
 use Rattle.cop_plan.specs.Margins.{IsChosenOrder}
 use Rattle.cop_plan.specs.Orders.{FramesPass, IsPlanOrder, least_of_part, is_part}
 use Rattle.cop_plan.specs.Values.{PlanValue, id_of, HaveIds}
@@ -120,7 +121,7 @@ module _ (streams : List Stream) (plan : PlanValue) (have : HaveIds streams (len
   tells_why few chosen frames are plain p h second = go (some_fails frames (length frames) (omega arith))
     where
       order : IsPlanOrder plan.rate streams (length plan.ids) (id_of plan.ids)
-      order = subst (λ (margin : Option ℕ). IsChosenOrder margin plan.rate streams (length plan.ids) (id_of plan.ids)) plain chosen
+      order = subst (λ (margin : Option Kept). IsChosenOrder margin plan.rate streams (length plan.ids) (id_of plan.ids)) plain chosen
 
       go : Any (λ t. IsPass t.below_all → ⊥) frames ⊎ ((k : ℕ) (d : FrameTimes) → k < length frames → IsPass (get_or frames k d).below_all) → Any (λ t. IsPass t.below_all → ⊥) frames
       go (inl some) = some

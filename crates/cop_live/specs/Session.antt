@@ -121,6 +121,10 @@ command_to command only = record { id = 0; body = command ∷ unwrap_or only 0 �
 abbrev pub reset_of : Option ℕ → Message
 reset_of only = command_to 130 only
 
+-- 129 resets the whole node, so that it has the values that it was told to restore (CiA 301, object 1011h)
+abbrev pub node_reset_of : Option ℕ → Message
+node_reset_of only = command_to 129 only
+
 abbrev pub start_of : Option ℕ → Message
 start_of only = command_to 1 only
 

@@ -7,7 +7,7 @@ ghost use Rattle.cop_boot.specs.Manager.{passed, heard, end_at};
 ghost use Rattle.cop_slcan.specs.Meaning.{told_of};
 ghost use Rattle.cop_slcan.specs.Reading.{taken, said_from, left_from};
 ghost use Rattle.cop_live.specs.Log.{Asked, Sent, DidAll, BrokeOff};
-ghost use Rattle.cop_live.specs.Session.{State, told, told_all, is_start, held, boot_up_of, boot_up_told, noting, noted, turn_log, turn_state, command_to, reset_of, start_of, Closed, Booted, CloseFails, TurnFails, BootFails};
+ghost use Rattle.cop_live.specs.Session.{State, told, told_all, is_start, held, boot_up_of, boot_up_told, noting, noted, turn_log, turn_state, command_to, node_reset_of, reset_of, start_of, Closed, Booted, CloseFails, TurnFails, BootFails};
 
 use crate::nodes::NodeSet;
 use crate::port::Port;
@@ -230,6 +230,13 @@ pub(crate) fn reset_of(only: Option<u8>) -> Frame
     ensures { message_of result ≡ reset_of only }
 {
     command_to(130, only)
+}
+
+/// The NMT command that resets one node alone, or all, whole.
+pub fn node_reset_of(only: Option<u8>) -> Frame
+    ensures { message_of result ≡ node_reset_of only }
+{
+    command_to(129, only)
 }
 
 /// The NMT command that starts one node alone, or all.

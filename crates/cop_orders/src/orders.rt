@@ -76,6 +76,8 @@ pub struct MachineOrder<'a> {
     pub start: bool,
     /// For how many seconds the boot-up of a node is awaited after a reset.
     pub boot_limit: u64,
+    /// Whether the devices go back to the values that they left the factory with first.
+    pub restore: bool,
     /// Whether the devices store their settings.
     pub store: bool,
     /// For how many seconds the heartbeats of nodes that were started are awaited, 0 for not at all. Otherwise until each has had its time.
@@ -149,6 +151,8 @@ pub enum Order<'a> {
     },
     /// The plan of a network, into a folder.
     Plan(PlanOrder<'a>),
+    /// How far each number of a network's plan can go.
+    Room(NetworkFiles<'a>),
     /// The check of a refusal file against a network.
     Check {
         network: NetworkFiles<'a>,

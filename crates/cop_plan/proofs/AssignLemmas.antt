@@ -11,6 +11,7 @@ use Rattle.cop_rta.specs.declared.streams.Stream.{Stream}
 use Rattle.cop_cert.specs.declared.refusals.Refusal.{Refusal}
 use Rattle.cop_cert.specs.Assignments.{IsPassing, NoAssignmentPasses}
 use Rattle.cop_cert.proofs.CauseLemmas.{refusal_rules_out}
+use Rattle.cop_plan.specs.declared.choices.Kept.{Kept}
 use Rattle.cop_plan.specs.Margins.{IsChosenOrder}
 use Rattle.cop_plan.specs.Orders.{IsPlanOrder, IsByPriority}
 use Rattle.cop_plan.specs.Values.{PlanValue, id_of, HaveIds}
@@ -120,7 +121,7 @@ plan_is rates streams pdos i plan refusals few low candidate rate_is plain refus
       candidate = subst (Contains rates) (sym rate_is) candidate;
       count = count;
       passing = subst (λ (rate : Rate). IsPassing rate streams pdos (id_of plan.ids)) (sym rate_is) passing;
-      order = subst (λ (margin : Option ℕ). IsChosenOrder margin plan.rate streams pdos (id_of plan.ids)) (sym plain) (subst (λ (rate : Rate). IsPlanOrder rate streams pdos (id_of plan.ids)) (sym rate_is) ordered);
+      order = subst (λ (margin : Option Kept). IsChosenOrder margin plan.rate streams pdos (id_of plan.ids)) (sym plain) (subst (λ (rate : Rate). IsPlanOrder rate streams pdos (id_of plan.ids)) (sym rate_is) ordered);
       by_priority = by_priority;
       slowest = refused_is_ruled_out streams pdos (IsSlower rates plan.rate) plan.refusals few all;
       refused = all;

@@ -1,5 +1,5 @@
 -- Deadlines of streams.
-use Rattle.std.proofs.Common.{◌≡◌, ℕ, zero, suc, ◌+◌, ◌<◌, ◌⊎◌, inl, inr, true, false, List, [], ◌∷◌, length, get_or, slice_get, Option, Some, None, is_some, refl, sym, ◌∙◌, arith}
+use Rattle.std.proofs.Common.{◌≡◌, ℕ, zero, suc, ◌+◌, ◌<◌, ◌⊎◌, inl, inr, true, false, List, [], ◌∷◌, length, get_or, slice_get, Option, Some, None, is_some, refl, sym, ap, ◌∙◌, arith}
 use Rattle.std.specs.Option.{option_and_then}
 use Rattle.std.proofs.lemmas.Bool.{cases_eq}
 use Rattle.cop_rta.specs.declared.streams.Stream.{Stream}
@@ -11,9 +11,17 @@ deadline_at [] p d h = absurd (omega arith)
 deadline_at (s ∷ ss) zero d h = refl
 deadline_at (s ∷ ss) (suc p) d h = deadline_at ss p d (omega arith)
 
+-- by the stream that was read
+pub deadline_read : (streams own : List Stream) (k : ℕ) (s : Stream) → own ≡ streams → k < length streams → s ≡ get_or own k s → option_and_then (λ (s : Stream). s.deadline) (slice_get streams k) ≡ s.deadline
+deadline_read streams own k s same h is = deadline_at streams k s h ∙ sym (ap (λ (s : Stream). s.deadline) (is ∙ ap (λ (ss : List Stream). get_or ss k s) same))
+
 some : (o : Option ℕ) → is_some o ≡ true → (x : ℕ) × (o ≡ Some x)
 some None h = absurd (no_bit false h refl)
 some (Some x) h = (x, refl)
+
+pub some_or_none : (o : Option ℕ) → is_some o ≡ false → o ≡ None
+some_or_none None h = refl
+some_or_none (Some x) h = absurd (no_bit true refl h)
 
 -- one deadline more
 pub deadline_more : (streams : List Stream) (p : ℕ) (d : Stream) → p < length streams → is_some (get_or streams p d).deadline ≡ true → HaveDeadlines streams p → HaveDeadlines streams (p + 1)

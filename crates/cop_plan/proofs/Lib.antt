@@ -8,6 +8,8 @@ pub mod RateLemmas
 pub mod AssignLemmas
 pub mod RenameLemmas
 pub mod MarginLemmas
+pub mod CapLemmas
+pub mod LeastCaps
 pub mod MarginOutcome
 pub mod MarginSteps
 pub mod MarginKept

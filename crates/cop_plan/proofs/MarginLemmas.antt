@@ -1,9 +1,9 @@
 -- What passes with deadlines lowered passes with them as they are.
-use Rattle.std.proofs.Common.{◌≡◌, ℕ, ◌-◌, ◌*◌, ◌<◌, ◌≤◌, ◌⊎◌, inl, inr, Bool, nat_lt, List, [], ◌∷◌, length, map, get_or, slice_get, Option, Some, None, option_map, refl, sym, ap, ◌∙◌, subst, arith}
+use Rattle.std.proofs.Common.{◌≡◌, ℕ, zero, suc, add-one, ◌+◌, ◌-◌, ◌*◌, ◌<◌, ◌≤◌, ◌⊎◌, inl, inr, Bool, nat_lt, List, [], ◌∷◌, ◌++◌, length, map, take, get_or, slice_get, Option, Some, None, option_map, refl, sym, ap, ◌∙◌, subst, arith}
 use Rattle.std.specs.Option.{option_map_or, option_and_then, ForSome}
 use Rattle.std.proofs.lemmas.Bool.{cases_lt}
-use Rattle.std.proofs.lemmas.List.{get_or-map}
-use Rattle.std.proofs.lemmas.Option.{slice_get-map}
+use Rattle.std.proofs.lemmas.List.{get_or-map, map-append}
+use Rattle.std.proofs.lemmas.Option.{slice_get-map, slice_get-get_or}
 use Rattle.cop_frame.specs.declared.rates.Rate.{Rate}
 use Rattle.cop_rta.specs.declared.ranges.IdRange.{IdRange}
 use Rattle.cop_rta.specs.declared.streams.Stream.{Stream}
@@ -14,7 +14,8 @@ use Rattle.cop_rta.specs.Streams.{place_of_id}
 use Rattle.cop_rta.specs.Test.{Passes, of_stream, place_among, ahead_of, sync_id}
 use Rattle.cop_rta.proofs.StreamLemmas.{streams_same}
 use Rattle.cop_cert.specs.Assignments.{IsSdo, IsTested, IsPassing, NoAssignmentPasses, AreOutside, id_under, place_under}
-use Rattle.cop_plan.specs.Margins.{lower, AreLowered}
+use Rattle.cop_plan.specs.Caps.{deadline_of}
+use Rattle.cop_plan.specs.Margins.{lower, lowered_entries, AreLoweredBy}
 use Rattle.cop_plan.specs.Plans.{CanAssign}
 use Rattle.cop_plan.specs.Values.{HaveDeadlines, ArePdosHigh}
 use Rattle.cop_plan.proofs.RenameLemmas.{id_of_pdo, id_of_fixed}
@@ -28,9 +29,14 @@ asked_of : (streams : List Stream) → map asked_by (map entry_of streams) ≡ m
 asked_of [] = refl
 asked_of (s ∷ ss) = ap (λ (asks : List Asking). asking_of s ∷ asks) (asked_of ss)
 
-asked_lowered : (margin : ℕ) (streams : List Stream) → map asked_by (map (λ s. lower margin (entry_of s)) streams) ≡ map asking_of streams
-asked_lowered margin [] = refl
-asked_lowered margin (s ∷ ss) = ap (λ (asks : List Asking). asking_of s ∷ asks) (asked_lowered margin ss)
+asked_lowered : (amount : ℕ → ℕ) (streams : List Stream) → map asked_by (lowered_entries amount streams) ≡ map asking_of streams
+asked_lowered amount [] = refl
+asked_lowered amount (s ∷ ss) = ap (λ (asks : List Asking). asking_of s ∷ asks) (asked_lowered (λ k. amount (suc k)) ss)
+
+entries_at : (amount : ℕ → ℕ) (streams : List Stream) (k : ℕ) → slice_get (lowered_entries amount streams) k ≡ option_map (λ s. lower (amount k) (entry_of s)) (slice_get streams k)
+entries_at amount [] k = refl
+entries_at amount (s ∷ ss) zero = refl
+entries_at amount (s ∷ ss) (suc k) = entries_at (λ j. amount (suc j)) ss k
 
 -- ---- one lowering
 
@@ -60,21 +66,27 @@ dated_before : (margin : ℕ) (o : Option ℕ) → (d : ℕ) × (option_map (λ 
 dated_before margin None h = absurd (cc)
 dated_before margin (Some d) h = (d, refl)
 
-module _ (margin : ℕ) (streams lowered : List Stream) (is : AreLowered margin streams lowered) where
-  entry_at : (k : ℕ) → option_map entry_of (slice_get lowered k) ≡ option_map (λ s. lower margin (entry_of s)) (slice_get streams k)
-  entry_at k = sym (slice_get-map entry_of lowered k) ∙ ap (λ (es : List Entry). slice_get es k) is ∙ slice_get-map (λ s. lower margin (entry_of s)) streams k
+module _ (amount : ℕ → ℕ) (streams lowered : List Stream) (is : AreLoweredBy amount streams lowered) where
+  pub entry_at : (k : ℕ) → option_map entry_of (slice_get lowered k) ≡ option_map (λ s. lower (amount k) (entry_of s)) (slice_get streams k)
+  entry_at k = sym (slice_get-map entry_of lowered k) ∙ ap (λ (es : List Entry). slice_get es k) is ∙ entries_at amount streams k
+
+  pub lowered_entry : (k : ℕ) (d : Stream) → k < length lowered → k < length streams → entry_of (get_or lowered k d) ≡ lower (amount k) (entry_of (get_or streams k d))
+  lowered_entry k d low inside = some_entry (ap (option_map entry_of) (sym (slice_get-get_or lowered k d low)) ∙ entry_at k ∙ ap (option_map (λ s. lower (amount k) (entry_of s))) (slice_get-get_or streams k d inside))
+    where
+      some_entry : {a b : Entry} → Some a ≡ Some b → a ≡ b
+      some_entry e = cc
 
   pub askings_lowered : map asking_of lowered ≡ map asking_of streams
-  askings_lowered = sym (asked_of lowered) ∙ ap (λ (es : List Entry). map asked_by es) is ∙ asked_lowered margin streams
+  askings_lowered = sym (asked_of lowered) ∙ ap (λ (es : List Entry). map asked_by es) is ∙ asked_lowered amount streams
 
   pub lowered_length : length lowered ≡ length streams
   lowered_length = same_length lowered streams askings_lowered
 
   pub same_id : (k : ℕ) → of_stream (λ s. s.id) lowered k ≡ of_stream (λ s. s.id) streams k
-  same_id k = id_in (slice_get lowered k) ∙ ap (λ (o : Option Entry). option_map_or (λ (e : Entry). e.id) o 0) (entry_at k) ∙ sym (id_lowered margin (slice_get streams k))
+  same_id k = id_in (slice_get lowered k) ∙ ap (λ (o : Option Entry). option_map_or (λ (e : Entry). e.id) o 0) (entry_at k) ∙ sym (id_lowered (amount k) (slice_get streams k))
 
-  pub lowered_deadline : (k : ℕ) → option_and_then (λ (s : Stream). s.deadline) (slice_get lowered k) ≡ option_map (λ d. d - margin) (option_and_then (λ (s : Stream). s.deadline) (slice_get streams k))
-  lowered_deadline k = deadline_in (slice_get lowered k) ∙ ap (λ (o : Option Entry). option_and_then (λ (e : Entry). e.deadline) o) (entry_at k) ∙ sym (deadline_less margin (slice_get streams k))
+  pub lowered_deadline : (k : ℕ) → option_and_then (λ (s : Stream). s.deadline) (slice_get lowered k) ≡ option_map (λ d. d - amount k) (option_and_then (λ (s : Stream). s.deadline) (slice_get streams k))
+  lowered_deadline k = deadline_in (slice_get lowered k) ∙ ap (λ (o : Option Entry). option_and_then (λ (e : Entry). e.deadline) o) (entry_at k) ∙ sym (deadline_less (amount k) (slice_get streams k))
 
   pub alike : AreAlike lowered streams
   alike k inside = inl (same_id k)
@@ -84,7 +96,7 @@ module _ (margin : ℕ) (streams lowered : List Stream) (is : AreLowered margin 
     passes_before above index passes =
         subst (λ (ahead : ℕ). Passes (place_at streams above index rate ahead)) (ahead_same lowered streams askings_lowered alike rate)
         (passes_same lowered streams askings_lowered above index rate (ahead_of lowered rate)
-        (λ r h. in_time margin r (option_and_then (λ (s : Stream). s.deadline) (slice_get streams index)) (subst (λ (o : Option ℕ). ForSome o (λ d. r ≤ d)) (lowered_deadline index) h)) passes)
+        (λ r h. in_time (amount index) r (option_and_then (λ (s : Stream). s.deadline) (slice_get streams index)) (subst (λ (o : Option ℕ). ForSome o (λ d. r ≤ d)) (lowered_deadline index) h)) passes)
 
     module _ (pdos : ℕ) where
       pub under_lowered : (ids : ℕ → ℕ) → id_under lowered pdos ids ≡ id_under streams pdos ids
@@ -104,7 +116,7 @@ module _ (margin : ℕ) (streams lowered : List Stream) (is : AreLowered margin 
         fixed = t.fixed;
         inside = omega (arith, t.inside, lowered_length);
         sdo = subst (λ (id : ℕ). IsSdo id) (sym (same_id f)) t.sdo;
-        deadline = let d = dated_after margin (option_and_then (λ (s : Stream). s.deadline) (slice_get streams f)) t.deadline in (d.0, lowered_deadline f ∙ d.1);
+        deadline = let d = dated_after (amount f) (option_and_then (λ (s : Stream). s.deadline) (slice_get streams f)) t.deadline in (d.0, lowered_deadline f ∙ d.1);
       }
 
       pub tested_before : (f : ℕ) → IsTested lowered pdos f → IsTested streams pdos f
@@ -112,7 +124,7 @@ module _ (margin : ℕ) (streams lowered : List Stream) (is : AreLowered margin 
         fixed = t.fixed;
         inside = omega (arith, t.inside, lowered_length);
         sdo = subst (λ (id : ℕ). IsSdo id) (same_id f) t.sdo;
-        deadline = dated_before margin (option_and_then (λ (s : Stream). s.deadline) (slice_get streams f)) (t.deadline.0, sym (lowered_deadline f) ∙ t.deadline.1);
+        deadline = dated_before (amount f) (option_and_then (λ (s : Stream). s.deadline) (slice_get streams f)) (t.deadline.0, sym (lowered_deadline f) ∙ t.deadline.1);
       }
 
       pub passing_before : (ids : ℕ → ℕ) → IsPassing rate lowered pdos ids → IsPassing rate streams pdos ids
@@ -152,7 +164,7 @@ module _ (margin : ℕ) (streams lowered : List Stream) (is : AreLowered margin 
           )
 
   pub deadlines_lowered : (pdos : ℕ) → HaveDeadlines streams pdos → HaveDeadlines lowered pdos
-  deadlines_lowered pdos deadlines p h = let d = dated_after margin (option_and_then (λ (s : Stream). s.deadline) (slice_get streams p)) (deadlines p h) in (d.0, lowered_deadline p ∙ d.1)
+  deadlines_lowered pdos deadlines p h = let d = dated_after (amount p) (option_and_then (λ (s : Stream). s.deadline) (slice_get streams p)) (deadlines p h) in (d.0, lowered_deadline p ∙ d.1)
 
   pub high_lowered : (pdos : ℕ) → ArePdosHigh streams pdos → ArePdosHigh lowered pdos
   high_lowered pdos high p h = omega (arith, high p h, same_id p)
@@ -170,36 +182,71 @@ module _ (margin : ℕ) (streams lowered : List Stream) (is : AreLowered margin 
 
 -- ---- two lowerings
 
-pub lowered_once : (margin : ℕ) (streams one other : List Stream) → AreLowered margin streams one → AreLowered margin streams other → one ≡ other
-lowered_once margin streams one other x y = streams_same one other (x ∙ sym y)
+pub lowered_once : (amount : ℕ → ℕ) (streams one other : List Stream) → AreLoweredBy amount streams one → AreLoweredBy amount streams other → one ≡ other
+lowered_once amount streams one other x y = streams_same one other (x ∙ sym y)
 
-lower_again : (less more : ℕ) → less ≤ more → (o : Option ℕ) → option_map (λ d. d - (more - less)) (option_map (λ d. d - less) o) ≡ option_map (λ d. d - more) o
-lower_again less more le None = refl
-lower_again less more le (Some d) = ap (λ (n : ℕ). Some n) (omega (arith, le))
+same_deadline : (a b : ℕ) (o : Option ℕ) → ((d : ℕ) → o ≡ Some d → a ≡ b) → option_map (λ d. d - a) o ≡ option_map (λ d. d - b) o
+same_deadline a b None same = refl
+same_deadline a b (Some d) same = ap (λ (n : ℕ). Some (d - n)) (same d refl)
 
-lowered_again : (less more : ℕ) → less ≤ more → (streams : List Stream) → map (lower (more - less)) (map (λ s. lower less (entry_of s)) streams) ≡ map (λ s. lower more (entry_of s)) streams
-lowered_again less more le [] = refl
-lowered_again less more le (s ∷ ss) =
-    let head : lower (more - less) (lower less (entry_of s)) ≡ lower more (entry_of s) =
-    ap (λ (o : Option ℕ). record { id = s.id; bytes = s.bytes; period = s.period; jitter = s.jitter; deadline = o; every = s.every }) (lower_again less more le s.deadline) in
-    rw (head, lowered_again less more le ss) refl
+with_deadline : Stream → Option ℕ → Entry
+with_deadline s o = record { id = s.id; bytes = s.bytes; period = s.period; jitter = s.jitter; deadline = o; every = s.every }
 
-of_entries : (margin : ℕ) (streams : List Stream) → map (lower margin) (map entry_of streams) ≡ map (λ s. lower margin (entry_of s)) streams
-of_entries margin [] = refl
-of_entries margin (s ∷ ss) = ap (λ (es : List Entry). lower margin (entry_of s) ∷ es) (of_entries margin ss)
+-- amounts that are the same where there is a deadline
+pub lowered_alike : (a b : ℕ → ℕ) (streams : List Stream) → ((k d : ℕ) → deadline_of streams k ≡ Some d → a k ≡ b k) → lowered_entries a streams ≡ lowered_entries b streams
+unfolding with_deadline
+lowered_alike a b [] same = refl
+lowered_alike a b (s ∷ ss) same =
+    let head : lower (a 0) (entry_of s) ≡ lower (b 0) (entry_of s) = ap (with_deadline s) (same_deadline (a 0) (b 0) s.deadline (λ d e. same 0 d e)) in
+    rw (head, lowered_alike (λ k. a (suc k)) (λ k. b (suc k)) ss (λ k d e. same (suc k) d e)) refl
+
+-- the same of entries
+lowered_of : (ℕ → ℕ) → List Entry → List Entry
+lowered_of amount [] = []
+lowered_of amount (e ∷ es) = lower (amount 0) e ∷ lowered_of (λ k. amount (suc k)) es
+
+of_entries : (amount : ℕ → ℕ) (streams : List Stream) → lowered_of amount (map entry_of streams) ≡ lowered_entries amount streams
+unfolding lowered_of
+of_entries amount [] = refl
+of_entries amount (s ∷ ss) = ap (λ (es : List Entry). lower (amount 0) (entry_of s) ∷ es) (of_entries (λ k. amount (suc k)) ss)
+
+lower_again : (less more : ℕ) (o : Option ℕ) → ((d : ℕ) → o ≡ Some d → less ≤ more) → option_map (λ d. d - (more - less)) (option_map (λ d. d - less) o) ≡ option_map (λ d. d - more) o
+lower_again less more None le = refl
+lower_again less more (Some d) le = let most = le d refl in ap (λ (n : ℕ). Some n) (omega (arith, most))
+
+again : (less more : ℕ → ℕ) (streams : List Stream) → ((k d : ℕ) → deadline_of streams k ≡ Some d → less k ≤ more k) → lowered_of (λ k. more k - less k) (lowered_entries less streams) ≡ lowered_entries more streams
+unfolding lowered_of with_deadline
+again less more [] le = refl
+again less more (s ∷ ss) le =
+    let head : lower (more 0 - less 0) (lower (less 0) (entry_of s)) ≡ lower (more 0) (entry_of s) = ap (with_deadline s) (lower_again (less 0) (more 0) s.deadline (λ d e. le 0 d e)) in
+    rw (head, again (λ k. less (suc k)) (λ k. more (suc k)) ss (λ k d e. le (suc k) d e)) refl
 
 -- of two lowerings the greater is one of the other
-pub lowered_further : (less more : ℕ) (streams one other : List Stream) → less ≤ more → AreLowered less streams one → AreLowered more streams other → AreLowered (more - less) one other
+pub lowered_further : (less more : ℕ → ℕ) (streams one other : List Stream) → ((k d : ℕ) → deadline_of streams k ≡ Some d → less k ≤ more k)
+    → AreLoweredBy less streams one → AreLoweredBy more streams other → AreLoweredBy (λ k. more k - less k) one other
 lowered_further less more streams one other le x y =
-    y ∙ sym (lowered_again less more le streams) ∙ sym (ap (λ (es : List Entry). map (lower (more - less)) es) x) ∙ of_entries (more - less) one
+    y ∙ sym (again less more streams le) ∙ sym (ap (λ (es : List Entry). lowered_of (λ k. more k - less k) es) x) ∙ of_entries (λ k. more k - less k) one
 
 kept_deadline : (o : Option ℕ) → option_map (λ d. d - 0) o ≡ o
 kept_deadline None = refl
 kept_deadline (Some d) = ap (λ (n : ℕ). Some n) (omega arith)
 
-pub lowered_by_none : (streams : List Stream) → AreLowered 0 streams streams
+pub lowered_by_none : (streams : List Stream) → AreLoweredBy (λ _. 0) streams streams
+unfolding with_deadline
 lowered_by_none [] = refl
 lowered_by_none (s ∷ ss) =
-    let head : entry_of s ≡ lower 0 (entry_of s) =
-    sym (ap (λ (o : Option ℕ). record { id = s.id; bytes = s.bytes; period = s.period; jitter = s.jitter; deadline = o; every = s.every }) (kept_deadline s.deadline)) in
+    let head : entry_of s ≡ lower 0 (entry_of s) = sym (ap (with_deadline s) (kept_deadline s.deadline)) in
     rw (← head, ← lowered_by_none ss) refl
+
+-- ---- one stream more
+
+entries_more : (amount : ℕ → ℕ) (streams : List Stream) (i : ℕ) (d : Stream) → i < length streams → lowered_entries amount (take (suc i) streams) ≡ lowered_entries amount (take i streams) ++ lower (amount i) (entry_of (get_or streams i d)) ∷ []
+entries_more amount [] i d low = absurd (omega arith)
+entries_more amount (s ∷ ss) zero d low = refl
+entries_more amount (s ∷ ss) (suc i) d low = ap (λ (es : List Entry). lower (amount 0) (entry_of s) ∷ es) (entries_more (λ k. amount (suc k)) ss i d (omega arith))
+
+pub lowered_next : (amount : ℕ → ℕ) (streams lowered : List Stream) (i : ℕ) (d next : Stream) → i < length streams → AreLoweredBy amount (take i streams) lowered
+    → entry_of next ≡ lower (amount i) (entry_of (get_or streams i d)) → AreLoweredBy amount (take (i + 1) streams) (lowered ++ next ∷ [])
+lowered_next amount streams lowered i d next low is its =
+    map-append entry_of lowered (next ∷ []) ∙ ap (λ (es : List Entry). es ++ entry_of next ∷ []) is ∙ ap (λ (e : Entry). lowered_entries amount (take i streams) ++ e ∷ []) its
+    ∙ sym (ap (λ (n : ℕ). lowered_entries amount (take n streams)) (add-one i) ∙ entries_more amount streams i d low)

@@ -1,13 +1,11 @@
 -- Streams lowered one after the other, and the halving that finds the greatest margin.
-use Rattle.std.proofs.Common.{◌≡◌, ◌==◌, ℕ, zero, suc, ◌+◌, ◌-◌, ◌*◌, ◌^◌, ◌<◌, ◌≤◌, le_trans, lit≤, true, false, List, length, take, get_or, Option, Some, None, is_some, option_map, MatchOption, All, refl, sym, ap, ◌∙◌, subst, arith}
-use Rattle.std.specs.Option.{ForSome}
+use Rattle.std.proofs.Common.{◌≡◌, ◌==◌, ℕ, zero, suc, ◌+◌, ◌*◌, ◌^◌, ◌<◌, ◌≤◌, min, le_trans, lit≤, false, List, length, take, get_or, Option, Some, None, MatchOption, refl, sym, ap, ◌∙◌, subst, arith, ⊎_elim}
 use Rattle.std.proofs.Math.Nat.{pow-succ'}
-use Rattle.std.proofs.lemmas.Bool.{ne_eqb}
-use Rattle.std.proofs.lemmas.List.{get_or-map, get_or-take, length-take-le}
-use Rattle.std.proofs.lemmas.List.Folds.{list_any_none, Any-from_list_any}
+use Rattle.std.proofs.lemmas.Bool.{ne_eqb, cases_lt}
+use Rattle.std.proofs.lemmas.List.{get_or-take, length-take-le}
+use Rattle.std.proofs.lemmas.List.Folds.{list_any_none}
 use Rattle.cop_frame.specs.declared.rates.Rate.{Rate}
 use Rattle.cop_rta.specs.declared.streams.Stream.{Stream}
-use Rattle.cop_rta.specs.Entries.{Entry, entry_of}
 use Rattle.cop_rta.specs.Streams.{AreDistinct, has_id}
 use Rattle.cop_rta.specs.Test.{of_stream}
 use Rattle.cop_cert.specs.declared.refusals.Refusal.{Refusal}
@@ -16,62 +14,70 @@ use Rattle.cop_cert.proofs.CauseLemmas.{refusal_rules_out}
 use Rattle.cop_rta.proofs.IdentifierLemmas.{of_stream_at, two_apart}
 use Rattle.cop_plan.specs.declared.assigning.Found.TheVariants.{Refused}
 use Rattle.cop_plan.specs.Found.{IsFound, NoneFrom}
-use Rattle.cop_plan.specs.Margins.{lower, AreLowered, has_deadline}
-use Rattle.cop_plan.proofs.FillingLemmas.{no_bit}
-use Rattle.cop_plan.proofs.MarginLemmas.{lowered_length, same_id}
+use Rattle.cop_plan.specs.Caps.{deadline_of, cap_of, CanHave, AreCaps, IsGreatestOf, capped}
+use Rattle.cop_plan.specs.Margins.{AreLoweredBy, AreLoweredTo}
+use Rattle.cop_plan.proofs.CapLemmas.{dated_inside, deadline_is_below, cap_below, cap_undated}
+use Rattle.cop_plan.proofs.MarginLemmas.{lowered_length, lowered_alike, same_id}
 
 -- ---- streams one after the other
 
 -- the next one has an identifier that none has yet
-pub lowered_is_new : (margin : ℕ) (streams lowered : List Stream) (i : ℕ) (d next : Stream) → AreDistinct streams → i < length streams → AreLowered margin (take i streams) lowered
+pub lowered_is_new : (amount : ℕ → ℕ) (streams lowered : List Stream) (i : ℕ) (d next : Stream) → AreDistinct streams → i < length streams → AreLoweredBy amount (take i streams) lowered
     → next.id ≡ (get_or streams i d).id → has_id lowered next.id ≡ false
-lowered_is_new margin streams lowered i d next distinct low is its =
+lowered_is_new amount streams lowered i d next distinct low is its =
     list_any_none (λ s. s.id == next.id) lowered (λ j e inside. ne_eqb (get_or lowered j e).id next.id (λ same. apart j e inside same))
   where
     apart : (j : ℕ) (e : Stream) → j < length lowered → (get_or lowered j e).id ≡ next.id → ⊥
     apart j e inside same =
-        let size : length lowered ≡ i = lowered_length margin (take i streams) lowered is ∙ length-take-le i streams (omega (arith, low)) in
+        let size : length lowered ≡ i = lowered_length amount (take i streams) lowered is ∙ length-take-le i streams (omega (arith, low)) in
         let before : j < i = omega (arith, inside, size) in
         let mine : of_stream (λ s. s.id) streams j ≡ (get_or lowered j e).id =
         of_stream_at streams j e (omega (arith, before, low)) ∙ sym (ap (λ (s : Stream). s.id) (get_or-take i streams j e before))
         ∙ sym (of_stream_at (take i streams) j e (omega (arith, before, low, length-take-le i streams (omega (arith, low)))))
-        ∙ sym (same_id margin (take i streams) lowered is j) ∙ of_stream_at lowered j e inside in
+        ∙ sym (same_id amount (take i streams) lowered is j) ∙ of_stream_at lowered j e inside in
         two_apart streams distinct j i before low (mine ∙ same ∙ its ∙ sym (of_stream_at streams i d low))
 
--- ---- what no margin is
+-- ---- the caps
 
-above_margin : (margin : ℕ) (o p : Option ℕ) → ForSome p (λ d. 1 ≤ d) → p ≡ option_map (λ d. d - margin) o → ForSome o (λ d. margin < d)
-above_margin margin o p h e d there = omega (arith, h (d - margin) (e ∙ ap (option_map (λ d. d - margin)) there))
+pub capped_more : (margin more cap : ℕ) → margin ≤ more → min margin cap ≤ min more cap
+capped_more margin more cap le = omega (arith, le)
 
-weaker : (less more : ℕ) (o : Option ℕ) → less ≤ more → ForSome o (λ d. more < d) → ForSome o (λ d. less < d)
-weaker less more o le h d there = omega (arith, le, h d there)
+module _ (rate : Rate) (streams : List Stream) (pdos : ℕ) (caps : List ℕ) (are : AreCaps rate streams pdos caps) where
+  pub cap_listed : (k d : ℕ) → deadline_of streams k ≡ Some d → get_or caps k 0 ≡ cap_of rate streams pdos k
+  cap_listed k d e = are.each k (dated_inside streams k d e)
 
--- a stream's deadline is one tick at least, so where deadlines are lowered each was above the margin
-pub above_of_lowered : (margin : ℕ) (streams lowered : List Stream) → AreLowered margin streams lowered → All (λ s. ForSome s.deadline (λ d. margin < d)) streams
-above_of_lowered margin streams lowered is k d low =
-    let inside : k < length lowered = omega (arith, low, lowered_length margin streams lowered is) in
-    let entry : entry_of (get_or lowered k d) ≡ lower margin (entry_of (get_or streams k d)) =
-    sym (get_or-map entry_of lowered k d (entry_of d) inside) ∙ ap (λ (es : List Entry). get_or es k (entry_of d)) is ∙ get_or-map (λ s. lower margin (entry_of s)) streams k d (entry_of d) low in
-    above_margin margin (get_or streams k d).deadline (get_or lowered k d).deadline (get_or lowered k d).deadline_least (ap (λ (e : Entry). e.deadline) entry)
+  pub listed_below : (k d : ℕ) → deadline_of streams k ≡ Some d → get_or caps k 0 < d
+  listed_below k d e = omega (arith, cap_listed k d e, cap_below rate streams pdos k d e)
 
-module _ (rate : Rate) (streams : List Stream) (pdos : ℕ) where
-  -- where some deadline is not above it
-  pub none_above : (margin : ℕ) → (All (λ s. ForSome s.deadline (λ d. margin < d)) streams → ⊥) → NoneFrom rate streams pdos margin
-  none_above margin not_all more le lowered is =
-      absurd (not_all (λ k d low. weaker margin more (get_or streams k d).deadline le (above_of_lowered more streams lowered is k d low)))
+  -- a list of the caps lowers as they do
+  pub lowered_by_list : (margin : ℕ) (lowered : List Stream) → AreLoweredBy (capped margin (λ k. get_or caps k 0)) streams lowered → AreLoweredTo margin rate pdos streams lowered
+  lowered_by_list margin lowered is = is ∙ lowered_alike (capped margin (λ k. get_or caps k 0)) (capped margin (cap_of rate streams pdos)) streams (λ k d e. ap (λ (cap : ℕ). min margin cap) (cap_listed k d e))
 
-  -- more ticks than any deadline has
-  pub none_so_far : has_deadline streams ≡ true → NoneFrom rate streams pdos 240000001
-  none_so_far some = none_above 240000001 (λ all.
-      let found = Any-from_list_any (λ (s : Stream). is_some s.deadline) streams some in
-      past (get_or streams found.0 found.1).deadline (get_or streams found.0 found.1).deadline_most (is_there found) (all found.0 found.1 found.2))
-    where
-      past : (o : Option ℕ) → ForSome o (λ d. d ≤ 240000000) → is_some o ≡ true → ForSome o (λ d. 240000001 < d) → ⊥
-      past None most there above = no_bit false there refl
-      past (Some d) most there above = omega (arith, most d refl, above d refl)
+  cap_most : (k : ℕ) (o : Option ℕ) → deadline_of streams k ≡ o → cap_of rate streams pdos k ≤ 240000000
+  cap_most k None e = omega (arith, cap_undated rate streams pdos k e)
+  cap_most k (Some d) e = omega (arith, cap_below rate streams pdos k d e, deadline_is_below streams k d e)
 
-      is_there : (found : (k : ℕ) × (x : Stream) × (k < length streams) × (get_or streams k x ≡ x) × (is_some x.deadline ≡ true)) → is_some (get_or streams found.0 found.1).deadline ≡ true
-      is_there found = subst (λ (s : Stream). is_some s.deadline ≡ true) (sym found.3) found.4
+  module _ (greatest : ℕ) (is : IsGreatestOf caps greatest) where
+    pub greatest_most : greatest ≤ 240000000
+    greatest_most = ⊎_elim
+        (λ (some : 0 < greatest).
+        let found = is.reached (omega (arith, some)) in
+        omega (arith, found.2, are.each found.0 (omega (arith, found.1, are.count)), cap_most found.0 (deadline_of streams found.0) refl))
+        (λ (none : greatest ≤ 0). omega (arith, none))
+        (cases_lt 0 greatest)
+
+    -- no stream can have more
+    pub none_above : NoneFrom rate streams pdos (greatest + 1)
+    none_above more le can lowered such =
+        let low : can.0 < length caps = omega (arith, can.1, are.count) in
+        absurd (omega (arith, le, can.2, are.each can.0 can.1, is.each can.0 low))
+
+    -- and some stream can have each margin up to it
+    pub can_have : (margin : ℕ) → margin ≤ greatest → 1 ≤ margin → CanHave rate streams pdos margin
+    can_have margin le some =
+        let found = is.reached (omega (arith, le, some)) in
+        let low : found.0 < length streams = omega (arith, found.1, are.count) in
+        (found.0, low, omega (arith, le, found.2, are.each found.0 low))
 
 -- where a rate is refused no assignment passes
 pub refused_none : (rate : Rate) (streams : List Stream) (pdos : ℕ) (r : Refusal) → pdos ≤ length streams → IsFound rate streams pdos (Refused r) → NoAssignmentPasses rate streams pdos

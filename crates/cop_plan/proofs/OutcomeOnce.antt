@@ -13,12 +13,14 @@ use Rattle.cop_plan.specs.declared.assigning.Outcome.{Outcome}
 use Rattle.cop_plan.specs.declared.choices.Choice.{Choice}
 use Rattle.cop_plan.specs.declared.assigning.Outcome.TheVariants.{Planned, Refused}
 use Rattle.cop_cert.specs.Assignments.{IsAssignment}
-use Rattle.cop_plan.specs.Margins.{IsOrderWith, IsChosenOrder}
+use Rattle.cop_plan.specs.declared.choices.Kept.{Kept}
+use Rattle.cop_plan.specs.Caps.{cap_of, capped}
+use Rattle.cop_plan.specs.Margins.{IsOrderTo, IsChosenOrder}
 use Rattle.cop_plan.specs.Orders.{HasPdos, IsPlanOrder, IsByPriority}
 use Rattle.cop_plan.specs.Values.{PlanValue, Timing, timing_of, id_of, HaveIds}
 use Rattle.cop_plan.specs.Plans.{IsGreatestRefusal, AreRefusals, IsSlower, IsPlan, IsOutcome, IsChosenBy}
 use Rattle.cop_plan.proofs.MarginLemmas.{lowered_length, lowered_once}
-use Rattle.cop_plan.proofs.MarginOutcome.{greatest_once}
+use Rattle.cop_plan.proofs.MarginOutcome.{greatest_once, widest_once}
 use Rattle.cop_plan.proofs.RateLemmas.{rate_at, at_place, kbits_rise}
 use Rattle.cop_plan.proofs.SamePlace.{same_length}
 use Rattle.cop_plan.proofs.RangeUniqueLemmas.{unique_over_ranges}
@@ -78,20 +80,29 @@ module _ (rate : Rate) (streams : List Stream) (pdos : ℕ) (few : pdos ≤ leng
       ext_get_or 0 ids others (m ∙ sym n) (λ p low. unique_over_ranges rate streams pdos (id_of ids) (id_of others) few a b p (omega (arith, low, m)))
 
 module _ (rate : Rate) (streams : List Stream) (pdos : ℕ) (few : pdos ≤ length streams) where
-  with_margin_once : (margin : ℕ) (ids others : List ℕ) → length ids ≡ pdos → length others ≡ pdos → IsOrderWith margin rate streams pdos (id_of ids) → IsOrderWith margin rate streams pdos (id_of others) → ids ≡ others
+  with_margin_once : (margin : ℕ) (ids others : List ℕ) → length ids ≡ pdos → length others ≡ pdos → IsOrderTo margin rate streams pdos (id_of ids) → IsOrderTo margin rate streams pdos (id_of others) → ids ≡ others
   with_margin_once margin ids others m n a b =
-      let same : b.0 ≡ a.0 = lowered_once margin streams b.0 a.0 b.1 a.1 in
-      ids_once rate a.0 pdos (omega (arith, few, lowered_length margin streams a.0 a.1)) ids others m n a.2 (subst (λ (lowered : List Stream). IsPlanOrder rate lowered pdos (id_of others)) same b.2)
+      let amount : ℕ → ℕ = capped margin (cap_of rate streams pdos) in
+      let same : b.0 ≡ a.0 = lowered_once amount streams b.0 a.0 b.1 a.1 in
+      ids_once rate a.0 pdos (omega (arith, few, lowered_length amount streams a.0 a.1)) ids others m n a.2 (subst (λ (lowered : List Stream). IsPlanOrder rate lowered pdos (id_of others)) same b.2)
+
+  make_kept : ℕ → ℕ → Kept
+  make_kept all others = record { all = all; others = others }
+
+  kept_same : (p q : Kept) → p.all ≡ q.all → p.others ≡ q.others → p ≡ q
+  unfolding make_kept
+  kept_same p q all others = let made : make_kept p.all p.others ≡ make_kept q.all q.others = rw (all, others) refl in made
 
   -- of the identifiers that are chosen there are one of each kind, and one margin
-  chosen_once : (o p : Option ℕ) (ids others : List ℕ) → is_some o ≡ is_some p → length ids ≡ pdos → length others ≡ pdos → IsAssignment pdos (id_of ids) → IsAssignment pdos (id_of others)
+  chosen_once : (o p : Option Kept) (ids others : List ℕ) → is_some o ≡ is_some p → length ids ≡ pdos → length others ≡ pdos → IsAssignment pdos (id_of ids) → IsAssignment pdos (id_of others)
       → IsChosenOrder o rate streams pdos (id_of ids) → IsChosenOrder p rate streams pdos (id_of others) → (o ≡ p) × (ids ≡ others)
   chosen_once None None ids others kind m n x y a b = (refl, ids_once rate streams pdos few ids others m n a b)
   chosen_once None (Some q) ids others kind m n x y a b = absurd (cc)
   chosen_once (Some p) None ids others kind m n x y a b = absurd (cc)
   chosen_once (Some p) (Some q) ids others kind m n x y a b =
-      let one : p ≡ q = greatest_once rate streams pdos p q (id_of ids) (id_of others) x y a.0 b.0 a.1 b.1 in
-      (ap (λ (n : ℕ). Some n) one, with_margin_once q ids others m n (subst (λ (margin : ℕ). IsOrderWith margin rate streams pdos (id_of ids)) one a.0) b.0)
+      let all : p.all ≡ q.all = greatest_once rate streams pdos p.all q.all (id_of ids) (id_of others) x y a.keeps b.keeps a.greatest b.greatest in
+      let widest : p.others ≡ q.others = widest_once rate streams pdos p.others q.others (id_of ids) (id_of others) x y a.order b.order a.widest b.widest in
+      (ap (λ (k : Kept). Some k) (kept_same p q all widest), with_margin_once q.others ids others m n (subst (λ (margin : ℕ). IsOrderTo margin rate streams pdos (id_of ids)) widest a.order) b.order)
 
 module _ (streams : List Stream) (pdos : ℕ) where
   priority_once : (ids : ℕ → ℕ) (order other : List ℕ) → IsAssignment pdos ids → IsByPriority pdos ids order → IsByPriority pdos ids other → order ≡ other
@@ -105,7 +116,7 @@ module _ (streams : List Stream) (pdos : ℕ) where
       streams_same ss ts (entries_same ss ts (x.timings ∙ sym y.timings)
       (λ k low. let inside : k < length streams = omega (arith, low, same_length ss streams x.timings) in x.each k inside ∙ sym (y.each k inside)))
 
-make_plan : Rate → List ℕ → List ℕ → Option ℕ → List Refusal → List Stream → PlanValue
+make_plan : Rate → List ℕ → List ℕ → Option Kept → List Refusal → List Stream → PlanValue
 make_plan rate order ids margin refusals streams = record { rate = rate; order = order; ids = ids; margin = margin; refusals = refusals; streams = streams }
 
 plan_same : (a b : PlanValue) → a.rate ≡ b.rate → a.order ≡ b.order → a.ids ≡ b.ids → a.margin ≡ b.margin → a.refusals ≡ b.refusals → a.streams ≡ b.streams → a ≡ b

@@ -14,7 +14,9 @@ use Rattle.cop_cert.specs.Evidence.{is_listed}
 use Rattle.cop_cert.specs.Sets.{is_in_trial, IsGreatestStuckSet}
 use Rattle.cop_cert.proofs.AboveLemmas.{trial_of_pdo, trial_of_fixed}
 use Rattle.cop_plan.specs.Fillings.{AreDistinct, ArePlaced, number, ids_in_ranges}
-use Rattle.cop_plan.specs.Margins.{IsOrderWith}
+use Rattle.cop_plan.specs.declared.choices.Kept.{Kept}
+use Rattle.cop_plan.specs.Caps.{cap_of, capped}
+use Rattle.cop_plan.specs.Margins.{IsOrderTo}
 use Rattle.cop_plan.specs.Orders.{FramesPass, IsUpper, IsOrderOf, IsPlanOrder, IsByPriority, from_place, least_of_part, is_part, in_first, id_at_place}
 use Rattle.cop_plan.specs.Plans.{CanAssign}
 use Rattle.cop_plan.specs.Planned.{IsPlanned}
@@ -179,7 +181,7 @@ module _ (pdos : ℕ) (lower upper : List ℕ) (placed : ArePlaced pdos lower up
 pub record HasPlaces (margin : ℕ) (rate : Rate) (streams : List Stream) (pdos : ℕ) (lower upper order ids : List ℕ) : Type 0 where
   pub can : CanAssign streams pdos
   pub placed : ArePlaced pdos lower upper
-  pub plan : IsOrderWith margin rate streams pdos (ids_in_ranges lower upper)
+  pub plan : IsOrderTo margin rate streams pdos (ids_in_ranges lower upper)
   pub listed : order ≡ reverse upper ++ reverse lower
   pub count : length ids ≡ length order
   pub places : (i : ℕ) → i < length order → id_of ids (get_or order i 0) ≡ id_at_place (length upper) i
@@ -194,11 +196,11 @@ module _ {margin : ℕ} {rate : Rate} {streams : List Stream} {pdos : ℕ} {lowe
   order_lowered : IsPlanOrder rate has.plan.0 pdos (id_of ids)
   order_lowered = plan_order_same has.plan.0 pdos (ids_in_ranges lower upper) (id_of ids) (λ p h. sym (same_ids p h)) rate has.plan.2
 
-  pub order_of_places : IsOrderWith margin rate streams pdos (id_of ids)
+  pub order_of_places : IsOrderTo margin rate streams pdos (id_of ids)
   order_of_places = (has.plan.0, has.plan.1, order_lowered)
 
   pub passing_of_places : IsPassing rate streams pdos (id_of ids)
-  passing_of_places = passing_before margin streams has.plan.0 has.plan.1 rate pdos (id_of ids) (order_passes rate has.plan.0 pdos (id_of ids) has.can.few order_lowered)
+  passing_of_places = passing_before (capped margin (cap_of rate streams pdos)) streams has.plan.0 has.plan.1 rate pdos (id_of ids) (order_passes rate has.plan.0 pdos (id_of ids) has.can.few order_lowered)
 
   pub by_priority_of_places : IsByPriority pdos (id_of ids) order
   by_priority_of_places = priority_of_places pdos lower upper has.placed has.can.few (id_of ids) same_ids order has.listed has.places
@@ -216,7 +218,7 @@ module _ {margin : ℕ} {rate : Rate} {streams : List Stream} {pdos : ℕ} {lowe
     have : HaveIds streams pdos (id_of ids) renamed
     have = have_of_places renamed given
 
-    pub planned_of_places : (chosen : Option ℕ) (refusals : List Refusal) → (1 ≤ length lower → HasTested streams pdos)
+    pub planned_of_places : (chosen : Option Kept) (refusals : List Refusal) → (1 ≤ length lower → HasTested streams pdos)
         → IsPlanned (record { rate = rate; order = order; ids = ids; margin = chosen; refusals = refusals; streams = renamed })
     planned_of_places chosen refusals tested =
         let size : length renamed ≡ length streams = same_length renamed streams have.timings in

@@ -10,7 +10,8 @@ use Rattle.cop_rta.proofs.GreatestLemmas.{greatest_response_is}
 use Rattle.cop_rta.proofs.MoreAbove.{busy_at-more, queueing_at-more}
 use Rattle.cop_cert.specs.Assignments.{least_id, is_lower, place_under}
 use Rattle.cop_net.specs.Network.{Net, IsNetwork}
-use Rattle.cop_plan.specs.Margins.{has_deadline, IsOrderWith, IsChosenOrder, IsGreatestMargin, Leaves}
+use Rattle.cop_plan.specs.declared.choices.Kept.{Kept}
+use Rattle.cop_plan.specs.Margins.{has_deadline, AreKept, IsChosenOrder, Leaves}
 use Rattle.cop_plan.specs.Plans.{IsPlan}
 use Rattle.cop_plan.specs.Values.{PlanValue, id_of, HaveIds, ArePdosHigh}
 use Rattle.cop_plan.proofs.NetworkLemmas.{the_deadline, none_undated}
@@ -72,15 +73,15 @@ module _ (rate : Rate) (streams renamed : List Stream) (pdos : ℕ) (ids : ℕ �
 
 -- ---- of a network
 
-module _ (n : Net) (is : IsNetwork n) (rates : List Rate) (plan : PlanValue) (margin : ℕ) (planned : IsPlan rates n.set (length n.rows) plan) (chosen : plan.margin ≡ Some margin) (some : has_deadline n.set ≡ true) where
-  with_margin : IsOrderWith margin plan.rate n.set (length n.rows) (id_of plan.ids) × IsGreatestMargin plan.rate n.set (length n.rows) margin
-  with_margin = subst (λ (o : Option ℕ). IsChosenOrder o plan.rate n.set (length n.rows) (id_of plan.ids)) chosen planned.order
+module _ (n : Net) (is : IsNetwork n) (rates : List Rate) (plan : PlanValue) (kept : Kept) (planned : IsPlan rates n.set (length n.rows) plan) (chosen : plan.margin ≡ Some kept) (some : has_deadline n.set ≡ true) where
+  with_margin : AreKept kept plan.rate n.set (length n.rows) (id_of plan.ids)
+  with_margin = subst (λ (o : Option Kept). IsChosenOrder o plan.rate n.set (length n.rows) (id_of plan.ids)) chosen planned.order
 
-  pub one_leaves_margin : (k : ℕ) × (k < length plan.streams) × Leaves (place_by_id plan.streams k plan.rate) margin
+  pub one_leaves_margin : (k : ℕ) × (k < length plan.streams) × Leaves (place_by_id plan.streams k plan.rate) kept.all
   one_leaves_margin =
-      let one = one_leaves plan.rate n.set (length n.rows) (id_of plan.ids) margin planned.passing.0 with_margin.0 with_margin.1 some is.streams.count
+      let one = one_leaves plan.rate n.set (length n.rows) (id_of plan.ids) kept.all planned.passing.0 with_margin.keeps with_margin.greatest some is.streams.count
       (λ p h. the_deadline _ (is.streams.deadlines p h)) (λ k d fixed inside dated. is.streams.dated k fixed inside (none_undated _ d dated)) in (
         one.0,
         omega (arith, one.1, same_count plan.rate n.set plan.streams (length n.rows) (id_of plan.ids) planned.renamed),
-        leaves_renamed plan.rate n.set plan.streams (length n.rows) (id_of plan.ids) planned.renamed (λ p h. omega (arith, is.streams.provisional p h)) (none_lower (length n.rows) (id_of plan.ids) planned.passing.0) one.0 margin one.1 one.2,
+        leaves_renamed plan.rate n.set plan.streams (length n.rows) (id_of plan.ids) planned.renamed (λ p h. omega (arith, is.streams.provisional p h)) (none_lower (length n.rows) (id_of plan.ids) planned.passing.0) one.0 kept.all one.1 one.2,
       )

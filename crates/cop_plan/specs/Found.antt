@@ -9,7 +9,8 @@ use Rattle.cop_cert.specs.Causes.{PassesBelow}
 use Rattle.cop_plan.specs.declared.assigning.Found.{Found}
 use Rattle.cop_plan.specs.declared.assigning.Found.TheVariants.{Placed, Refused}
 use Rattle.cop_plan.specs.Fillings.{ArePlaced, ids_in_ranges}
-use Rattle.cop_plan.specs.Margins.{AreLowered, NoneKeeps}
+use Rattle.cop_plan.specs.Caps.{CanHave}
+use Rattle.cop_plan.specs.Margins.{AreLoweredTo, NoneReaches}
 use Rattle.cop_plan.specs.Orders.{IsPlanOrder}
 use Rattle.cop_plan.specs.Plans.{IsGreatestRefusal, members_of, is_filled}
 use Rattle.cop_plan.specs.Values.{HasTested}
@@ -51,10 +52,10 @@ abbrev pub filled_found : Found → ℕ
 filled_found (Placed lower upper) = 1
 filled_found (Refused r) = is_filled r.cause
 
--- two fillings that give the order for deadlines that are so many ticks less
+-- two fillings that give the order for deadlines that are less by a margin or by the stream's cap
 abbrev pub ArePlannedWith : ℕ → Rate → List Stream → ℕ → List ℕ → List ℕ → Type 0
-ArePlannedWith margin rate streams pdos lower upper = (lowered : List Stream) × AreLowered margin streams lowered × ArePlanned rate lowered pdos lower upper
+ArePlannedWith margin rate streams pdos lower upper = (lowered : List Stream) × AreLoweredTo margin rate pdos streams lowered × ArePlanned rate lowered pdos lower upper
 
--- no assignment keeps this margin or a greater one
+-- no assignment reaches this margin or a greater one that some stream can have
 abbrev pub NoneFrom : Rate → List Stream → ℕ → ℕ → Type 0
-NoneFrom rate streams pdos margin = (more : ℕ) → margin ≤ more → NoneKeeps rate streams pdos more
+NoneFrom rate streams pdos margin = (more : ℕ) → margin ≤ more → CanHave rate streams pdos more → NoneReaches rate streams pdos more

@@ -1,25 +1,33 @@
 -- What a plan says, and the streams under its identifiers.
-use Rattle.std.specs.Prelude.{◌≡◌, ℕ, ◌<◌, ◌≤◌, List, length, map, get_or, slice_get, Option, Some, unwrap_or}
-use Rattle.std.specs.Option.{option_and_then}
+use Rattle.std.specs.Prelude.{◌≡◌, ℕ, ◌<◌, ◌≤◌, List, length, map, get_or, slice_get, Option, None, Some, nat_lt, if◌then◌else◌}
+use Rattle.std.specs.Option.{option_map_or, option_and_then}
 use Rattle.cop_frame.specs.declared.rates.Rate.{Rate}
 use Rattle.cop_rta.specs.declared.streams.Stream.{Stream}
 use Rattle.cop_rta.specs.Test.{Passes, of_stream, place_by_id}
 use Rattle.cop_cert.specs.declared.refusals.Refusal.{Refusal}
+use Rattle.cop_plan.specs.declared.choices.Kept.{Kept}
 use Rattle.cop_cert.specs.Assignments.{least_id, id_under, IsTested}
 
--- the rate, the PDOs by priority, their identifiers, the margin that they were chosen by, the refusals of slower rates, and all streams
+-- the rate, the PDOs by priority, their identifiers, the margins that they were chosen by, the refusals of slower rates, and all streams
 -- under their identifiers
 pub record PlanValue : Type 0 where
   pub rate : Rate
   pub order : List ℕ
   pub ids : List ℕ
-  pub margin : Option ℕ
+  pub margin : Option Kept
   pub refusals : List Refusal
   pub streams : List Stream
 
--- by how many ticks deadlines were lowered
+-- by how many ticks each deadline can be lowered
 abbrev pub margin_of : PlanValue → ℕ
-margin_of plan = unwrap_or plan.margin 0
+margin_of plan = option_map_or (λ kept. kept.all) plan.margin 0
+
+-- the margin that is kept by those that can have it, if it is greater than that of all
+abbrev pub beyond_all : Kept → Option ℕ
+beyond_all kept = if nat_lt kept.all kept.others then Some kept.others else None
+
+abbrev pub others_beyond : Option Kept → Option ℕ
+others_beyond kept = option_and_then beyond_all kept
 
 -- the identifier of a PDO
 abbrev pub id_of : List ℕ → ℕ → ℕ

@@ -12,7 +12,9 @@ ghost use Rattle.cop_cert.specs.Sets.{IsStuckSet, IsGreatestStuckSet};
 ghost use Rattle.cop_cert.specs.Writable.{AreWritable};
 ghost use Rattle.cop_rta.specs.Test.{place_by_id};
 ghost use Rattle.cop_net.specs.Network.{Net, IsNetwork};
-ghost use Rattle.cop_plan.specs.Margins.{has_deadline, Leaves};
+ghost use Rattle.cop_plan.specs.Caps.{deadline_of, cap_of};
+ghost use Rattle.cop_plan.specs.Margins.{AreLoweredBy, has_deadline, Leaves};
+ghost use Rattle.cop_plan.specs.declared.choices.Kept.{Kept};
 ghost use Rattle.cop_plan.specs.Orders.{HasPdos, FramesPass, IsPlanOrder};
 ghost use Rattle.cop_plan.specs.Plans.{IsOutcome, IsPlan, IsChosenBy, AreAllRefused};
 ghost use Rattle.cop_plan.specs.declared.choices.Choice.{Choice};
@@ -89,9 +91,15 @@ pub fn refusals_are_writable()
         → AreAllRefused rates streams pdos refusals → AreWritable refusals }
 {}
 
-/// Of a network's plan by the greatest margin, some PDO or SDO frame has exactly the margin left: its greatest response is so many ticks before
-/// its deadline.
+/// A cap costs nobody anything: whatever deadlines are lowered by, no assignment passes where one is lowered by more than its stream's cap.
+pub fn no_assignment_leaves_more_than_a_cap()
+    ensures { (amount : ℕ → ℕ) (rate : Rate) (streams lowered : List Stream) (pdos : ℕ) (ids : ℕ → ℕ) (k d : ℕ)
+        → AreLoweredBy amount streams lowered → IsPassing rate lowered pdos ids → deadline_of streams k ≡ Some d → amount k ≤ cap_of rate streams pdos k }
+{}
+
+/// Of a network's plan by the greatest margin, some PDO or SDO frame has exactly the margin of all left: its greatest response is so many
+/// ticks before its deadline.
 pub fn one_keeps_no_more_than_the_margin()
-    ensures { (n : Net) (rates : List Rate) (plan : PlanValue) (margin : ℕ) → IsNetwork n → IsPlan rates n.set (length n.rows) plan → plan.margin ≡ Some margin → has_deadline n.set ≡ true
-        → (k : ℕ) × (k < length plan.streams) × Leaves (place_by_id plan.streams k plan.rate) margin }
+    ensures { (n : Net) (rates : List Rate) (plan : PlanValue) (kept : Kept) → IsNetwork n → IsPlan rates n.set (length n.rows) plan → plan.margin ≡ Some kept → has_deadline n.set ≡ true
+        → (k : ℕ) × (k < length plan.streams) × Leaves (place_by_id plan.streams k plan.rate) kept.all }
 {}

@@ -1,25 +1,25 @@
 //! Identifiers with the greatest least margin.
 
-ghost use Rattle.std.specs.Prelude.{◌≡◌, ◌↔◌, ℕ, ◌<◌, ◌≤◌, ◌+◌, ◌*◌, ◌^◌, true, false, List, Some, is_some, length, map, All, IfOk, IsTrue, MatchOption};
+ghost use Rattle.std.specs.Prelude.{◌≡◌, ◌↔◌, ℕ, ◌<◌, ◌≤◌, ◌+◌, ◌*◌, ◌^◌, true, false, List, Some, is_some, length, get_or, IfOk, IsTrue, MatchOption};
 ghost use Rattle.std.specs.Option.{ForSome};
 ghost use Rattle.cop_frame.specs.declared.rates.Rate.{Rate};
 ghost use Rattle.cop_rta.specs.Entries.{entry_of};
 ghost use Rattle.cop_rta.specs.declared.streams.Stream.{Stream};
 ghost use Rattle.cop_cert.specs.Assignments.{NoAssignmentPasses};
 ghost use Rattle.cop_plan.specs.Found.{IsFound, ArePlanned, ArePlannedWith, NoneFrom};
-ghost use Rattle.cop_plan.specs.Margins.{lower, AreLowered, has_deadline, IsGreatestMargin};
+ghost use Rattle.cop_plan.specs.Caps.{deadline_of, AreCaps, capped};
+ghost use Rattle.cop_plan.specs.Margins.{lower, AreLoweredBy, IsGreatestCapped};
 ghost use Rattle.cop_plan.specs.declared.choices.Choice.TheVariants.{Margin};
 ghost use Rattle.cop_plan.specs.Plans.{CanAssign, IsOutcome, IsPlan, IsChosenBy};
 
 use crate::assigning::{Found, Outcome, assign, at_rate};
+use crate::caps::{caps, greatest_of, least_of};
+use crate::choices::Kept;
 use crate::filling::Count;
 use crate::plans::{Plan, add, planned};
 use cop_frame::{Rate, RateSet};
 use cop_rta::{Stream, StreamSet};
 use std::alloc::{AllocError, Global};
-
-/// More ticks than any deadline has.
-const ABOVE_DEADLINES: u64 = 240_000_001;
 
 /// Fillings of the second range and of the first; that of the lowest place comes first.
 #[derive(Drop)]
@@ -28,40 +28,11 @@ struct Placing {
     upper: Vec<usize>,
 }
 
-/// The greatest margin that some assignment keeps, and the fillings that keep it; none where it is 0.
+/// The greatest margin that some assignment reaches, and the fillings that reach it; none where it is 0.
 #[derive(Drop)]
 struct Widest {
     margin: u64,
     placing: Option<Placing>,
-}
-
-/// Whether some stream has a deadline.
-fn is_some_deadline(streams: &[Stream]) -> bool
-    ensures { result ≡ has_deadline streams.now }
-{
-    streams.iter().any(|stream| stream.deadline.is_some())
-}
-
-/// Whether a deadline, if there is one, is above a margin.
-fn is_above(deadline: Option<u64>, margin: u64) -> bool
-    ensures { IsTrue result ↔ ForSome deadline (λ d. margin < d) }
-{
-    match deadline {
-        Some(ticks) => margin < ticks,
-        None => true,
-    }
-}
-
-/// Whether each deadline is above a margin.
-fn are_above(streams: &[Stream], margin: u64) -> bool
-    ensures { IsTrue result ↔ All (λ s. ForSome s.deadline (λ d. margin < d)) streams.now }
-{
-    for stream in streams {
-        if !is_above(stream.deadline, margin) {
-            return false;
-        }
-    }
-    true
 }
 
 /// The stream with a deadline of so many ticks less.
@@ -87,14 +58,20 @@ fn with_less(stream: &Stream, margin: u64) -> Stream
     }
 }
 
-/// The same streams with deadlines of so many ticks less.
-fn lowered(alloc: Global, set: &StreamSet, margin: u64) -> Result<StreamSet, AllocError>
-    requires { All (λ s. ForSome s.deadline (λ d. margin < d)) set.now }
-    ensures { IfOk result (AreLowered margin set.now) }
+/// The same streams with deadlines less by a margin or by the stream's cap.
+fn lowered(
+    alloc: Global,
+    set: &StreamSet,
+    caps: &[u64],
+    margin: u64,
+) -> Result<StreamSet, AllocError>
+    requires size { length caps.now ≡ length set.now }
+    requires above { (k d : ℕ) → deadline_of set.now k ≡ Some d → get_or caps.now k 0 < d }
+    ensures { IfOk result (AreLoweredBy (capped margin (λ k. get_or caps.now k 0)) set.now) }
 {
     let mut lowered = StreamSet::new(alloc);
-    for stream in set.streams() {
-        add(&mut lowered, with_less(stream, margin))?;
+    for (k, stream) in set.streams().iter().enumerate() {
+        add(&mut lowered, with_less(stream, margin.min(caps[k])))?;
     }
     Ok(lowered)
 }
@@ -110,16 +87,18 @@ fn placing_of(found: Found) -> Option<Placing>
     }
 }
 
-/// Fillings for deadlines of so many ticks less, where some assignment passes with them.
+/// Fillings for deadlines less by a margin or by the stream's cap, where some assignment passes with them.
 fn keeping(
     alloc: Global,
     set: &StreamSet,
     pdos: usize,
     rate: Rate,
+    caps: &[u64],
     margin: u64,
     count: &mut Count,
 ) -> Result<Option<Placing>, AllocError>
     requires can { CanAssign set.now pdos }
+    requires caps { AreCaps rate set.now pdos caps.now }
     requires room { count.old.trials ≤ 2 ^ 32 + 2 ^ 30 }
     requires busy_room { count.old.busy ≤ 2 ^ 32 + 2 ^ 30 }
     ensures rises { count.old.trials ≤ count.new.trials }
@@ -128,43 +107,38 @@ fn keeping(
     ensures busy { count.new.busy ≤ count.old.busy + 3 * pdos }
     ensures kept { IfOk result (λ kept. MatchOption kept (NoneFrom rate set.now pdos margin) (λ placing. ArePlannedWith margin rate set.now pdos placing.lower.items placing.upper.items)) }
 {
-    if !are_above(set.streams(), margin) {
-        return Ok(None);
-    }
-    let lowered = lowered(alloc, set, margin)?;
+    let lowered = lowered(alloc, set, caps, margin)?;
     let found = at_rate(alloc, &lowered, pdos, rate, count)?;
     Ok(placing_of(found))
 }
 
-/// The greatest margin that some assignment keeps at a rate, found by halving: the PDOs are placed at most 28 times, since no deadline
-/// has 2^28 ticks.
+/// The greatest margin that some assignment reaches at a rate, no deadline being lowered by more than the stream's cap. It is found by
+/// halving: the PDOs are placed at most 28 times, since no cap has 2^28 ticks.
 fn greatest_margin(
     alloc: Global,
     set: &StreamSet,
     pdos: usize,
     rate: Rate,
+    caps: &[u64],
     count: &mut Count,
 ) -> Result<Widest, AllocError>
     requires can { CanAssign set.now pdos }
+    requires caps { AreCaps rate set.now pdos caps.now }
     requires room { count.old.trials ≤ 2 ^ 32 + 2 ^ 29 }
     requires busy_room { count.old.busy ≤ 2 ^ 32 + 2 ^ 29 }
     ensures rises { count.old.trials ≤ count.new.trials }
     ensures trials { 2 * count.new.trials ≤ 2 * count.old.trials + 28 * (3 * (pdos * (pdos + 1))) }
     ensures busy_rises { count.old.busy ≤ count.new.busy }
     ensures busy { count.new.busy ≤ count.old.busy + 28 * (3 * pdos) }
-    ensures greatest { IfOk result (λ widest. IsGreatestMargin rate set.now pdos widest.margin) }
+    ensures greatest { IfOk result (λ widest. IsGreatestCapped rate set.now pdos widest.margin) }
     ensures placing { IfOk result (λ widest. MatchOption widest.placing (widest.margin ≡ 0) (λ placing. ArePlannedWith widest.margin rate set.now pdos placing.lower.items placing.upper.items)) }
 {
     let mut margin = 0;
     let mut placing = None;
-    let mut above = if is_some_deadline(set.streams()) {
-        ABOVE_DEADLINES
-    } else {
-        1
-    };
+    let mut above = greatest_of(caps) + 1;
     while above - margin > 1 {
         let middle = margin + (above - margin) / 2;
-        match keeping(alloc, set, pdos, rate, middle, count)? {
+        match keeping(alloc, set, pdos, rate, caps, middle, count)? {
             Some(kept) => {
                 margin = middle;
                 placing = Some(kept);
@@ -175,7 +149,7 @@ fn greatest_margin(
     Ok(Widest { margin, placing })
 }
 
-/// The plan at the same rate whose identifiers keep the greatest margin.
+/// The plan at the same rate whose identifiers reach the greatest margin.
 fn widened(
     alloc: Global,
     set: &StreamSet,
@@ -193,7 +167,13 @@ fn widened(
     ensures wider { (rates : List Rate) → IsPlan rates set.now pdos plan → is_some plan.margin ≡ false → IfOk result (λ wider. IsPlan rates set.now pdos wider × (is_some wider.margin ≡ true)) }
 {
     let rate = plan.rate();
-    let Widest { margin, placing } = greatest_margin(alloc, set, pdos, rate, count)?;
+    let caps = caps(alloc, set, pdos, rate)?;
+    let Widest { margin, placing } = greatest_margin(alloc, set, pdos, rate, &caps, count)?;
+    let all = least_of(set.streams(), &caps, margin);
+    let kept = Kept {
+        all,
+        others: margin,
+    };
     match placing {
         Some(placing) => planned(
             alloc,
@@ -202,19 +182,20 @@ fn widened(
             rate,
             &placing.lower,
             &placing.upper,
-            Some(margin),
+            Some(kept),
             plan.into_refusals(),
         ),
-        None => Ok(plan.keeping(margin)),
+        None => Ok(plan.keeping(kept)),
     }
 }
 
-/// What [`assign`](crate::assign) finds, but at the same rate the identifiers that keep the greatest margin: by so many ticks each
-/// deadline can be lowered, and each PDO and each SDO frame with a deadline still passes; with each lowered by more no assignment passes.
-/// `Err` is want of memory.
+/// What [`assign`](crate::assign) finds, but at the same rate the identifiers that reach the greatest margin: by so many ticks, or by
+/// what the stream can have at its best place if that is less, each deadline can be lowered, and each PDO and each SDO frame with a
+/// deadline still passes; with a greater margin no assignment passes. So one stream that can have little takes nothing from the others.
+/// The plan also tells the greatest margin by which all deadlines can be lowered. `Err` is want of memory.
 ///
 /// It makes the trials of [`assign`](crate::assign), and places the PDOs at most 28 times more, with 3n(n+1)/2 trials at most each time for n
-/// PDOs, and 3n busy times. It counts all of them.
+/// PDOs, and 3n busy times. It counts all of them, and not the verdicts on the best places, one for each stream with a deadline.
 pub fn assign_with_margin(
     alloc: Global,
     set: &StreamSet,

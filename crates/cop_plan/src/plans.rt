@@ -1,16 +1,17 @@
 //! Plans: a rate, and identifiers for the PDOs.
 
-ghost use Rattle.std.specs.Prelude.{◌≡◌, ◌≢◌, Some, unwrap_or, ℕ, ◌+◌, ◌<◌, ◌≤◌, ◌∷◌, [], ◌++◌, false, length, reverse, get_or, IfOk, OnOk, All, AllPairs};
+ghost use Rattle.std.specs.Prelude.{◌≡◌, ◌≢◌, Some, option_map, ℕ, ◌+◌, ◌<◌, ◌≤◌, ◌∷◌, [], ◌++◌, false, length, reverse, get_or, IfOk, OnOk, All, AllPairs};
 ghost use Rattle.cop_rta.specs.declared.streams.Stream.{Stream};
 ghost use Rattle.cop_rta.specs.Streams.{has_id};
 ghost use Rattle.cop_cert.specs.Assignments.{least_id, id_under, IsPassing};
 ghost use Rattle.cop_plan.specs.Fillings.{ArePlaced, ids_in_ranges};
-ghost use Rattle.cop_plan.specs.Margins.{IsOrderWith};
+ghost use Rattle.cop_plan.specs.Margins.{IsOrderTo, others_of};
 ghost use Rattle.cop_plan.specs.Orders.{IsByPriority, id_at_place};
 ghost use Rattle.cop_plan.specs.Planned.{IsPlanned};
 ghost use Rattle.cop_plan.specs.Plans.{CanAssign};
-ghost use Rattle.cop_plan.specs.Values.{id_of, timing_of, HaveIds, AreOnTime, HasTested};
+ghost use Rattle.cop_plan.specs.Values.{id_of, others_beyond, timing_of, HaveIds, AreOnTime, HasTested};
 
+use crate::choices::Kept;
 use cop_cert::{Items, Refusal};
 use cop_frame::Rate;
 use cop_rta::{IdRange, SetFault, Stream, StreamSet};
@@ -25,7 +26,7 @@ pub struct Plan {
     rate: Rate,
     order: Items<usize>,
     ids: Items<u16>,
-    margin: Option<u64>,
+    margin: Option<Kept>,
     refusals: Items<Refusal>,
     streams: StreamSet,
 }
@@ -66,11 +67,22 @@ impl Plan {
     }
 
     /// The greatest number of ticks by which each deadline can be lowered so that some assignment still passes at the rate, where the
-    /// identifiers were chosen by it: they pass with deadlines so lowered.
+    /// identifiers were chosen by margin: they pass with deadlines so lowered.
     pub fn margin(&self) -> Option<u64>
-        ensures { result ≡ self.now.margin }
+        ensures { result ≡ option_map (λ kept. kept.all) self.now.margin }
     {
-        self.margin
+        self.margin.map(|kept| kept.all)
+    }
+
+    /// The greatest number of ticks by which deadlines can be lowered, where none is lowered by more than its stream can have at its best
+    /// place, if that is more than the margin of all. The identifiers, which were chosen by it, pass with deadlines so lowered.
+    pub fn others(&self) -> Option<u64>
+        ensures { result ≡ others_beyond self.now.margin }
+    {
+        match self.margin {
+            Some(kept) => kept.beyond(),
+            None => None,
+        }
     }
 
     /// The refusals of the slower candidates, by rising rate.
@@ -90,8 +102,8 @@ impl Plan {
     }
 
     /// The same plan, whose identifiers are also those of a margin.
-    pub(crate) fn keeping(self, margin: u64) -> Plan
-        ensures margin { result.margin ≡ Some margin }
+    pub(crate) fn keeping(self, kept: Kept) -> Plan
+        ensures margin { result.margin ≡ Some kept }
         ensures rate { result.rate ≡ self.rate }
         ensures order { result.order ≡ self.order }
         ensures ids { result.ids ≡ self.ids }
@@ -110,7 +122,7 @@ impl Plan {
             rate,
             order,
             ids,
-            margin: Some(margin),
+            margin: Some(kept),
             refusals,
             streams,
         }
@@ -236,7 +248,7 @@ fn renamed(alloc: Global, set: &StreamSet, ids: &[u16]) -> Result<StreamSet, All
     Ok(renamed)
 }
 
-/// The plan of two fillings, of the second range and of the first, which were made for deadlines lowered by a margin, where there is
+/// The plan of two fillings, of the second range and of the first, which were made for deadlines lowered to a margin, where there is
 /// one. The first `pdos` streams are the PDOs.
 pub(crate) fn planned(
     alloc: Global,
@@ -245,19 +257,19 @@ pub(crate) fn planned(
     rate: Rate,
     lower: &[usize],
     upper: &[usize],
-    margin: Option<u64>,
+    margin: Option<Kept>,
     refusals: Items<Refusal>,
 ) -> Result<Plan, AllocError>
     requires can { CanAssign set.now pdos }
     requires placed { ArePlaced pdos lower.now upper.now }
-    requires order { IsOrderWith (unwrap_or margin 0) rate set.now pdos (ids_in_ranges lower.now upper.now) }
+    requires order { IsOrderTo (others_of margin) rate set.now pdos (ids_in_ranges lower.now upper.now) }
     requires tested { 1 ≤ length lower.now → HasTested set.now pdos }
     ensures rate { IfOk result (λ plan. plan.rate ≡ rate) }
     ensures margin { IfOk result (λ plan. plan.margin ≡ margin) }
     ensures refusals { IfOk result (λ plan. plan.refusals ≡ refusals) }
     ensures count { IfOk result (λ plan. length plan.ids ≡ pdos) }
     ensures passing { IfOk result (λ plan. IsPassing rate set.now pdos (id_of plan.ids)) }
-    ensures order { IfOk result (λ plan. IsOrderWith (unwrap_or margin 0) rate set.now pdos (id_of plan.ids)) }
+    ensures order { IfOk result (λ plan. IsOrderTo (others_of margin) rate set.now pdos (id_of plan.ids)) }
     ensures by_priority { IfOk result (λ plan. IsByPriority pdos (id_of plan.ids) plan.order) }
     ensures renamed { IfOk result (λ plan. HaveIds set.now pdos (id_of plan.ids) plan.streams) }
 {

@@ -23,13 +23,13 @@ word_at words i = slice_index_or words i []
 abbrev pub takes_network : List ℕ → Bool
 takes_network w =
     (bytes_eq w (codes "plan") || (bytes_eq w (codes "check") || (bytes_eq w (codes "report") || bytes_eq w (codes "export"))))
-    || (bytes_eq w (codes "boot") || (bytes_eq w (codes "run") || (bytes_eq w (codes "judge") || bytes_eq w (codes "watch"))))
+    || (bytes_eq w (codes "boot") || (bytes_eq w (codes "run") || (bytes_eq w (codes "judge") || (bytes_eq w (codes "watch") || bytes_eq w (codes "room")))))
 
 -- the options that have no value
 abbrev pub is_flag : List ℕ → Bool
 is_flag w =
     (bytes_eq w (codes "--explain") || (bytes_eq w (codes "--json") || (bytes_eq w (codes "--strict") || bytes_eq w (codes "--margin"))))
-    || ((bytes_eq w (codes "--take-over") || (bytes_eq w (codes "--no-identity") || (bytes_eq w (codes "--no-start") || bytes_eq w (codes "--store"))))
+    || ((bytes_eq w (codes "--take-over") || (bytes_eq w (codes "--no-identity") || (bytes_eq w (codes "--no-start") || (bytes_eq w (codes "--store") || bytes_eq w (codes "--restore")))))
     || (bytes_eq w (codes "--delta") || (bytes_eq w (codes "--help") || bytes_eq w (codes "--version"))))
 
 -- an option whose value is the next word

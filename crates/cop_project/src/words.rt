@@ -20,7 +20,7 @@ fn takes_network(command: &str) -> bool
     let is_planned = command == "plan"
         || (command == "check" || (command == "report" || command == "export"));
     let is_run = command == "boot"
-        || (command == "run" || (command == "judge" || command == "watch"));
+        || (command == "run" || (command == "judge" || (command == "watch" || command == "room")));
     is_planned || is_run
 }
 
@@ -31,7 +31,8 @@ fn is_flag(word: &str) -> bool
     let is_told = word == "--explain"
         || (word == "--json" || (word == "--strict" || word == "--margin"));
     let is_boot = word == "--take-over"
-        || (word == "--no-identity" || (word == "--no-start" || word == "--store"));
+        || (word == "--no-identity"
+            || (word == "--no-start" || (word == "--store" || word == "--restore")));
     is_told || (is_boot || (word == "--delta" || (word == "--help" || word == "--version")))
 }
 

@@ -241,7 +241,20 @@ No other identifiers at this rate leave all of them more. These have no more tha
     )?;
     push_limiting_pdos(page, report.network, report.figures, ticks)?;
     push_limiting_frames(page, report.network, report.figures, ticks)?;
-    page.push_str("</ul>\n")
+    page.push_str("</ul>\n")?;
+    push_others(page, plan.others())
+}
+
+/// Adds what is kept by those deadlines that can have more, in ticks, if that is more.
+fn push_others(page: &mut String, others: Option<u64>) -> Result<(), AllocError> {
+    let Some(ticks) = others else {
+        return Ok(());
+    };
+    let others = Micros(ticks);
+    write!(
+        page,
+        "<p>Each of the others keeps at least {others} µs, or as much as any identifiers at this rate leave it.</p>\n"
+    )
 }
 
 /// Adds the sections that a plan alone has.

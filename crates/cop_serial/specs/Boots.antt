@@ -8,7 +8,7 @@ use Rattle.cop_commission.specs.declared.commissioning.Watch.{Watch}
 use Rattle.cop_commission.specs.declared.commissioning.Watch.TheVariants.{Never, OnceEach, For}
 use Rattle.cop_commission.specs.declared.commissioning.Approach.{Approach}
 use Rattle.cop_commission.specs.declared.commissioning.Commissioned.{Commissioned}
-use Rattle.cop_commission.specs.declared.commissioning.Commissioned.TheVariants.{Ended, Running, Garbled, Erroneous, Unopened, Others, Absent, NonePasses, Failed}
+use Rattle.cop_commission.specs.declared.commissioning.Commissioned.TheVariants.{Ended, Running, Garbled, Erroneous, Unopened, Others, Unrestored, Absent, NonePasses, Failed}
 
 -- the ticks of so many seconds, at most 2^64 - 1
 abbrev pub ticks_of_seconds : ℕ → ℕ
@@ -26,6 +26,7 @@ approach_of order = record {
   identify = order.identify;
   reach = record { only = order.only; start = order.start };
   boot_limit = ticks_of_seconds order.boot_limit;
+  restore = order.restore;
   store = order.store;
   watch = watch_of order.watch;
 }
@@ -35,6 +36,7 @@ approach_of order = record {
 abbrev pub status_of : Commissioned → Option ℕ
 status_of (Ended answer ready started operational at) = Some (if ready && operational then 0 else 3)
 status_of (Others answer all) = Some 3
+status_of (Unrestored answer) = Some 3
 status_of NonePasses = Some 4
 status_of (Running runner) = None
 status_of (Garbled lines) = None
@@ -52,6 +54,7 @@ refused_as only (Garbled lines) = Some (Refused 103 lines)
 refused_as only (Unopened command at) = Some (Refused 104 0)
 refused_as only (Ended answer ready started operational at) = None
 refused_as only (Others answer all) = None
+refused_as only (Unrestored answer) = None
 refused_as only NonePasses = None
 refused_as only (Failed answer) = None
 

@@ -205,6 +205,10 @@ fn boot_failure(
     Ok(failure)
 }
 
+/// What is said where a device did not go back to the values that it left the factory with.
+const UNRESTORED: &[u8] =
+    b"canplan: a device did not take 'load' at 1011h sub 1, so nothing else was sent to any; without --restore the boot begins with the values that the devices have\n";
+
 /// Tells what came of a boot, and gives its status: 3 if some node is not ready, or was not heard to be operational.
 fn tell_ended(
     rt: &HostRuntime,
@@ -232,6 +236,11 @@ fn tell_ended(
         Commissioned::Others { answer, exchanges } => {
             answer_in(rt, name, form, Some(answer))?;
             say(rt, &identity_notes(rt.alloc(), exchanges)?);
+            Ok(3)
+        }
+        Commissioned::Unrestored { answer } => {
+            answer_in(rt, name, form, Some(answer))?;
+            say(rt, UNRESTORED);
             Ok(3)
         }
         Commissioned::Running { runner } => Err(running_refusal(rt, *runner)),
@@ -280,6 +289,7 @@ fn approach_of(order: MachineOrder<'_>) -> Approach
             start: order.start,
         },
         boot_limit: order.boot_limit.saturating_mul(SECOND),
+        restore: order.restore,
         store: order.store,
         watch: watch_of(order.watch),
     }

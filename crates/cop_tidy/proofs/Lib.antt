@@ -1,4 +1,6 @@
 pub mod AcceptedLemmas
+pub mod TakenLemmas
+pub mod KeptLemmas
 pub mod LineLemmas
 pub mod LoopLemmas
 pub mod MeantLemmas

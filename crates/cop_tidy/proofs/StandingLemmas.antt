@@ -1,5 +1,5 @@
 -- What follows where nothing stands against a text.
-use Rattle.std.proofs.Common.{◌≡◌, ◌↔◌, inl, inr, ℕ, ◌≤◌, Bool, true, false, cond, true≢false, List, Option, Some, None, Result, Ok, Err, IsOk, IsTrue, IfOk, IfSome, refl, sym, subst, ◌∙◌, arith, All}
+use Rattle.std.proofs.Common.{◌≡◌, ◌↔◌, inl, inr, ℕ, ◌≤◌, Bool, true, false, cond, true≢false, List, Option, Some, None, Result, Ok, Err, IsOk, IsTrue, IfOk, IfSome, refl, ap, sym, subst, ◌∙◌, arith, All}
 use Rattle.std.specs.List.{list_all}
 use Rattle.std.specs.Option.{option_map, option_or}
 use Rattle.std.proofs.lemmas.List.Sums.{AllPass-from_list_all, list_all-from_AllPass}
@@ -15,12 +15,12 @@ use Rattle.cop_hazard.specs.declared.hazards.Hazard.{Hazard}
 use Rattle.cop_hazard.specs.declared.tests.Test.TheVariants as tests
 use Rattle.cop_hazard.specs.Compact.{implicit_line}
 use Rattle.cop_hazard.specs.Hazards.{first_line, unlisted_line, beyond_line, hazard_at, hazard_of}
-use Rattle.cop_tidy.specs.declared.fault.TidyFault.{TidyFault}
 use Rattle.cop_tidy.specs.declared.judging.Left.{Left}
-use Rattle.cop_tidy.specs.declared.tidying.Tidied.{Tidied}
 use Rattle.cop_tidy.specs.Accepted.{IsAccepted}
 use Rattle.cop_tidy.specs.Identified.{identified, IsIdentified, AreIdentified}
-use Rattle.cop_tidy.specs.Standing.{is_leaving, left_of, left_at, unidentified, standing_built, standing_read, standing, misread, IsFound, Stands}
+use Rattle.cop_tidy.specs.Standing.{is_leaving, left_of, left_at, unidentified, AreRefused, standing_built, standing_read, standing, misread, IsFound, Stands, IsTold}
+use Rattle.cop_tidy.specs.Taken.{IsTaken}
+use Rattle.cop_tidy.specs.declared.taking.Taken.{Taken}
 use Rattle.cop_tidy.specs.Meant.{IsOf, IsMeant}
 use Rattle.cop_tidy.proofs.AcceptedLemmas.{read_as_itself}
 
@@ -144,22 +144,15 @@ pub hazards_alone : (words : Words) (text : List ℕ) → IsAccepted text → If
 unfolding standing
 hazards_alone words text a = rw a.read (hazards_built (is_leaving words) text (built text 1) (built text 127) a.first a.last)
 
--- the same of what is found
-hazard_left : (words : Words) (text : List ℕ) (device : Meaning) (left : Left) → IsFound (standing words text) (IsOf text device) (Some left) → IsAccepted text → 80 ≤ left.number
-hazard_left words text device left (inl e) a = subst (λ (o : Option Left). IfSome o (λ left. 80 ≤ left.number)) e (hazards_alone words text a)
-hazard_left words text device left (inr h) a = subst (λ (l : Left). 80 ≤ l.number) (sym h.1.0) (omega arith)
+-- the same of what is told
+hazard_left : (words : Words) (text result : List ℕ) (left : Left) → IsTold words text result (Some left) → IsAccepted text → 80 ≤ left.number
+hazard_left words text result left (inl (inl e, keeps)) a = subst (λ (o : Option Left). IfSome o (λ left. 80 ≤ left.number)) e (hazards_alone words text a)
+hazard_left words text result left (inl (inr h, keeps)) a = subst (λ (l : Left). 80 ≤ l.number) (sym h.1.0) (omega arith)
+hazard_left words text result left (inr h) a = let e = h.0 in let same : misread ≡ left = cc in subst (λ (l : Left). 80 ≤ l.number) same (omega arith)
 
-some_hazard : (words : Words) (text : List ℕ) (device : Meaning) (left : Left) (found : Option Left) → IsFound (standing words text) (IsOf text device) (Some left) → found ≡ Some left
-    → IfSome found (λ left. IsAccepted text → 80 ≤ left.number)
-some_hazard words text device left found h e =
-    subst (λ (o : Option Left). IfSome o (λ left. IsAccepted text → 80 ≤ left.number)) (sym e) (hazard_left words text device left h)
-
-pub found_hazard : (words : Words) (text : List ℕ) (device : Meaning) (left : Left) (some : Option Left) (result : Result Tidied TidyFault)
-    → IsFound (standing words text) (IsOf text device) some → some ≡ Some left → IfOk result (λ t. t.found ≡ Some left)
-    → IfOk result (λ t. IfSome t.found (λ left. IsAccepted text → 80 ≤ left.number))
-found_hazard words text device left some (Err fault) h is e = tt
-found_hazard words text device left some (Ok t) h is e =
-    some_hazard words text device left t.found (subst (λ (o : Option Left). IsFound (standing words text) (IsOf text device) o) is h) e
+pub told_hazard : (words : Words) (text result : List ℕ) (found : Option Left) → IsTold words text result found → IfSome found (λ left. IsAccepted text → 80 ≤ left.number)
+told_hazard words text result None h = tt
+told_hazard words text result (Some left) h = hazard_left words text result left h
 
 -- ---- what is found, step by step
 
@@ -174,18 +167,27 @@ pub found_misread : (stands : Option Left) (text : List ℕ) (device : Meaning) 
 found_misread stands text device b e h none = inr (sym e, (refl, λ is. absurd (true≢false (sym (h.1 is) ∙ none))))
 
 -- of a text that is read
-pub found_first : (is_left : Bool) (text : List ℕ) (device : Meaning) (last : Result (List Entry) Refusal) (refusal : Refusal) → built text 1 ≡ Err refusal
-    → IsFound (standing_built is_left text (built text 1) last) (IsOf text device) (Some (left_of refusal))
-found_first is_left text device last refusal e = inl (rw e refl)
-
-pub found_last : (is_left : Bool) (text : List ℕ) (device : Meaning) (first : List Entry) (refusal : Refusal) → built text 1 ≡ Ok first → built text 127 ≡ Err refusal
+pub found_refusal : (is_left : Bool) (text : List ℕ) (device : Meaning) (refusal : Refusal) → AreRefused (built text 1) (built text 127) refusal
     → IsFound (standing_built is_left text (built text 1) (built text 127)) (IsOf text device) (Some (left_of refusal))
-found_last is_left text device first refusal e f = inl (rw (e, f) refl)
+found_refusal is_left text device refusal h = by_both (built text 1) (built text 127) h
+  where
+    by_both : (first last : Result (List Entry) Refusal) → AreRefused first last refusal → IsFound (standing_built is_left text first last) (IsOf text device) (Some (left_of refusal))
+    by_both (Err e) last h = inl (ap (λ (r : Refusal). Some (left_of r)) h)
+    by_both (Ok first) (Err e) h = inl (ap (λ (r : Refusal). Some (left_of r)) h)
+    by_both (Ok first) (Ok last) h = absurd (h tt)
 
-pub found_by : (is_left : Bool) (text : List ℕ) (device : Meaning) (first last : List Entry) (found : Option Left) → built text 1 ≡ Ok first → built text 127 ≡ Ok last
-    → IsFound (standing_built is_left text (Ok first) (Ok last)) (IsOf text device) found
+pub not_built : (text : List ℕ) (refusal : Refusal) → AreRefused (built text 1) (built text 127) refusal → IsAccepted text → ⊥
+not_built text refusal h a = by_both (built text 1) (built text 127) h a.first a.last
+  where
+    by_both : (first last : Result (List Entry) Refusal) → AreRefused first last refusal → IsOk first → IsOk last → ⊥
+    by_both (Err e) last h f l = cc
+    by_both (Ok first) (Err e) h f l = cc
+    by_both (Ok first) (Ok last) h f l = h tt
+
+pub found_by : (is_left : Bool) (text : List ℕ) (device : Meaning) (taken : Taken) (found : Option Left) → IsTaken text taken
+    → IsFound (standing_built is_left text (Ok taken.first) (Ok taken.last)) (IsOf text device) found
     → IsFound (standing_built is_left text (built text 1) (built text 127)) (IsOf text device) found
-found_by is_left text device first last found e f h = rw (e, f) h
+found_by is_left text device taken found t h = rw (t.first, t.last) h
 
 -- of any text
 as_read : (words : Words) (text : List ℕ) → reading text ≡ Ok text → standing words text ≡ standing_built (is_leaving words) text (built text 1) (built text 127)
@@ -235,3 +237,36 @@ never_none stands Means left (inr h) none = h.1.1 none.1
 pub none_against : (words : Words) (text : List ℕ) → IsAccepted text → hazard_of (is_leaving words) text ≡ None → AreIdentified 1 text → AreIdentified 127 text
     → IsMeant words text text → Stands words text None
 none_against words text a h f l m = (none_stands words text a h f l, m)
+
+-- ---- what is taken of a text, by the strict reading of it
+
+pub taken_in : (text x : List ℕ) (taken : Taken) → reading text ≡ Ok x → IsTaken x taken → IsTaken text taken
+taken_in text x taken e h = subst (λ (t : List ℕ). IsTaken t taken) (read_as_itself text x e) h
+
+pub own_in : (text x : List ℕ) (own : Meaning) → reading text ≡ Ok x → IsOf x own → IsOf text own
+own_in text x own e h = subst (λ (t : List ℕ). IsOf t own) (read_as_itself text x e) h
+
+pub accepted_in : (text x : List ℕ) (taken : Taken) → reading text ≡ Ok x → IsTaken x taken → IsAccepted text
+accepted_in text x taken e h =
+    let t = taken_in text x taken e h in
+    record {
+      read = subst (λ (t : List ℕ). reading text ≡ Ok t) (read_as_itself text x e) e;
+      first = is_built 1 text taken.first t.first;
+      last = is_built 127 text taken.last t.last;
+    }
+
+pub not_taken_in : (text x : List ℕ) → reading text ≡ Ok x → (IsAccepted x → ⊥) → IsAccepted text → ⊥
+not_taken_in text x e not a = not (subst (λ (t : List ℕ). IsAccepted t) (sym (read_as_itself text x e)) a)
+
+pub not_read : (text : List ℕ) (refusal : Refusal) → reading text ≡ Err refusal → IsAccepted text → ⊥
+not_read text refusal e a = absurd (let r = a.read in cc)
+
+-- nothing stands against a text that is of the device that it is read as
+pub stands_by : (words : Words) (text : List ℕ) (device own : Meaning) → loosely text words ≡ Ok own → IsFound (standing words text) (IsOf text device) None → IsOf text own
+    → Stands words text None
+stands_by words text device own read h is = (h.0, record { device = own; read = read; same = is })
+
+pub settled_in : (words : Words) (text x : List ℕ) (device : Meaning) (r : Result Taken Left) → reading text ≡ Ok x
+    → IfOk r (λ _. IsFound (standing_built (is_leaving words) x (built x 1) (built x 127)) (IsOf x device) None) → IfOk r (λ _. IsFound (standing words text) (IsOf text device) None)
+settled_in words text x device (Ok taken) e h = found_in words text x device None e h
+settled_in words text x device (Err left) e h = tt

@@ -15,6 +15,8 @@ use Rattle.cop_tidy_reading.specs.declared.words.Words.{Words}
 use Rattle.cop_tidy.specs.declared.judging.Left.{Left}
 use Rattle.cop_tidy.specs.Identified.{identified}
 use Rattle.cop_tidy.specs.Meant.{IsMeant}
+use Rattle.cop_tidy.specs.declared.taking.Taken.{Taken}
+use Rattle.cop_tidy.specs.Kept.{AreAllKept, Keeps}
 
 -- the choice is made to leave sections of PDOs as they are that no list names
 abbrev pub is_leave : Option Unlisted → Bool
@@ -47,6 +49,12 @@ abbrev pub standing_read : Bool → List ℕ → Result (List ℕ) Refusal → O
 standing_read is_left text (Err refusal) = Some (left_of refusal)
 standing_read is_left text (Ok same) = standing_built is_left text (built text 1) (built text 127)
 
+-- a refusal of the first dictionary, or else of the last one
+abbrev pub AreRefused : Result (List Entry) Refusal → Result (List Entry) Refusal → Refusal → Type 0
+AreRefused (Err e) last refusal = e ≡ refusal
+AreRefused (Ok first) (Err e) refusal = e ≡ refusal
+AreRefused (Ok first) (Ok last) refusal = Unit {0} → ⊥
+
 -- what stands against a text by itself, where these choices are made; nothing against one that is accepted and has no hazard
 unfoldable pub standing : Words → List ℕ → Option Left
 standing words text = standing_read (is_leaving words) text (reading text)
@@ -64,3 +72,13 @@ IsFound stands Means (Some left) = (stands ≡ Some left) ⊎ ((stands ≡ None)
 -- this is what stands against a text, where these choices are made
 abbrev pub Stands : Words → List ℕ → Option Left → Type 0
 Stands words text found = IsFound (standing words text) (IsMeant words text text) found
+
+-- What is told of a text that came to a result: what stands against it; or, where it is accepted and an object or the rates of it are others in
+-- the result, that it is misread.
+abbrev pub IsTold : Words → List ℕ → List ℕ → Option Left → Type 0
+IsTold words text result found = (Stands words text found × Keeps text result) ⊎ ((found ≡ Some misread) × (Keeps text result → ⊥))
+
+-- the same where this was found, and this is taken of the text, where it is accepted, and of the result
+abbrev pub IsToldBy : Left → Option Taken → Taken → Left → Type 0
+IsToldBy found None after told = told ≡ found
+IsToldBy found (Some before) after told = (AreAllKept before after × (told ≡ found)) ⊎ ((AreAllKept before after → ⊥) × (told ≡ misread))

@@ -8,14 +8,14 @@ ghost use Rattle.cop_tidy.specs.Identified.{is_record, is_identifier, identified
 use cop_dict::{DataType, Dictionary, Object};
 
 /// Whether an index is of the communication record of a PDO.
-fn is_record(index: u16) -> bool
+pub(crate) fn is_record(index: u16) -> bool
     ensures { result ≡ is_record index }
 {
     matches!(index, 0x1400..=0x15FF | 0x1800..=0x19FF)
 }
 
 /// Whether an object has an UNSIGNED32 at sub 1.
-fn has_identifier(dict: &Dictionary, index: u16) -> bool
+pub(crate) fn has_identifier(dict: &Dictionary, index: u16) -> bool
     ensures { result ≡ is_identifier (entry_at dict.now index 1) }
 {
     match dict.entry(index, 1) {

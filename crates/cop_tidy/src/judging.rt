@@ -1,15 +1,18 @@
 //! What stands against a text.
 
-ghost use Rattle.std.specs.Prelude.{◌≡◌, None, Some, Ok, IfOk, IfErr};
+ghost use Rattle.std.specs.Prelude.{◌≡◌, None, Some, Ok, Err, IfOk, IfErr, IfSome, IfNone};
 ghost use Rattle.std.specs.Option.{option_map};
 ghost use Rattle.cop_dict.specs.Build.{built};
 ghost use Rattle.cop_hazard.specs.Hazards.{hazard_of};
+ghost use Rattle.cop_tidy.specs.Accepted.{IsAccepted};
 ghost use Rattle.cop_tidy.specs.Meant.{IsOf};
-ghost use Rattle.cop_tidy.specs.Standing.{is_leaving, left_at, left_of, standing, standing_built, unidentified, IsFound};
+ghost use Rattle.cop_tidy.specs.Standing.{is_leaving, left_at, left_of, misread, standing, standing_built, unidentified, IsFound};
+ghost use Rattle.cop_tidy.specs.Taken.{IsTaken};
 
 use crate::identifying::are_identified;
 use crate::meaning::is_of;
-use cop_dict::{Dictionary, build};
+use crate::taking::{Taken, taken_of};
+use cop_dict::Dictionary;
 use cop_eds::{Eds, EdsFault, Refusal, parse};
 use cop_hazard::first_hazard;
 use cop_tidy_device::Device;
@@ -24,6 +27,13 @@ pub struct Left {
     pub line: usize,
 }
 
+/// What is found against a text, and what the strict reading takes of it where it is accepted.
+#[derive(Drop)]
+pub struct Judged {
+    pub found: Option<Left>,
+    pub taken: Option<Taken>,
+}
+
 /// What a refusal of the strict reading leaves.
 fn left_of(refusal: Refusal) -> Left
     ensures { result ≡ left_of refusal }
@@ -31,22 +41,6 @@ fn left_of(refusal: Refusal) -> Left
     Left {
         number: refusal.rule.number(),
         line: refusal.line,
-    }
-}
-
-/// The dictionary of an accepted text for a node, or what stands against it.
-fn built_for(
-    alloc: Global,
-    eds: &Eds<'_>,
-    node: u8,
-) -> Result<Result<Dictionary, Refusal>, AllocError>
-    ensures ok { IfOk result (λ r. IfOk r (λ dict. built eds.now node ≡ Ok dict)) }
-    ensures err { IfOk result (λ r. IfErr r (λ refusal. built eds.now node ≡ Err refusal)) }
-{
-    match build(alloc, eds, node) {
-        Ok(dict) => Ok(Ok(dict)),
-        Err(EdsFault::Refused(refusal)) => Ok(Err(refusal)),
-        Err(EdsFault::Memory) => Err(AllocError),
     }
 }
 
@@ -84,18 +78,17 @@ fn unidentified(dict: &Dictionary) -> Option<Left>
     }
 }
 
-/// What stands against a text whose dictionaries for the first and for the last node are these.
-fn judged_built(
+/// What stands against an accepted text.
+fn standing_taken(
     alloc: Global,
     eds: &Eds<'_>,
-    first: &Dictionary,
-    last: &Dictionary,
+    taken: &Taken,
     words: &Words,
 ) -> Result<Option<Left>, AllocError>
-    ensures { IfOk result (λ found. found ≡ standing_built (is_leaving words.now) eds.now (Ok first.now) (Ok last.now)) }
+    ensures { IfOk result (λ found. found ≡ standing_built (is_leaving words.now) eds.now (Ok taken.now.first) (Ok taken.now.last)) }
 {
     let hazard = hazard_of(alloc, eds, words)?;
-    Ok(hazard.or(unidentified(first).or(unidentified(last))))
+    Ok(hazard.or(unidentified(&taken.first).or(unidentified(&taken.last))))
 }
 
 /// Hazard 84, at no line: the strict reading takes a text for another device than it describes.
@@ -104,25 +97,29 @@ const MISREAD: Left = Left {
     line: 0,
 };
 
-/// What is found against a text of which these are the dictionaries for the first and for the last node: what stands against it by itself, or that
-/// it is not of a device.
+/// Hazard 84, at no line.
+pub fn misread() -> Left
+    ensures { result ≡ misread }
+{
+    MISREAD
+}
+
+/// What is found against an accepted text: what stands against it by itself, or that it is not of a device.
 #[tactic(auto, using(crate::proofs::StandingLemmas::found_standing, crate::proofs::StandingLemmas::found_nothing, crate::proofs::StandingLemmas::found_misread))]
-fn found_built(
+fn found_taken(
     alloc: Global,
     eds: &Eds<'_>,
-    first: &Dictionary,
-    last: &Dictionary,
+    taken: &Taken,
     words: &Words,
     device: &Device,
 ) -> Result<Option<Left>, AllocError>
-    requires first { built eds.now 1 ≡ Ok first.now }
-    requires last { built eds.now 127 ≡ Ok last.now }
-    ensures { IfOk result (λ found. IsFound (standing_built (is_leaving words.now) eds.now (Ok first.now) (Ok last.now)) (IsOf eds.now device.now) found) }
+    requires { IsTaken eds.now taken.now }
+    ensures { IfOk result (λ found. IsFound (standing_built (is_leaving words.now) eds.now (Ok taken.now.first) (Ok taken.now.last)) (IsOf eds.now device.now) found) }
 {
-    if let Some(left) = judged_built(alloc, eds, first, last, words)? {
+    if let Some(left) = standing_taken(alloc, eds, taken, words)? {
         return Ok(Some(left));
     }
-    if is_of(alloc, eds, first, last, device)? {
+    if is_of(alloc, eds, taken, device)? {
         Ok(None)
     } else {
         Ok(Some(MISREAD))
@@ -130,39 +127,102 @@ fn found_built(
 }
 
 /// What is found against a text that is read.
-#[tactic(auto, using(crate::proofs::StandingLemmas::found_first, crate::proofs::StandingLemmas::found_last, crate::proofs::StandingLemmas::found_by))]
-fn found_read(
+#[tactic(auto, using(crate::proofs::StandingLemmas::found_refusal, crate::proofs::StandingLemmas::found_by, crate::proofs::StandingLemmas::not_built))]
+fn judged_read(
     alloc: Global,
     eds: &Eds<'_>,
     words: &Words,
     device: &Device,
-) -> Result<Option<Left>, AllocError>
-    ensures { IfOk result (λ found. IsFound (standing_built (is_leaving words.now) eds.now (built eds.now 1) (built eds.now 127)) (IsOf eds.now device.now) found) }
+) -> Result<Judged, AllocError>
+    ensures found { IfOk result (λ j. IsFound (standing_built (is_leaving words.now) eds.now (built eds.now 1) (built eds.now 127)) (IsOf eds.now device.now) j.found) }
+    ensures taken { IfOk result (λ j. IfSome j.taken (IsTaken eds.now)) }
+    ensures refused { IfOk result (λ j. IfNone j.taken (IsAccepted eds.now → ⊥)) }
 {
-    let first = match built_for(alloc, eds, 1)? {
-        Ok(dict) => dict,
-        Err(refusal) => return Ok(Some(left_of(refusal))),
-    };
-    let last = match built_for(alloc, eds, 127)? {
-        Ok(dict) => dict,
-        Err(refusal) => return Ok(Some(left_of(refusal))),
-    };
-    found_built(alloc, eds, &first, &last, words, device)
+    match taken_of(alloc, eds)? {
+        Ok(taken) => Ok(Judged {
+            found: found_taken(alloc, eds, &taken, words, device)?,
+            taken: Some(taken),
+        }),
+        Err(refusal) => Ok(Judged {
+            found: Some(left_of(refusal)),
+            taken: None,
+        }),
+    }
 }
 
 /// What is found against a text, by the strict reading of it: the first refusal or a hazard, else that it is not of a device. It is read once.
-#[tactic(auto, using(crate::proofs::AcceptedLemmas::read_as_itself, crate::proofs::StandingLemmas::found_in, crate::proofs::StandingLemmas::found_refused))]
-pub fn found_against(
+#[tactic(auto, using(crate::proofs::StandingLemmas::found_in, crate::proofs::StandingLemmas::found_refused, crate::proofs::StandingLemmas::taken_in, crate::proofs::StandingLemmas::accepted_in, crate::proofs::StandingLemmas::not_taken_in, crate::proofs::StandingLemmas::not_read))]
+pub fn judge(
     alloc: Global,
     text: &[u8],
     words: &Words,
     device: &Device,
-) -> Result<Option<Left>, AllocError>
-    ensures { IfOk result (λ found. IsFound (standing words.now text.now) (IsOf text.now device.now) found) }
+) -> Result<Judged, AllocError>
+    ensures found { IfOk result (λ j. IsFound (standing words.now text.now) (IsOf text.now device.now) j.found) }
+    ensures taken { IfOk result (λ j. IfSome j.taken (IsTaken text.now)) }
+    ensures accepted { IfOk result (λ j. IfSome j.taken (λ _. IsAccepted text.now)) }
+    ensures refused { IfOk result (λ j. IfNone j.taken (IsAccepted text.now → ⊥)) }
 {
     match parse(alloc, text) {
-        Ok(eds) => found_read(alloc, &eds, words, device),
-        Err(EdsFault::Refused(refusal)) => Ok(Some(left_of(refusal))),
+        Ok(eds) => {
+            let judged = judged_read(alloc, &eds, words, device)?;
+            Ok(judged)
+        }
+        Err(EdsFault::Refused(refusal)) => Ok(Judged {
+            found: Some(left_of(refusal)),
+            taken: None,
+        }),
+        Err(EdsFault::Memory) => Err(AllocError),
+    }
+}
+
+/// What is taken of a text against which nothing stands, that is of a device, and of its own; else what is found.
+#[tactic(auto, using(crate::proofs::StandingLemmas::found_by))]
+fn settled_read(
+    alloc: Global,
+    eds: &Eds<'_>,
+    words: &Words,
+    device: &Device,
+    own: &Device,
+) -> Result<Result<Taken, Left>, AllocError>
+    ensures taken { IfOk result (λ r. IfOk r (IsTaken eds.now)) }
+    ensures settled { IfOk result (λ r. IfOk r (λ _. IsFound (standing_built (is_leaving words.now) eds.now (built eds.now 1) (built eds.now 127)) (IsOf eds.now device.now) None)) }
+    ensures own { IfOk result (λ r. IfOk r (λ _. IsOf eds.now own.now)) }
+{
+    let taken = match taken_of(alloc, eds)? {
+        Ok(taken) => taken,
+        Err(refusal) => return Ok(Err(left_of(refusal))),
+    };
+    if let Some(left) = found_taken(alloc, eds, &taken, words, device)? {
+        return Ok(Err(left));
+    }
+    if is_of(alloc, eds, &taken, own)? {
+        Ok(Ok(taken))
+    } else {
+        Ok(Err(MISREAD))
+    }
+}
+
+/// What is taken of a text against which nothing stands, that is of a device, and of the one that it is read as itself; else what is found. It
+/// is read once.
+#[tactic(auto, using(crate::proofs::StandingLemmas::found_in, crate::proofs::StandingLemmas::taken_in, crate::proofs::StandingLemmas::own_in))]
+pub fn settled(
+    alloc: Global,
+    text: &[u8],
+    words: &Words,
+    device: &Device,
+    own: &Device,
+) -> Result<Result<Taken, Left>, AllocError>
+    ensures taken { IfOk result (λ r. IfOk r (IsTaken text.now)) }
+    ensures settled { IfOk result (λ r. IfOk r (λ _. IsFound (standing words.now text.now) (IsOf text.now device.now) None)) }
+    ensures own { IfOk result (λ r. IfOk r (λ _. IsOf text.now own.now)) }
+{
+    match parse(alloc, text) {
+        Ok(eds) => {
+            let settled = settled_read(alloc, &eds, words, device, own)?;
+            Ok(settled)
+        }
+        Err(EdsFault::Refused(refusal)) => Ok(Err(left_of(refusal))),
         Err(EdsFault::Memory) => Err(AllocError),
     }
 }

@@ -4,9 +4,11 @@
 mod fault;
 mod identifying;
 mod judging;
+mod keeping;
 mod laws;
 mod meaning;
 mod sparing;
+mod taking;
 mod telling;
 mod tidying;
 

@@ -5,11 +5,12 @@ ghost use Rattle.std.specs.List.{Contains};
 ghost use Rattle.std.specs.Ordering.{nat_cmp};
 ghost use Rattle.std.specs.BTreeSet.{contains};
 ghost use Rattle.cop_frame.specs.declared.rates.Rate.{Rate};
-ghost use Rattle.cop_dict.specs.Build.{built};
 ghost use Rattle.cop_hazard.specs.Listed.{is_listed};
 ghost use Rattle.cop_tidy_device.specs.Device.{dictionary_for};
+ghost use Rattle.cop_tidy.specs.Taken.{IsTaken};
 ghost use Rattle.cop_tidy.specs.Meant.{is_among, IsInBoth, HaveSameSlow, HaveSameFast, HasRates, HasLists, HasAll, IsOf};
 
+use crate::taking::Taken;
 use cop_dict::Dictionary;
 use cop_eds::Eds;
 use cop_frame::{Rate, RateSet};
@@ -76,7 +77,7 @@ fn have_same_by_name(left: &RateSet, right: &RateSet) -> bool
 }
 
 /// Whether two sets have the same rates.
-fn are_same_rates(left: &RateSet, right: &RateSet) -> bool
+pub fn are_same_rates(left: &RateSet, right: &RateSet) -> bool
     ensures { IsTrue result ↔ ((rate : Rate) → Contains left.now rate ↔ Contains right.now rate) }
 {
     have_same_by_name(left, right)
@@ -131,32 +132,28 @@ fn has_lists(alloc: Global, eds: &Eds<'_>, listed: &[u64]) -> Result<bool, Alloc
     Ok(are_listed_alike(&contents, &indexes))
 }
 
-/// Whether a text with these dictionaries has the rates and the lists of a device, and they are its dictionaries.
-fn has_all(
-    alloc: Global,
-    eds: &Eds<'_>,
-    first: &Dictionary,
-    last: &Dictionary,
-    device: &Device,
-) -> Result<bool, AllocError>
-    ensures { IfOk result (λ b. IsTrue b ↔ HasAll eds.now first.now last.now device.now) }
+/// Whether a text, of which this is taken, has the dictionaries, the rates and the lists of a device.
+fn has_all(alloc: Global, eds: &Eds<'_>, taken: &Taken, device: &Device) -> Result<bool, AllocError>
+    ensures { IfOk result (λ b. IsTrue b ↔ HasAll eds.now taken.now.first taken.now.last device.now) }
 {
     let has_lists = has_lists(alloc, eds, &device.listed)?;
-    Ok(has_dictionaries(first, last, device) && has_rates(eds, &device.rates) && has_lists)
+    Ok(
+        has_dictionaries(&taken.first, &taken.last, device)
+            && has_rates(eds, &device.rates)
+            && has_lists,
+    )
 }
 
-/// Whether the strict reading takes a text, of which these are the dictionaries for the first and for the last node, for a device.
+/// Whether the strict reading takes a text, of which this is taken, for a device.
 pub fn is_of(
     alloc: Global,
     eds: &Eds<'_>,
-    first: &Dictionary,
-    last: &Dictionary,
+    taken: &Taken,
     device: &Device,
 ) -> Result<bool, AllocError>
-    requires first { built eds.now 1 ≡ Ok first.now }
-    requires last { built eds.now 127 ≡ Ok last.now }
+    requires { IsTaken eds.now taken.now }
     ensures { IfOk result (λ b. IsTrue b ↔ IsOf eds.now device.now) }
 {
-    let has_all = has_all(alloc, eds, first, last, device)?;
+    let has_all = has_all(alloc, eds, taken, device)?;
     Ok(has_all)
 }

@@ -1,6 +1,7 @@
 //! A maker's text as one that the strict reading takes for the device that it describes.
 
-ghost use Rattle.std.specs.Prelude.{◌≡◌, ◌≤◌, ℕ, true, None, Some, All, IfOk, IfErr, IfSome, IsOk, IsSome, OnOk, vec_len};
+ghost use Rattle.std.specs.Prelude.{◌≡◌, ◌≤◌, ℕ, true, None, Some, Ok, All, IfOk, IfErr, IfSome, IfNone, IsOk, IsSome, OnOk, vec_len};
+ghost use Rattle.cop_tidy_reading.specs.Reading.{loosely};
 ghost use Rattle.cop_bytes.specs.Bytes.{prepared, text_changes};
 ghost use Rattle.cop_change.specs.Applied.{applied};
 ghost use Rattle.cop_change.specs.Told.{are_told};
@@ -10,11 +11,15 @@ ghost use Rattle.cop_tidy.specs.Fault.{IsRest, IsWhy};
 ghost use Rattle.cop_tidy.specs.Identified.{AreIdentified};
 ghost use Rattle.cop_tidy.specs.Meant.{IsMeant, IsOf};
 ghost use Rattle.cop_tidy.specs.Spared.{IsSparing};
-ghost use Rattle.cop_tidy.specs.Standing.{Stands, standing};
+ghost use Rattle.cop_tidy.specs.Kept.{KeepsRates, Stays};
+ghost use Rattle.cop_tidy.specs.Standing.{IsTold, IsToldBy, Stands, misread, standing};
+ghost use Rattle.cop_tidy.specs.Taken.{IsTaken};
 
 use crate::fault::{TidyFault, left};
-use crate::judging::{Left, found_against, number_left};
+use crate::judging::{Judged, Left, judge, misread, number_left, settled};
+use crate::keeping::are_all_kept;
 use crate::sparing::are_sparing;
+use crate::taking::Taken;
 use cop_bytes::{Readable, TextChange, prepared};
 use cop_change::{Change, applied, are_told};
 use cop_tidy_device::Device;
@@ -80,42 +85,57 @@ fn told_changes(alloc: Global, base: &[u8], words: &Words) -> Result<Vec<Change>
     }
 }
 
-/// Refuses a text against which something stands, or that is not of a device. It has come by these changes.
+/// The device that a result is read as, where it leaves nothing open: else it would not come back as it is.
+fn own_device(alloc: Global, new: &[u8], words: &Words) -> Result<Device, TidyFault>
+    ensures own { IfOk result (λ own. loosely new.now words.now ≡ Ok own) }
+    ensures rest { IfErr result IsRest }
+{
+    match loosely(alloc, new, words) {
+        Ok(own) => Ok(own),
+        Err(ReadingFault::Asked(_)) => Err(left(0, 0)),
+        Err(ReadingFault::Memory) => Err(TidyFault::Memory),
+    }
+}
+
+/// What is taken of a result. It is refused where something stands against it, and where it is not of a device, or is read as another one by
+/// itself. It has come by these changes.
+#[tactic(auto, using(crate::proofs::StandingLemmas::stands_by))]
 fn settle(
     alloc: Global,
     new: &[u8],
     words: &Words,
     device: &Device,
     changes: &[Change],
-) -> Result<(), TidyFault>
+) -> Result<Taken, TidyFault>
+    ensures taken { IfOk result (IsTaken new.now) }
     ensures settled { OnOk result (standing words.now new.now ≡ None) }
+    ensures alone { OnOk result (Stands words.now new.now None) }
     ensures same { OnOk result (IsOf new.now device.now) }
     ensures rest { IfErr result IsRest }
 {
-    match found_against(alloc, new, words, device)? {
-        None => Ok(()),
-        Some(found) => {
+    let own = own_device(alloc, new, words)?;
+    match settled(alloc, new, words, device, &own)? {
+        Ok(taken) => Ok(taken),
+        Err(found) => {
             let line = line_before(changes, found.line);
             Err(left(number_left(found), line))
         }
     }
 }
 
-/// Refuses a text that, under the choices that were made, is read as another device than it describes, or leaves something open: it would not come
-/// back as it is.
-#[tactic(auto, using(crate::proofs::StandingLemmas::stands_as))]
-fn stand_alone(alloc: Global, new: &[u8], words: &Words) -> Result<(), TidyFault>
-    ensures alone { OnOk result (Stands words.now new.now None) }
-    ensures rest { IfErr result IsRest }
+/// What is told of a text of which this was found and taken: that it is misread, where it does not stay as it is in what is taken of the result.
+fn told_of(found: Left, before: &Option<Taken>, after: &Taken) -> Left
+    ensures { IsToldBy found before.now after.now result }
 {
-    let device = match loosely(alloc, new, words) {
-        Ok(device) => device,
-        Err(ReadingFault::Asked(_)) => return Err(left(0, 0)),
-        Err(ReadingFault::Memory) => return Err(TidyFault::Memory),
-    };
-    match found_against(alloc, new, words, &device)? {
-        None => Ok(()),
-        Some(_) => Err(left(0, 0)),
+    match before {
+        Some(before) => {
+            if are_all_kept(before, after) {
+                found
+            } else {
+                misread()
+            }
+        }
+        None => found,
     }
 }
 
@@ -126,11 +146,17 @@ fn mended(
     words: &Words,
     device: &Device,
     found: Left,
+    before: &Option<Taken>,
 ) -> Result<Tidied, TidyFault>
+    requires found { Stands words.now source.now (Some found) }
+    requires taken { IfSome before.now (IsTaken source.now) }
+    requires accepted { IfSome before.now (λ _. IsAccepted source.now) }
+    requires refused { IfNone before.now (IsAccepted source.now → ⊥) }
     ensures settled { IfOk result (λ t. standing words.now t.text.items ≡ None) }
     ensures alone { IfOk result (λ t. Stands words.now t.text.items None) }
     ensures same_device { IfOk result (λ t. IsOf t.text.items device.now) }
-    ensures found { IfOk result (λ t. t.found ≡ Some found) }
+    ensures some { IfOk result (λ t. IsSome t.found) }
+    ensures found { IfOk result (λ t. IsTold words.now source.now t.text.items t.found) }
     ensures base { IfOk result (λ t. prepared source.now ≡ Some t.base.items) }
     ensures bytes { IfOk result (λ t. t.text_changes.items ≡ text_changes source.now) }
     ensures same { IfOk result (λ t. vec_len t.text_changes ≡ 0 → t.base.items ≡ source.now) }
@@ -145,14 +171,14 @@ fn mended(
     } = readable(alloc, source)?;
     let changes = told_changes(alloc, &base, words)?;
     let text = applied(alloc, &base, &changes)?;
-    settle(alloc, &text, words, device, &changes)?;
-    stand_alone(alloc, &text, words)?;
+    let after = settle(alloc, &text, words, device, &changes)?;
+    let told = told_of(found, before, &after);
     Ok(Tidied {
         text,
         text_changes,
         base,
         changes,
-        found: Some(found),
+        found: Some(told),
     })
 }
 
@@ -180,18 +206,22 @@ fn unchanged(alloc: Global, text: &[u8]) -> Result<Tidied, AllocError>
 /// A maker's text as one that the strict reading takes for the device that the maker described. A text against which nothing stands, and that means
 /// what it is read as, comes back byte for byte; else it is refused where it leaves something open, and its lines that nothing reads stand as they
 /// were.
-#[tactic(auto, using(crate::proofs::StandingLemmas::accepted_of, crate::proofs::EachNode::built_of, crate::proofs::EachNode::identified_of))]
+#[tactic(auto, using(crate::proofs::StandingLemmas::accepted_of, crate::proofs::StandingLemmas::stands_as, crate::proofs::StandingLemmas::told_hazard, crate::proofs::EachNode::built_of, crate::proofs::EachNode::identified_of, crate::proofs::KeptLemmas::told_same, crate::proofs::KeptLemmas::stays_told, crate::proofs::KeptLemmas::rates_told))]
 pub fn tidy(alloc: Global, text: &[u8], words: &Words) -> Result<Tidied, TidyFault>
     // The strict reading takes the result for the device that the text describes: its dictionary of each node, its rates and its lists.
     ensures meant { IfOk result (λ t. IsMeant words.now text.now t.text.items) }
 
     // What stood against the text, and that nothing stands against the result.
-    ensures found { IfOk result (λ t. Stands words.now text.now t.found) }
+    ensures found { IfOk result (λ t. IsTold words.now text.now t.text.items t.found) }
     ensures hazard { IfOk result (λ t. IfSome t.found (λ left. IsAccepted text.now → 80 ≤ left.number)) }
     ensures settled { IfOk result (λ t. standing words.now t.text.items ≡ None) }
     ensures alone { IfOk result (λ t. Stands words.now t.text.items None) }
     ensures accepted { IfOk result (λ t. IsAccepted t.text.items) }
     ensures built { IfOk result (λ t. (node : ℕ) → node ≤ 127 → IsOk (built t.text.items node)) }
+
+    // The objects of an accepted text stay as they are, as each node has them, and its rates, unless it is told that the text is misread.
+    ensures stays { IfOk result (λ t. (node : ℕ) → IsAccepted text.now → (t.found ≡ Some misread → ⊥) → Stays node text.now t.text.items) }
+    ensures rates { IfOk result (λ t. IsAccepted text.now → (t.found ≡ Some misread → ⊥) → KeepsRates text.now t.text.items) }
 
     // A text against which something stands is refused where it leaves a question open, or where no result was reached.
     ensures refused { IfErr result (IsWhy words.now text.now) }
@@ -215,8 +245,9 @@ pub fn tidy(alloc: Global, text: &[u8], words: &Words) -> Result<Tidied, TidyFau
     ensures no_text_changes { IfOk result (λ t. t.found ≡ None → vec_len t.text_changes ≡ 0) }
 {
     let device = loosely(alloc, text, words)?;
-    match found_against(alloc, text, words, &device)? {
-        Some(found) => mended(alloc, text, words, &device, found),
+    let Judged { found, taken } = judge(alloc, text, words, &device)?;
+    match found {
+        Some(found) => mended(alloc, text, words, &device, found, &taken),
         None => Ok(unchanged(alloc, text)?),
     }
 }

@@ -12,3 +12,4 @@ pub mod RepeatLemmas
 pub mod GatheringLemmas
 pub mod SubLemmas
 pub mod ReadingLemmas
+pub mod DescribedLemmas

@@ -1,7 +1,6 @@
 -- A text as its headers and keys.
-use Rattle.std.specs.Prelude.{ℕ, ◌+◌, ◌-◌, List, [], ◌∷◌, ◌++◌, length, take, drop, map, Option, Some, None, Result, Ok}
+use Rattle.std.specs.Prelude.{ℕ, ◌+◌, ◌-◌, List, [], ◌∷◌, ◌++◌, length, take, drop, map, Some, None, Result, Ok}
 use Rattle.cop_eds.specs.Text.{mark_len, cut, end_len}
-use Rattle.cop_tidy_lines.specs.declared.names.SectionName.{SectionName}
 use Rattle.cop_tidy_lines.specs.declared.kinds.LineKind.{LineKind}
 use Rattle.cop_tidy_lines.specs.declared.kinds.LineKind.TheVariants.{Silent, Header, Pair, Unknown}
 use Rattle.cop_tidy_lines.specs.Blanks.{loose_start}

@@ -15,3 +15,4 @@ pub mod Objects
 pub mod Values
 pub mod SeenValues
 pub mod Reading
+pub mod Described

@@ -6,7 +6,7 @@ use Rattle.cop_eds.specs.declared.amount.Amount.TheVariants as amounts
 use Rattle.cop_eds.specs.declared.description.Access.{Access}
 use Rattle.cop_eds.specs.declared.description.Access.TheVariants.{ReadOnly}
 use Rattle.cop_eds.specs.declared.description.ObjectType.{ObjectType}
-use Rattle.cop_eds.specs.declared.description.ObjectType.TheVariants.{Null, Domain, TypeDefinition, StructDefinition, Var, Array, Record}
+use Rattle.cop_eds.specs.declared.description.ObjectType.TheVariants.{Domain, Var, Array, Record}
 use Rattle.cop_eds.specs.Description.{holds_value, holds_subs}
 use Rattle.cop_dict.specs.declared.data_type.DataType.TheVariants.{Unsigned8}
 use Rattle.cop_dict.specs.Types.{type_numbered}
@@ -15,7 +15,7 @@ use Rattle.cop_tidy_lines.specs.declared.names.SectionName.TheVariants as names
 use Rattle.cop_tidy_lines.specs.declared.keys.Key.{Key}
 use Rattle.cop_tidy_lines.specs.declared.keys.Key.TheVariants as keys
 use Rattle.cop_tidy_lines.specs.declared.kinds.LineKind.{LineKind}
-use Rattle.cop_tidy_lines.specs.declared.kinds.LineKind.TheVariants.{Silent, Header, Pair, Unknown}
+use Rattle.cop_tidy_lines.specs.declared.kinds.LineKind.TheVariants.{Pair}
 use Rattle.cop_tidy_reading.specs.declared.question.About.{About}
 use Rattle.cop_tidy_reading.specs.declared.question.About.TheVariants as abouts
 use Rattle.cop_tidy_reading.specs.declared.question.Question.{Question}

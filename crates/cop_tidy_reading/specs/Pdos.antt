@@ -1,7 +1,7 @@
 -- PDOs that a device has by CompactPDO (CiA 306): those up to NrOfRXPDO and NrOfTXPDO that no list names.
-use Rattle.std.specs.Prelude.{ℕ, ◌+◌, ◌-◌, ◌*◌, ◌/◌, ◌%◌, Bool, true, false, not, ◌||◌, ◌&&◌, ◌==◌, nat_lt, nat_le, is_some, unwrap_or, List, if◌then◌else◌, Option, Some, None, Result, Ok, Err}
+use Rattle.std.specs.Prelude.{ℕ, ◌+◌, ◌-◌, ◌*◌, ◌/◌, ◌%◌, Bool, false, not, ◌||◌, ◌&&◌, ◌==◌, nat_lt, nat_le, is_some, unwrap_or, List, if◌then◌else◌, Option, Some, None, Result, Ok}
 use Rattle.std.specs.List.{list_any}
-use Rattle.std.specs.Option.{option_map, option_map_or, option_or, option_and_then}
+use Rattle.std.specs.Option.{option_map, option_or}
 use Rattle.cop_eds.specs.declared.amount.Amount.{Amount}
 use Rattle.cop_eds.specs.declared.amount.Amount.TheVariants as amounts
 use Rattle.cop_eds.specs.declared.description.Access.TheVariants.{ReadOnly, ReadWrite}
@@ -13,7 +13,7 @@ use Rattle.cop_tidy_reading.specs.declared.question.About.TheVariants as abouts
 use Rattle.cop_tidy_reading.specs.declared.question.Question.{Question}
 use Rattle.cop_tidy_reading.specs.declared.pdos.CompactPdo.{CompactPdo}
 use Rattle.cop_tidy_reading.specs.declared.pdos.Implied.{Implied}
-use Rattle.cop_tidy_reading.specs.Questions.{◌>>=◌, ask, both, unless}
+use Rattle.cop_tidy_reading.specs.Questions.{◌>>=◌, both, unless}
 use Rattle.cop_tidy_reading.specs.Items.{Said}
 use Rattle.cop_tidy_reading.specs.Sections.{Section, section_named, entry_of, raw_of}
 use Rattle.cop_tidy_reading.specs.Stated.{number_at}

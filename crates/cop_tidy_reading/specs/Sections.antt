@@ -2,7 +2,6 @@
 use Rattle.std.specs.Prelude.{ℕ, Bool, true, false, ◌&&◌, ◌==◌, nat_le, List, length, if◌then◌else◌, Option, Some, None, find, filter}
 use Rattle.std.specs.List.{list_any}
 use Rattle.std.specs.Option.{option_map, option_and_then}
-use Rattle.cop_frame.specs.declared.rates.Rate.{Rate}
 use Rattle.cop_frame.specs.Rate.{kbits_of}
 use Rattle.cop_tidy_lines.specs.declared.names.ListName.{ListName}
 use Rattle.cop_tidy_lines.specs.declared.names.ListName.TheVariants as lists
@@ -11,7 +10,7 @@ use Rattle.cop_tidy_lines.specs.declared.names.SectionName.TheVariants as names
 use Rattle.cop_tidy_lines.specs.declared.keys.Key.{Key}
 use Rattle.cop_tidy_lines.specs.declared.keys.Key.TheVariants as keys
 use Rattle.cop_tidy_lines.specs.declared.kinds.LineKind.{LineKind}
-use Rattle.cop_tidy_lines.specs.declared.kinds.LineKind.TheVariants.{Silent, Header, Pair, Unknown}
+use Rattle.cop_tidy_lines.specs.declared.kinds.LineKind.TheVariants.{Header, Pair}
 use Rattle.cop_tidy_lines.specs.Blanks.{bare}
 use Rattle.cop_tidy_lines.specs.Kinds.{stated_value}
 pub use Rattle.cop_tidy_reading.specs.declared.contents.Section.{Section}

@@ -8,6 +8,7 @@ mod contents;
 mod first_keys;
 mod gathering;
 mod items;
+mod laws;
 mod lists;
 mod objects;
 mod pdos;
@@ -24,6 +25,7 @@ mod words;
 
 pub use cop_tidy_device::{Bytes, Device, DeviceObject, Value};
 pub use cop_tidy_lines::{Digits, Unlisted};
+pub use laws::each_object_is_described;
 pub use question::{About, Question, ReadingFault};
 pub use reading::loosely;
 pub use words::Words;

@@ -22,7 +22,7 @@ mod warnings;
 mod words;
 
 pub use findings::{EdsLine, Finding, finding_words, findings_of};
-pub use margins::margin_words;
+pub use margins::{margin_words, others_words};
 pub use networks::{Network, network_words};
 pub use places::{Place, line_at, record_at};
 pub use questions::{maker_words, question_words};

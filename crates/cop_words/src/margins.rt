@@ -66,6 +66,14 @@ pub(crate) fn error_words(
     )
 }
 
+/// What the others have, where they have a greater margin, in ticks of 250 ns.
+pub fn others_words(alloc: Global, others: u64) -> Result<String, AllocError> {
+    let left = micros(alloc, others)?;
+    format!(in alloc;
+        "each of the others has at least {left} us left, or as much as any identifiers leave it\n"
+    )
+}
+
 /// What limits the margin of a plan, a line each: the PDOs, and the SDO frames with deadlines, that have no more than it left, which is
 /// in ticks of 250 ns.
 pub fn margin_words(

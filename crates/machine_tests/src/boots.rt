@@ -156,6 +156,7 @@ pub const PLAIN: Approach = Approach {
         start: true,
     },
     boot_limit: 20_000_000,
+    restore: false,
     store: false,
     watch: Watch::Never,
 };
@@ -193,6 +194,7 @@ pub fn told(alloc: Global, ended: Commissioned) -> Result<(Vec<u8>, bool), Alloc
             answer: _answer,
             exchanges: _exchanges,
         } => Ok((Vec::from_slice(alloc, b"others")?, false)),
+        Commissioned::Unrestored { answer } => Ok((answer.text(alloc)?, false)),
         Commissioned::Absent => Ok((Vec::from_slice(alloc, b"absent")?, false)),
         Commissioned::NonePasses => Ok((Vec::from_slice(alloc, b"none passes")?, false)),
         Commissioned::Failed { answer } => Ok((answer.text(alloc)?, false)),

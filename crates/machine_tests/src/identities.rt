@@ -129,6 +129,7 @@ fn text_of(alloc: Global, ended: Commissioned) -> Result<Vec<u8>, AllocError> {
             answer,
             exchanges: _exchanges,
         } => answer.text(alloc),
+        Commissioned::Unrestored { answer } => answer.text(alloc),
         Commissioned::Running { .. } => Vec::from_slice(alloc, b"running"),
         Commissioned::Garbled { .. } => Vec::from_slice(alloc, b"garbled"),
         Commissioned::Erroneous { .. } => Vec::from_slice(alloc, b"errors"),

@@ -5,9 +5,9 @@ use crate::scripts::{Script, Turn};
 use cop_commission::{Approach, Reach, Watch};
 use std::test::Fail;
 
-/// A device that can store its settings.
+/// A device that can store its settings, and go back to those that it left the factory with.
 const UNIT: &[u8] =
-    b"[DeviceInfo]\nBaudRate_250=1\nBaudRate_500=1\nBaudRate_1000=1\n[OptionalObjects]\nSupportedObjects=5\n1=0x1010\n2=0x1017\n3=0x1800\n4=0x1A00\n5=0x2000\n[1010]\nObjectType=0x8\nSubNumber=2\n[1010sub0]\nDataType=0x0005\nAccessType=ro\nDefaultValue=1\n[1010sub1]\nDataType=0x0007\nAccessType=rw\n[1017]\nDataType=0x0006\nAccessType=rw\nDefaultValue=0\n[1800]\nObjectType=0x9\nSubNumber=3\n[1800sub0]\nDataType=0x0005\nAccessType=ro\nDefaultValue=2\n[1800sub1]\nDataType=0x0007\nAccessType=rw\nDefaultValue=$NODEID+0x40000180\n[1800sub2]\nDataType=0x0005\nAccessType=rw\nDefaultValue=255\n[1A00]\nObjectType=0x9\nSubNumber=3\n[1A00sub0]\nDataType=0x0005\nAccessType=ro\nDefaultValue=2\n[1A00sub1]\nDataType=0x0007\nAccessType=ro\nDefaultValue=0x20000120\n[1A00sub2]\nDataType=0x0007\nAccessType=ro\nDefaultValue=0x20000220\n[2000]\nObjectType=0x8\nSubNumber=3\n[2000sub0]\nDataType=0x0005\nAccessType=ro\nDefaultValue=2\n[2000sub1]\nDataType=0x0007\nAccessType=ro\nPDOMapping=1\n[2000sub2]\nDataType=0x0007\nAccessType=ro\nPDOMapping=1\n";
+    b"[DeviceInfo]\nBaudRate_250=1\nBaudRate_500=1\nBaudRate_1000=1\n[OptionalObjects]\nSupportedObjects=6\n1=0x1010\n2=0x1017\n3=0x1800\n4=0x1A00\n5=0x2000\n6=0x1011\n[1010]\nObjectType=0x8\nSubNumber=2\n[1010sub0]\nDataType=0x0005\nAccessType=ro\nDefaultValue=1\n[1010sub1]\nDataType=0x0007\nAccessType=rw\n[1011]\nObjectType=0x8\nSubNumber=2\n[1011sub0]\nDataType=0x0005\nAccessType=ro\nDefaultValue=1\n[1011sub1]\nDataType=0x0007\nAccessType=rw\n[1017]\nDataType=0x0006\nAccessType=rw\nDefaultValue=0\n[1800]\nObjectType=0x9\nSubNumber=3\n[1800sub0]\nDataType=0x0005\nAccessType=ro\nDefaultValue=2\n[1800sub1]\nDataType=0x0007\nAccessType=rw\nDefaultValue=$NODEID+0x40000180\n[1800sub2]\nDataType=0x0005\nAccessType=rw\nDefaultValue=255\n[1A00]\nObjectType=0x9\nSubNumber=3\n[1A00sub0]\nDataType=0x0005\nAccessType=ro\nDefaultValue=2\n[1A00sub1]\nDataType=0x0007\nAccessType=ro\nDefaultValue=0x20000120\n[1A00sub2]\nDataType=0x0007\nAccessType=ro\nDefaultValue=0x20000220\n[2000]\nObjectType=0x8\nSubNumber=3\n[2000sub0]\nDataType=0x0005\nAccessType=ro\nDefaultValue=2\n[2000sub1]\nDataType=0x0007\nAccessType=ro\nPDOMapping=1\n[2000sub2]\nDataType=0x0007\nAccessType=ro\nPDOMapping=1\n";
 
 const NODES: &[u8] =
     b"row,node,name,eds,period,jitter\ndevice,5,Valve,unit.eds,0,0\nemcy,5,,,100000,0\nheartbeat,5,,,100000,0\ndevice,6,Other,unit.eds,0,0\n";
@@ -33,6 +33,11 @@ const UNSTARTED: Approach = Approach {
 
 const STORED: Approach = Approach {
     store: true,
+    ..ALONE
+};
+
+const RESTORED: Approach = Approach {
+    restore: true,
     ..ALONE
 };
 
@@ -111,6 +116,41 @@ const STORES_NOT: &[Turn] = &[
     (8_002_400, b"t58588010100120000008\r"),
     (8_002_800, b""),
     (8_003_200, b""),
+];
+
+/// It goes back to the values that it left the factory with, and is reset.
+const RESTORES: &[Turn] = &[
+    (0, b""),
+    (10, b"t70517F\r"),
+    (8_000_005, b"t58586011100100000000\r"),
+    (8_000_010, b"t705100\r"),
+    (8_000_100, b"t58584300180185010040\r"),
+    (8_000_200, b"t705100\r"),
+    (8_000_400, b"t58586000180100000000\r"),
+    (8_000_800, b"t58586000180100000000\r"),
+    (8_001_200, b"t58586017100000000000\r"),
+    (8_001_600, b"t58584300180181010040\r"),
+    (8_002_000, b"t58584B17100064000000\r"),
+    (8_002_400, b""),
+    (8_002_800, b""),
+];
+
+/// It does not.
+const RESTORES_NOT: &[Turn] = &[
+    (0, b""),
+    (10, b"t70517F\r"),
+    (8_000_005, b"t58588011100120000008\r"),
+    (8_000_010, b""),
+    (8_000_020, b""),
+];
+
+/// It does not answer in 10 s.
+const RESTORES_SILENTLY: &[Turn] = &[
+    (0, b""),
+    (10, b"t70517F\r"),
+    (8_000_005, b""),
+    (48_000_005, b""),
+    (48_000_010, b""),
 ];
 
 /// Its heartbeats come in time once it was started.
@@ -238,6 +278,11 @@ const BEATS_NOT: &[Turn] = &[
 const UNSTORED_WRITTEN: &[u8] =
     b"\r\rC\rS6\rL\r\r\rC\rS6\rO\rt00028205\rt60584000180100000000\rt00028205\rt605823001801850100C0\rt60582300180181010040\rt60582B17100064000000\rt60584000180200000000\rt605840001A0000000000\rt605840001A0100000000\rt605840001A0200000000\rt60584000180100000000\rt60584017100000000000\rt60582310100173617665\rC\r";
 
+const RESTORED_WRITTEN: &[u8] =
+    b"\r\rC\rS6\rL\r\r\rC\rS6\rO\rt6058231110016C6F6164\rt00028105\rt00028205\rt60584000180100000000\rt00028205\rt605823001801850100C0\rt60582300180181010040\rt60582B17100064000000\rt60584000180200000000\rt605840001A0000000000\rt605840001A0100000000\rt605840001A0200000000\rt60584000180100000000\rt60584017100000000000\rt00020105\rC\r";
+
+const UNRESTORED_WRITTEN: &[u8] = b"\r\rC\rS6\rL\r\r\rC\rS6\rO\rt6058231110016C6F6164\rC\r";
+
 /// How the devices are approached, what comes, what is said, and what is written.
 const REACHES: &[(Approach, &[Turn], &[u8], &[u8])] = &[
     (ALONE, TAKES_ALL, b"node 5 ready\nstarted\n", ALONE_WRITTEN),
@@ -253,6 +298,24 @@ const REACHES: &[(Approach, &[Turn], &[u8], &[u8])] = &[
         STORES_NOT,
         b"node 5 aborted 1010 01 08000020\nnot started\n",
         UNSTORED_WRITTEN,
+    ),
+    (
+        RESTORED,
+        RESTORES,
+        b"node 5 ready\nstarted\n",
+        RESTORED_WRITTEN,
+    ),
+    (
+        RESTORED,
+        RESTORES_NOT,
+        b"node 5 aborted 1011 01 08000020\nnot started\n",
+        UNRESTORED_WRITTEN,
+    ),
+    (
+        RESTORED,
+        RESTORES_SILENTLY,
+        b"node 5 silent\nnot started\n",
+        UNRESTORED_WRITTEN,
     ),
     (
         WATCHED,

@@ -1,5 +1,5 @@
 use crate::networks::{nodes_of, pdos_of};
-use cop_dcf::{Setting, settings, write};
+use cop_dcf::{Setting, Width, settings, write};
 use cop_dict::build;
 use cop_eds::parse;
 use cop_frame::Rate;
@@ -53,21 +53,21 @@ fn valve_settings(alloc: Global, node: u8) -> Result<Vec<Setting>, Fail> {
     settings_of(alloc, &valve, node)
 }
 
-fn setting(index: u16, sub: u8, value: u32, bytes: u8) -> Setting {
+fn setting(index: u16, sub: u8, value: u32, width: Width) -> Setting {
     Setting {
         index,
         sub,
         value,
-        bytes,
+        width,
     }
 }
 
 #[test]
 fn the_valve_has_three_settings(rt: HostRuntime) -> Result<(), Fail> {
     let wanted = [
-        setting(0x1800, 1, 0xC0000185, 4),
-        setting(0x1800, 1, 0x40000181, 4),
-        setting(0x1017, 0, 100, 2),
+        setting(0x1800, 1, 0xC0000185, Width::Four),
+        setting(0x1800, 1, 0x40000181, Width::Four),
+        setting(0x1017, 0, 100, Width::Two),
     ];
     let found = valve_settings(rt.alloc(), 5)?;
     assert!(rt; found.as_slice() == wanted.as_slice());
@@ -121,6 +121,25 @@ fn the_device_of_the_dcf(rt: HostRuntime) -> Result<(), Fail> {
     Ok(())
 }
 
+/// A setting of each width, and the value that the device of the DCF has.
+const WIDTHS: &[(u16, u8, u32, Width, &[u8])] = &[
+    (0x1800, 2, 0xFE, Width::One, &[0xFE]),
+    (0x1017, 0, 0x1FE, Width::Two, &[0xFE, 1]),
+    (0x1800, 1, 0x8000_0185, Width::Four, &[0x85, 1, 0, 0x80]),
+];
+
+#[test]
+fn settings_of_each_width(rt: HostRuntime) -> Result<(), Fail> {
+    for case in WIDTHS {
+        let (index, sub, value, width, bytes) = *case;
+        let settings = [setting(index, sub, value, width)];
+        let dcf = dcf_of(rt.alloc(), UNIT, &settings, b"unit.eds")?;
+        let found = value_in(rt.alloc(), &dcf, index, sub)?;
+        assert!(rt; found.as_slice() == bytes);
+    }
+    Ok(())
+}
+
 /// The three lists of a text with one object, each line with CR LF, LF or LF as its end.
 const LISTS: &str = "[OptionalObjects]\r\nSupportedObjects=1\n1=0x1017\n";
 
@@ -152,7 +171,7 @@ fn behind_lists(alloc: Global, text: &str) -> Result<String, AllocError> {
 fn ends_of_lines(rt: HostRuntime) -> Result<(), Fail> {
     let alloc = rt.alloc();
     // a heartbeat of 100 ms
-    let beat = [setting(0x1017, 0, 100, 2)];
+    let beat = [setting(0x1017, 0, 100, Width::Two)];
     for case in ENDS {
         let (eds, dcf) = *case;
         let text = behind_lists(alloc, eds)?;

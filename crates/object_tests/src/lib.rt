@@ -9,3 +9,5 @@ mod dictionaries;
 mod eds;
 #[cfg(test)]
 mod pdos;
+#[cfg(test)]
+mod settings;

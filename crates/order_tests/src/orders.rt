@@ -110,6 +110,10 @@ fn write_made(text: &mut String, order: Order<'_>) -> Result<(), AllocError> {
             write!(text, "export {name} {out}")?;
             write_network(text, network)
         }
+        Order::Room(network) => {
+            text.push_str("room")?;
+            write_network(text, network)
+        }
         Order::Watch(order) => {
             text.push_str("watch")?;
             write_log(text, order)?;
@@ -196,6 +200,8 @@ const ASKED: &[(&str, &str)] = &[
         "run 1 1000000000 t n p",
     ),
     ("judge --json n p t", "judge t n p json"),
+    ("room --json n p", "room n p json"),
+    ("room --rates 125,500 n p", "room n p at 125 at 500"),
     ("report n p out", "report out no n p"),
     (
         "report --trace t --log l --error 7 n p out",
@@ -229,6 +235,8 @@ fn words_ask_for_orders(rt: HostRuntime) -> Result<(), Fail> {
 const REFUSED: &[&str] = &[
     "plans n p out",
     "plan n p",
+    "room n",
+    "room --strict n p",
     "plan n p out more",
     "plan --rates 300 n p out",
     "test s.csv",

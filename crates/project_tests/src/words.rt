@@ -64,6 +64,10 @@ const EXPANDED: &[(&str, &str)] = &[
         "export cdcf /n.csv /p.csv --rates 250,500 --margin out --manager 3",
     ),
     (
+        "room --json /c.toml",
+        "room --json /n.csv /p.csv --rates 250,500 --margin",
+    ),
+    (
         "watch --channel=can0.toml c.toml d.toml",
         "watch --channel=can0.toml n.csv /p.csv --rates 250,500 --margin d.toml",
     ),

@@ -3,7 +3,7 @@ use Rattle.cop_dict.specs.Find.{Entry}
 use Rattle.cop_net.specs.Heartbeats.{heartbeat_of}
 use Rattle.cop_dcf.specs.Identifiers.{id_at}
 use Rattle.cop_dcf.specs.Settings.{settings_by}
-use Rattle.cop_boot.specs.Settings.{AcceptsInTurn}
+use Rattle.cop_setup.specs.InTurn.{AcceptsInTurn}
 use Rattle.cop_boot.proofs.NetworkAdmits.{network_admits}
 use Rattle.cop_boot.proofs.PlanInTurn.{plan_accepted}
 use Rattle.cop_boot.proofs.laws.networks_take_their_settings.Goals as goal

@@ -2,9 +2,14 @@ use Rattle.std.proofs.Common.{◌+◌, ◌*◌, arith, length}
 use Rattle.std.proofs.lemmas.List.{length-append}
 use Rattle.cop_plan.proofs.FillingLemmas.{no_bit}
 use Rattle.cop_plan.proofs.AssignLemmas.{passed_over, one_more, all_refused, refused_is_ruled_out, trials_more, busy_more, plan_is, members_push, filled_push}
-use Rattle.cop_plan.proofs.MarginOutcome.{plain_order}
+use Rattle.cop_plan.proofs.MarginOutcome.{plain_order, order_plain}
 use Rattle.cop_plan.proofs.assigning.assign.Goals as goal
 use Rattle.cop_plan.proofs.assigning.assign.Goals.{then-contains+in_ok-lower+in-Refused+in_ok-push-in-Refused, else-contains}
+
+pub planned-requires-clause-order : goal.planned-requires-clause-order
+planned-requires-clause-order c =
+    let found = rw c.in-Placed.is at c.in_ok-lower.ensures.found in
+    rw (c.deref.ensures.value, c.deref-in-Placed.ensures.value) (order_plain _ c.args.set.now c.args.pdos _ found.order)
 
 pub returns-in-Placed-clause-outcome : goal.returns-in-Placed-clause-outcome
 returns-in-Placed-clause-outcome c =

@@ -1,4 +1,5 @@
-use Rattle.std.proofs.Common.{◌≡◌, ◌++◌, reverse, unwrap_or, refl, sym, ◌∙◌, arith}
+use Rattle.std.proofs.Common.{◌≡◌, ◌++◌, reverse, refl, sym, ◌∙◌, arith}
+use Rattle.cop_plan.specs.Margins.{others_of}
 use Rattle.cop_plan.proofs.PlannedLemmas.{HasPlaces, order_count, order_room, order_inside_length, places_distinct, ids_count, order_of_places, passing_of_places, apart_of_places, by_priority_of_places, have_of_places, planned_of_places}
 use Rattle.cop_plan.proofs.plans.planned.Goals as goal
 
@@ -20,7 +21,7 @@ identifiers-requires-clause-inside c = order_inside_length c.args.pdos c.args.lo
 pub identifiers-requires-clause-distinct : goal.identifiers-requires-clause-distinct
 identifiers-requires-clause-distinct c = places_distinct c.args.pdos c.args.lower.now c.args.upper.now c.requires.placed c.deref.result.now (listed c)
 
-has : (c : goal.After-deref-2) → HasPlaces (unwrap_or c.args.margin 0) c.args.rate c.args.set.now c.args.pdos c.args.lower.now c.args.upper.now c.deref.result.now c.deref-2.result.now
+has : (c : goal.After-deref-2) → HasPlaces (others_of c.args.margin) c.args.rate c.args.set.now c.args.pdos c.args.lower.now c.args.upper.now c.deref.result.now c.deref-2.result.now
 has c = rw c.deref-2.ensures.value (record {
   can = c.requires.can;
   placed = c.requires.placed;
@@ -34,7 +35,7 @@ pub renamed-requires-clause-apart : goal.renamed-requires-clause-apart
 renamed-requires-clause-apart c = apart_of_places (has c)
 
 -- of the plan's lists
-made : (c : goal.After-into-2) → HasPlaces (unwrap_or c.args.margin 0) c.args.rate c.args.set.now c.args.pdos c.args.lower.now c.args.upper.now c.into.result c.into-2.result
+made : (c : goal.After-into-2) → HasPlaces (others_of c.args.margin) c.args.rate c.args.set.now c.args.pdos c.args.lower.now c.args.upper.now c.into.result c.into-2.result
 made c = rw (c.into.ensures, c.into-2.ensures) (record {
   can = c.requires.can;
   placed = c.requires.placed;

@@ -3,4 +3,4 @@ use Rattle.cop_tidy.proofs.meaning.is_of.Goals as goal
 
 pub returns : goal.returns
 returns c =
-    all_of c.args.eds.now c.args.first.now c.args.last.now c.args.device.now c.in_ok-has_all.has_all c.requires.first c.requires.last c.in_ok-has_all.ensures
+    all_of c.args.eds.now c.args.taken.now.first c.args.taken.now.last c.args.device.now c.in_ok-has_all.has_all c.requires.first c.requires.last c.in_ok-has_all.ensures

@@ -1,0 +1,125 @@
+//! How far each number of a plan goes.
+
+use crate::objects::Object;
+use crate::plans::pdo_name;
+use crate::values::micros;
+use cop_frame::identifiers::SYNC;
+use cop_net::Network;
+use cop_plan::Plan;
+use cop_room::{Room, RowRoom};
+use cop_rta::Stream;
+use serde_json::Value;
+use std::alloc::{AllocError, Global};
+
+/// A number as it is, and as far as it goes. A table has no other than whole microseconds.
+fn times_of(alloc: Global, now: u64, limit: u64) -> Result<Value, AllocError> {
+    Object::new(alloc)
+        .with("now", micros(alloc, now))
+        .with("limit", micros(alloc, limit))
+        .end()
+}
+
+/// The same of a number that is perhaps not there.
+fn times_if(alloc: Global, now: u64, limit: Option<u64>) -> Result<Value, AllocError> {
+    match limit {
+        Some(limit) => times_of(alloc, now, limit),
+        None => Ok(Value::Null),
+    }
+}
+
+fn bytes_of(alloc: Global, now: u8, limit: u8) -> Result<Value, AllocError> {
+    Object::new(alloc)
+        .plain("now", now)
+        .plain("limit", limit)
+        .end()
+}
+
+fn row_of(
+    alloc: Global,
+    name: Result<Value, AllocError>,
+    stream: &Stream,
+    room: &RowRoom,
+) -> Result<Value, AllocError> {
+    let deadline = stream.deadline.unwrap_or(0) / 4;
+    Object::new(alloc)
+        .with("pdo", name)
+        .plain("id", stream.id)
+        .with("period", times_if(alloc, stream.period / 4, room.period))
+        .with("jitter", times_of(alloc, stream.jitter / 4, room.jitter))
+        .with("deadline", times_of(alloc, deadline, room.deadline))
+        .with("bytes", bytes_of(alloc, stream.bytes, room.bytes))
+        .end()
+}
+
+/// The rows, that with the lowest identifier first.
+fn rows_of(
+    alloc: Global,
+    network: &Network<'_>,
+    plan: &Plan,
+    room: &Room,
+) -> Result<Value, AllocError> {
+    let streams = plan.streams().streams();
+    let mut rows = Vec::new(alloc);
+    for pdo in plan.order() {
+        if let (Some(stream), Some(room)) = (streams.get(*pdo), room.rows.get(*pdo)) {
+            let name = pdo_name(alloc, network.rows().get(*pdo));
+            rows.push(row_of(alloc, name, stream, room)?)?;
+        }
+    }
+    Ok(Value::Array(rows))
+}
+
+fn sync_of(alloc: Global, plan: &Plan, room: &Room) -> Result<Value, AllocError> {
+    let streams = plan.streams();
+    match streams.place_of(SYNC) {
+        Some(sync) => match streams.streams().get(sync) {
+            Some(stream) => times_if(alloc, stream.period / 4, room.sync),
+            None => Ok(Value::Null),
+        },
+        None => Ok(Value::Null),
+    }
+}
+
+fn room_of(
+    alloc: Global,
+    network: &Network<'_>,
+    plan: &Plan,
+    room: &Room,
+) -> Result<Value, AllocError> {
+    let more = match room.more {
+        Some(period) => micros(alloc, period),
+        None => Ok(Value::Null),
+    };
+    Object::new(alloc)
+        .with("pdos", rows_of(alloc, network, plan, room))
+        .with("sync", sync_of(alloc, plan, room))
+        .plain("periods", room.periods)
+        .plain("clock", room.clock)
+        .with("more", more)
+        .end()
+}
+
+/// How far each number of a plan goes. `Err` is want of memory.
+pub fn room_document(
+    alloc: Global,
+    network: &Network<'_>,
+    plan: &Plan,
+    room: &Room,
+) -> Result<String, AllocError> {
+    let document = Object::new(alloc)
+        .text("command", "room")
+        .plain("rate", plan.rate().kbits())
+        .with("room", room_of(alloc, network, plan, room))
+        .end()?;
+    document.to_string(alloc)
+}
+
+/// The same where no rate passes.
+pub fn no_room_document(alloc: Global) -> Result<String, AllocError> {
+    let document = Object::new(alloc)
+        .text("command", "room")
+        .plain("rate", Value::Null)
+        .plain("room", Value::Null)
+        .end()?;
+    document.to_string(alloc)
+}

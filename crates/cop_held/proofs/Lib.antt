@@ -1,0 +1,4 @@
+pub mod MapLemmas
+pub mod RedatedLemmas
+pub mod PlanLemmas
+pub mod CauseLemmas

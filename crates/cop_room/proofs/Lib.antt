@@ -1,0 +1,12 @@
+pub mod SumLemmas
+pub mod HarderLemmas
+pub mod EasierPlaces
+pub mod ByIdentifier
+pub mod Assigned
+pub mod ChangeLemmas
+pub mod LimitLemmas
+pub mod OneMore
+pub mod TrialLemmas
+pub mod NumberLemmas
+pub mod RangeLemmas
+pub mod RoomLemmas

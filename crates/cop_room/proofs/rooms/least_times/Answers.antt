@@ -1,0 +1,5 @@
+use Rattle.cop_room.proofs.RangeLemmas.{times_in_range}
+use Rattle.cop_room.proofs.rooms.least_times.Goals as goal
+
+pub least_or_now-requires-clause-range : goal.least_or_now-requires-clause-range
+least_or_now-requires-clause-range c = λ x low high. times_in_range x c.args.set.now high

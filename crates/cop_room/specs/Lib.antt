@@ -1,0 +1,5 @@
+pub mod Harder
+pub mod Changes
+pub mod Keeping
+pub mod Numbers
+pub mod Room

@@ -1,0 +1,5 @@
+pub mod Width
+pub mod Settings
+pub mod InTurn
+pub mod Offs
+pub mod Trying

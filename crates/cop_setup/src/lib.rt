@@ -1,0 +1,12 @@
+//! Settings of a device: values for its objects, and whether it takes them one after the other.
+#![tactic(auto)]
+
+mod laws;
+mod setting;
+mod trying;
+
+pub use laws::{
+    apart_are_accepted, every_off_is_taken, payloads_stay, taken_are_accepted, taken_are_numbers,
+};
+pub use setting::{Setting, Width};
+pub use trying::{Trouble, Untaken, try_all};
