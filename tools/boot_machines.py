@@ -5,7 +5,7 @@
 
 The adapter and the slaves stand in tools/machine/, and share nothing with canplan: they read the EDS and DCF files by themselves.
 Of each case it is seen what the program says and its status, which NMT commands were on the bus, and, where all nodes are
-ready, that each device has what its DCF file says. A case whose name holds one of the words given is run, or each.
+ready, that each device has what its DCF file says. Where devices are asked whether they are as planned, of frames requests of uploads alone come. A case whose name holds one of the words given is run, or each.
 """
 import json
 import os
@@ -164,6 +164,34 @@ REACHES = {
 
 # Examples whose devices are booted twice with what they stored; each of them can store its settings.
 TWICE = {f"twice, {example}": example for example in ("valve", "conveyor", "crane", "drives", "second-range")}
+
+# What is said of devices that are asked whether they are as planned: the example, the words of the rig, of the boot before it, if there is one, and
+# of the question, the nodes that are not as planned or that are asked alone, and the status.
+STARTED, LEFT = [], ["--no-start"]
+
+VERIFIED = {
+    "verified, and running": ("conveyor", "", STARTED, [], {}, 0),
+    "verified, and running by heartbeats": ("crane", "", STARTED, [], {}, 0),
+    "verified, and not started": ("conveyor", "", LEFT, [], {}, 0),
+    "verified in parts, among garbage": ("valve", "--garbage 0.6 --traffic 20 --chunk 13", STARTED, [], {}, 0),
+    "verified by an adapter that cannot listen only": ("valve", "--refuse L", STARTED, [], {}, 0),
+    "verified gently": ("valve", "", STARTED, ["--gently", "40"], {}, 0),
+    "verified, as a document": ("conveyor", "", STARTED, ["--json"], {}, 0),
+    "verified, one node alone": ("conveyor", "--silent 11", LEFT, ["--only", "12"], {12: "as planned"}, 0),
+    "verified, and one is silent": ("conveyor", "--silent 12", LEFT, [], {12: "silent"}, 3),
+    "verified, and one is another device": ("conveyor", "--identity 13:1018:2:191", ["--no-identity"], [], {13: "other 1018 02 00000191"}, 3),
+    "verified, and one has another mapping": ("crane", "--has 12:1A00:1:60000208", LEFT, [], {12: "differs 1A00 01 60000208"}, 3),
+    "verified, and one lost a setting": ("conveyor", "--lost 13:1017:0", LEFT, [], {13: "differs 1017 00 00000000"}, 3),
+    "verified, and one does not tell a value": ("crane", "--unread 12:1017:0:08000022", LEFT, [], {12: "aborted 1017 00 08000022"}, 3),
+    "verified, and switched off otherwise": ("crane", "--has 12:1801:1:C000028D", STARTED, [], {}, 0),
+    "verified, and never booted": ("valve", "", None, [], {5: "differs 1800 01 40000185"}, 3),
+    "verified, and never booted, as a document": ("valve", "", None, ["--json"], {5: "differs 1800 01 40000185"}, 3),
+    "verified, and nobody is there": ("valve", "--silent 5", None, [], {5: "silent"}, 3),
+    "verified at lines that are no frames": ("valve", "--running 5 --garbled", None, [], "refused 103 ", 3),
+    "verified at errors on the bus": ("valve", "--flags 80", None, [], "refused 102 0", 3),
+    "verified by an adapter that refuses the rate": ("valve", "--refuse S", None, [], "refused 104 0", 3),
+    "verified, one that no row has": ("valve", "--until 3", None, ["--only", "9"], "refused 101 9", 3),
+}
 
 # What makes of an EDS file that of a device that can store its settings, and go back to those that it left the factory with.
 SIGNED = "[{0}]\nObjectType=0x8\nSubNumber=2\n[{0}sub0]\nDataType=0x0005\nAccessType=ro\nDefaultValue=1\n[{0}sub1]\nDataType=0x0007\nAccessType=rw\n"
@@ -363,13 +391,84 @@ def twice(name, folder):
     return faults
 
 
+def requests_in(log):
+    """The frames that were sent since the adapter was opened the last time, each with its moment."""
+    with open(log) as file:
+        lines = [line.split() for line in file]
+    opened = [at for at, line in enumerate(lines) if line[1:4] == ["adapter:", "open", "at"]]
+    return [(float(line[0]), line[2], line[3:]) for line in lines[opened[-1] if opened else 0:] if line[1] == "->"]
+
+
+def asking_faults(requests, nodes, options):
+    """Whether something else than the requests of uploads was sent, or to others than these nodes, or too soon."""
+    wanted = {f"{0x600 + node:03X}" for node in nodes}
+    faults = [f"sends {ident} {' '.join(data)}" for _, ident, data in requests if ident not in wanted or len(data) != 8 or data[0] != "40"]
+    pause = int(options[options.index("--gently") + 1]) / 1000 if "--gently" in options else 0
+    soon = [later[0] - first[0] for first, later in zip(requests, requests[1:]) if later[0] - first[0] < pause - 0.005]
+    return faults + ([f"asks again after {min(soon)} s"] if soon else [])
+
+
+def verified_lines(nodes, ends):
+    return "".join(f"node {node} {ends.get(node, 'as planned')}\n" for node in nodes)
+
+
+def said_by(it, options):
+    """The lines of an answer, also where it is a document."""
+    if "--json" not in options:
+        return it.stdout
+    value = json.loads(it.stdout)
+    if value.get("as_planned") != all(node["state"] == "as planned" for node in value["nodes"]):
+        return f"as_planned is {value.get('as_planned')} in {it.stdout}"
+    return lines_of(json.dumps({**value, "heartbeats": [], "started": True})).removesuffix("started\n")
+
+
+def verified(name, folder):
+    """What is wrong with a case in which the devices are asked whether they are as planned."""
+    example, words, before, options, ends, status = VERIFIED[name]
+    tables = [f"{HERE}/examples/{example}/{file}" for file in ("nodes.csv", "pdos.csv")]
+    port, report, log = f"{folder}/port", f"{folder}/report.json", f"{folder}/log"
+    rig = subprocess.Popen([sys.executable, RIG, tables[0], port, "--expect", os.path.dirname(tables[0]), "--log", log, "--report", report,
+                            "--sessions", "1" if before is None else "2", *words.split()], stdout=subprocess.PIPE, text=True)
+    rig.stdout.readline()
+    if before is not None:
+        subprocess.run([PROGRAM, "boot", "--port", port, "--watch", "0", *before, *tables], capture_output=True, text=True, timeout=120)
+    it = subprocess.run([PROGRAM, "verify", "--port", port, *options, *tables], capture_output=True, text=True, timeout=120)
+    rig.wait(timeout=60)
+    with open(report) as file:
+        seen = json.load(file)
+    nodes = [int(node) for node in seen["devices"]]
+    if "--only" in options:
+        nodes = [int(options[options.index("--only") + 1])]
+    is_refused = isinstance(ends, str)
+    text = "" if is_refused else verified_lines(nodes, ends)
+    faults = asking_faults([] if before is None and is_refused and not seen["frames_from_manager"] else requests_in(log), nodes, options)
+    said = it.stdout if is_refused else said_by(it, options)
+    if (said, it.returncode) != (text, status) or is_refused and f"canplan: {ends}" not in it.stderr:
+        faults.append(f"says {said!r} with status {it.returncode}, not {text!r} with {status}")
+    if is_refused and seen["frames_from_manager"]:
+        faults.append(f"{seen['frames_from_manager']} frames are sent")
+    if before is None and (seen["commands"] or any(device["writes"] or device["resets"] for device in seen["devices"].values())):
+        faults.append("a device is written to, or reset")
+    if seen["given"][-1:] and seen["given"][-1][1] != "C":
+        faults.append(f"the adapter is left open: {seen['given']}")
+    return faults + ([f"standard error: {it.stderr}"] if faults else [])
+
+
+def faults_of(name, folder):
+    """What is wrong with a case."""
+    for cases, tried in ((CASES, run), (LEFT_ALONE, left_alone), (TOLD, told), (REACHES, reach), (TWICE, twice), (VERIFIED, verified)):
+        if name in cases:
+            return tried(name, folder)
+    return []
+
+
 def main(words):
     passed, failed = 0, 0
-    for name in [*CASES, *LEFT_ALONE, *TOLD, *REACHES, *TWICE]:
+    for name in [*CASES, *LEFT_ALONE, *TOLD, *REACHES, *TWICE, *VERIFIED]:
         if words and not any(word in name for word in words):
             continue
         with tempfile.TemporaryDirectory() as folder:
-            faults = (run if name in CASES else left_alone if name in LEFT_ALONE else told if name in TOLD else reach if name in REACHES else twice)(name, folder)
+            faults = faults_of(name, folder)
         print(f"{'FAILED' if faults else 'ok'}: {name}", flush=True)
         for fault in faults:
             print(f"  {fault}")

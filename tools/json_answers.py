@@ -75,7 +75,8 @@ def example(folder):
 def room(tables):
     lines, _, value = answers("room", *tables)
     if value["rate"] is None:
-        assert lines == ["no rate passes"] and value["room"] is None, lines
+        assert lines[0] == "no rate passes" and value["room"] is None, lines
+        assert [int(it.split()[1]) for it in lines[1:]] == [it["rate"] for it in value["misses"]], lines
         return
     found = value["room"]
     wanted = [f"pdo {it['pdo']['node']}.{it['pdo']['tpdo']} id {it['id']:X}h" for it in found["pdos"]]

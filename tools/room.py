@@ -5,7 +5,8 @@
 
 Makes COUNT random networks of up to five PDOs of one device (60 where nothing is said), some with fixed frames and an SDO frame that has a
 deadline. Each number that `room` tells is put into a table of the planned streams: with it each PDO and that SDO frame passes, and with the
-next number of its range one of them does not. The document has to say the same as the lines.
+next number of its range one of them does not. Of each rate that is refused, `plan` has to find identifiers with the deadlines that are told,
+and none with deadlines that are a thousandth shorter. The document has to say the same as the lines.
 """
 import json
 import os
@@ -123,14 +124,73 @@ def is_same_document(text, rate, rows, numbers):
     return told["rate"] == int(rate) and by_tpdo == rows and numbers == {"periods": room["periods"], "clock": room["clock"], "more": more}
 
 
+MISS = re.compile(r"miss (\d+) deadlines (\d+|none)(?: tightest 1\.(\d+))?((?: without (?:NMT|SYNC|EMCY \d+))*)")
+
+
+def words_of(miss):
+    """The words of a line, as the document has them."""
+    names = {"nmt": "NMT", "sync": "SYNC"}
+    spare = "".join(f" without {names.get(it['row']) or 'EMCY ' + str(it['node'])}" for it in miss["without"])
+    tightest = str(miss["tightest"]["tpdo"]) if miss["tightest"] else None
+    return str(miss["rate"]), str(miss["deadlines"] or "none"), tightest, spare
+
+
+def passes_at(folder, rate, rows, fixed):
+    """Whether some identifiers pass at a rate."""
+    write_network(folder, rows, fixed)
+    done = called("plan", "--rates", str(rate), f"{folder}/nodes.csv", f"{folder}/pdos.csv", f"{folder}/out")
+    assert done.returncode in (0, 4), done.stderr
+    return done.returncode == 0
+
+
+def longer(deadline, part):
+    """A deadline at so many thousandths, in whole microseconds, rounded up."""
+    return min(60_000_000, -(-deadline * part // 1000))
+
+
+def stretched(rows, fixed, part):
+    """All rows with their deadlines at so many thousandths."""
+    def frame(row):
+        fields = row.split(",")
+        return ",".join([*fields[:-1], str(longer(int(fields[-1]), part)) if fields[-1] else ""])
+    return [row | {"deadline": longer(row["deadline"], part)} for row in rows], [frame(row) for row in fixed]
+
+
+def faults_of_misses(folder, rows, fixed, misses):
+    """What is wrong with what the rates miss a plan by."""
+    wrong = []
+    for miss in misses:
+        part = miss["deadlines"]
+        if part and not passes_at(folder, miss["rate"], *stretched(rows, fixed, part)):
+            wrong.append(("fails", miss))
+        if part and part > 1001 and passes_at(folder, miss["rate"], *stretched(rows, fixed, part - 1)):
+            wrong.append(("less passes", miss))
+    return wrong
+
+
+def faults_of_missed(folder, rows, fixed, *words):
+    """What is wrong with what is told where no rate passes; nothing where one does."""
+    done = called("room", *words)
+    if done.returncode != 4:
+        return []
+    lines = done.stdout.splitlines()
+    assert lines[0] == "no rate passes" and all(MISS.fullmatch(line) for line in lines[1:]), done.stdout
+    misses = json.loads(called("room", "--json", *words).stdout)["misses"]
+    assert [MISS.fullmatch(line).groups() for line in lines[1:]] == [words_of(miss) for miss in misses], (lines, misses)
+    return faults_of_misses(folder, rows, fixed, misses)
+
+
 def faults_of(folder, rows, fixed):
     """What is wrong with the room of a network; None where no rate passes."""
     write_network(folder, rows, fixed)
     tables = (f"{folder}/nodes.csv", f"{folder}/pdos.csv")
+    missed = faults_of_missed(folder, rows, fixed, "--rates", "50,125", *tables)
+    if missed:
+        return missed
+    write_network(folder, rows, fixed)
     done = called("room", *tables)
     if done.returncode == 4:
-        assert done.stdout == "no rate passes\n", done.stdout
-        return None
+        return faults_of_missed(folder, rows, fixed, *tables) or None
     assert done.returncode == 0, done.stderr
     rate, told, numbers = read_lines(done.stdout)
     pdos = [row | {"id": told[row["tpdo"]][0]} for row in rows]

@@ -9,7 +9,7 @@ use cop_engine::{Fault, status, test_status};
 use cop_files::{Failure, Form, print};
 use cop_makers::carry_tidy;
 use cop_orders::{Order, Request};
-use cop_serial::boot_machine;
+use cop_serial::{boot_machine, verify_machine};
 use std::io::Write;
 
 /// Says that a number has no rule, which is a usage fault, and which have one.
@@ -60,6 +60,7 @@ pub fn carry_out(
         } => check(rt, network, refusals, Wanted { form, strict }, inputs),
         Order::Boot { seed, network } => boot(rt, seed, network, form, inputs),
         Order::Machine(order) => boot_machine(rt, order, form, inputs),
+        Order::Verify(order) => verify_machine(rt, order, form, inputs),
         Order::Judge { network, trace } => judge(rt, network, trace, form, inputs),
         Order::Run {
             seed,

@@ -100,17 +100,21 @@ fn push_words(notes: &mut Vec<u8>, alloc: Global, lines: &[NodeLine]) -> Result<
     Ok(())
 }
 
+/// What is said where no node answered.
+pub(crate) fn silence_words(alloc: Global, rate: Rate) -> Result<String, AllocError> {
+    let kbits = rate.kbits();
+    format!(in alloc;
+        "no node answered at {kbits} kbit/s, the plan's rate: look at the rate that is set in the devices, at supply, wires and termination, and at the adapter's flags (its command F)\n"
+    )
+}
+
 /// What is said below the lines of a boot: the codes of aborts in words, what differs, and what to look at where no node was heard.
 pub fn boot_notes(alloc: Global, answer: &BootAnswer, rate: Rate) -> Result<Vec<u8>, AllocError> {
     let mut notes = Vec::new(alloc);
     push_words(&mut notes, alloc, &answer.nodes)?;
     push_words(&mut notes, alloc, &answer.heartbeats)?;
     if answer.nodes.iter().all(|line| line.state == State::Silent) {
-        let kbits = rate.kbits();
-        let words = format!(in alloc;
-            "no node answered at {kbits} kbit/s, the plan's rate: look at the rate that is set in the devices, at supply, wires and termination, and at the adapter's flags (its command F)\n"
-        )?;
-        notes.extend_from_slice(words.as_bytes())?;
+        notes.extend_from_slice(silence_words(alloc, rate)?.as_bytes())?;
     }
     Ok(notes)
 }

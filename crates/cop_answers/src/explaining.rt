@@ -28,6 +28,7 @@ pub(crate) fn network_of<'a>(order: Order<'a>) -> Option<NetworkFiles<'a>> {
         Order::Report { network, .. } | Order::Export { network, .. } => Some(network),
         Order::Watch(order) => Some(order.network),
         Order::Machine(order) => Some(order.network),
+        Order::Verify(order) => Some(order.network),
         Order::Test { .. } | Order::Tidy(_) | Order::Explain { .. } => None,
     }
 }

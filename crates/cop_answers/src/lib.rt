@@ -16,6 +16,7 @@ mod rooms;
 mod rules;
 mod spots;
 mod texts;
+mod verifying;
 mod warning_rules;
 mod warnings;
 
@@ -27,7 +28,8 @@ pub use identities::identity_notes;
 pub use masters::{NamedFile, concise_files, sync_maker};
 pub use notes::{Notes, plan_notes};
 pub use pages::{Sources, page_text, timeline};
-pub use rooms::room_text;
+pub use rooms::{misses_of, misses_text, room_text};
 pub use rules::{explained_line, page_of_rules, words_of_rule};
 pub use texts::{Inputs, Tables, Texts, beside};
+pub use verifying::verify_notes;
 pub use warnings::{findings, status_after};

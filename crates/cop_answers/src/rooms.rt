@@ -1,9 +1,10 @@
 //! How far each number of a plan goes, in lines.
 
+use cop_cert::Refusal;
 use cop_frame::identifiers::SYNC;
 use cop_net::{Network, PdoRow};
-use cop_plan::Plan;
-use cop_room::{Room, RowRoom};
+use cop_plan::{Plan, can_assign};
+use cop_room::{Miss, Room, RowRoom, nearest_miss};
 use cop_rta::Stream;
 use std::alloc::{AllocError, Global};
 
@@ -70,6 +71,66 @@ pub fn room_text(
     match room.more {
         Some(period) => write!(text, "more {period}\n")?,
         None => text.push_str("more none\n")?,
+    }
+    Ok(text)
+}
+
+/// What each refused rate misses a plan by.
+pub fn misses_of(
+    alloc: Global,
+    network: &Network<'_>,
+    refusals: &[Refusal],
+) -> Result<Vec<Miss>, AllocError> {
+    let (set, pdos) = (network.set(), network.pdos());
+    let mut misses = Vec::new(alloc);
+    if can_assign(set, pdos) {
+        for refusal in refusals {
+            misses.push(nearest_miss(alloc, set, pdos, refusal.rate)?)?;
+        }
+    }
+    Ok(misses)
+}
+
+/// Adds the name of a fixed frame that could be left out.
+fn push_spare(text: &mut String, stream: &Stream) -> Result<(), AllocError> {
+    match stream.id {
+        0 => text.push_str(" without NMT"),
+        SYNC => text.push_str(" without SYNC"),
+        id => write!(text, " without EMCY {}", id & 0x7F),
+    }
+}
+
+/// Adds by how much longer deadlines a rate has a plan, and without which single frame.
+fn push_miss(text: &mut String, network: &Network<'_>, miss: &Miss) -> Result<(), AllocError> {
+    write!(text, "miss {} deadlines", miss.rate.kbits())?;
+    match miss.stretch {
+        Some(stretch) => {
+            write!(text, " {}", stretch.thousandths)?;
+            if let Some(pdo) = stretch.tightest {
+                if let Some(row) = network.rows().get(pdo) {
+                    write!(text, " tightest {}.{}", row.node, row.tpdo)?;
+                }
+            }
+        }
+        None => text.push_str(" none")?,
+    }
+    for index in &miss.spare {
+        if let Some(stream) = network.set().streams().get(*index) {
+            push_spare(text, stream)?;
+        }
+    }
+    text.push_str("\n")
+}
+
+/// A line for each rate, by rising rate, of what it misses a plan by.
+pub fn misses_text(
+    alloc: Global,
+    network: &Network<'_>,
+    misses: &[Miss],
+) -> Result<String, AllocError> {
+    let mut text = String::new(alloc);
+    for miss in misses {
+        push_miss(&mut text, network, miss)?;
     }
     Ok(text)
 }

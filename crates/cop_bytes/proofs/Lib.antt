@@ -1,2 +1,3 @@
 pub mod PaddingLemmas
+pub mod PlainLemmas
 pub mod ToldLemmas

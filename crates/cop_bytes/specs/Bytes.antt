@@ -95,6 +95,20 @@ ended_letters (Some letters) = ended letters
 unfoldable pub prepared : List ℕ → Option (List ℕ)
 prepared text = ended_letters (letters_of text)
 
+-- ---- texts that are read as they are
+
+-- a byte is no end mark, and if it is CR, LF stands behind it
+abbrev pub stands : ℕ → List ℕ → Bool
+stands b rest = not (is_end_mark b) && (not (b == 13) || (slice_index rest 0 == 10))
+
+abbrev pub are_standing : List ℕ → Bool
+are_standing [] = true
+are_standing (b ∷ rest) = stands b rest && are_standing rest
+
+-- no mark of UTF-16, no end mark, and no CR but before LF
+abbrev pub needs_nothing : List ℕ → Bool
+needs_nothing text = not (is_marked text) && are_standing text
+
 -- ---- where bytes show that they are no text
 
 -- what ends a line: LF, or CR where no LF stands

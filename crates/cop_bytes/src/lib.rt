@@ -4,6 +4,7 @@
 mod change;
 mod ends;
 mod padding;
+mod plain;
 mod preparing;
 mod utf16;
 

@@ -3,7 +3,7 @@
 ghost use Rattle.std.specs.Prelude.{◌≡◌, ◌≤◌, ◌&&◌, length, take};
 ghost use Rattle.cop_bytes.specs.Bytes.{is_end_mark, is_padding, uncut};
 
-fn is_end_mark(byte: u8) -> bool
+pub(crate) fn is_end_mark(byte: u8) -> bool
     ensures { result ≡ is_end_mark byte }
 {
     byte == 0 || byte == 0x1A

@@ -1,12 +1,13 @@
 //! The bytes that are read as lines.
 
-ghost use Rattle.std.specs.Prelude.{◌≡◌, ◌≤◌, ◌<◌, ◌^◌, ◌++◌, ◌==◌, length, None, Some, IfOk, IfErr, OnOk, vec_len};
+ghost use Rattle.std.specs.Prelude.{◌≡◌, ◌≤◌, ◌<◌, ◌^◌, ◌++◌, ◌==◌, true, length, None, Some, IfOk, IfErr, OnOk, vec_len};
 ghost use Rattle.std.specs.List.{list_any};
-ghost use Rattle.cop_bytes.specs.Bytes.{decoding, cutting, uncut, ended, line_end, ends_before_zero, line_of_zero, listed, letter_changes, prepared, refused_line, text_changes};
+ghost use Rattle.cop_bytes.specs.Bytes.{decoding, cutting, uncut, ended, line_end, ends_before_zero, line_of_zero, listed, letter_changes, needs_nothing, prepared, refused_line, text_changes};
 
 use crate::change::TextChange;
 use crate::ends::{ending, has_end, with_ends};
 use crate::padding::uncut_len;
+use crate::plain::needs_nothing;
 use crate::utf16::{is_marked, letters_of};
 use std::alloc::{AllocError, Global};
 
@@ -137,6 +138,20 @@ fn made(alloc: Global, text: &[u8]) -> Result<Result<Readable, usize>, AllocErro
     }
 }
 
+/// The bytes of a text that needs nothing, as they are.
+#[tactic(auto, using(crate::proofs::PlainLemmas::plain_prepared, crate::proofs::PlainLemmas::plain_untold))]
+fn unchanged(alloc: Global, text: &[u8]) -> Result<Readable, AllocError>
+    requires { needs_nothing text.now ≡ true }
+    ensures text { IfOk result (λ p. prepared text.now ≡ Some p.text.items) }
+    ensures changes { IfOk result (λ p. p.changes.items ≡ text_changes text.now) }
+    ensures same { IfOk result (λ p. p.text.items ≡ text.now) }
+{
+    Ok(Readable {
+        text: Vec::from_slice(alloc, text)?,
+        changes: Vec::new(alloc),
+    })
+}
+
 /// The bytes that are read as lines: UTF-16 becomes UTF-8, an end mark of DOS or padding is cut, and the ends of lines become those
 /// of CiA 306. Where nothing is told they are as they were. Where the bytes are no text, the line at which this shows, from 1, and 0
 /// where they are no UTF-16.
@@ -148,6 +163,9 @@ pub fn prepared(alloc: Global, text: &[u8]) -> Result<Result<Readable, usize>, A
     ensures no_text { IfOk result (λ r. IfErr r (λ line. prepared text.now ≡ None)) }
     ensures line { IfOk result (λ r. IfErr r (λ line. line ≡ refused_line text.now)) }
 {
+    if needs_nothing(text) {
+        return Ok(Ok(unchanged(alloc, text)?));
+    }
     match made(alloc, text)? {
         Ok(readable) => Ok(Ok(readable)),
         Err(line) => Ok(Err(line)),

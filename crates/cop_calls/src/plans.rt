@@ -38,6 +38,16 @@ fn write_files(rt: &HostRuntime, files: &Files, out: &str) -> Result<(), Failure
     remove_earlier(rt, out, written)
 }
 
+/// How long a refusal file is, in words, if it is longer than 1 MB.
+fn length_words(alloc: Global, bytes: usize) -> Result<Vec<u8>, AllocError> {
+    if bytes <= 1_000_000 {
+        return Ok(Vec::new(alloc));
+    }
+    let megabytes = bytes / 1_000_000;
+    let words = format!(in alloc; "canplan: refusals.csv will have {megabytes} MB\n")?;
+    Ok(words.into_bytes())
+}
+
 /// A plan that is to be told and written.
 #[derive(Clone, Copy)]
 struct Made<'a> {
@@ -120,6 +130,7 @@ pub fn plan(
         files: &files,
     };
     let is_told = form == Form::Told;
+    tell(rt, length_words(rt.alloc(), made.files.refusals.len()));
     if form == Form::Document {
         give_document(rt, order, &made)
     } else if order.strict {

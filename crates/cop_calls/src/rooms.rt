@@ -1,6 +1,7 @@
 //! How far each number of a network's plan goes.
 
-use cop_answers::{Inputs, room_text};
+use cop_answers::{Inputs, misses_of, misses_text, room_text};
+use cop_cert::Refusal;
 use cop_documents::{no_room_document, room_document};
 use cop_engine::{PlannedNetwork, none_passes, plan_status};
 use cop_files::{Failure, Form, print, print_document, read_network};
@@ -25,13 +26,20 @@ fn give_room(
     }
 }
 
-/// Prints that no rate passes, in a form.
-fn give_none(rt: &HostRuntime, form: Form) -> Result<(), Failure> {
+/// Prints that no rate passes and what each misses a plan by, in a form.
+fn give_misses(
+    rt: &HostRuntime,
+    form: Form,
+    network: &Network<'_>,
+    refusals: &[Refusal],
+) -> Result<(), Failure> {
     let alloc = rt.alloc();
+    let misses = misses_of(alloc, network, refusals)?;
     if form == Form::Document {
-        print_document(rt, &no_room_document(alloc)?)
+        print_document(rt, &no_room_document(alloc, network, &misses)?)
     } else {
-        print(rt, &none_passes(alloc)?)
+        print(rt, &none_passes(alloc)?)?;
+        print(rt, misses_text(alloc, network, &misses)?.as_bytes())
     }
 }
 
@@ -40,7 +48,7 @@ fn give(rt: &HostRuntime, form: Form, planned: &PlannedNetwork<'_>) -> Result<u8
     let (network, outcome) = planned.parts();
     match outcome {
         Outcome::Planned(plan) => give_room(rt, form, network, plan)?,
-        Outcome::Refused(_) => give_none(rt, form)?,
+        Outcome::Refused(refusals) => give_misses(rt, form, network, refusals.as_slice())?,
     }
     Ok(plan_status(planned.is_planned()))
 }

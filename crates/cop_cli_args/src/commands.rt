@@ -16,7 +16,7 @@ const AFTER: &str = "With no words: canplan test --rate 125 -
 Statuses:
   0  done
   2  the words are not understood
-  3  an input is refused (canplan: refused NUMBER PLACE), a refusal fails, a run is given up, nodes are not started, or a log breaks the tables
+  3  an input is refused (canplan: refused NUMBER PLACE), a refusal fails, a run is given up, nodes are not started or not as planned, or a log breaks the tables
   4  no rate passes
   5  a file cannot be read or written, or is above 64 MiB
   6  out of memory

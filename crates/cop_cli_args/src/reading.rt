@@ -7,7 +7,7 @@ use cop_engine::rate_of;
 use cop_frame::Rate;
 use cop_orders::{
     Format, MachineOrder, NetworkFiles, Order, PlanOrder, Rates, Request, Shown, TidyChoices,
-    TidyOrder, WatchOrder,
+    TidyOrder, VerifyOrder, WatchOrder,
 };
 use cop_plan::Choice;
 use cop_tidy_lines::{Digits, Unlisted};
@@ -88,6 +88,16 @@ fn boot_order<'a>(matches: &ArgMatches<'a>) -> Order<'a> {
             network,
         },
     }
+}
+
+fn verify_order<'a>(matches: &ArgMatches<'a>) -> Order<'a> {
+    Order::Verify(VerifyOrder {
+        network: network_of(matches),
+        port: matches.get_str("port").unwrap_or("-"),
+        only: node_of(matches, "only"),
+        gently: matches.get_one("gently").unwrap_or(0),
+        limit: matches.get_one("limit"),
+    })
 }
 
 fn judge_order<'a>(matches: &ArgMatches<'a>) -> Order<'a> {
@@ -219,6 +229,7 @@ fn order_of<'a>(name: &str, matches: &ArgMatches<'a>) -> Order<'a> {
         "room" => room_order(matches),
         "check" => check_order(matches),
         "boot" => boot_order(matches),
+        "verify" => verify_order(matches),
         "judge" => judge_order(matches),
         "run" => run_order(matches),
         "report" => report_order(matches),
@@ -234,7 +245,7 @@ fn order_of<'a>(name: &str, matches: &ArgMatches<'a>) -> Order<'a> {
 fn has_document(name: &str) -> bool {
     matches!(
         name,
-        "plan" | "room" | "check" | "test" | "judge" | "boot" | "watch"
+        "plan" | "room" | "check" | "test" | "judge" | "boot" | "verify" | "watch"
     )
 }
 

@@ -2,7 +2,7 @@
 
 use crate::words::{
     CHANNEL, Choices, DELTA, DRIFT, ERROR, EXPLAIN, JSON, Kind, LISTED_RATES, MARGIN, NODES, Need,
-    PDOS, Word,
+    PDOS, PORT, Word,
 };
 use cop_orders::MOST_UNTIL;
 
@@ -14,6 +14,9 @@ const MOST_SECONDS: u64 = 86400;
 
 /// The greatest time for a boot-up, ten minutes in seconds.
 const MOST_BOOT_SECONDS: u64 = 600;
+
+/// The greatest pause before a question, ten seconds in milliseconds.
+const MOST_PAUSE: u64 = 10000;
 
 /// The greatest number of a rule.
 const MOST_RULE: u64 = 255;
@@ -156,6 +159,34 @@ static BOOT: [Word; 17] = [
         name: "limit",
         kind: Kind::Number(MOST_SECONDS),
         need: Need::Against("seed"),
+        help: "The seconds after which the port is given up",
+    },
+];
+
+static VERIFY: [Word; 10] = [
+    NODES,
+    PDOS,
+    LISTED_RATES,
+    MARGIN,
+    EXPLAIN,
+    JSON,
+    PORT,
+    Word {
+        name: "only",
+        kind: Kind::Number(MOST_NODE),
+        need: Need::Optional,
+        help: "The node that is asked alone",
+    },
+    Word {
+        name: "gently",
+        kind: Kind::Number(MOST_PAUSE),
+        need: Need::Optional,
+        help: "The milliseconds in which nothing is sent before each question; 0 where it is left out",
+    },
+    Word {
+        name: "limit",
+        kind: Kind::Number(MOST_SECONDS),
+        need: Need::Optional,
         help: "The seconds after which the port is given up",
     },
 ];
@@ -361,6 +392,7 @@ pub(crate) enum Subcommand {
     Room,
     Check,
     Boot,
+    Verify,
     Run,
     Judge,
     Report,
@@ -372,12 +404,13 @@ pub(crate) enum Subcommand {
 
 impl Subcommand {
     /// All of them, as a help lists them.
-    pub const ALL: [Subcommand; 12] = [
+    pub const ALL: [Subcommand; 13] = [
         Subcommand::Test,
         Subcommand::Plan,
         Subcommand::Room,
         Subcommand::Check,
         Subcommand::Boot,
+        Subcommand::Verify,
         Subcommand::Run,
         Subcommand::Judge,
         Subcommand::Report,
@@ -394,6 +427,7 @@ impl Subcommand {
             Subcommand::Room => "room",
             Subcommand::Check => "check",
             Subcommand::Boot => "boot",
+            Subcommand::Verify => "verify",
             Subcommand::Run => "run",
             Subcommand::Judge => "judge",
             Subcommand::Report => "report",
@@ -419,6 +453,9 @@ impl Subcommand {
             }
             Subcommand::Boot => {
                 "Boots the planned devices: those at an adapter, or over a simulated bus, each frame delivered in its turn"
+            }
+            Subcommand::Verify => {
+                "Asks the devices at an adapter whether they are as planned, also where they run, and writes nothing to them"
             }
             Subcommand::Run => "Runs the plan on a simulated bus, and writes the trace",
             Subcommand::Judge => "Judges a trace of the bus by the plan of a network",
@@ -449,6 +486,9 @@ impl Subcommand {
                 "Examples: canplan boot --seed 1 nodes.csv pdos.csv
           canplan boot --port /dev/ttyACM0 nodes.csv pdos.csv"
             }
+            Subcommand::Verify => {
+                "Example: canplan verify --port /dev/ttyACM0 nodes.csv pdos.csv"
+            }
             Subcommand::Run => {
                 "Example: canplan run --seed 1 --until 1000000 nodes.csv pdos.csv trace.csv"
             }
@@ -469,6 +509,7 @@ impl Subcommand {
             Subcommand::Room => ROOM.as_slice(),
             Subcommand::Check => CHECK.as_slice(),
             Subcommand::Boot => BOOT.as_slice(),
+            Subcommand::Verify => VERIFY.as_slice(),
             Subcommand::Run => RUN.as_slice(),
             Subcommand::Judge => JUDGE.as_slice(),
             Subcommand::Report => REPORT.as_slice(),

@@ -91,6 +91,14 @@ pub(crate) const PDOS: Word = Word {
     help: "The table of PDOs: node,tpdo,period,jitter,deadline,consumers",
 };
 
+/// Where an adapter is reached.
+pub(crate) const PORT: Word = Word {
+    name: "port",
+    kind: Kind::Text("PORT"),
+    need: Need::Required,
+    help: "The serial device of a CAN adapter that speaks slcan; - is standard input and output",
+};
+
 /// The rates that the plan may have.
 pub(crate) const LISTED_RATES: Word = Word {
     name: "rates",

@@ -170,8 +170,8 @@ fn is_meant_device(network: &Network<'_>, node: u8) -> bool
     node >= 1 && node <= 127 && network.dictionary(node).is_some()
 }
 
-/// The nodes of a network that are booted: one alone, if it has a device, or all that have one.
-fn meant_nodes(
+/// The nodes of a network that are meant: one alone, if it has a device, or all that have one. Otherwise want of memory.
+pub fn meant_nodes(
     alloc: Global,
     network: &Network<'_>,
     only: Option<u8>,

@@ -66,8 +66,13 @@ pub(crate) fn add(
     Ok(())
 }
 
-// Adds the questions to a node about its device type, vendor and product.
-fn add_all(questions: &mut Vec<Question>, node: u8, dict: &Dictionary) -> Result<(), AllocError>
+/// Adds the questions to a node about its device type, vendor and product, where its dictionary says them and they are not 0. Otherwise want of
+/// memory.
+pub fn add_identity(
+    questions: &mut Vec<Question>,
+    node: u8,
+    dict: &Dictionary,
+) -> Result<(), AllocError>
     ensures { OnOk result (questions.new.items ≡ questions.old.items ++ questions_at node dict.now) }
 {
     let device_type = Address {
@@ -96,7 +101,7 @@ fn add_node(
     ensures { OnOk result (questions.new.items ≡ questions.old.items ++ questions_to network.now node) }
 {
     match network.dictionary(node) {
-        Some(dict) => add_all(questions, node, dict),
+        Some(dict) => add_identity(questions, node, dict),
         None => Ok(()),
     }
 }

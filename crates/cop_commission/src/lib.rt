@@ -12,6 +12,10 @@ mod sessions;
 mod told;
 mod unended;
 
-pub use commissioning::{Approach, Commissioned, Watch, commission};
+pub use commissioning::{Approach, Commissioned, Watch, commission, meant_nodes};
 pub use cop_live::{Command, Runner};
 pub use cop_readback::Reach;
+pub use identities::add_identity;
+pub use readings::is_set_again;
+pub use relied::add_relied;
+pub use told::{question_about, switches_off};

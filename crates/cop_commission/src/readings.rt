@@ -22,8 +22,8 @@ fn is_at(setting: &Setting, other: &Setting) -> bool
     other.index == setting.index && other.sub == setting.sub
 }
 
-// Whether a later setting is at the same address.
-fn is_set_again(setting: &Setting, rest: &[Setting]) -> bool
+/// Whether a later setting is at the same address.
+pub fn is_set_again(setting: &Setting, rest: &[Setting]) -> bool
     ensures { result ≡ is_set_again setting.now rest.now }
 {
     rest.iter().any(|later| is_at(setting, later))

@@ -44,8 +44,8 @@ fn is_communication(index: u16) -> bool
     matches!(index, 0x1400..=0x15FF | 0x1800..=0x19FF)
 }
 
-// Whether a setting switches a PDO off.
-fn switches_off(setting: &Setting) -> bool
+/// Whether a setting switches a PDO off.
+pub fn switches_off(setting: &Setting) -> bool
     ensures { result ≡ switches_off setting.now }
 {
     let Setting {

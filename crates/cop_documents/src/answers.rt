@@ -127,6 +127,25 @@ pub fn boot_document(alloc: Global, answer: Option<&BootAnswer>) -> Result<Strin
     document.to_string(alloc)
 }
 
+/// The answer of a verification, with whether each node is as planned; and that no rate passes where there is none.
+pub fn verify_document(
+    alloc: Global,
+    answer: Option<&BootAnswer>,
+    as_planned: bool,
+) -> Result<String, AllocError> {
+    let nodes = match answer {
+        Some(answer) => nodes_of(alloc, &answer.nodes)?,
+        None => nodes_of(alloc, &[])?,
+    };
+    let document = Object::new(alloc)
+        .text("command", "verify")
+        .plain("planned", answer.is_some())
+        .plain("as_planned", as_planned)
+        .plain("nodes", nodes)
+        .end()?;
+    document.to_string(alloc)
+}
+
 /// The answer of a judgement: how many transfers start, none of which is late; nothing if no rate passes.
 pub fn judge_document(alloc: Global, transfers: Option<u64>) -> Result<String, AllocError> {
     let document = Object::new(alloc)

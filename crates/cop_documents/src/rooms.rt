@@ -6,7 +6,7 @@ use crate::values::micros;
 use cop_frame::identifiers::SYNC;
 use cop_net::Network;
 use cop_plan::Plan;
-use cop_room::{Room, RowRoom};
+use cop_room::{Miss, Room, RowRoom};
 use cop_rta::Stream;
 use serde_json::Value;
 use std::alloc::{AllocError, Global};
@@ -114,12 +114,71 @@ pub fn room_document(
     document.to_string(alloc)
 }
 
-/// The same where no rate passes.
-pub fn no_room_document(alloc: Global) -> Result<String, AllocError> {
+/// The row of a fixed frame above all PDOs, by its identifier.
+fn frame_of(alloc: Global, id: u16) -> Result<Value, AllocError> {
+    let row = match id {
+        0 => "nmt",
+        SYNC => "sync",
+        _ => "emcy",
+    };
+    Object::new(alloc)
+        .text("row", row)
+        .plain("node", id & 0x7F)
+        .end()
+}
+
+fn frames_of(alloc: Global, network: &Network<'_>, miss: &Miss) -> Result<Value, AllocError> {
+    let streams = network.set().streams();
+    let mut frames = Vec::new(alloc);
+    for index in &miss.spare {
+        if let Some(stream) = streams.get(*index) {
+            frames.push(frame_of(alloc, stream.id)?)?;
+        }
+    }
+    Ok(Value::Array(frames))
+}
+
+fn tightest_of(
+    alloc: Global,
+    network: &Network<'_>,
+    tightest: Option<usize>,
+) -> Result<Value, AllocError> {
+    match tightest {
+        Some(pdo) => pdo_name(alloc, network.rows().get(pdo)),
+        None => Ok(Value::Null),
+    }
+}
+
+fn miss_of(alloc: Global, network: &Network<'_>, miss: &Miss) -> Result<Value, AllocError> {
+    let object = Object::new(alloc).plain("rate", miss.rate.kbits());
+    let stretched = match miss.stretch {
+        Some(stretch) => object
+            .plain("deadlines", stretch.thousandths)
+            .with("tightest", tightest_of(alloc, network, stretch.tightest)),
+        None => object
+            .plain("deadlines", Value::Null)
+            .plain("tightest", Value::Null),
+    };
+    stretched
+        .with("without", frames_of(alloc, network, miss))
+        .end()
+}
+
+/// What is missed where no rate passes, by rising rate.
+pub fn no_room_document(
+    alloc: Global,
+    network: &Network<'_>,
+    misses: &[Miss],
+) -> Result<String, AllocError> {
+    let mut told = Vec::new(alloc);
+    for miss in misses {
+        told.push(miss_of(alloc, network, miss)?)?;
+    }
     let document = Object::new(alloc)
         .text("command", "room")
         .plain("rate", Value::Null)
         .plain("room", Value::Null)
+        .with("misses", Ok(Value::Array(told)))
         .end()?;
     document.to_string(alloc)
 }

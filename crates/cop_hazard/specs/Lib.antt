@@ -2,7 +2,6 @@ pub mod Stated
 pub mod Listed
 pub mod Spelled
 pub mod Records
-pub mod Sections
 pub mod Compact
 pub mod Hazards
 pub mod Every

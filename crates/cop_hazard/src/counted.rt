@@ -6,7 +6,7 @@ ghost use Rattle.cop_hazard.specs.Counted.{listed_among, miscount_at, is_plain, 
 
 use crate::every::push_some;
 use crate::hazards::{Hazard, hazard_at};
-use crate::listed::{is_listed, listed};
+use crate::listed::{is_listed, listed_indexes};
 use crate::stated::{stated, stated_or_0};
 use crate::tests::is_above;
 use cop_eds::{Eds, Place};
@@ -100,6 +100,6 @@ fn miscounts_in(
 pub fn miscounts(alloc: Global, eds: &Eds<'_>) -> Result<Vec<Hazard>, AllocError>
     ensures { IfOk result (λ found. found.items ≡ miscounts_of eds.now) }
 {
-    let indexes = listed(alloc, eds)?;
+    let indexes = listed_indexes(alloc, eds)?;
     miscounts_in(alloc, eds, &indexes, eds.place(b"DeviceInfo"))
 }

@@ -8,7 +8,7 @@ ghost use Rattle.cop_hazard.specs.Every.{hazards_by, all_beyond_of, all_beyond, 
 
 use crate::compact::implicit_line;
 use crate::hazards::{Hazard, hazard_at};
-use crate::listed::{count_of, listed};
+use crate::listed::{count_of, listed_indexes};
 use crate::tests::{Test, passes};
 use cop_eds::Eds;
 use std::alloc::{AllocError, Global};
@@ -91,7 +91,7 @@ fn push_beyond(
 pub fn all_hazards(alloc: Global, eds: &Eds<'_>) -> Result<Vec<Hazard>, AllocError>
     ensures { IfOk result (λ found. found.items ≡ hazards_of eds.now) }
 {
-    let indexes = listed(alloc, eds)?;
+    let indexes = listed_indexes(alloc, eds)?;
     let mut found = Vec::new(alloc);
     push_lines(&mut found, alloc, eds, &indexes, 80, Test::Unlisted)?;
     push_lines(&mut found, alloc, eds, &indexes, 81, Test::Unidentified)?;

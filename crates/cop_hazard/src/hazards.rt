@@ -7,7 +7,7 @@ ghost use Rattle.cop_hazard.specs.Compact.{implicit_line};
 ghost use Rattle.cop_hazard.specs.declared.tests.Test.TheVariants as tests;
 
 use crate::compact::implicit_line;
-use crate::listed::{count_of, listed};
+use crate::listed::{count_of, listed_indexes};
 use crate::tests::{Test, first_line};
 use cop_eds::Eds;
 use std::alloc::{AllocError, Global};
@@ -92,7 +92,7 @@ pub fn first_hazard(
 ) -> Result<Option<Hazard>, AllocError>
     ensures { IfOk result (λ found. found ≡ hazard_of is_left eds.now) }
 {
-    let indexes = listed(alloc, eds)?;
+    let indexes = listed_indexes(alloc, eds)?;
     let unlisted = unlisted_line(alloc, eds, &indexes, is_left)?;
     let unidentified = first_line(alloc, eds, &indexes, Test::Unidentified)?;
     let implicit = implicit_line(eds, &indexes);

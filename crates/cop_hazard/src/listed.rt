@@ -62,9 +62,9 @@ fn add_list(indexes: &mut BTreeSet<u64>, eds: &Eds<'_>, name: &[u8]) -> Result<(
     }
 }
 
-/// The indexes that the three lists name.
+/// The indexes that the three lists of an accepted text name. `Err` is want of memory.
 #[tactic(auto, unfolding(crate::specs::Listed::is_listed))]
-pub fn listed(alloc: Global, eds: &Eds<'_>) -> Result<BTreeSet<u64>, AllocError>
+pub fn listed_indexes(alloc: Global, eds: &Eds<'_>) -> Result<BTreeSet<u64>, AllocError>
     ensures { IfOk result (λ indexes. AreListed eds.now indexes) }
 {
     let mut indexes = BTreeSet::new(alloc);

@@ -5,5 +5,5 @@ mod orders;
 
 pub use orders::{
     Format, MOST_UNTIL, MachineOrder, NetworkFiles, Order, PlanOrder, Rates, Request, Shown,
-    TidyChoices, TidyOrder, WatchOrder,
+    TidyChoices, TidyOrder, VerifyOrder, WatchOrder,
 };

@@ -86,6 +86,19 @@ pub struct MachineOrder<'a> {
     pub limit: Option<u64>,
 }
 
+/// The devices at the adapter of a port, which are asked whether they are as their network is planned.
+#[derive(Clone, Copy)]
+pub struct VerifyOrder<'a> {
+    pub network: NetworkFiles<'a>,
+    pub port: &'a str,
+    /// The node that is asked alone. Otherwise all are.
+    pub only: Option<u8>,
+    /// For how many milliseconds nothing is sent before each question.
+    pub gently: u64,
+    /// After how many seconds the port is given up, if it ever is.
+    pub limit: Option<u64>,
+}
+
 /// The choices that are made where the text of an EDS file leaves two meanings open.
 #[derive(Clone, Copy)]
 pub struct TidyChoices {
@@ -167,6 +180,8 @@ pub enum Order<'a> {
     },
     /// The boot of the devices at a port by the plan of their network.
     Machine(MachineOrder<'a>),
+    /// The question whether the devices at a port are as their network is planned.
+    Verify(VerifyOrder<'a>),
     /// The judgement of a trace by the plan of a network.
     Judge {
         network: NetworkFiles<'a>,

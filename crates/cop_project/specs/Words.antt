@@ -23,7 +23,8 @@ word_at words i = slice_index_or words i []
 abbrev pub takes_network : List ℕ → Bool
 takes_network w =
     (bytes_eq w (codes "plan") || (bytes_eq w (codes "check") || (bytes_eq w (codes "report") || bytes_eq w (codes "export"))))
-    || (bytes_eq w (codes "boot") || (bytes_eq w (codes "run") || (bytes_eq w (codes "judge") || (bytes_eq w (codes "watch") || bytes_eq w (codes "room")))))
+    || ((bytes_eq w (codes "boot") || bytes_eq w (codes "verify"))
+    || (bytes_eq w (codes "run") || (bytes_eq w (codes "judge") || (bytes_eq w (codes "watch") || bytes_eq w (codes "room")))))
 
 -- the options that have no value
 abbrev pub is_flag : List ℕ → Bool

@@ -19,9 +19,10 @@ fn takes_network(command: &str) -> bool
 {
     let is_planned = command == "plan"
         || (command == "check" || (command == "report" || command == "export"));
-    let is_run = command == "boot"
-        || (command == "run" || (command == "judge" || (command == "watch" || command == "room")));
-    is_planned || is_run
+    let is_machine = command == "boot" || command == "verify";
+    let is_run = command == "run"
+        || (command == "judge" || (command == "watch" || command == "room"));
+    is_planned || (is_machine || is_run)
 }
 
 /// Whether a word that begins with `--` stands alone.

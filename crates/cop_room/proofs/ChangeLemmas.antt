@@ -1,5 +1,5 @@
 -- Which changes ask more.
-use Rattle.std.proofs.Common.{◌≡◌, ◌∙◌, ℕ, ◌*◌, ◌/◌, ◌≤◌, ◌==◌, max, Bool, true, false, if◌then◌else◌, List, slice_get, Option, Some, None, option_map, refl, sym, subst, arith, le_refl, mul-le-mul_left, ⊎_elim}
+use Rattle.std.proofs.Common.{◌≡◌, ◌∙◌, ℕ, ◌*◌, ◌/◌, ◌≤◌, ◌==◌, max, min, Bool, true, false, if◌then◌else◌, List, slice_get, Option, Some, None, option_map, refl, sym, subst, arith, le_refl, mul-le-mul_left, ⊎_elim}
 use Rattle.std.specs.Option.{ForSome}
 use Rattle.std.proofs.lemmas.Option.{slice_get_cases}
 use Rattle.cop_rta.specs.declared.streams.Stream.{Stream}
@@ -7,7 +7,7 @@ use Rattle.cop_rta.specs.Entries.{Entry, entry_of}
 use Rattle.cop_rta.specs.CeilLemmas.{div_ceil-mono}
 use Rattle.cop_rta.specs.Test.{sync_id}
 use Rattle.cop_room.specs.Harder.{IsHarder, AreHarder}
-use Rattle.cop_room.specs.Changes.{AreChanged, IsHarderChange, at_row, with_period, with_jitter, with_bytes, with_deadline, with_pace, with_sync_period, scaled, scaled_period, with_periods, with_times}
+use Rattle.cop_room.specs.Changes.{AreChanged, IsHarderChange, at_row, with_period, with_jitter, with_bytes, with_deadline, with_pace, with_sync_period, scaled, scaled_period, with_periods, with_times, stretched, with_deadlines}
 use Rattle.cop_room.specs.Keeping.{GetHarderUp, GetHarderDown}
 
 deadline_alike : (o : Option ℕ) → ForSome o (λ d. (e : ℕ) × (o ≡ Some e) × (e ≤ d))
@@ -80,6 +80,23 @@ periods_harder x y le k e = record { id = refl; every = refl; bytes = le_refl e.
 
 pub times_harder : GetHarderDown with_times
 times_harder x y le k e = record { id = refl; every = refl; bytes = le_refl e.bytes; period = period_less e x y le; jitter = le_refl e.jitter; deadline = scaled_deadline x y le e.deadline }
+
+capped_less : (most m n : ℕ) → m ≤ n → min most m ≤ min most n
+capped_less most m n le = omega (arith, le)
+
+stretched_less : (time x y : ℕ) → x ≤ y → stretched x time ≤ stretched y time
+stretched_less time x y le = capped_less 240000000 (scaled 4 x time) (scaled 4 y time) (scaled_less 4 time x y le)
+
+stretched_deadline : (x y : ℕ) → ((n : ℕ) → stretched x n ≤ stretched y n) → (o : Option ℕ) → ForSome (option_map (stretched y) o) (λ d. (e : ℕ) × (option_map (stretched x) o ≡ Some e) × (e ≤ d))
+stretched_deadline x y less None d is = absurd (cc)
+stretched_deadline x y less (Some n) d is = let same : stretched y n ≡ d = cc in (stretched x n, refl, subst (λ z. stretched x n ≤ z) same (less n))
+
+pub deadlines_by : (x y : ℕ) → ((n : ℕ) → stretched x n ≤ stretched y n) → IsHarderChange (with_deadlines y) (with_deadlines x)
+deadlines_by x y less k e =
+    record { id = refl; every = refl; bytes = le_refl e.bytes; period = le_refl e.period; jitter = le_refl e.jitter; deadline = stretched_deadline x y less e.deadline }
+
+pub deadlines_harder : GetHarderDown with_deadlines
+deadlines_harder x y le = deadlines_by x y (λ n. stretched_less n x y le)
 
 pub changed_harder : (change harder : ℕ → Entry → Entry) (streams first second : List Stream) → IsHarderChange change harder → AreChanged change streams first → AreChanged harder streams second → AreHarder first second
 changed_harder change harder streams first second h a b = record { as_many = sym a.as_many ∙ b.as_many; each = each }

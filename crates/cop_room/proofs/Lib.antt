@@ -10,3 +10,7 @@ pub mod TrialLemmas
 pub mod NumberLemmas
 pub mod RangeLemmas
 pub mod RoomLemmas
+pub mod WholeLemmas
+pub mod NetworkWhole
+pub mod MissLemmas
+pub mod SpareLemmas

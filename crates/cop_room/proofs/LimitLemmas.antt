@@ -37,7 +37,7 @@ module _ (change : ℕ → ℕ → Entry → Entry) (rate : Rate) (streams : Lis
   pub kept_falls : pdos ≤ length streams → Falls (AllStillPass rate pdos) streams
   kept_falls count a b h n all = plan_passes a b rate pdos h (omega (arith, n, count)) all
 
-  anew_falls : pdos ≤ length streams → Falls (CanBePlanned rate pdos) streams
+  pub anew_falls : pdos ≤ length streams → Falls (CanBePlanned rate pdos) streams
   anew_falls count a b h n can = can_be_planned rate a b pdos h (omega (arith, n, count)) can
 
   pub greatest_kept : (most x : ℕ) → GetHarderUp change → pdos ≤ length streams → EndsAbove (AllStillPass rate pdos) change streams most x → IsGreatestLimit (AllStillPass rate pdos) change streams most x

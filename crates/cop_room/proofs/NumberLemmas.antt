@@ -2,11 +2,11 @@
 use Rattle.std.proofs.Common.{◌≡◌, ℕ, ◌-◌, ◌*◌, ◌≤◌, ◌==◌, Bool, true, false, if◌then◌else◌, refl, arith}
 use Rattle.cop_rta.specs.Entries.{Entry}
 use Rattle.cop_room.specs.declared.numbers.Number.{Number}
-use Rattle.cop_room.specs.declared.numbers.Number.TheVariants.{Period, Deadline, Pace, Jitter, Bytes, SyncPeriod, Periods, Times}
+use Rattle.cop_room.specs.declared.numbers.Number.TheVariants.{Period, Deadline, Pace, Jitter, Bytes, SyncPeriod, Periods, Times, Deadlines}
 use Rattle.cop_room.specs.Changes.{at_row, with_period, with_deadline, with_pace, with_jitter, with_bytes}
 use Rattle.cop_room.specs.Keeping.{GetHarderDown}
 use Rattle.cop_room.specs.Numbers.{change_of, longest_jitter, most_bytes}
-use Rattle.cop_room.proofs.ChangeLemmas.{period_harder, deadline_sooner, pace_faster, jitter_longer, bytes_more, sync_faster, periods_harder, times_harder}
+use Rattle.cop_room.proofs.ChangeLemmas.{period_harder, deadline_sooner, pace_faster, jitter_longer, bytes_more, sync_faster, periods_harder, times_harder, deadlines_harder}
 
 -- ---- the first place asks the most
 
@@ -25,6 +25,7 @@ falls (Bytes row) x y le = bytes_more row (most_bytes - y) (most_bytes - x) (les
 falls SyncPeriod x y le = sync_faster (4 * x) (4 * y) (four_times x y le)
 falls Periods x y le = periods_harder x y le
 falls Times x y le = times_harder x y le
+falls Deadlines x y le = deadlines_harder x y le
 
 -- ---- identifiers stay
 
@@ -49,3 +50,4 @@ same_id (Bytes row) x k e = row_id (with_bytes (most_bytes - x)) row k e refl
 same_id SyncPeriod x k e = sync_id_stays (4 * x) e _ _
 same_id Periods x k e = refl
 same_id Times x k e = refl
+same_id Deadlines x k e = refl

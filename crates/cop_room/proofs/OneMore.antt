@@ -11,13 +11,13 @@ use Rattle.cop_room.specs.Harder.{IsHarder, AreAmong, past_one}
 use Rattle.cop_room.proofs.ChangeLemmas.{alike}
 use Rattle.cop_room.proofs.ByIdentifier.{fewer_passes}
 
-past_before : (index k : ℕ) → k < index → past_one index k ≡ k
+pub past_before : (index k : ℕ) → k < index → past_one index k ≡ k
 past_before index k lt = ap (λ (b : Bool). if b then k else k + 1) (lt-ltb k index lt)
 
 not_before : (x y : ℕ) → y ≤ x → nat_lt x y ≡ false
 not_before x y le = grind (arith, nat_tests)
 
-past_after : (index k : ℕ) → index ≤ k → past_one index k ≡ k + 1
+pub past_after : (index k : ℕ) → index ≤ k → past_one index k ≡ k + 1
 past_after index k le = ap (λ (b : Bool). if b then k else k + 1) (not_before k index le)
 
 rises : (index j k : ℕ) → j < k → past_one index j < past_one index k

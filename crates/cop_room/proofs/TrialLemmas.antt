@@ -1,23 +1,89 @@
 -- Trials: streams changed one after the other, and halving.
-use Rattle.std.proofs.Common.{◌≡◌, ◌∙◌, ◌↔◌, ◌⊎◌, inl, inr, ℕ, zero, suc, ◌+◌, ◌-◌, ◌<◌, ◌≤◌, IsTrue, Bool, List, [], ◌∷◌, ◌++◌, false, ◌==◌, length, slice_get, get_or, Some, refl, sym, ap, subst, arith, le_refl}
+use Rattle.std.proofs.Common.{◌≡◌, ◌∙◌, ◌↔◌, ◌⊎◌, inl, inr, ℕ, zero, suc, ◌+◌, ◌-◌, ◌<◌, ◌≤◌, IsTrue, Bool, List, [], ◌∷◌, ◌++◌, true, false, not, ◌&&◌, ◌==◌, nat_lt, map, length, slice_get, get_or, Option, Some, refl, sym, ap, subst, arith, le_refl, true≢false, ⊎_elim}
 use Rattle.std.specs.Option.{option_map_or}
-use Rattle.std.proofs.lemmas.Bool.{ne_eqb}
+use Rattle.std.proofs.lemmas.Bool.{ne_eqb, eq-eqb}
+use Rattle.std.proofs.lemmas.Bool.Decides.{nat_tests}
 use Rattle.std.proofs.lemmas.List.Folds.{list_any_none}
-use Rattle.std.proofs.lemmas.Option.{slice_get_within, slice_get-get_or}
+use Rattle.std.proofs.lemmas.Option.{slice_get_cases, slice_get_within, slice_get-get_or}
 use Rattle.cop_frame.specs.declared.rates.Rate.{Rate}
 use Rattle.cop_rta.specs.declared.streams.Stream.{Stream}
 use Rattle.cop_rta.specs.Entries.{Entry, entry_of}
 use Rattle.cop_rta.specs.Streams.{AreDistinct, has_id}
-use Rattle.cop_rta.proofs.IdentifierLemmas.{of_stream_at, two_apart}
-use Rattle.cop_rta.specs.Test.{Passes, place_by_id, place_among, flagged_place, is_flagged, has_lower_id}
+use Rattle.cop_rta.proofs.IdentifierLemmas.{of_stream_at, two_apart, one_place}
+use Rattle.cop_rta.proofs.MoreAbove.{passes_under_fewer}
+use Rattle.cop_rta.specs.Test.{StreamPlace, Passes, place_by_id, flagged_place, is_flagged, is_above, has_lower_id}
+use Rattle.cop_rta.specs.Witnesses.{under}
+use Rattle.cop_cert.specs.Assignments.{id_at}
 use Rattle.cop_room.specs.Changes.{AreChanged}
 use Rattle.cop_room.specs.Keeping.{AllStillPass, IsKept, Holds, Fails, EndsBelow}
 
-pub by_id : (streams : List Stream) (flags : List Bool) (index : ℕ) (rate : Rate) (b : Bool) → ((k : ℕ) → is_flagged flags k ≡ has_lower_id streams index k)
-    → (IsTrue b ↔ Passes (flagged_place streams flags index rate)) → (IsTrue b ↔ Passes (place_by_id streams index rate))
-by_id streams flags index rate b same e =
-    let f : is_flagged flags ≡ has_lower_id streams index = λ i k. same k i in
-    subst (λ (above : ℕ → Bool). IsTrue b ↔ Passes (place_among streams above index rate)) f e
+both : (same here : Bool) → not same ≡ true → here ≡ true → (not same && here) ≡ true
+both same here other is = rw (other, is) refl
+
+and_left : (a b : Bool) → (a && b) ≡ true → a ≡ true
+and_left true b h = refl
+and_left false b h = h
+
+and_right : (a b : Bool) → (a && b) ≡ true → b ≡ true
+and_right true b h = h
+and_right false b h = absurd (true≢false (sym h))
+
+not_less : (n : ℕ) → not (nat_lt n n) ≡ true
+not_less n = grind (arith, nat_tests)
+
+less_not_less : (m n : ℕ) → nat_lt m n ≡ true → not (nat_lt n m) ≡ true
+less_not_less m n lt = grind (arith, nat_tests)
+
+less_of : (m n : ℕ) → not (nat_lt n m) ≡ true → (m ≡ n → ⊥) → nat_lt m n ≡ true
+less_of m n le apart = grind (arith, nat_tests)
+
+-- what is not below is above
+turned : (flags : List Bool) (k : ℕ) → k < length flags → is_flagged (map not flags) k ≡ not (is_flagged flags k)
+turned [] k lt = absurd (omega (arith, lt))
+turned (b ∷ flags) zero lt = refl
+turned (b ∷ flags) (suc k) lt = turned flags k (omega (arith, lt))
+
+lower_read : (streams : List Stream) (n k : ℕ) (s : Stream) → slice_get streams k ≡ Some s → option_map_or (λ (t : Stream). nat_lt t.id n) (slice_get streams k) false ≡ nat_lt (id_at streams k) n
+lower_read streams n k s at = ap (λ (o : Option Stream). option_map_or (λ t. nat_lt t.id n) o false) at ∙ sym (ap (λ (o : Option Stream). nat_lt (option_map_or (λ t. t.id) o 0) n) at)
+
+-- the stream at an index, with flags of those that have greater identifiers
+module _ (streams : List Stream) (below : List Bool) (index : ℕ) (rate : Rate) (size : length below ≡ length streams)
+    (flagged : (k : ℕ) → k < length streams → is_flagged below k ≡ nat_lt (id_at streams index) (id_at streams k)) where
+  above_read : (k : ℕ) → k < length streams → is_flagged (map not below) k ≡ not (nat_lt (id_at streams index) (id_at streams k))
+  above_read k lt = turned below k (omega (arith, lt, size)) ∙ ap not (flagged k lt)
+
+  lower_is : (k : ℕ) → k < length streams → has_lower_id streams index k ≡ nat_lt (id_at streams k) (id_at streams index)
+  lower_is k lt = ⊎_elim
+      (λ o. lower_read streams (id_at streams index) k o.0 o.2)
+      (λ past. absurd (let n = past.0 in omega (arith, n, lt)))
+      (slice_get_cases streams k).1
+
+  pub own_above : index < length streams → is_flagged (map not below) index ≡ true
+  own_above lt = above_read index lt ∙ not_less (id_at streams index)
+
+  abbrev by_id : StreamPlace
+  by_id = place_by_id streams index rate
+
+  not_below : (k : ℕ) → k < length streams → is_above by_id k ≡ true → is_above (under by_id (is_flagged (map not below))) k ≡ true
+  not_below k lt h = both (k == index) (is_flagged (map not below) k) (and_left (not (k == index)) (has_lower_id streams index k) h)
+      (above_read k lt ∙ less_not_less (id_at streams k) (id_at streams index) (sym (lower_is k lt) ∙ and_right (not (k == index)) (has_lower_id streams index k) h))
+
+  pub passes_as : AreDistinct streams → index < length streams → (b : Bool) → (IsTrue b ↔ Passes (flagged_place streams (map not below) index rate)) → (IsTrue b ↔ Passes (place_by_id streams index rate))
+  passes_as distinct inside b e = (
+    (λ is. passes_under_fewer by_id (is_flagged (map not below)) inside not_below (e.0 is)),
+    (λ passes. e.1 (passes_under_fewer (flagged_place streams (map not below) index rate) (has_lower_id streams index) inside is_lower passes)),
+  )
+    where
+      is_lower : (k : ℕ) → k < length streams → (not (k == index) && is_flagged (map not below) k) ≡ true → (not (k == index) && has_lower_id streams index k) ≡ true
+      is_lower k lt h =
+          let other : not (k == index) ≡ true = and_left (not (k == index)) (is_flagged (map not below) k) h in
+          let above : is_flagged (map not below) k ≡ true = and_right (not (k == index)) (is_flagged (map not below) k) h in
+          both (k == index) (has_lower_id streams index k) other
+          (lower_is k lt ∙ less_of (id_at streams k) (id_at streams index) (sym (above_read k lt) ∙ above)
+          (λ same. apart k lt other (one_place streams distinct k index lt inside same)))
+        where
+          apart : (k : ℕ) → k < length streams → not (k == index) ≡ true → k ≡ index → ⊥
+          apart k lt other same = true≢false (sym other ∙ ap not (eq-eqb k index same))
 
 pub all_kept : (rate : Rate) (pdos : ℕ) (streams : List Stream) → pdos ≤ length streams → ((k : ℕ) → k < length streams → IsKept rate pdos streams k) → AllStillPass rate pdos streams
 all_kept rate pdos streams count each = record {

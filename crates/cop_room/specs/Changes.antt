@@ -1,5 +1,5 @@
 -- Streams of which some numbers are changed.
-use Rattle.std.specs.Prelude.{◌≡◌, ℕ, ◌*◌, ◌/◌, ◌==◌, max, if◌then◌else◌, List, length, Some, slice_get, option_map}
+use Rattle.std.specs.Prelude.{◌≡◌, ℕ, ◌*◌, ◌/◌, ◌==◌, max, min, if◌then◌else◌, List, length, Some, slice_get, option_map}
 use Rattle.std.specs.Int.{div_ceil}
 use Rattle.cop_rta.specs.declared.streams.Stream.{Stream}
 use Rattle.cop_rta.specs.Entries.{Entry, entry_of}
@@ -50,6 +50,14 @@ with_periods part k e = record e { period = scaled_period part e }
 -- each period and each deadline, which is a microsecond at least
 abbrev pub with_times : ℕ → ℕ → Entry → Entry
 with_times part k e = record e { period = scaled_period part e; deadline = option_map (scaled 4 part) e.deadline }
+
+-- a deadline in so many thousandths, 60 s at most
+abbrev pub stretched : ℕ → ℕ → ℕ
+stretched part time = min 240000000 (scaled 4 part time)
+
+-- each deadline so
+abbrev pub with_deadlines : ℕ → ℕ → Entry → Entry
+with_deadlines part k e = record e { deadline = option_map (stretched part) e.deadline }
 
 -- the second change of a stream asks no less than the first
 abbrev pub IsHarderChange : (ℕ → Entry → Entry) → (ℕ → Entry → Entry) → Type 0

@@ -4,8 +4,8 @@ use Rattle.std.specs.Option.{ForSome}
 use Rattle.cop_rta.specs.declared.streams.Stream.{Stream}
 use Rattle.cop_rta.specs.Entries.{Entry, entry_of}
 use Rattle.cop_room.specs.declared.numbers.Number.{Number}
-use Rattle.cop_room.specs.declared.numbers.Number.TheVariants.{Period, Deadline, Pace, Jitter, Bytes, SyncPeriod, Periods, Times}
-use Rattle.cop_room.specs.Changes.{at_row, with_period, with_deadline, with_pace, with_jitter, with_bytes, with_sync_period, with_periods, with_times}
+use Rattle.cop_room.specs.declared.numbers.Number.TheVariants.{Period, Deadline, Pace, Jitter, Bytes, SyncPeriod, Periods, Times, Deadlines}
+use Rattle.cop_room.specs.Changes.{at_row, with_period, with_deadline, with_pace, with_jitter, with_bytes, with_sync_period, with_periods, with_times, with_deadlines}
 
 -- the longest jitter of a table, in microseconds, and the most bytes
 abbrev pub longest_jitter : ℕ
@@ -24,6 +24,7 @@ change_of (Bytes row) x = at_row row (with_bytes (most_bytes - x))
 change_of SyncPeriod x = with_sync_period (4 * x)
 change_of Periods x = with_periods x
 change_of Times x = with_times x
+change_of Deadlines x = with_deadlines x
 
 -- the numbers that a stream may have
 pub record IsInRange (e : Entry) : Type 0 where

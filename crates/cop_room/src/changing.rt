@@ -30,7 +30,7 @@ pub(crate) fn with_number(
     number: Number,
     place: u64,
 ) -> Result<StreamSet, AllocError>
-    requires place { place ≤ 60000000 }
+    requires place { place ≤ 60000000000 }
     requires range { AreInRange (change_of number place) set.now }
     ensures { IfOk result (AreChanged (change_of number place) set.now) }
 {

@@ -6,9 +6,14 @@ ghost use Rattle.cop_rta.specs.declared.streams.Stream.{Stream};
 ghost use Rattle.cop_rta.specs.Entries.{Entry};
 ghost use Rattle.cop_rta.specs.Streams.{AreDistinct};
 ghost use Rattle.cop_rta.specs.Test.{StreamPlace, Passes, place_by_id, of_stream, jitter_of, sync_response, IsOnTime};
-ghost use Rattle.cop_rta.specs.Greatest.{HasGreatest};
 ghost use Rattle.cop_cert.specs.Assignments.{IsPassing, NoAssignmentPasses};
-ghost use Rattle.cop_plan.specs.Values.{ArePdosHigh};
+ghost use Rattle.cop_rta.specs.Greatest.{AreSynced, HasGreatest};
+ghost use Rattle.cop_net.specs.Network.{Net, IsNetwork};
+ghost use Rattle.cop_plan.specs.Plans.{IsPlan};
+ghost use Rattle.cop_plan.specs.Values.{PlanValue, ArePdosHigh, HaveDeadlines};
+ghost use Rattle.cop_room.specs.declared.rooms.Room.{Room};
+ghost use Rattle.cop_room.specs.Room.{IsRoom};
+ghost use Rattle.cop_room.specs.Whole.{AreInMicroseconds, AreLimits};
 ghost use Rattle.cop_room.specs.Harder.{AreHarder, AreAmong, ArePlannedAmong, past_one};
 ghost use Rattle.cop_room.specs.Changes.{AreChanged, IsHarderChange, at_row, with_period, with_jitter, with_bytes, with_deadline, with_pace, with_sync_period, with_periods, with_times};
 ghost use Rattle.cop_room.specs.Keeping.{AllStillPass, CanBePlanned, GetHarderUp, GetHarderDown, EndsAbove, EndsBelow, IsGreatestLimit, IsLeastLimit};
@@ -109,4 +114,13 @@ pub fn limit_by_neighbours()
         → EndsAbove (CanBePlanned rate pdos) change streams most x → IsGreatestLimit (CanBePlanned rate pdos) change streams most x }
     ensures least_anew { (change : ℕ → ℕ → Entry → Entry) (rate : Rate) (streams : List Stream) (pdos least x : ℕ) → GetHarderDown change → pdos ≤ length streams
         → EndsBelow (CanBePlanned rate pdos) change streams least x → IsLeastLimit (CanBePlanned rate pdos) change streams least x }
+{}
+
+/// A plan of tables passes with its own numbers: the streams of a network are in whole microseconds, and so are those of its plans, and where streams are
+/// and all that are tested pass, each number of their room is a limit with no premise.
+pub fn planned_numbers_pass()
+    ensures network { (n : Net) → IsNetwork n → AreInMicroseconds n.set }
+    ensures plan { (rates : List Rate) (streams : List Stream) (pdos : ℕ) (plan : PlanValue) → AreInMicroseconds streams → IsPlan rates streams pdos plan → AreInMicroseconds plan.streams }
+    ensures room { (rate : Rate) (streams : List Stream) (pdos : ℕ) (room : Room) → AllStillPass rate pdos streams → AreInMicroseconds streams → AreSynced streams → AreDistinct streams
+        → HaveDeadlines streams pdos → pdos ≤ length streams → IsRoom rate streams pdos room → AreLimits rate streams pdos room }
 {}

@@ -4,6 +4,7 @@
 mod changing;
 mod laws;
 mod limits;
+mod misses;
 mod more;
 mod numbers;
 mod rooms;
@@ -14,7 +15,8 @@ pub use laws::{
     changed_streams_are_harder, changes_get_harder, fewer_plans_pass, fewer_streams_pass,
     greatest_response_decides, harder_assignments_pass_less, harder_places_pass_less,
     harder_places_respond_later, harder_plans_pass_less, harder_streams_pass_less,
-    harder_sync_responds_later, limit_by_neighbours,
+    harder_sync_responds_later, limit_by_neighbours, planned_numbers_pass,
 };
+pub use misses::{Miss, Stretch, nearest_miss};
 pub use rooms::{Room, room_of};
 pub use rows::RowRoom;

@@ -46,7 +46,7 @@ fn alone(
 {
     let mut low = from;
     let mut high = to;
-    if from <= to && passes_at(alloc, set, pdos, rate, number, index, from)? {
+    if from < to && passes_at(alloc, set, pdos, rate, number, index, from)? {
         return Ok(from);
     }
     while low < high {
@@ -60,15 +60,16 @@ fn alone(
     Ok(high)
 }
 
-/// Where the search begins, and which stream is tried before all others.
+/// Where a search begins, and which stream is tried before all others. From any start the same limit is found.
 #[derive(Clone, Copy)]
-struct Start {
-    place: u64,
-    suspect: usize,
+pub(crate) struct Start {
+    pub(crate) place: u64,
+    pub(crate) suspect: usize,
 }
 
-/// The first place with which the row passes alone, and a stream that is tight.
-fn start_of(
+/// The first place, from one on, with which a stream that is tight passes alone and the row. The row comes second: far before the places where the
+/// tight one passes, the row alone can fill the bus, and then its test looks at very many instances.
+pub(crate) fn start_from(
     alloc: Global,
     set: &StreamSet,
     pdos: usize,
@@ -76,24 +77,23 @@ fn start_of(
     number: Number,
     first: u64,
     now: u64,
-    index: usize,
+    row: usize,
     tight: usize,
 ) -> Result<Start, AllocError>
     requires order { first ≤ now }
     requires now { now ≤ 60000000 }
     requires range { (x : ℕ) → first ≤ x → x ≤ now → AreInRange (change_of number x) set.now }
 {
-    let own = alone(alloc, set, pdos, rate, number, index, first, now)?;
-    let place = alone(alloc, set, pdos, rate, number, tight, own, now)?;
-    let suspect = if place > own { tight } else { index };
+    let others = alone(alloc, set, pdos, rate, number, tight, first, now)?;
+    let place = alone(alloc, set, pdos, rate, number, row, others, now)?;
+    let suspect = if place > others { row } else { tight };
     Ok(Start { place, suspect })
 }
 
 /// The first place of a number with which each PDO and each SDO frame with a deadline passes, all else as it is; none where they fail with the
 /// place that it has now. `Err` is want of memory.
 ///
-/// A stream that failed is tried before all others, and where it passes alone the next trial is. The search begins where the row passes alone
-/// and a stream that is tight.
+/// A stream that failed is tried before all others, and where it passes alone the next trial is.
 pub(crate) fn least(
     alloc: Global,
     set: &StreamSet,
@@ -102,8 +102,7 @@ pub(crate) fn least(
     number: Number,
     first: u64,
     now: u64,
-    index: usize,
-    tight: usize,
+    start: Start,
 ) -> Result<Option<u64>, AllocError>
     requires count { pdos ≤ length set.now }
     requires order { first ≤ now }
@@ -114,7 +113,6 @@ pub(crate) fn least(
 {
     let mut low = first;
     let mut high = now + 1;
-    let start = start_of(alloc, set, pdos, rate, number, first, now, index, tight)?;
     let mut suspect = start.suspect;
     let mut next = start.place;
     while low < high {
@@ -144,8 +142,7 @@ pub(crate) fn least_or_now(
     number: Number,
     first: u64,
     now: u64,
-    index: usize,
-    tight: usize,
+    start: Start,
 ) -> Result<u64, AllocError>
     requires count { pdos ≤ length set.now }
     requires order { first ≤ now }
@@ -154,7 +151,7 @@ pub(crate) fn least_or_now(
     ensures within { IfOk result (λ x. x ≤ now) }
     ensures exact { IfOk result (CanFall (AllStillPass rate pdos) (change_of number) set.now first now) }
 {
-    match least(alloc, set, pdos, rate, number, first, now, index, tight)? {
+    match least(alloc, set, pdos, rate, number, first, now, start)? {
         Some(least) => Ok(least),
         None => Ok(now),
     }

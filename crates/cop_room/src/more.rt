@@ -7,7 +7,7 @@ ghost use Rattle.cop_rta.specs.Streams.{has_id};
 ghost use Rattle.cop_room.specs.Room.{next_id, HasPlace, IsOneMore, IsMoreRoom, HasNoMore};
 
 use crate::changing::add;
-use crate::limits::least;
+use crate::limits::{least, start_from};
 use crate::numbers::Number;
 use cop_frame::Rate;
 use cop_rta::{IdRange, Stream, StreamSet};
@@ -95,16 +95,8 @@ pub(crate) fn room_for_more(
     }
     let more = with_one(alloc, set, one_more(id))?;
     let pace = Number::Pace(0);
-    let least = least(
-        alloc,
-        &more,
-        pdos + 1,
-        rate,
-        pace,
-        100,
-        LONGEST_PERIOD,
-        0,
-        0,
-    )?;
+    let (count, most) = (pdos + 1, LONGEST_PERIOD);
+    let start = start_from(alloc, &more, count, rate, pace, 100, most, 0, 0)?;
+    let least = least(alloc, &more, count, rate, pace, 100, most, start)?;
     Ok(least)
 }

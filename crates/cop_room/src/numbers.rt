@@ -2,7 +2,7 @@
 
 ghost use Rattle.std.specs.Prelude.{◌≡◌, ℕ, ◌*◌, ◌+◌, ◌≤◌, ◌==◌, if◌then◌else◌};
 ghost use Rattle.cop_rta.specs.Entries.{entry_of};
-ghost use Rattle.cop_room.specs.Changes.{with_period, with_deadline, with_pace, with_jitter, with_bytes, with_sync_period, with_periods, with_times, scaled, scaled_period};
+ghost use Rattle.cop_room.specs.Changes.{with_period, with_deadline, with_pace, with_jitter, with_bytes, with_sync_period, with_periods, with_times, with_deadlines, scaled, scaled_period};
 ghost use Rattle.cop_room.specs.Numbers.{change_of, IsInRange};
 
 use cop_frame::identifiers::SYNC;
@@ -10,6 +10,9 @@ use cop_rta::Stream;
 
 /// The longest jitter of a table, in microseconds.
 pub(crate) const LONGEST_JITTER: u64 = 60_000_000;
+
+/// The longest deadline, in ticks.
+const LONGEST_DEADLINE: u64 = 240_000_000;
 
 /// The most bytes of a frame.
 pub(crate) const MOST_BYTES: u64 = 8;
@@ -33,6 +36,8 @@ pub(crate) enum Number {
     Periods,
     /// Thousandths of all periods and deadlines.
     Times,
+    /// Thousandths of all deadlines, 60 s at most.
+    Deadlines,
 }
 
 /// The stream with another period, in ticks.
@@ -140,7 +145,7 @@ fn with_pace(stream: &Stream, ticks: u64) -> Stream
 
 /// The stream where SYNC has another period, in ticks.
 fn with_sync_period(stream: &Stream, period: u64) -> Stream
-    requires period { period ≤ 240000000 }
+    requires period { period ≤ 240000000000 }
     requires range { IsInRange (with_sync_period period 0 (entry_of stream.now)) }
     ensures { entry_of result ≡ with_sync_period period 0 (entry_of stream.now) }
 {
@@ -157,7 +162,7 @@ fn with_sync_period(stream: &Stream, period: u64) -> Stream
 /// So many thousandths of a time in whole microseconds, and so many ticks at least.
 fn scaled(least: u64, part: u64, time: u64) -> u64
     requires least { least ≤ 400 }
-    requires part { part ≤ 60000000 }
+    requires part { part ≤ 60000000000 }
     requires time { time ≤ 240000000 }
     ensures { result ≡ scaled least part time }
 {
@@ -166,7 +171,7 @@ fn scaled(least: u64, part: u64, time: u64) -> u64
 
 /// A period in so many thousandths.
 fn scaled_period(stream: &Stream, part: u64) -> u64
-    requires { part ≤ 60000000 }
+    requires { part ≤ 60000000000 }
     ensures { result ≡ scaled_period part (entry_of stream.now) }
 {
     let Stream { period, every, .. } = *stream;
@@ -180,7 +185,7 @@ fn scaled_period(stream: &Stream, part: u64) -> u64
 
 /// The stream with its period in so many thousandths.
 fn with_periods(stream: &Stream, part: u64) -> Stream
-    requires part { part ≤ 60000000 }
+    requires part { part ≤ 60000000000 }
     requires range { IsInRange (with_periods part 0 (entry_of stream.now)) }
     ensures { entry_of result ≡ with_periods part 0 (entry_of stream.now) }
 {
@@ -189,7 +194,7 @@ fn with_periods(stream: &Stream, part: u64) -> Stream
 
 /// The stream with its period and its deadline in so many thousandths.
 fn with_times(stream: &Stream, part: u64) -> Stream
-    requires part { part ≤ 60000000 }
+    requires part { part ≤ 60000000000 }
     requires range { IsInRange (with_times part 0 (entry_of stream.now)) }
     ensures { entry_of result ≡ with_times part 0 (entry_of stream.now) }
 {
@@ -200,9 +205,20 @@ fn with_times(stream: &Stream, part: u64) -> Stream
     }
 }
 
+/// The stream with its deadline in so many thousandths, 60 s at most.
+fn with_deadlines(stream: &Stream, part: u64) -> Stream
+    requires { part ≤ 60000000000 }
+    ensures { entry_of result ≡ with_deadlines part 0 (entry_of stream.now) }
+{
+    match stream.deadline {
+        Some(deadline) => with_deadline(stream, scaled(4, part, deadline).min(LONGEST_DEADLINE)),
+        None => *stream,
+    }
+}
+
 /// The stream at an index, where a number has some place in its range.
 pub(crate) fn changed(stream: &Stream, index: usize, number: Number, place: u64) -> Stream
-    requires place { place ≤ 60000000 }
+    requires place { place ≤ 60000000000 }
     requires range { IsInRange (change_of number place index (entry_of stream.now)) }
     ensures { entry_of result ≡ change_of number place index (entry_of stream.now) }
 {
@@ -219,6 +235,7 @@ pub(crate) fn changed(stream: &Stream, index: usize, number: Number, place: u64)
         Number::SyncPeriod => with_sync_period(stream, 4 * place),
         Number::Periods => with_periods(stream, place),
         Number::Times => with_times(stream, place),
+        Number::Deadlines => with_deadlines(stream, place),
         _ => *stream,
     }
 }

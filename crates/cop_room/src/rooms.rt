@@ -9,11 +9,12 @@ ghost use Rattle.cop_room.specs.declared.rows.RowRoom.{RowRoom};
 ghost use Rattle.cop_room.specs.Changes.{with_periods, with_times};
 ghost use Rattle.cop_room.specs.Keeping.{AllStillPass};
 ghost use Rattle.cop_room.specs.Room.{CanFall, IsRowRoom, IsSyncRoom, IsRoom};
+ghost use Rattle.cop_room.specs.Whole.{AreInMicroseconds, AreLimits};
 
-use crate::limits::least_or_now;
+use crate::limits::{least_or_now, start_from};
 use crate::more::room_for_more;
 use crate::numbers::Number;
-use crate::rows::{RowRoom, period_of, room_of_row};
+use crate::rows::{RowRoom, Seen, period_of, room_of_row};
 use cop_frame::Rate;
 use cop_frame::identifiers::SYNC;
 use cop_plan::Plan;
@@ -73,7 +74,8 @@ fn sync_room(
     };
     let now = period_of(set.streams(), sync);
     let period = Number::SyncPeriod;
-    let least = least_or_now(alloc, set, pdos, rate, period, 100, now, sync, sync)?;
+    let start = start_from(alloc, set, pdos, rate, period, 100, now, sync, sync)?;
+    let least = least_or_now(alloc, set, pdos, rate, period, 100, now, start)?;
     Ok(Some(least))
 }
 
@@ -83,7 +85,8 @@ fn least_periods(alloc: Global, set: &StreamSet, pdos: usize, rate: Rate) -> Res
     ensures { IfOk result (CanFall (AllStillPass rate pdos) with_periods set.now 1 1000) }
 {
     let parts = Number::Periods;
-    let least = least_or_now(alloc, set, pdos, rate, parts, 1, WHOLE, 0, 0)?;
+    let start = start_from(alloc, set, pdos, rate, parts, 1, WHOLE, 0, 0)?;
+    let least = least_or_now(alloc, set, pdos, rate, parts, 1, WHOLE, start)?;
     Ok(least)
 }
 
@@ -93,7 +96,8 @@ fn least_times(alloc: Global, set: &StreamSet, pdos: usize, rate: Rate) -> Resul
     ensures { IfOk result (CanFall (AllStillPass rate pdos) with_times set.now 1 1000) }
 {
     let parts = Number::Times;
-    let least = least_or_now(alloc, set, pdos, rate, parts, 1, WHOLE, 0, 0)?;
+    let start = start_from(alloc, set, pdos, rate, parts, 1, WHOLE, 0, 0)?;
+    let least = least_or_now(alloc, set, pdos, rate, parts, 1, WHOLE, start)?;
     Ok(least)
 }
 
@@ -105,7 +109,7 @@ fn left_of(stream: &Stream, verdict: Verdict) -> u64 {
         .saturating_sub(response_of(verdict))
 }
 
-/// Of the streams below a row, that with the least left of its deadline: which fails first, as a rule, if the row asks more.
+/// Of the streams below a row, that with the least left of its deadline; the row itself where there is none.
 fn tightest_below(streams: &[Stream], verdicts: &[Verdict], row: usize) -> usize
     requires { row < length streams.now }
 {
@@ -120,6 +124,17 @@ fn tightest_below(streams: &[Stream], verdicts: &[Verdict], row: usize) -> usize
         }
     }
     tightest
+}
+
+/// What the test of the plan shows of a row.
+fn seen_of(streams: &[Stream], verdicts: &[Verdict], row: usize) -> Seen
+    requires row { row < length streams.now }
+    requires verdicts { length verdicts.now ≡ length streams.now }
+{
+    Seen {
+        left: left_of(&streams[row], verdicts[row]),
+        tight: tightest_below(streams, verdicts, row),
+    }
 }
 
 /// What each row can do alone.
@@ -137,8 +152,8 @@ fn rooms_of_rows(
     let verdicts = verdicts_by_id(alloc, set, rate)?;
     let mut rows = Vec::new(alloc);
     for row in 0..pdos {
-        let tight = tightest_below(streams, &verdicts, row);
-        rows.push(room_of_row(alloc, set, pdos, rate, row, tight)?)?;
+        let seen = seen_of(streams, &verdicts, row);
+        rows.push(room_of_row(alloc, set, pdos, rate, row, seen)?)?;
     }
     Ok(rows)
 }
@@ -164,10 +179,14 @@ fn room_of_streams(
 }
 
 /// How far each number of a plan can go, all else as it is, the identifiers too. Each is a limit: with it each PDO and each SDO frame with a
-/// deadline passes, and with no further number of its range. `Err` is want of memory.
+/// deadline passes, and with no further number of its range. That they pass with the plan's own numbers is no premise where its times are
+/// whole microseconds, as those of tables are. `Err` is want of memory.
 pub fn room_of(alloc: Global, plan: &Plan) -> Result<Room, AllocError>
-    ensures { IfOk result (IsRoom plan.now.rate plan.now.streams (length plan.now.ids)) }
+    ensures room { IfOk result (IsRoom plan.now.rate plan.now.streams (length plan.now.ids)) }
+    ensures limits { AreInMicroseconds plan.now.streams → IfOk result (AreLimits plan.now.rate plan.now.streams (length plan.now.ids)) }
 {
     let pdos = plan.ids().len();
-    room_of_streams(alloc, plan.streams(), pdos, plan.rate())
+    let set = plan.streams();
+    let _ = set.streams();
+    room_of_streams(alloc, set, pdos, plan.rate())
 }

@@ -7,7 +7,7 @@ ghost use Rattle.cop_room.specs.Changes.{at_row, with_period, with_jitter, with_
 ghost use Rattle.cop_room.specs.Keeping.{AllStillPass};
 ghost use Rattle.cop_room.specs.Room.{CanFall, CanRise, IsRowRoom, period_now, jitter_now, deadline_now};
 
-use crate::limits::least_or_now;
+use crate::limits::{Start, least_or_now, start_from};
 use crate::numbers::{LONGEST_JITTER, MOST_BYTES, Number};
 use cop_frame::Rate;
 use cop_rta::{Stream, StreamSet};
@@ -25,6 +25,15 @@ pub struct RowRoom {
     pub deadline: u64,
     /// The most bytes, 8 at most.
     pub bytes: u8,
+}
+
+/// What the test of the plan shows of a row, by which its searches begin.
+#[derive(Clone, Copy)]
+pub(crate) struct Seen {
+    /// What its greatest response leaves of its deadline, in ticks.
+    pub(crate) left: u64,
+    /// The stream that fails first, as a rule, if the row asks more.
+    pub(crate) tight: usize,
 }
 
 /// Whether a stream is synchronous.
@@ -84,7 +93,7 @@ fn least_period(
     pdos: usize,
     rate: Rate,
     row: usize,
-    tight: usize,
+    seen: Seen,
 ) -> Result<Option<u64>, AllocError>
     requires count { pdos ≤ length set.now }
     requires row { row < pdos }
@@ -96,7 +105,8 @@ fn least_period(
     }
     let now = period_of(set.streams(), row);
     let period = Number::Period(row);
-    let least = least_or_now(alloc, set, pdos, rate, period, 100, now, row, tight)?;
+    let start = start_from(alloc, set, pdos, rate, period, 100, now, row, seen.tight)?;
+    let least = least_or_now(alloc, set, pdos, rate, period, 100, now, start)?;
     Ok(Some(least))
 }
 
@@ -107,7 +117,7 @@ fn greatest_jitter(
     pdos: usize,
     rate: Rate,
     row: usize,
-    tight: usize,
+    seen: Seen,
 ) -> Result<u64, AllocError>
     requires count { pdos ≤ length set.now }
     requires row { row < pdos }
@@ -116,7 +126,12 @@ fn greatest_jitter(
     let now = jitter_of(set.streams(), row);
     let below = LONGEST_JITTER - now;
     let jitter = Number::Jitter(row);
-    let left = least_or_now(alloc, set, pdos, rate, jitter, 0, below, row, tight)?;
+    // By as much as the jitter grows the response does, at least.
+    let first = below.saturating_sub(seen.left / 4);
+    let start = start_from(
+        alloc, set, pdos, rate, jitter, first, below, row, seen.tight,
+    )?;
+    let left = least_or_now(alloc, set, pdos, rate, jitter, 0, below, start)?;
     Ok(LONGEST_JITTER - left)
 }
 
@@ -127,7 +142,7 @@ fn least_deadline(
     pdos: usize,
     rate: Rate,
     row: usize,
-    tight: usize,
+    seen: Seen,
 ) -> Result<u64, AllocError>
     requires count { pdos ≤ length set.now }
     requires row { row < pdos }
@@ -138,7 +153,12 @@ fn least_deadline(
         return Ok(0);
     }
     let deadline = Number::Deadline(row);
-    let least = least_or_now(alloc, set, pdos, rate, deadline, 1, now, row, tight)?;
+    // The greatest response is the least deadline.
+    let start = Start {
+        place: now.saturating_sub(seen.left / 4),
+        suspect: row,
+    };
+    let least = least_or_now(alloc, set, pdos, rate, deadline, 1, now, start)?;
     Ok(least)
 }
 
@@ -149,7 +169,7 @@ fn most_bytes(
     pdos: usize,
     rate: Rate,
     row: usize,
-    tight: usize,
+    seen: Seen,
 ) -> Result<u8, AllocError>
     requires count { pdos ≤ length set.now }
     requires row { row < pdos }
@@ -158,7 +178,8 @@ fn most_bytes(
     let now = bytes_of(set.streams(), row);
     let below = MOST_BYTES - now;
     let bytes = Number::Bytes(row);
-    let left = least_or_now(alloc, set, pdos, rate, bytes, 0, below, row, tight)?;
+    let start = start_from(alloc, set, pdos, rate, bytes, 0, below, row, seen.tight)?;
+    let left = least_or_now(alloc, set, pdos, rate, bytes, 0, below, start)?;
     Ok((MOST_BYTES - left) as u8)
 }
 
@@ -169,16 +190,16 @@ pub(crate) fn room_of_row(
     pdos: usize,
     rate: Rate,
     row: usize,
-    tight: usize,
+    seen: Seen,
 ) -> Result<RowRoom, AllocError>
     requires count { pdos ≤ length set.now }
     requires row { row < pdos }
     ensures { IfOk result (IsRowRoom rate set.now pdos row) }
 {
     Ok(RowRoom {
-        period: least_period(alloc, set, pdos, rate, row, tight)?,
-        jitter: greatest_jitter(alloc, set, pdos, rate, row, tight)?,
-        deadline: least_deadline(alloc, set, pdos, rate, row, tight)?,
-        bytes: most_bytes(alloc, set, pdos, rate, row, tight)?,
+        period: least_period(alloc, set, pdos, rate, row, seen)?,
+        jitter: greatest_jitter(alloc, set, pdos, rate, row, seen)?,
+        deadline: least_deadline(alloc, set, pdos, rate, row, seen)?,
+        bytes: most_bytes(alloc, set, pdos, rate, row, seen)?,
     })
 }

@@ -1,36 +1,40 @@
 //! Whether all that are tested pass.
 
-ghost use Rattle.std.specs.Prelude.{◌↔◌, ◌≡◌, ℕ, ◌<◌, ◌≤◌, ◌⊎◌, IsTrue, IfOk, IfSome, MatchOption, length, get_or};
+ghost use Rattle.std.specs.Prelude.{◌↔◌, ◌≡◌, ℕ, ◌<◌, ◌≤◌, ◌⊎◌, nat_lt, IsTrue, IfOk, IfSome, MatchOption, length, get_or};
 ghost use Rattle.cop_frame.specs.declared.rates.Rate.{Rate};
 ghost use Rattle.cop_rta.specs.declared.verdicts.Verdict.TheVariants.{Long};
-ghost use Rattle.cop_rta.specs.Test.{Passes, place_by_id, flagged_place};
+ghost use Rattle.cop_rta.specs.Test.{Passes, place_by_id, is_flagged};
 ghost use Rattle.cop_rta.specs.Verdict.{IsJudged};
-ghost use Rattle.cop_cert.specs.Assignments.{IsTested};
+ghost use Rattle.cop_cert.specs.Assignments.{IsTested, id_at};
 ghost use Rattle.cop_room.specs.Keeping.{AllStillPass, IsKept};
 
 use cop_cert::is_tested;
 use cop_frame::Rate;
-use cop_rta::{Stream, StreamSet, Verdict, above_by_id, verdict, verdicts_by_id};
+use cop_rta::{Place, Stream, StreamSet, Verdict, verdicts_by_id};
 use std::alloc::{AllocError, Global};
 
-/// Whether the stream at an index passes with the flagged ones above it.
-fn is_pass(set: &StreamSet, flags: &[bool], index: usize, rate: Rate) -> bool
-    requires flags { length flags.now ≡ length set.now }
-    requires index { index < length set.now }
-    ensures { IsTrue result ↔ Passes (flagged_place set.now flags.now index rate) }
+/// Flags the streams below one: those with a greater identifier.
+#[tactic(auto, using(cop_rta::specs::SumsLemmas::of_stream_read))]
+fn flag_below(streams: &[Stream], index: usize, out: &mut [bool])
+    requires flags { length out.old ≡ length streams.now }
+    requires index { index < length streams.now }
+    ensures size { length out.new ≡ length streams.now }
+    ensures each { (k : ℕ) → k < length streams.now → is_flagged out.new k ≡ nat_lt (id_at streams.now index) (id_at streams.now k) }
 {
-    matches!(verdict(set, flags, index, rate), Verdict::Pass { .. })
+    let id = streams[index].id;
+    for (k, stream) in streams.iter().enumerate() {
+        out[k] = id < stream.id;
+    }
 }
 
-/// Whether the stream at an index passes, with the lower identifiers above it.
-#[tactic(auto, using(crate::proofs::TrialLemmas::by_id))]
+/// Whether the stream at an index passes, with the lower identifiers above it. The flags are written over.
 fn passes(set: &StreamSet, index: usize, rate: Rate, flags: &mut [bool]) -> bool
     requires flags { length flags.old ≡ length set.now }
     requires index { index < length set.now }
     ensures { IsTrue result ↔ Passes (place_by_id set.now index rate) }
 {
-    above_by_id(set, index, flags);
-    is_pass(set, flags, index, rate)
+    flag_below(set.streams(), index, flags);
+    Place::new(set, flags, rate).passes(index)
 }
 
 /// Whether a stream is a PDO, or an SDO frame with a deadline. The first `pdos` streams are the PDOs.

@@ -1,1 +1,2 @@
 pub mod Boots
+pub mod Verifying

@@ -4,40 +4,19 @@ ghost use Rattle.std.specs.Prelude.{◌≡◌, IfOk, IfErr, Some};
 ghost use Rattle.cop_engine.specs.declared.faults.Fault.TheVariants.{Refused};
 ghost use Rattle.cop_serial.specs.Boots.{watch_of, approach_of, status_of, refused_as, FailsBy};
 
-use crate::heard::{Emergency, NmtCommand};
 use crate::serial::{Serial, open_serial};
-use cop_answers::{
-    ABSENT, ERRONEOUS, GARBLED, Inputs, RUNNING, UNOPENED, boot_notes, identity_notes,
+use crate::telling::{
+    SECOND, answer, errors_refusal, line_failure, refusal, say, tell_adapter, tell_heard,
+    unopened_refusal,
 };
+use cop_answers::{ABSENT, GARBLED, Inputs, RUNNING, boot_notes, identity_notes};
 use cop_boot_answer::BootAnswer;
-use cop_commission::{Approach, Command, Commissioned, Reach, Runner, Watch, commission};
+use cop_commission::{Approach, Commissioned, Reach, Runner, Watch, commission};
 use cop_documents::boot_document;
-use cop_engine::{Fault, boot_text};
-use cop_files::{Failure, Form, Use, file_failure, print, read_network};
-use cop_frame::Rate;
+use cop_engine::boot_text;
+use cop_files::{Failure, Form, Use, file_failure, read_network};
 use cop_orders::MachineOrder;
-use cop_slcan::rate_digit;
-use std::alloc::{AllocError, Global};
-use std::io::Write;
 use std::str;
-
-/// A second has so many ticks.
-const SECOND: u64 = 4_000_000;
-
-/// Says something on standard error.
-fn say(rt: &HostRuntime, words: &[u8]) {
-    let _ = rt.stderr().write_all(words);
-}
-
-/// Gives an answer: on standard error where standard output is the port.
-pub fn answer(rt: &HostRuntime, port: &str, text: &[u8]) -> Result<(), Failure> {
-    if port == "-" {
-        say(rt, text);
-        Ok(())
-    } else {
-        print(rt, text)
-    }
-}
 
 /// Gives the answer of a boot in a form, and that no rate passes where there is none.
 fn answer_in(
@@ -54,72 +33,6 @@ fn answer_in(
     }
 }
 
-/// Tells of what the adapter refused since it was opened, and of what it takes otherwise than others.
-fn tell_adapter(rt: &HostRuntime, port: &Serial<'_>) {
-    if port.cannot_listen {
-        say(
-            rt,
-            b"canplan: the adapter cannot listen only (it refuses L), and was opened by O to listen\n",
-        );
-    }
-    if port.is_at_seven {
-        say(
-            rt,
-            b"canplan: S7 is 800 kbit/s; some adapters take it as 750 kbit/s (CANable's firmware, python-can)\n",
-        );
-    }
-    let refused = port.refused;
-    if refused == 0 {
-        return;
-    }
-    let line = format!(in rt.alloc(); "canplan: the adapter refused {refused} of the commands\n");
-    if let Ok(line) = line {
-        say(rt, line.as_bytes());
-    }
-}
-
-/// What is said of an error that a node told.
-fn emergency_line(alloc: Global, node: u8, emergency: Emergency) -> Result<String, AllocError> {
-    let (code, register, kind) = (emergency.code, emergency.register, emergency.kind());
-    format!(in alloc;
-        "canplan: node {node} told an error by EMCY: code {code:04X}h ({kind}), error register {register:02X}h\n"
-    )
-}
-
-/// What is said of another manager, by a command of its own.
-fn foreign_line(alloc: Global, command: NmtCommand) -> Result<String, AllocError> {
-    let (number, node) = (command.number, command.node);
-    format!(in alloc;
-        "canplan: another manager is on the bus: the NMT command {number:02X}h {node:02X}h was heard, which was not sent here\n"
-    )
-}
-
-/// Tells of errors that devices told meanwhile, and of another manager.
-fn tell_heard(rt: &HostRuntime, port: &Serial<'_>) {
-    for node in 1..128_u8 {
-        if let Some(emergency) = port.heard.emergency(node)
-            && let Ok(line) = emergency_line(rt.alloc(), node, emergency)
-        {
-            say(rt, line.as_bytes());
-        }
-    }
-    if let Some(command) = port.heard.foreign
-        && let Ok(line) = foreign_line(rt.alloc(), command)
-    {
-        say(rt, line.as_bytes());
-    }
-}
-
-/// A refusal of what was found at the port, with a line of its own if there is memory for it.
-fn refusal(number: u8, place: u64, reason: Option<String>) -> Failure
-    ensures { result.fault ≡ Refused number place }
-{
-    Failure {
-        fault: Fault::Refused { number, place },
-        reason,
-    }
-}
-
 /// The refusal where somebody runs, by a frame of an identifier.
 fn running_refusal(rt: &HostRuntime, runner: Runner) -> Failure
     ensures { result.fault ≡ Refused 100 runner.node }
@@ -127,47 +40,6 @@ fn running_refusal(rt: &HostRuntime, runner: Runner) -> Failure
     let id = runner.id;
     let line = format!(in rt.alloc(); "a frame {id:03X}h was heard\n");
     refusal(RUNNING, u64::from(runner.node), line.ok())
-}
-
-/// The refusal where the adapter's flags tell of errors at a rate, and no frame is heard.
-fn errors_refusal(rt: &HostRuntime, flags: u16, rate: Rate) -> Failure
-    ensures { result.fault ≡ Refused 102 0 }
-{
-    let kbits = rate.kbits();
-    let line = format!(in rt.alloc(); "its flags are {flags:02X}h, at {kbits} kbit/s\n");
-    refusal(ERRONEOUS, 0, line.ok())
-}
-
-/// The refusal where an adapter is not opened at a rate.
-fn unopened_refusal(rt: &HostRuntime, command: Command, rate: Rate) -> Failure
-    ensures { result.fault ≡ Refused 104 0 }
-{
-    let kbits = rate.kbits();
-    let digit = char::from(rate_digit(rate));
-    let line = match command {
-        Command::Rate => format!(in rt.alloc(); "it refuses S{digit}, {kbits} kbit/s\n"),
-        Command::Open => format!(in rt.alloc(); "it refuses O, at {kbits} kbit/s\n"),
-    };
-    refusal(UNOPENED, 0, line.ok())
-}
-
-/// The failure of a line that was opened.
-fn line_failure(rt: &HostRuntime, name: &str, port: &Serial<'_>) -> Failure {
-    if let Some(error) = &port.error {
-        return file_failure(rt, name, Use::Read, error);
-    }
-    let reason = if port.over {
-        "the limit of time has passed\n"
-    } else {
-        "the line or the clock has ended\n"
-    };
-    match String::from_str(rt.alloc(), name) {
-        Ok(name) => Failure {
-            fault: Fault::File(name),
-            reason: String::from_str(rt.alloc(), reason).ok(),
-        },
-        Err(error) => Failure::from(error),
-    }
 }
 
 /// A failure with lines behind its reason.

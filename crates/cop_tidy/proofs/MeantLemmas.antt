@@ -1,6 +1,13 @@
 -- What two sets have in common, and a text and a device.
-use Rattle.std.proofs.Common.{◌≡◌, ◌↔◌, ◌⊎◌, inl, inr, ⊎_elim, ℕ, zero, suc, ◌||◌, ◌==◌, Bool, true, false, IsTrue, List, [], ◌∷◌, Contains, Result, Ok, length, refl, ap, sym, ◌∙◌, subst, arith}
-use Rattle.std.specs.List.{list_any, IsFirstAndRest}
+use Rattle.std.proofs.Common.{◌≡◌, ◌↔◌, ◌⊎◌, ◌<◌, inl, inr, ⊎_elim, ℕ, zero, suc, nat_le, slice_index_or, ◌&&◌, ◌||◌, ◌==◌, Bool, true, false, IsTrue, List, [], ◌∷◌, Contains, Result, Ok, length, refl, ap, sym, ◌∙◌, subst, arith, rules}
+use Rattle.std.specs.List.{list_any, list_all, IsFirstAndRest}
+use Rattle.std.specs.Ordering.{nat_cmp}
+use Rattle.std.specs.BTreeSet.{BTreeSet, contains}
+use Rattle.std.proofs.lemmas.Bool.Decides.{nat_tests}
+use Rattle.std.proofs.lemmas.Cmp.{nat_cmp_total}
+use Rattle.std.proofs.lemmas.List.Sums.{AllPass-from_list_all, list_all-from_AllPass}
+use Rattle.std.proofs.lemmas.Map.Lookups.{exact_unsigned}
+use Rattle.std.proofs.lemmas.Map.Views.{btree_set_contains_iff, All-set_contains}
 use Rattle.std.proofs.lemmas.List.Elements.{Contains-append_cases, Contains-append_right}
 use Rattle.cop_frame.specs.declared.rates.Rate.{Rate}
 use Rattle.cop_eds.specs.Rates.{support_of}
@@ -10,7 +17,8 @@ use Rattle.cop_dict.specs.Find.{Entry}
 use Rattle.cop_dict.specs.Build.{built}
 use Rattle.cop_tidy_device.specs.Device.{Meaning, dictionary_for}
 use Rattle.cop_tidy_device.proofs.NodeLemmas.{built_between}
-use Rattle.cop_tidy.specs.Meant.{IsInBoth, HaveSameSlow, HaveSameFast, HasRates, HasLists, HasAll, IsOf}
+use Rattle.cop_hazard.specs.Listed.{is_listed, AreListed}
+use Rattle.cop_tidy.specs.Meant.{has_each, IsInBoth, HaveSameSlow, HaveSameFast, HasRates, HasLists, HasAll, IsOf}
 
 -- ---- rates
 
@@ -82,6 +90,57 @@ index_moved index x new old rest others whole is put h =
     or_assoc : (a b c : Bool) → ((a || b) || c) ≡ (a || (b || c))
     or_assoc true b c = refl
     or_assoc false b c = refl
+
+left_over : (a b : Bool) → (a || b) ≡ true → a ≡ false → b ≡ true
+left_over true b h e = absurd (search (rules, e))
+left_over false b h e = h
+
+-- an index of 16 bits of a set is in the other one, which has each
+has_at : (indexes others : BTreeSet ℕ) → has_each indexes others.keys ≡ true → (index : ℕ) → index < 0x10000 → contains nat_cmp others index ≡ true
+    → contains nat_cmp indexes index ≡ true
+has_at indexes others each index low has =
+    let at : Contains others.keys index = (btree_set_contains_iff nat_cmp_total exact_unsigned others index).0 has in
+    let test : ℕ → Bool = λ i. nat_le 0x10000 i || contains nat_cmp indexes i in
+    let passed : test (slice_index_or others.keys at.0 index) ≡ true = AllPass-from_list_all test others.keys each at.0 index at.1 in
+    left_over (nat_le 0x10000 index) (contains nat_cmp indexes index) (subst (λ (i : ℕ). test i ≡ true) at.2 passed) (grind (arith, nat_tests, low))
+
+passes_by : (i : ℕ) (is b : Bool) → nat_le 0x10000 i ≡ is → (i < 0x10000 → b ≡ true) → (nat_le 0x10000 i || b) ≡ true
+passes_by i true b e h = rw e refl
+passes_by i false b e h = rw (e, h (grind (arith, nat_tests, e))) refl
+
+-- a set has each of another one where it has those of 16 bits that the other has
+all_has : (indexes others : BTreeSet ℕ) → ((index : ℕ) → index < 0x10000 → contains nat_cmp indexes index ≡ contains nat_cmp others index)
+    → has_each indexes others.keys ≡ true
+all_has indexes others same =
+    let test : ℕ → Bool = λ i. nat_le 0x10000 i || contains nat_cmp indexes i in
+    list_all-from_AllPass test others.keys
+    (λ k d lt. let i = slice_index_or others.keys k d in
+    passes_by i (nat_le 0x10000 i) (contains nat_cmp indexes i) refl (λ low. same i low ∙ All-set_contains nat_cmp_total others k d lt))
+
+same_bools : (a b : Bool) → (a ≡ true → b ≡ true) → (b ≡ true → a ≡ true) → a ≡ b
+same_bools true b f g = sym (f refl)
+same_bools false true f g = g refl
+same_bools false false f g = refl
+
+both_true : (a b : Bool) → (a && b) ≡ true → (a ≡ true) × (b ≡ true)
+both_true true true h = (refl, refl)
+both_true true false h = absurd (search (rules, h))
+both_true false b h = absurd (search (rules, h))
+
+-- the lists of a text name what a set has, where the two sets have each other's
+pub listed_alike : (text : List ℕ) (named indexes : BTreeSet ℕ) (b : Bool) → AreListed text named → b ≡ (has_each named indexes.keys && has_each indexes named.keys)
+    → IsTrue b ↔ ((index : ℕ) → index < 0x10000 → is_listed text index ≡ contains nat_cmp indexes index)
+listed_alike text named indexes b l e = (λ t. there (both_true (has_each named indexes.keys) (has_each indexes named.keys) (sym e ∙ t)), λ same. e ∙ back same)
+  where
+    there : (has_each named indexes.keys ≡ true) × (has_each indexes named.keys ≡ true) → (index : ℕ) → index < 0x10000 → is_listed text index ≡ contains nat_cmp indexes index
+    there h index low =
+        sym (l.each index) ∙ same_bools (contains nat_cmp named index) (contains nat_cmp indexes index) (has_at indexes named h.1 index low) (has_at named indexes h.0 index low)
+
+    back : ((index : ℕ) → index < 0x10000 → is_listed text index ≡ contains nat_cmp indexes index) → (has_each named indexes.keys && has_each indexes named.keys) ≡ true
+    back same =
+        let first : has_each named indexes.keys ≡ true = all_has named indexes (λ index low. l.each index ∙ same index low) in
+        let second : has_each indexes named.keys ≡ true = all_has indexes named (λ index low. sym (l.each index ∙ same index low)) in
+        rw (first, second) refl
 
 -- ---- a text and a device
 

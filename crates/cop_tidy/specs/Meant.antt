@@ -1,6 +1,8 @@
 -- A text that the strict reading takes for the device that another one describes.
-use Rattle.std.specs.Prelude.{ℕ, ◌≡◌, ◌≤◌, ◌<◌, ◌==◌, ◌↔◌, Bool, true, List, Ok}
-use Rattle.std.specs.List.{Contains, list_any}
+use Rattle.std.specs.Prelude.{ℕ, ◌≡◌, ◌≤◌, ◌<◌, ◌==◌, ◌||◌, ◌↔◌, nat_le, Bool, true, List, Ok}
+use Rattle.std.specs.List.{Contains, list_all, list_any}
+use Rattle.std.specs.Ordering.{nat_cmp}
+use Rattle.std.specs.BTreeSet.{BTreeSet, contains}
 use Rattle.cop_frame.specs.declared.rates.Rate.{Rate}
 use Rattle.cop_frame.specs.declared.rates.Rate.TheVariants.{Kbit10, Kbit20, Kbit50, Kbit125, Kbit250, Kbit500, Kbit800, Kbit1000}
 use Rattle.cop_eds.specs.Rates.{support_of}
@@ -43,6 +45,10 @@ pub record IsOf (text : List ℕ) (device : Meaning) : Type 0 where
 -- the text supports exactly these rates
 unfoldable pub HasRates : List ℕ → List Rate → Type 0
 HasRates text rates = (rate : Rate) → SaysRate text rates rate
+
+-- a set has each of these indexes that has 16 bits
+abbrev pub has_each : BTreeSet ℕ → List ℕ → Bool
+has_each indexes others = list_all (λ index. nat_le 0x10000 index || contains nat_cmp indexes index) others
 
 -- the lists of the text name exactly these indexes, of those of 16 bits
 unfoldable pub HasLists : List ℕ → List ℕ → Type 0

@@ -1,20 +1,20 @@
 //! Whether the strict reading takes a text for a device.
 
-ghost use Rattle.std.specs.Prelude.{◌≡◌, ◌↔◌, ◌<◌, ◌||◌, ◌==◌, ℕ, Ok, IsTrue, IfOk, OnOk};
+ghost use Rattle.std.specs.Prelude.{◌≡◌, ◌↔◌, ◌<◌, ◌&&◌, ◌||◌, ◌==◌, ℕ, Ok, IsTrue, IfOk, OnOk};
 ghost use Rattle.std.specs.List.{Contains};
 ghost use Rattle.std.specs.Ordering.{nat_cmp};
 ghost use Rattle.std.specs.BTreeSet.{contains};
 ghost use Rattle.cop_frame.specs.declared.rates.Rate.{Rate};
-ghost use Rattle.cop_hazard.specs.Listed.{is_listed};
+ghost use Rattle.cop_hazard.specs.Listed.{is_listed, AreListed};
 ghost use Rattle.cop_tidy_device.specs.Device.{dictionary_for};
 ghost use Rattle.cop_tidy.specs.Taken.{IsTaken};
-ghost use Rattle.cop_tidy.specs.Meant.{is_among, IsInBoth, HaveSameSlow, HaveSameFast, HasRates, HasLists, HasAll, IsOf};
+ghost use Rattle.cop_tidy.specs.Meant.{has_each, is_among, IsInBoth, HaveSameSlow, HaveSameFast, HasRates, HasLists, HasAll, IsOf};
 
 use crate::taking::Taken;
 use cop_dict::Dictionary;
 use cop_eds::Eds;
 use cop_frame::{Rate, RateSet};
-use cop_hazard::Contents;
+use cop_hazard::listed_indexes;
 use cop_tidy_device::{Device, is_dictionary_of};
 use std::alloc::{AllocError, Global};
 use std::collections::BTreeSet;
@@ -110,16 +110,28 @@ fn set_of(alloc: Global, indexes: &[u64]) -> Result<BTreeSet<u64>, AllocError>
     Ok(set)
 }
 
-/// Whether the lists of a text name the same indexes of 16 bits as a set has.
-fn are_listed_alike(contents: &Contents<'_, '_>, indexes: &BTreeSet<u64>) -> bool
-    ensures { IsTrue result ↔ ((index : ℕ) → index < 0x10000 → is_listed contents.now index ≡ contains nat_cmp indexes.now index) }
+/// Whether a set has each index of 16 bits of another one.
+fn has_each(indexes: &BTreeSet<u64>, others: &BTreeSet<u64>) -> bool
+    ensures { result ≡ has_each indexes.now others.now.keys }
 {
-    for index in 0..0x10000 {
-        if contents.is_listed(index) != indexes.contains(&index) {
-            return false;
-        }
-    }
-    true
+    others
+        .iter()
+        .all(|index| 0x10000 <= *index || indexes.contains(index))
+}
+
+/// Whether two sets have each other's indexes of 16 bits.
+fn have_each(left: &BTreeSet<u64>, right: &BTreeSet<u64>) -> bool
+    ensures { result ≡ has_each left.now right.now.keys && has_each right.now left.now.keys }
+{
+    has_each(left, right) && has_each(right, left)
+}
+
+/// Whether the lists of a text name the same indexes of 16 bits as a set has.
+fn are_listed_alike(eds: &Eds<'_>, named: &BTreeSet<u64>, indexes: &BTreeSet<u64>) -> bool
+    requires { AreListed eds.now named.now }
+    ensures { IsTrue result ↔ ((index : ℕ) → index < 0x10000 → is_listed eds.now index ≡ contains nat_cmp indexes.now index) }
+{
+    have_each(named, indexes)
 }
 
 /// Whether the lists of a text name exactly these indexes, of those of 16 bits.
@@ -127,9 +139,9 @@ fn are_listed_alike(contents: &Contents<'_, '_>, indexes: &BTreeSet<u64>) -> boo
 fn has_lists(alloc: Global, eds: &Eds<'_>, listed: &[u64]) -> Result<bool, AllocError>
     ensures { IfOk result (λ b. IsTrue b ↔ HasLists eds.now listed.now) }
 {
-    let contents = Contents::new(alloc, eds)?;
+    let named = listed_indexes(alloc, eds)?;
     let indexes = set_of(alloc, listed)?;
-    Ok(are_listed_alike(&contents, &indexes))
+    Ok(are_listed_alike(eds, &named, &indexes))
 }
 
 /// Whether a text, of which this is taken, has the dictionaries, the rates and the lists of a device.

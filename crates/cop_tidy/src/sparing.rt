@@ -26,16 +26,36 @@ fn is_sub_number(line: &[u8]) -> bool
     same_name(key_of(line), b"SubNumber")
 }
 
-/// Whether a line is a key with an equals sign that nothing reads: neither in the section of an object, nor in one of the values of a compact
-/// form, in a list or in DeviceInfo.
+/// One section of each kind in which keys are read.
+const SECTIONS: [SectionName; 4] = [
+    SectionName::Object(0),
+    SectionName::Values(0),
+    SectionName::List(ListName::Mandatory),
+    SectionName::DeviceInfo,
+];
+
+/// Whether nothing reads the key of a line: neither in the section of an object, nor in one of the values of a compact form, in a list or
+/// in DeviceInfo.
+fn is_unread_in_all(alloc: Global, line: &[u8]) -> Result<bool, AllocError>
+    ensures { IfOk result (λ b. IsUnread line.now → b ≡ true) }
+{
+    for section in SECTIONS.iter() {
+        if !is_unread_in(alloc, *section, line)? {
+            return Ok(false);
+        }
+    }
+    Ok(true)
+}
+
+/// Whether a line is a key with an equals sign that nothing reads.
 fn is_unread(alloc: Global, line: &[u8]) -> Result<bool, AllocError>
     ensures { IfOk result (λ b. IsUnread line.now → b ≡ true) }
 {
-    let of_object = is_unread_in(alloc, SectionName::Object(0), line)?;
-    let of_values = is_unread_in(alloc, SectionName::Values(0), line)?;
-    let of_list = is_unread_in(alloc, SectionName::List(ListName::Mandatory), line)?;
-    let of_device = is_unread_in(alloc, SectionName::DeviceInfo, line)?;
-    Ok(is_pair(line) && !is_sub_number(line) && of_object && of_values && of_list && of_device)
+    if is_pair(line) && !is_sub_number(line) {
+        is_unread_in_all(alloc, line)
+    } else {
+        Ok(false)
+    }
 }
 
 fn are_same(left: &[u8], right: &[u8]) -> bool

@@ -1,1 +1,2 @@
 pub mod BlankLemmas
+pub mod KeptLemmas

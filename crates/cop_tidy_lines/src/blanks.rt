@@ -1,11 +1,14 @@
 //! Blanks, quotes and comments round a value, as makers write them.
 
 ghost use Rattle.std.specs.Prelude.{◌≡◌, IfOk, false, filter, not, reverse};
+ghost use Rattle.std.specs.List.{list_all};
+ghost use Rattle.std.specs.Cow.{cow_slice_items};
 ghost use Rattle.cop_tidy_lines.specs.Blanks.{is_any_blank, loose_start, is_margin, margin_start, without_margins, begins_comment, before_comment, is_base, before_hash, is_torn, is_quote, bare};
 
 use crate::bytes::first_of;
 use cop_eds::{after_first, before_first, is_blank, trim};
 use std::alloc::{AllocError, Global};
+use std::borrow::CowSlice;
 
 /// Whether a byte is a blank of CiA 306, or one that makers write besides; of a no-break space in UTF-8 each byte is one.
 fn is_any_blank(byte: u8) -> bool
@@ -130,14 +133,40 @@ fn is_torn(value: &[u8]) -> bool
         && char::from(first_of(after_first(value, b'#'))).is_digit(16)
 }
 
-/// A value without a comment behind it, quotes, and blanks and commas at its ends.
+/// Whether a text has no quotes.
+fn is_unquoted(bytes: &[u8]) -> bool
+    ensures { result ≡ list_all (λ b. not (is_quote b)) bytes.now }
+{
+    bytes.iter().all(|byte| !is_quote(*byte))
+}
+
+/// What stands before a comment, without quotes, and blanks and commas at its ends.
+#[tactic(auto, using(crate::proofs::KeptLemmas::kept_all))]
+fn plain(alloc: Global, bytes: &[u8]) -> Result<CowSlice<'_, u8>, AllocError>
+    ensures { IfOk result (λ v. cow_slice_items v ≡ without_margins (filter (λ b. not (is_quote b)) bytes.now)) }
+{
+    if is_unquoted(bytes) {
+        return Ok(CowSlice::Borrowed(without_margins(bytes)));
+    }
+    let plain = without_quotes(alloc, bytes)?;
+    Ok(CowSlice::Owned(Vec::from_slice(alloc, without_margins(&plain))?))
+}
+
+/// A value without a comment behind it, quotes, and blanks and commas at its ends; it is copied only where it has quotes.
 #[tactic(auto, unfolding(crate::specs::Blanks::bare))]
+pub fn bare_text(alloc: Global, value: &[u8]) -> Result<CowSlice<'_, u8>, AllocError>
+    ensures { IfOk result (λ v. cow_slice_items v ≡ bare value.now) }
+{
+    if is_torn(value) {
+        Ok(CowSlice::Borrowed(value))
+    } else {
+        plain(alloc, before_comment(value))
+    }
+}
+
+/// The same as a text of its own.
 pub fn bare(alloc: Global, value: &[u8]) -> Result<Vec<u8>, AllocError>
     ensures { IfOk result (λ v. v.items ≡ bare value.now) }
 {
-    if is_torn(value) {
-        return Vec::from_slice(alloc, value);
-    }
-    let plain = without_quotes(alloc, before_comment(value))?;
-    Vec::from_slice(alloc, without_margins(&plain))
+    bare_text(alloc, value)?.into_owned(alloc)
 }

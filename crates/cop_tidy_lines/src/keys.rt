@@ -125,7 +125,8 @@ fn list_key(alloc: Global, key: &[u8]) -> Result<Key, AllocError>
     if are_decimal(key) {
         return Ok(entry_key(number_in(10, key)));
     }
-    if same_name(&undivided(alloc, key)?, b"SupportedObjects") {
+    let word = undivided(alloc, key)?;
+    if same_name(word.as_slice(), b"SupportedObjects") {
         return Ok(Key::SupportedObjects);
     }
     Ok(Key::Unread)
@@ -149,7 +150,8 @@ fn value_key(alloc: Global, key: &[u8]) -> Result<Key, AllocError>
     if are_decimal(key) {
         return Ok(entry_key(number_in(10, key)));
     }
-    if same_name(&undivided(alloc, key)?, b"NrOfEntries") {
+    let word = undivided(alloc, key)?;
+    if same_name(word.as_slice(), b"NrOfEntries") {
         return Ok(Key::NrOfEntries);
     }
     hexadecimal_key(alloc, key)
@@ -161,10 +163,16 @@ pub fn key_meant(alloc: Global, section: SectionName, key: &[u8]) -> Result<Key,
     ensures { IfOk result (λ k. k ≡ key_meant section key.now) }
 {
     match section {
-        SectionName::Object(_) | SectionName::Sub(_, _) => Ok(object_key(&undivided(alloc, key)?)),
+        SectionName::Object(_) | SectionName::Sub(_, _) => {
+            let word = undivided(alloc, key)?;
+            Ok(object_key(word.as_slice()))
+        }
         SectionName::Values(_) => value_key(alloc, key),
         SectionName::List(_) => list_key(alloc, key),
-        SectionName::DeviceInfo => Ok(device_key(&undivided(alloc, key)?)),
+        SectionName::DeviceInfo => {
+            let word = undivided(alloc, key)?;
+            Ok(device_key(word.as_slice()))
+        }
         SectionName::Names(_) | SectionName::Unread => Ok(Key::Unread),
     }
 }

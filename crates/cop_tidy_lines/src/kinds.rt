@@ -151,7 +151,8 @@ fn bare_key_kind(alloc: Global, name: SectionName, line: &[u8]) -> Result<LineKi
     ensures { IfOk result (λ kind. kind ≡ bare_key_kind name line.now) }
 {
     let key = colon_key(line);
-    if is_object_word(&undivided(alloc, key)?) {
+    let word = undivided(alloc, key)?;
+    if is_object_word(word.as_slice()) {
         Ok(LineKind::Pair(key_meant(alloc, name, key)?))
     } else {
         Ok(LineKind::Unknown)

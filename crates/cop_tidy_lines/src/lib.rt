@@ -13,7 +13,7 @@ mod typed;
 mod words;
 
 pub use amounts::{amount_meant, is_no_value};
-pub use blanks::{bare, loose_start};
+pub use blanks::{bare, bare_text, loose_start};
 pub use choices::{Digits, Unlisted};
 pub use keys::{Key, key_meant};
 pub use kinds::{LineKind, kind_meant, stated_key, stated_value};

@@ -1,6 +1,8 @@
 //! The words that makers write for kinds of objects, types and accesses.
 
-ghost use Rattle.std.specs.Prelude.{◌≡◌, IfOk};
+ghost use Rattle.std.specs.Prelude.{◌≡◌, not, IfOk};
+ghost use Rattle.std.specs.List.{list_all};
+ghost use Rattle.std.specs.Cow.{cow_slice_items};
 ghost use Rattle.cop_tidy_lines.specs.Words.{is_joint, undivided, is_one_of, named_object_type, named_unsigned, named_signed, named_other_type, named_data_type, is_read_word, is_write_word, is_both_word, is_constant_word, named_access, access_meant, kind_numbered, object_type_meant, is_bare_type, data_type_meant};
 ghost use Rattle.std.specs.Option.{option_and_then};
 ghost use Rattle.cop_eds.specs.Description.{object_type_of};
@@ -9,6 +11,7 @@ use crate::choices::Digits;
 use crate::numerals::{Unclear, is_octal_too, number_meant, readable};
 use cop_eds::{Access, ObjectType, is_blank, number_in, same_name};
 use std::alloc::{AllocError, Global};
+use std::borrow::CowSlice;
 
 /// Whether a byte divides words.
 fn is_joint(byte: u8) -> bool
@@ -17,15 +20,34 @@ fn is_joint(byte: u8) -> bool
     is_blank(byte) || (byte == b'_' || byte == b'-')
 }
 
-/// A word without blanks, `_` and `-`.
+/// Whether a word has no blanks, `_` and `-`.
+fn is_undivided(text: &[u8]) -> bool
+    ensures { result ≡ list_all (λ b. not (is_joint b)) text.now }
+{
+    text.iter().all(|byte| !is_joint(*byte))
+}
+
+/// A word with blanks, `_` and `-`, without them.
 #[tactic(auto, unfolding(crate::specs::Words::undivided))]
-pub fn undivided(alloc: Global, text: &[u8]) -> Result<Vec<u8>, AllocError>
+fn joined(alloc: Global, text: &[u8]) -> Result<Vec<u8>, AllocError>
     ensures { IfOk result (λ v. v.items ≡ undivided text.now) }
 {
     text.iter()
         .copied()
         .filter(|byte| !is_joint(*byte))
         .collect(alloc)
+}
+
+/// A word without blanks, `_` and `-`; it is copied only where it has some.
+#[tactic(auto, using(crate::proofs::KeptLemmas::kept_all), unfolding(crate::specs::Words::undivided))]
+pub fn undivided(alloc: Global, text: &[u8]) -> Result<CowSlice<'_, u8>, AllocError>
+    ensures { IfOk result (λ v. cow_slice_items v ≡ undivided text.now) }
+{
+    if is_undivided(text) {
+        Ok(CowSlice::Borrowed(text))
+    } else {
+        Ok(CowSlice::Owned(joined(alloc, text)?))
+    }
 }
 
 fn is_one_of(word: &[u8], a: &[u8], b: &[u8], c: &[u8]) -> bool
@@ -182,7 +204,8 @@ fn named_access(word: &[u8]) -> Option<Access>
 pub fn access_meant(alloc: Global, text: &[u8]) -> Result<Option<Access>, AllocError>
     ensures { IfOk result (λ access. access ≡ access_meant text.now) }
 {
-    Ok(named_access(&undivided(alloc, text)?))
+    let word = undivided(alloc, text)?;
+    Ok(named_access(word.as_slice()))
 }
 
 fn object_type_of(number: u64) -> Option<ObjectType>
@@ -214,7 +237,8 @@ fn kind_numbered(number: Result<u64, Unclear>) -> Option<ObjectType>
 fn kind_named(alloc: Global, text: &[u8]) -> Result<Option<ObjectType>, AllocError>
     ensures { IfOk result (λ kind. kind ≡ option_and_then object_type_of (named_object_type (undivided text.now))) }
 {
-    match named_object_type(&undivided(alloc, text)?) {
+    let word = undivided(alloc, text)?;
+    match named_object_type(word.as_slice()) {
         Some(number) => Ok(object_type_of(number)),
         None => Ok(None),
     }
@@ -254,7 +278,8 @@ pub fn data_type_meant(
     if is_bare_type(text) {
         return Ok(readable(number_in(16, text)));
     }
-    match named_data_type(&undivided(alloc, text)?) {
+    let word = undivided(alloc, text)?;
+    match named_data_type(word.as_slice()) {
         Some(number) => Ok(Ok(number)),
         None => number_meant(alloc, choice, text),
     }

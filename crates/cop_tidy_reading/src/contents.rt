@@ -4,6 +4,7 @@ ghost use Rattle.std.specs.Prelude.{◌≡◌, ◌==◌, ◌&&◌, ◌<◌, ◌�
 ghost use Rattle.std.specs.List.Sorted.{IsNonDecreasingBy, IsPartitionPoint};
 ghost use Rattle.std.specs.Option.{option_map, option_or};
 ghost use Rattle.std.specs.BTreeMap.{get};
+ghost use Rattle.std.specs.Cow.{cow_slice_items};
 ghost use Rattle.cop_tidy_reading.specs.Seen.{said_of};
 ghost use Rattle.cop_tidy_reading.specs.Items.{Said};
 ghost use Rattle.cop_tidy_reading.specs.Sections.{NamePlace, list_place, place_of, same_place, section_at, begins_at, section_at_place, section_named, states, is_pair, pairs_of, raw_by, raw_of, entry_of, has_subs_from};
@@ -12,8 +13,9 @@ ghost use Rattle.cop_tidy_lines.specs.declared.names.SectionName.TheVariants as 
 
 use crate::items::Item;
 use crate::ranks::states;
-use cop_tidy_lines::{Key, LineKind, ListName, SectionName, bare, stated_value};
+use cop_tidy_lines::{Key, LineKind, ListName, SectionName, bare_text, stated_value};
 use std::alloc::{AllocError, Global};
+use std::borrow::CowSlice;
 use std::collections::BTreeMap;
 use std::marker::Model;
 
@@ -302,13 +304,13 @@ impl<'a> Contents<'a> {
         alloc: Global,
         section: Section,
         key: Key,
-    ) -> Result<Option<(usize, Vec<u8>)>, AllocError>
-        ensures { IfOk result (λ found. option_map (λ entry. (entry.0, entry.1.items)) found ≡ entry_of self.now section.number key) }
+    ) -> Result<Option<(usize, CowSlice<'a, u8>)>, AllocError>
+        ensures { IfOk result (λ found. option_map (λ entry. (entry.0, cow_slice_items entry.1)) found ≡ entry_of self.now section.number key) }
     {
         match self.raw(section, key) {
             Some((line, raw)) => {
-                let value = bare(alloc, raw)?;
-                Ok((!value.is_empty()).then_some((line, value)))
+                let value = bare_text(alloc, raw)?;
+                Ok((!value.as_slice().is_empty()).then_some((line, value)))
             }
             None => Ok(None),
         }

@@ -17,7 +17,7 @@ ghost use Rattle.cop_tidy_reading.specs.Lists.{is_first, entry_at, entries_of, i
 
 use crate::combining::{Earliest, both, unless};
 use crate::contents::{Contents, Section};
-use crate::first_keys::{FirstKeys, first_key, first_keys};
+use crate::first_keys::{FirstKeys, first_key};
 use crate::items::Item;
 use crate::pdos::is_named;
 use crate::question::{About, Question, ReadingFault, asked};
@@ -575,17 +575,17 @@ fn named_if(
 }
 
 /// The indexes that the lists name and that have a section. The earliest line that leaves something open is asked for.
-
 pub fn listed(
     alloc: Global,
     contents: &Contents<'_>,
+    keys: &FirstKeys<'_>,
     words: &Words,
 ) -> Result<BTreeSet<u64>, ReadingFault>
+    requires { HasKeys contents.now keys.now }
     ensures { Gives (λ named. named.keys) result (listed words.now contents.now) }
 {
-    let keys = first_keys(alloc, contents.items())?;
     let mut found = Vec::new(alloc);
-    let lacks_entry = add_lists(alloc, contents, &keys, words.digits, &mut found)?;
+    let lacks_entry = add_lists(alloc, contents, keys, words.digits, &mut found)?;
     let named = named_by(alloc, contents, words.unlisted, &found)?;
     let entries = check_entries(&found);
     let unlisted = checked_unlisted(contents, words.unlisted, &named, lacks_entry);

@@ -15,6 +15,7 @@ ghost use Rattle.cop_tidy_reading.specs.Reading.{numbers_from, indexes_of, or_no
 use crate::checks::check_object;
 use crate::combining::{Earliest, earlier};
 use crate::contents::Contents;
+use crate::first_keys::first_keys;
 use crate::gathering::{gather_all, gathered};
 use crate::items::items_of;
 use crate::lists::listed;
@@ -221,7 +222,8 @@ pub fn loosely(alloc: Global, source: &[u8], words: &Words) -> Result<Device, Re
     let text = text_of(alloc, source)?;
     let items = items_of(alloc, &text)?;
     let contents = Contents::of(alloc, items)?;
-    check_repeats(alloc, &contents)?;
-    let listed = listed(alloc, &contents, words)?;
+    let keys = first_keys(alloc, contents.items())?;
+    check_repeats(&contents, &keys)?;
+    let listed = listed(alloc, &contents, &keys, words)?;
     Ok(device_of(alloc, words, &contents, &listed)??)
 }

@@ -9,12 +9,11 @@ ghost use Rattle.cop_tidy_reading.specs.Repeats.{says_same, pairs_among, are_sam
 
 use crate::combining::{Earliest, answered, unless};
 use crate::contents::{Contents, Section};
-use crate::first_keys::{FirstKeys, first_key, first_keys};
+use crate::first_keys::{FirstKeys, first_key};
 use crate::items::Item;
 use crate::question::{About, Question, ReadingFault};
 use cop_eds::same_name;
 use cop_tidy_lines::{Key, LineKind, SectionName, stated_key, stated_value};
-use std::alloc::Global;
 
 /// Whether two lines state the same value of the same key.
 fn says_same(a: &Item<'_>, b: &Item<'_>) -> bool
@@ -159,14 +158,14 @@ fn check_line(
 }
 
 /// Asks for the first section or key that stands twice with different content.
-pub fn check_repeats(alloc: Global, contents: &Contents<'_>) -> Result<(), ReadingFault>
+pub fn check_repeats(contents: &Contents<'_>, keys: &FirstKeys<'_>) -> Result<(), ReadingFault>
+    requires { HasKeys contents.now keys.now }
     ensures { Gives (λ done. done) result (check_repeats contents.now) }
 {
     let items = contents.items();
-    let keys = first_keys(alloc, items)?;
     let mut earliest = Earliest::new();
     for item in items {
-        earliest.note(check_line(contents, &keys, item));
+        earliest.note(check_line(contents, keys, item));
     }
     answered(earliest.check())
 }

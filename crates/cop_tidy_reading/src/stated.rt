@@ -54,7 +54,7 @@ impl<'c, 'a> Reader<'c, 'a> {
     {
         match self.contents.entry(alloc, self.section, key)? {
             Some((line, text)) => {
-                let meant = number_meant(alloc, self.digits, &text)?;
+                let meant = number_meant(alloc, self.digits, text.as_slice())?;
                 Ok(some_read(clear(line, meant)))
             }
             None => Ok(Ok(None)),
@@ -67,7 +67,7 @@ impl<'c, 'a> Reader<'c, 'a> {
     {
         match self.contents.entry(alloc, self.section, key)? {
             Some((line, text)) => {
-                let meant = flag_meant(alloc, self.digits, &text)?;
+                let meant = flag_meant(alloc, self.digits, text.as_slice())?;
                 Ok(some_read(clear(line, meant)))
             }
             None => Ok(Ok(None)),
@@ -80,7 +80,7 @@ impl<'c, 'a> Reader<'c, 'a> {
     {
         match self.contents.entry(alloc, self.section, Key::ObjectType)? {
             Some((line, text)) => {
-                let meant = object_type_meant(alloc, self.digits, &text)?;
+                let meant = object_type_meant(alloc, self.digits, text.as_slice())?;
                 Ok(some_read(or_asked(About::Types, line, meant)))
             }
             None => Ok(Ok(None)),
@@ -93,7 +93,7 @@ impl<'c, 'a> Reader<'c, 'a> {
     {
         match self.contents.entry(alloc, self.section, Key::DataType)? {
             Some((line, text)) => {
-                let meant = data_type_meant(alloc, self.digits, &text)?;
+                let meant = data_type_meant(alloc, self.digits, text.as_slice())?;
                 Ok(some_read(typed(line, meant)))
             }
             None => Ok(Ok(None)),
@@ -105,7 +105,7 @@ impl<'c, 'a> Reader<'c, 'a> {
     {
         match self.contents.entry(alloc, self.section, Key::AccessType)? {
             Some((line, text)) => {
-                let meant = access_meant(alloc, &text)?;
+                let meant = access_meant(alloc, text.as_slice())?;
                 Ok(some_read(or_asked(About::Accesses, line, meant)))
             }
             None => Ok(Ok(None)),

@@ -104,10 +104,10 @@ fn read_at(
 {
     match reader.contents.entry(alloc, source.section, source.key)? {
         Some((line, text)) => {
-            if is_absent(&text) {
+            if is_absent(text.as_slice()) {
                 return Ok(None);
             }
-            let value = number_value(alloc, reader.digits, numbers, &text)?;
+            let value = number_value(alloc, reader.digits, numbers, text.as_slice())?;
             Ok(Some(clear(line, value)))
         }
         None => Ok(None),
@@ -211,10 +211,10 @@ fn limit_amount(
 {
     match reader.contents.entry(alloc, reader.section, key)? {
         Some((_, text)) => {
-            if is_absent(&text) {
+            if is_absent(text.as_slice()) {
                 return Ok(None);
             }
-            let amount = written_amount(alloc, reader.digits, data_type, &text)?;
+            let amount = written_amount(alloc, reader.digits, data_type, text.as_slice())?;
             Ok(ok_amount(amount))
         }
         None => Ok(None),

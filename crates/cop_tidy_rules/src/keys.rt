@@ -1,20 +1,28 @@
 //! Keys in the spelling of CiA 306.
 
-use crate::names::key_text;
+use crate::names::{fixed_key, key_text};
 use crate::outline::Section;
 use crate::row::Row;
-use crate::text::{Form, from, joined, key_of, same_name};
+use crate::text::{Form, from, joined, same_name};
 use cop_change::Cause;
 use cop_tidy_lines::{Key, SectionName, key_meant};
 use std::alloc::{AllocError, Global};
 use std::collections::BTreeMap;
 
-/// The key that a row states in a section of this name.
-pub fn key_at(alloc: Global, row: &Row<'_>, name: SectionName) -> Result<Key, AllocError> {
+/// The key that a row states as a row of a section of this name.
+pub fn key_as(alloc: Global, row: &Row<'_>, name: SectionName) -> Result<Key, AllocError> {
     if row.form() == Form::Pair {
-        key_meant(alloc, name, key_of(row.body()))
+        key_meant(alloc, name, row.key())
     } else {
         Ok(Key::Unread)
+    }
+}
+
+/// The key that a row states in its section, which has this name.
+pub fn key_at(alloc: Global, row: &Row<'_>, name: SectionName) -> Result<Key, AllocError> {
+    match row.meant {
+        Some(key) => Ok(key),
+        None => key_as(alloc, row, name),
     }
 }
 
@@ -25,11 +33,10 @@ pub fn set_key_text(
     key: &[u8],
     cause: Cause,
 ) -> Result<(), AllocError> {
-    if same_name(key, key_of(row.body())) {
+    if same_name(key, row.key()) {
         return Ok(());
     }
-    let sign = row.body().iter().position(|b| *b == b'=').unwrap_or(0);
-    let body = joined(alloc, key, from(row.body(), sign))?;
+    let body = joined(alloc, key, from(row.body(), row.sign()))?;
     row.set(body, cause);
     Ok(())
 }
@@ -45,6 +52,9 @@ fn cause_of(key: Key) -> Cause {
 /// Spells the key of a row in a section of this name.
 fn respell_key(alloc: Global, row: &mut Row<'_>, name: SectionName) -> Result<(), AllocError> {
     let key = key_at(alloc, row, name)?;
+    if let Some(text) = fixed_key(key) {
+        return set_key_text(alloc, row, text, cause_of(key));
+    }
     match key_text(alloc, key)? {
         Some(text) => set_key_text(alloc, row, &text, cause_of(key)),
         None => Ok(()),
@@ -75,7 +85,7 @@ pub fn entries_as(
     let mut entries: BTreeMap<u64, usize> = BTreeMap::new(alloc);
     for at in section.header..section.end {
         let Some(row) = rows.get(at) else { break };
-        if let Key::Entry(number) = key_at(alloc, row, name)?
+        if let Key::Entry(number) = key_as(alloc, row, name)?
             && !entries.contains_key(&number)
         {
             entries.insert(number, at)?;

@@ -1,12 +1,12 @@
 //! Lines that are no lines of CiA 306.
 
-use crate::names::{is_same_section, section_text};
+use crate::names::{is_same_section, is_spelled, section_text};
 use crate::row::Row;
 use crate::text::{
     Form, after_first, before_first, from, is_blank, joined, name_of, trim_start, upto,
 };
 use cop_change::Cause;
-use cop_tidy_lines::{LineKind, SectionName, kind_meant, loose_start};
+use cop_tidy_lines::{Key, LineKind, SectionName, kind_meant, loose_start};
 use std::alloc::{AllocError, Global};
 
 /// Drops the blanks at the front of a line, where some are none of CiA 306.
@@ -22,6 +22,9 @@ fn drop_blanks(alloc: Global, row: &mut Row<'_>) -> Result<(), AllocError> {
 
 /// The name of a header in the spelling of CiA 306, or as it stands.
 fn spelled_name(alloc: Global, name: SectionName, text: &[u8]) -> Result<Vec<u8>, AllocError> {
+    if is_spelled(name, text) {
+        return Vec::from_slice(alloc, text);
+    }
     match section_text(alloc, name)? {
         Some(spelled) if !is_same_section(text, &spelled) => Ok(spelled),
         _ => Vec::from_slice(alloc, text),
@@ -96,15 +99,22 @@ fn mend_silent(
 }
 
 /// Gives a key its equals sign.
-fn mend_pair(alloc: Global, row: &mut Row<'_>) -> Result<(), AllocError> {
-    if row.form() == Form::Pair {
-        return Ok(());
-    }
+fn add_sign(alloc: Global, row: &mut Row<'_>) -> Result<(), AllocError> {
     let key = before_first(row.body(), b':');
     let mut body = joined(alloc, key, b"=")?;
     body.extend_from_slice(after_first(row.body(), b':'))?;
     row.set(body, Cause::BareKey);
     Ok(())
+}
+
+/// Gives a line that states this key its equals sign, where it has none.
+fn mend_pair(alloc: Global, row: &mut Row<'_>, key: Key) -> Result<(), AllocError> {
+    if row.form() == Form::Pair {
+        row.meant = Some(key);
+        Ok(())
+    } else {
+        add_sign(alloc, row)
+    }
 }
 
 /// Mends a line, which stands in a section of this name, and answers for the section of the next line.
@@ -120,7 +130,7 @@ fn mend(
             return Ok(Some(name));
         }
         LineKind::Silent => mend_silent(alloc, row, section)?,
-        LineKind::Pair(_) => mend_pair(alloc, row)?,
+        LineKind::Pair(key) => mend_pair(alloc, row, key)?,
         LineKind::Unknown => {}
     }
     Ok(section)

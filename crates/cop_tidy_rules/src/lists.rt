@@ -3,13 +3,13 @@
 use crate::keys::{entries_as, respell_keys, set_key_text};
 use crate::names::LISTS;
 use crate::numbers::number_text;
-use crate::outline::{Outline, Section, key_row, last_key, list_header, set_key, value_at};
+use crate::outline::{Outline, Section, Text, key_row, last_key, list_header, set_key, value_at};
 use crate::respelling::respell_values;
-use crate::row::{Addition, Row, with_additions};
+use crate::row::{Addition, Row};
 use crate::text::joined;
 use cop_change::Cause;
 use cop_eds::{number_in, number_of};
-use cop_tidy_lines::{Digits, ListName, SectionName, bare, number_meant};
+use cop_tidy_lines::{Digits, ListName, SectionName, bare_text, number_meant};
 use std::alloc::{AllocError, Global};
 use std::collections::{BTreeMap, BTreeSet};
 
@@ -105,6 +105,18 @@ fn plain_index(
     Ok(number_meant(alloc, digits, value)?.ok())
 }
 
+/// Whether a value names a section as a decimal number, where it is four digits.
+fn is_decimal(
+    alloc: Global,
+    outline: &Outline,
+    digits: Option<Digits>,
+    value: &[u8],
+) -> Result<bool, AllocError> {
+    let text = bare_text(alloc, value)?;
+    let text = text.as_slice();
+    Ok(!is_bare(text) || is_there(outline, plain_index(alloc, digits, text)?))
+}
+
 /// Whether each entry of four digits names a section as a decimal number.
 fn are_decimal(
     alloc: Global,
@@ -114,8 +126,7 @@ fn are_decimal(
     list: &List,
 ) -> Result<bool, AllocError> {
     for at in list.entries.values() {
-        let value = bare(alloc, value_at(rows, *at))?;
-        if is_bare(&value) && !is_there(outline, plain_index(alloc, digits, &value)?) {
+        if !is_decimal(alloc, outline, digits, value_at(rows, *at))? {
             return Ok(false);
         }
     }
@@ -140,6 +151,27 @@ fn marked(
     }
 }
 
+/// The value of an entry in a list that is decimal or not, in the spelling of CiA 306, and why it is spelled so.
+fn entry_spelled(
+    alloc: Global,
+    value: &[u8],
+    outline: &Outline,
+    digits: Option<Digits>,
+    is_list_decimal: bool,
+) -> Result<(Vec<u8>, Cause), AllocError> {
+    let text = bare_text(alloc, value)?;
+    let text = text.as_slice();
+    let plain = plain_index(alloc, digits, text)?;
+    if let Some(marked) = marked(alloc, outline, text, plain, is_list_decimal)? {
+        return Ok((marked, Cause::Hexadecimal));
+    }
+    let spelled = match plain {
+        Some(index) => number_text(alloc, text, index)?,
+        None => Vec::from_slice(alloc, text)?,
+    };
+    Ok((spelled, Cause::Word))
+}
+
 /// Spells an entry in a list that is decimal or not.
 fn respell_entry(
     alloc: Global,
@@ -148,18 +180,8 @@ fn respell_entry(
     digits: Option<Digits>,
     is_list_decimal: bool,
 ) -> Result<(), AllocError> {
-    let value = bare(alloc, row.value())?;
-    let plain = plain_index(alloc, digits, &value)?;
-    if let Some(text) = marked(alloc, outline, &value, plain, is_list_decimal)? {
-        return row.set_value(alloc, &text, Cause::Hexadecimal);
-    }
-    match plain {
-        Some(index) => {
-            let text = number_text(alloc, &value, index)?;
-            row.set_value(alloc, &text, Cause::Word)
-        }
-        None => row.set_value(alloc, &value, Cause::Word),
-    }
+    let (text, cause) = entry_spelled(alloc, row.value(), outline, digits, is_list_decimal)?;
+    row.set_value(alloc, &text, cause)
 }
 
 /// Spells the entries of a list.
@@ -283,17 +305,17 @@ fn mend_list(
 /// Mends the lists: numbers of entries, hexadecimal entries, and how many entries there are.
 pub fn mend_lists<'a>(
     alloc: Global,
-    mut rows: Vec<Row<'a>>,
+    text: Text<'a>,
     digits: Option<Digits>,
-) -> Result<Vec<Row<'a>>, AllocError> {
-    let outline = Outline::of(alloc, &rows)?;
+) -> Result<Text<'a>, AllocError> {
+    let Text { mut rows, outline } = text;
     let mut additions = Vec::new(alloc);
     for list in LISTS {
         if let Some(section) = outline.named(SectionName::List(list)) {
             mend_list(alloc, &mut rows, &mut additions, &outline, digits, section)?;
         }
     }
-    with_additions(alloc, rows, additions)
+    Text { rows, outline }.with(alloc, additions)
 }
 
 /// An object that is to be listed.

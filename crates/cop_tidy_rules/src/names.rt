@@ -42,8 +42,21 @@ pub fn is_same_section(left: &[u8], right: &[u8]) -> bool {
     }
 }
 
+/// Whether the strict reading takes a name for that of this object or sub.
+pub fn is_spelled(name: SectionName, text: &[u8]) -> bool {
+    let code = match name {
+        SectionName::Object(index) => index.saturating_mul(257),
+        SectionName::Sub(index, sub) => index
+            .saturating_mul(257)
+            .saturating_add(sub)
+            .saturating_add(1),
+        _ => return false,
+    };
+    code_of(text) == Some(code)
+}
+
 /// A key that has one spelling.
-fn fixed_key(key: Key) -> Option<&'static [u8]> {
+pub fn fixed_key(key: Key) -> Option<&'static [u8]> {
     let text: &[u8] = match key {
         Key::ObjectType => b"ObjectType",
         Key::DataType => b"DataType",

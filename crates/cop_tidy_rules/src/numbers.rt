@@ -1,24 +1,22 @@
 //! Numbers in the spelling of CiA 306.
 
-use crate::text::{after_first, is_blank, trim, upto};
+use crate::text::{after_first, is_blank, joined, trim, upto};
 use cop_dict::DataType;
 use cop_eds::{Amount, amount_of, number_of};
 use std::alloc::{AllocError, Global};
 
-/// The digits of a number as they stand, behind a prefix, where these are the number; else another text of it.
-fn kept_or(
+/// The digits of a number as they stand, behind a prefix, where these are the number.
+fn kept(
     alloc: Global,
     prefix: &[u8],
     digits: &[u8],
     number: u64,
-    other: String,
-) -> Result<Vec<u8>, AllocError> {
-    let mut kept = Vec::from_slice(alloc, prefix)?;
-    kept.extend_from_slice(digits)?;
+) -> Result<Option<Vec<u8>>, AllocError> {
+    let kept = joined(alloc, prefix, digits)?;
     if number_of(&kept) == Ok(number) {
-        Ok(kept)
+        Ok(Some(kept))
     } else {
-        Ok(other.into_bytes())
+        Ok(None)
     }
 }
 
@@ -64,14 +62,18 @@ fn hexadecimal_text(alloc: Global, text: &[u8], number: u64) -> Result<Vec<u8>, 
         .copied()
         .filter(|byte| !is_blank(*byte) && *byte != b'_')
         .collect(alloc)?;
-    let other = format!(in alloc; "0x{number:X}")?;
-    kept_or(alloc, b"0x", &dense, number, other)
+    match kept(alloc, b"0x", &dense, number)? {
+        Some(text) => Ok(text),
+        None => Ok(format!(in alloc; "0x{number:X}")?.into_bytes()),
+    }
 }
 
 /// A decimal number, in its own digits where it has them.
 fn decimal_text(alloc: Global, text: &[u8], number: u64) -> Result<Vec<u8>, AllocError> {
-    let other = format!(in alloc; "{number}")?;
-    kept_or(alloc, b"", without_ends(text), number, other)
+    match kept(alloc, b"", without_ends(text), number)? {
+        Some(text) => Ok(text),
+        None => Ok(format!(in alloc; "{number}")?.into_bytes()),
+    }
 }
 
 /// The number that a text was read as.

@@ -1,10 +1,10 @@
 //! The sections of rows.
 
 use crate::names::list_text;
-use crate::row::{Addition, Row};
-use crate::text::{Form, NOTHING, lower, name_of, pair};
+use crate::row::{Addition, Row, with_additions};
+use crate::text::{Form, NOTHING, name_of, pair};
 use cop_change::Cause;
-use cop_tidy_lines::{ListName, SectionName, is_read, section_name};
+use cop_tidy_lines::{ListName, SectionName, section_name};
 use std::alloc::{AllocError, Global};
 use std::collections::BTreeMap;
 
@@ -24,7 +24,6 @@ type Place = (u64, u64, u64);
 pub struct Outline {
     pub sections: Vec<Section>,
     places: BTreeMap<Place, usize>,
-    names: BTreeMap<Vec<u8>, usize>,
 }
 
 fn list_place(list: ListName) -> u64 {
@@ -69,38 +68,16 @@ fn sections_of(alloc: Global, rows: &[Row<'_>]) -> Result<Vec<Section>, AllocErr
 
 impl Outline {
     pub fn of(alloc: Global, rows: &[Row<'_>]) -> Result<Outline, AllocError> {
-        let mut outline = Outline {
-            sections: sections_of(alloc, rows)?,
-            places: BTreeMap::new(alloc),
-            names: BTreeMap::new(alloc),
-        };
-        for at in 0..outline.sections.len() {
-            outline.note(alloc, rows, at)?;
+        let sections = sections_of(alloc, rows)?;
+        let mut places = BTreeMap::new(alloc);
+        for (at, section) in sections.iter().enumerate() {
+            if let Some(place) = place_of(section.name)
+                && !places.contains_key(&place)
+            {
+                places.insert(place, at)?;
+            }
         }
-        Ok(outline)
-    }
-
-    /// Notes the name of a section, where it is the first of this name.
-    fn note(&mut self, alloc: Global, rows: &[Row<'_>], at: usize) -> Result<(), AllocError> {
-        let Some(section) = self.sections.get(at).copied() else {
-            return Ok(());
-        };
-        if let Some(place) = place_of(section.name)
-            && !self.places.contains_key(&place)
-        {
-            self.places.insert(place, at)?;
-        }
-        if is_read(section.name) {
-            return Ok(());
-        }
-        let Some(header) = rows.get(section.header) else {
-            return Ok(());
-        };
-        let name = lower(alloc, name_of(header.body()))?;
-        if !self.names.contains_key(&name) {
-            self.names.insert(name, at)?;
-        }
-        Ok(())
+        Ok(Outline { sections, places })
     }
 
     /// The first section of this name, which is of an object, a list or the device.
@@ -114,26 +91,6 @@ impl Outline {
         match sub {
             Some(sub) => self.named(SectionName::Sub(index, sub)),
             None => self.named(SectionName::Object(index)),
-        }
-    }
-
-    /// The first section that the strict reading takes for one with this.
-    pub fn first_of(
-        &self,
-        alloc: Global,
-        rows: &[Row<'_>],
-        section: Section,
-    ) -> Result<Option<Section>, AllocError> {
-        if is_read(section.name) {
-            return Ok(self.named(section.name));
-        }
-        let Some(header) = rows.get(section.header) else {
-            return Ok(None);
-        };
-        let name = lower(alloc, name_of(header.body()))?;
-        match self.names.get(&name) {
-            Some(at) => Ok(self.sections.get(*at).copied()),
-            None => Ok(None),
         }
     }
 
@@ -154,6 +111,28 @@ impl Outline {
             }
         }
         Ok(indexes)
+    }
+}
+
+/// The lines of a text, and their sections.
+#[derive(Drop)]
+pub struct Text<'a> {
+    pub rows: Vec<Row<'a>>,
+    pub outline: Outline,
+}
+
+impl<'a> Text<'a> {
+    pub fn of(alloc: Global, rows: Vec<Row<'a>>) -> Result<Text<'a>, AllocError> {
+        let outline = Outline::of(alloc, &rows)?;
+        Ok(Text { rows, outline })
+    }
+
+    /// The text with lines added to it.
+    pub fn with(self, alloc: Global, additions: Vec<Addition>) -> Result<Text<'a>, AllocError> {
+        if additions.is_empty() {
+            return Ok(self);
+        }
+        Text::of(alloc, with_additions(alloc, self.rows, additions)?)
     }
 }
 

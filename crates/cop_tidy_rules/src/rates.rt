@@ -1,8 +1,8 @@
 //! The rates that are chosen for a device that states none.
 
 use crate::names::key_text;
-use crate::outline::{Outline, set_key, value_in};
-use crate::row::{Addition, Row, with_additions};
+use crate::outline::{Outline, Text, set_key, value_in};
+use crate::row::{Addition, Row};
 use crate::text::pair;
 use cop_change::Cause;
 use cop_frame::Rate;
@@ -60,12 +60,12 @@ fn add_line(
 /// Adds the rates that are chosen, where a text states none.
 pub fn add_rates<'a>(
     alloc: Global,
-    mut rows: Vec<Row<'a>>,
+    text: Text<'a>,
     rates: &[Rate],
-) -> Result<Vec<Row<'a>>, AllocError> {
-    let outline = Outline::of(alloc, &rows)?;
+) -> Result<Text<'a>, AllocError> {
+    let Text { mut rows, outline } = text;
     if rates.is_empty() || are_stated(alloc, &rows, &outline)? {
-        return Ok(rows);
+        return Ok(Text { rows, outline });
     }
     let mut additions = Vec::new(alloc);
     if outline.named(SectionName::DeviceInfo).is_none() {
@@ -80,5 +80,5 @@ pub fn add_rates<'a>(
             add_rate(alloc, &mut rows, &mut additions, &outline, rate)?;
         }
     }
-    with_additions(alloc, rows, additions)
+    Text { rows, outline }.with(alloc, additions)
 }

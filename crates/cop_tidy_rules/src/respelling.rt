@@ -9,8 +9,8 @@ use crate::text::{joined, same_name};
 use cop_change::Cause;
 use cop_eds::{ObjectType, number_in, number_of};
 use cop_tidy_lines::{
-    Digits, Key, SectionName, access_meant, bare, data_type_meant, is_no, is_yes, number_meant,
-    object_type_meant,
+    Digits, Key, SectionName, access_meant, bare_text, data_type_meant, is_no, is_yes,
+    number_meant, object_type_meant,
 };
 use std::alloc::{AllocError, Global};
 
@@ -129,10 +129,12 @@ fn compact_spelled(
 fn spelled(
     alloc: Global,
     key: Key,
-    text: &[u8],
+    value: &[u8],
     is_sub: bool,
     digits: Option<Digits>,
 ) -> Result<Vec<u8>, AllocError> {
+    let text = bare_text(alloc, value)?;
+    let text = text.as_slice();
     match key {
         Key::ObjectType => object_type_spelled(alloc, text, digits),
         Key::DataType => data_type_spelled(alloc, text, digits),
@@ -142,6 +144,16 @@ fn spelled(
         Key::CompactSubObj => compact_spelled(alloc, text, is_sub, digits),
         _ => number_spelled(alloc, text, digits),
     }
+}
+
+/// The number of subs in the spelling of CiA 306.
+fn sub_number_spelled(
+    alloc: Global,
+    value: &[u8],
+    digits: Option<Digits>,
+) -> Result<Vec<u8>, AllocError> {
+    let text = bare_text(alloc, value)?;
+    unneeded_spelled(alloc, text.as_slice(), digits)
 }
 
 /// Whether the value of a key is a number or a word in each section that has it.
@@ -166,6 +178,11 @@ fn is_object(name: SectionName) -> bool {
     matches!(name, SectionName::Object(_) | SectionName::Sub(_, _))
 }
 
+/// Whether a value stays as it is by itself: the strict reading takes it for a number.
+fn stays(key: Key, value: &[u8]) -> bool {
+    key != Key::CompactSubObj && number_of(value).is_ok()
+}
+
 /// Spells the value of a row.
 fn respell_row(
     alloc: Global,
@@ -174,14 +191,15 @@ fn respell_row(
     digits: Option<Digits>,
 ) -> Result<(), AllocError> {
     let key = key_at(alloc, row, section.name)?;
+    if stays(key, row.value()) {
+        return Ok(());
+    }
     if is_plain(key) {
-        let text = bare(alloc, row.value())?;
         let is_sub = matches!(section.name, SectionName::Sub(_, _));
-        let text = spelled(alloc, key, &text, is_sub, digits)?;
+        let text = spelled(alloc, key, row.value(), is_sub, digits)?;
         row.set_value(alloc, &text, Cause::Word)?;
     } else if is_object(section.name) && row.has_key(b"SubNumber") {
-        let text = bare(alloc, row.value())?;
-        let text = unneeded_spelled(alloc, &text, digits)?;
+        let text = sub_number_spelled(alloc, row.value(), digits)?;
         row.set_value(alloc, &text, Cause::Word)?;
     }
     Ok(())

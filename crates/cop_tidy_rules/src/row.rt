@@ -1,7 +1,8 @@
 //! The lines of a text that is rewritten.
 
-use crate::text::{Form, form_of, from, key_of, pair, same_name, upto, value_of};
-use cop_change::Cause;
+use crate::text::{Form, form_of, from, pair, same_name, sign_of, trim, upto};
+use cop_change::{Cause, Change};
+use cop_tidy_lines::Key;
 use std::alloc::{AllocError, Global};
 
 /// A line: its bytes as they were, and as they are now where they were changed.
@@ -13,9 +14,43 @@ pub struct Row<'a> {
     pub place: usize,
     pub is_added: bool,
     pub cause: Cause,
+    /// What the strict reading sees in the bytes as they are now.
+    form: Form,
+    /// Where their first equals sign stands; their length where they have none.
+    sign: usize,
+    /// What its key means in its section, where that is known.
+    pub meant: Option<Key>,
 }
 
 impl<'a> Row<'a> {
+    /// The line of a text at this place.
+    fn read(line: &'a [u8], place: usize) -> Row<'a> {
+        Row {
+            old: line,
+            new: None,
+            place,
+            is_added: false,
+            cause: Cause::Value,
+            form: form_of(line),
+            sign: sign_of(line),
+            meant: None,
+        }
+    }
+
+    /// A line that is added behind the one at this place.
+    fn added(addition: Addition, place: usize) -> Row<'a> {
+        Row {
+            old: b"",
+            form: form_of(&addition.body),
+            sign: sign_of(&addition.body),
+            new: Some(addition.body),
+            place,
+            is_added: true,
+            cause: addition.cause,
+            meant: None,
+        }
+    }
+
     /// The bytes as they are now.
     pub fn body(&self) -> &[u8] {
         match &self.new {
@@ -25,20 +60,34 @@ impl<'a> Row<'a> {
     }
 
     pub fn form(&self) -> Form {
-        form_of(self.body())
+        self.form
+    }
+
+    /// Where the first equals sign stands; the length where there is none.
+    pub fn sign(&self) -> usize {
+        self.sign
+    }
+
+    /// What stands before the first equals sign, without blanks round it.
+    pub fn key(&self) -> &[u8] {
+        trim(upto(self.body(), self.sign))
     }
 
     /// Whether the line is a pair of this key.
     pub fn has_key(&self, key: &[u8]) -> bool {
-        self.form() == Form::Pair && same_name(key_of(self.body()), key)
+        self.form == Form::Pair && same_name(self.key(), key)
     }
 
+    /// What stands behind the first equals sign, without blanks round it.
     pub fn value(&self) -> &[u8] {
-        value_of(self.body())
+        trim(from(self.body(), self.sign.saturating_add(1)))
     }
 
     /// Gives the line other bytes.
     pub fn set(&mut self, body: Vec<u8>, cause: Cause) {
+        self.form = form_of(&body);
+        self.sign = sign_of(&body);
+        self.meant = None;
         self.new = Some(body);
         self.cause = cause;
     }
@@ -59,10 +108,37 @@ impl<'a> Row<'a> {
         cause: Cause,
     ) -> Result<(), AllocError> {
         if value != self.value() {
-            let body = pair(alloc, key_of(self.body()), value)?;
+            let body = pair(alloc, self.key(), value)?;
+            let meant = self.meant;
             self.set(body, cause);
+            self.meant = meant;
         }
         Ok(())
+    }
+
+    /// The change by which the line came to its bytes, where they are other ones.
+    pub fn into_change(self, alloc: Global) -> Result<Option<Change>, AllocError> {
+        let Row {
+            old,
+            new,
+            place,
+            is_added,
+            cause,
+            ..
+        } = self;
+        let Some(new) = new else {
+            return Ok(None);
+        };
+        if !is_added && new.as_slice() == old {
+            return Ok(None);
+        }
+        Ok(Some(Change {
+            place,
+            is_added,
+            old: Vec::from_slice(alloc, old)?,
+            new,
+            cause,
+        }))
     }
 }
 
@@ -104,13 +180,7 @@ pub fn rows_of<'a>(alloc: Global, text: &'a [u8]) -> Result<Vec<Row<'a>>, AllocE
             break;
         }
         let (line, next) = first_line(rest);
-        rows.push(Row {
-            old: line,
-            new: None,
-            place: at.saturating_add(1),
-            is_added: false,
-            cause: Cause::Value,
-        })?;
+        rows.push(Row::read(line, at.saturating_add(1)))?;
         rest = next;
     }
     Ok(rows)
@@ -129,13 +199,7 @@ fn add_behind<'a>(
             break;
         }
         if let Some(next) = additions.pop() {
-            rows.push(Row {
-                old: b"",
-                new: Some(next.body),
-                place,
-                is_added: true,
-                cause: next.cause,
-            })?;
+            rows.push(Row::added(next, place))?;
         }
     }
     Ok(())

@@ -1,9 +1,7 @@
 //! Bytes of a line.
 
 use cop_eds::{is_comment, is_header, is_pair};
-pub use cop_eds::{
-    after_first, before_first, is_blank, key_of, name_of, same_name, trim, trim_start, value_of,
-};
+pub use cop_eds::{after_first, before_first, is_blank, name_of, same_name, trim, trim_start};
 use std::alloc::{AllocError, Global};
 
 /// No bytes.
@@ -21,14 +19,18 @@ pub fn upto(bytes: &[u8], place: usize) -> &[u8] {
 
 /// Two texts, one behind the other.
 pub fn joined(alloc: Global, left: &[u8], right: &[u8]) -> Result<Vec<u8>, AllocError> {
-    let mut all = Vec::from_slice(alloc, left)?;
+    let mut all = Vec::with_capacity(alloc, left.len().saturating_add(right.len()))?;
+    all.extend_from_slice(left)?;
     all.extend_from_slice(right)?;
     Ok(all)
 }
 
 /// The line of a key and its value.
 pub fn pair(alloc: Global, key: &[u8], value: &[u8]) -> Result<Vec<u8>, AllocError> {
-    let mut line = joined(alloc, key, b"=")?;
+    let length = key.len().saturating_add(value.len()).saturating_add(1);
+    let mut line = Vec::with_capacity(alloc, length)?;
+    line.extend_from_slice(key)?;
+    line.push(b'=')?;
     line.extend_from_slice(value)?;
     Ok(line)
 }
@@ -36,6 +38,11 @@ pub fn pair(alloc: Global, key: &[u8], value: &[u8]) -> Result<Vec<u8>, AllocErr
 /// The bytes in lower case.
 pub fn lower(alloc: Global, bytes: &[u8]) -> Result<Vec<u8>, AllocError> {
     bytes.iter().map(|b| b.to_ascii_lowercase()).collect(alloc)
+}
+
+/// Where the first equals sign of a line stands; its length where it has none.
+pub fn sign_of(line: &[u8]) -> usize {
+    before_first(line, b'=').len()
 }
 
 /// What a line is, as the strict reading sees it.

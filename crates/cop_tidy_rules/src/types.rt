@@ -2,8 +2,8 @@
 
 use crate::names::access_text;
 use crate::numbers::type_text;
-use crate::outline::{Outline, Section, set_key, value_in};
-use crate::row::{Addition, Row, with_additions};
+use crate::outline::{Outline, Section, Text, set_key, value_in};
+use crate::row::{Addition, Row};
 use crate::standard::{UNSIGNED8, access, data_type, forced_type, is_mapping, is_pdo};
 use cop_change::Cause;
 use cop_eds::number_of;
@@ -83,20 +83,6 @@ fn object_type(
     }
 }
 
-/// The value of a key, or another where it has none.
-fn value_or(
-    alloc: Global,
-    rows: &[Row<'_>],
-    section: Section,
-    key: &[u8],
-    other: Option<Vec<u8>>,
-) -> Result<Option<Vec<u8>>, AllocError> {
-    match value_in(rows, section, key) {
-        Some(value) => Ok(Some(Vec::from_slice(alloc, value)?)),
-        None => Ok(other),
-    }
-}
-
 /// The data type of CiA 301, as a text.
 fn standard_type(alloc: Global, index: u64, sub: u64) -> Result<Option<Vec<u8>>, AllocError> {
     match data_type(index, sub) {
@@ -113,6 +99,32 @@ fn standard_access(alloc: Global, index: u64, sub: u64) -> Result<Option<Vec<u8>
     }
 }
 
+/// The data type of an object, or that of CiA 301.
+fn type_or_standard(
+    alloc: Global,
+    rows: &[Row<'_>],
+    section: Section,
+    index: u64,
+) -> Result<Option<Vec<u8>>, AllocError> {
+    match value_in(rows, section, b"DataType") {
+        Some(value) => Ok(Some(Vec::from_slice(alloc, value)?)),
+        None => standard_type(alloc, index, 1),
+    }
+}
+
+/// The access of an object, or that of CiA 301.
+fn access_or_standard(
+    alloc: Global,
+    rows: &[Row<'_>],
+    section: Section,
+    index: u64,
+) -> Result<Option<Vec<u8>>, AllocError> {
+    match value_in(rows, section, b"AccessType") {
+        Some(value) => Ok(Some(Vec::from_slice(alloc, value)?)),
+        None => standard_access(alloc, index, 1),
+    }
+}
+
 /// The object at an index.
 fn main_of(
     alloc: Global,
@@ -123,14 +135,12 @@ fn main_of(
     section: Section,
 ) -> Result<Main, AllocError> {
     let compact = stated(rows, section, b"CompactSubObj").unwrap_or(0);
-    let standard = standard_type(alloc, index, 1)?;
-    let word = standard_access(alloc, index, 1)?;
     Ok(Main {
         section,
         object_type: object_type(rows, outline, indexes, index, section, compact),
         compact,
-        data_type: value_or(alloc, rows, section, b"DataType", standard)?,
-        access: value_or(alloc, rows, section, b"AccessType", word)?,
+        data_type: type_or_standard(alloc, rows, section, index)?,
+        access: access_or_standard(alloc, rows, section, index)?,
     })
 }
 
@@ -360,12 +370,12 @@ pub fn address(name: SectionName) -> Option<(u64, Option<u64>)> {
 /// Gives the sections of objects their object types, data types and accesses.
 pub fn type_objects<'a>(
     alloc: Global,
-    mut rows: Vec<Row<'a>>,
-    outline: &Outline,
+    text: Text<'a>,
     indexes: Indexes<'_>,
     words: &Words,
-) -> Result<Vec<Row<'a>>, AllocError> {
-    let mains = mains_of(alloc, &rows, outline, indexes)?;
+) -> Result<Text<'a>, AllocError> {
+    let Text { mut rows, outline } = text;
+    let mains = mains_of(alloc, &rows, &outline, indexes)?;
     let mut additions = Vec::new(alloc);
     for section in outline.sections.iter() {
         let Some((index, sub)) = address(section.name) else {
@@ -381,5 +391,5 @@ pub fn type_objects<'a>(
             type_section(alloc, &mut rows, &mut additions, &place, words)?;
         }
     }
-    with_additions(alloc, rows, additions)
+    Text { rows, outline }.with(alloc, additions)
 }

@@ -1,8 +1,7 @@
 //! Objects that no list names.
 
 use crate::lists::{Entry, enlist, listed, lists_of};
-use crate::outline::Outline;
-use crate::row::{Row, with_additions};
+use crate::outline::{Outline, Text};
 use cop_change::Cause;
 use cop_tidy_lines::{ListName, Unlisted};
 use std::alloc::{AllocError, Global};
@@ -31,13 +30,13 @@ fn unlisted_in(
 /// Lists the objects that no list names, where that is chosen.
 pub fn list_unlisted<'a>(
     alloc: Global,
-    mut rows: Vec<Row<'a>>,
+    text: Text<'a>,
     choice: Option<Unlisted>,
-) -> Result<Vec<Row<'a>>, AllocError> {
+) -> Result<Text<'a>, AllocError> {
     if choice != Some(Unlisted::Add) {
-        return Ok(rows);
+        return Ok(text);
     }
-    let outline = Outline::of(alloc, &rows)?;
+    let Text { mut rows, outline } = text;
     let lists = lists_of(alloc, &rows, &outline)?;
     let listed = listed(alloc, &rows, &lists)?;
     let mut additions = Vec::new(alloc);
@@ -45,5 +44,5 @@ pub fn list_unlisted<'a>(
         let entries = unlisted_in(alloc, &outline, &listed, is_maker)?;
         enlist(alloc, &mut rows, &mut additions, &outline, list, &entries)?;
     }
-    with_additions(alloc, rows, additions)
+    Text { rows, outline }.with(alloc, additions)
 }

@@ -11,7 +11,7 @@ use cop_dict::DataType;
 use cop_eds::Amount;
 use cop_hazard::LEFT_OUT;
 use cop_tidy_lines::{
-    Digits, Key, SectionName, amount_meant, bare, greatest_of, is_no, is_no_value, is_yes,
+    Digits, Key, SectionName, amount_meant, bare_text, greatest_of, is_no, is_no_value, is_yes,
     limit_stated, typed_limit, typed_value,
 };
 use std::alloc::{AllocError, Global};
@@ -98,28 +98,43 @@ fn value_text(
     }
 }
 
+/// What becomes of a value.
+#[derive(Drop)]
+enum Mended {
+    /// It becomes empty.
+    Nothing,
+    /// It becomes this text of its number.
+    Text(Vec<u8>),
+    /// It is left out.
+    Out,
+}
+
+/// What becomes of a value in its type.
+fn becoming(alloc: Global, value: &[u8], numbers: Numbers) -> Result<Mended, AllocError> {
+    let text = bare_text(alloc, value)?;
+    let text = text.as_slice();
+    let amount = match said_in(alloc, numbers, text)? {
+        Said::Nothing => return Ok(Mended::Nothing),
+        Said::Number(amount) => amount,
+        Said::Open => return Ok(Mended::Out),
+    };
+    match value_text(alloc, numbers, text, amount)? {
+        Some(spelled) => Ok(Mended::Text(spelled)),
+        None => Ok(Mended::Out),
+    }
+}
+
 /// Mends a value, and answers for whether it is a number.
 fn mend_value(alloc: Global, row: &mut Row<'_>, numbers: Numbers) -> Result<bool, AllocError> {
-    let text = bare(alloc, row.value())?;
-    let amount = match said_in(alloc, numbers, &text)? {
-        Said::Nothing => {
-            row.set_value(alloc, b"", Cause::Value)?;
-            return Ok(false);
+    match becoming(alloc, row.value(), numbers)? {
+        Mended::Nothing => row.set_value(alloc, b"", Cause::Value)?,
+        Mended::Text(spelled) => {
+            row.set_value(alloc, &spelled, Cause::Value)?;
+            return Ok(true);
         }
-        Said::Number(amount) => amount,
-        Said::Open => {
-            leave_out(alloc, row)?;
-            return Ok(false);
-        }
-    };
-    match value_text(alloc, numbers, &text, amount)? {
-        Some(spelled) => row.set_value(alloc, &spelled, Cause::Value)?,
-        None => {
-            leave_out(alloc, row)?;
-            return Ok(false);
-        }
+        Mended::Out => leave_out(alloc, row)?,
     }
-    Ok(true)
+    Ok(false)
 }
 
 /// Mends the value of a key in a section, and answers for whether it is a number.
@@ -148,7 +163,10 @@ fn limit_said(
     key: &[u8],
 ) -> Result<Said, AllocError> {
     match value_in(rows, section, key) {
-        Some(value) => said_in(alloc, numbers, &bare(alloc, value)?),
+        Some(value) => {
+            let text = bare_text(alloc, value)?;
+            said_in(alloc, numbers, text.as_slice())
+        }
         None => Ok(Said::Nothing),
     }
 }
@@ -167,6 +185,25 @@ fn limit_beside(is_low: bool, numbers: Numbers, amount: Amount, other: Said) -> 
     typed_limit(is_low, data_type, greatest, amount, other)
 }
 
+/// The text of a limit that is this amount beside the other one, where it has one.
+fn limit_text(
+    alloc: Global,
+    value: &[u8],
+    numbers: Numbers,
+    is_low: bool,
+    amount: Amount,
+    other: Said,
+) -> Result<Option<Vec<u8>>, AllocError> {
+    match limit_beside(is_low, numbers, amount, other) {
+        Some(typed) if typed == amount => {
+            let text = bare_text(alloc, value)?;
+            Ok(Some(amount_text(alloc, text.as_slice(), amount)?))
+        }
+        Some(typed) => Ok(Some(amount_text(alloc, b"", typed)?)),
+        None => Ok(None),
+    }
+}
+
 /// Mends a limit that says this, beside the other one.
 fn mend_limit(
     alloc: Global,
@@ -181,16 +218,8 @@ fn mend_limit(
         Said::Number(amount) => amount,
         Said::Open => return leave_out(alloc, row),
     };
-    let text = bare(alloc, row.value())?;
-    match limit_beside(is_low, numbers, amount, other) {
-        Some(typed) if typed == amount => {
-            let spelled = amount_text(alloc, &text, amount)?;
-            row.set_value(alloc, &spelled, Cause::Value)
-        }
-        Some(typed) => {
-            let spelled = amount_text(alloc, b"", typed)?;
-            row.set_value(alloc, &spelled, Cause::Value)
-        }
+    match limit_text(alloc, row.value(), numbers, is_low, amount, other)? {
+        Some(spelled) => row.set_value(alloc, &spelled, Cause::Value),
         None => leave_out(alloc, row),
     }
 }

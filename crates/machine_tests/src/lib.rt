@@ -1,4 +1,5 @@
-//! Tests of the boot over a port: of listening, of questions, of a planned network, of one node alone, and of what is read back, over a port that gives what a script has.
+//! Tests of what is done over a port: of listening, of questions, of the boot of a planned network and of one node alone, of what is read back, and of
+//! devices that are verified. The port gives what a script has.
 
 #![tactic(auto)]
 
@@ -16,3 +17,5 @@ mod reaches;
 mod readings;
 #[cfg(test)]
 mod scripts;
+#[cfg(test)]
+mod verifying;

@@ -139,6 +139,11 @@ fn write_order(text: &mut String, order: Order<'_>) -> Result<(), AllocError> {
             write!(text, "machine {port} {take_over} {boot_limit}")?;
             write_network(text, order.network)
         }
+        Order::Verify(order) => {
+            let (port, only, gently) = (order.port, order.only.unwrap_or(0), order.gently);
+            write!(text, "verify {port} {only} {gently}")?;
+            write_network(text, order.network)
+        }
         Order::Tidy(order) => {
             let (input, out) = (order.input, order.out.unwrap_or("no"));
             write!(text, "tidy {input} {out}")?;
@@ -195,6 +200,11 @@ const ASKED: &[(&str, &str)] = &[
         "boot --port - --boot-limit 600 n p",
         "machine - false 600 n p",
     ),
+    ("verify --port - n p", "verify - 0 0 n p"),
+    (
+        "verify --port x --only 9 --gently 20 --json --margin n p",
+        "verify x 9 20 n p margin json",
+    ),
     (
         "run --seed 1 --until 1000000000 n p t",
         "run 1 1000000000 t n p",
@@ -247,6 +257,10 @@ const REFUSED: &[&str] = &[
     "boot --port x --boot-limit 0 n p",
     "boot --port x --boot-limit 601 n p",
     "boot --seed 18446744073709551616 n p",
+    "verify n p",
+    "verify --port x --seed 1 n p",
+    "verify --port x --take-over n p",
+    "verify --port x --gently 10001 n p",
     "run --seed 1 --until 1000000001 n p t",
     "report n p",
     "export xml n p out",

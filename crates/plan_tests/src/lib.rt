@@ -8,6 +8,8 @@ mod causes;
 #[cfg(test)]
 mod margins;
 #[cfg(test)]
+mod misses;
+#[cfg(test)]
 mod plans;
 #[cfg(test)]
 mod ranges;

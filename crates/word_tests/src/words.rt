@@ -2,7 +2,9 @@ use cop_frame::{Rate, RateSet};
 use cop_net::{PlanFault, all_rates, network, read_nodes, read_pdos};
 use cop_rta::Verdict;
 use cop_rules::explained;
-use cop_words::{Network, Source, late_words, line_at, network_words, record_at, record_words};
+use cop_words::{
+    Network, Source, late_words, line_at, network_words, others_words, record_at, record_words,
+};
 use std::alloc::{AllocError, Global};
 use std::str;
 use std::test::Fail;
@@ -709,6 +711,15 @@ fn each_rule_is_explained(rt: HostRuntime) {
         }
     }
     assert!(rt; explained(54).is_none());
+}
+
+#[test]
+fn what_the_others_have_left_is_said(rt: HostRuntime) -> Result<(), Fail> {
+    let words = others_words(rt.alloc(), 8761)?;
+    let said =
+        "each of the others has at least 2190.25 us left, or as much as any identifiers leave it\n";
+    assert!(rt; words.as_str() == said);
+    Ok(())
 }
 
 #[test]

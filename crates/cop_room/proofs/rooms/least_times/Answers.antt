@@ -3,3 +3,6 @@ use Rattle.cop_room.proofs.rooms.least_times.Goals as goal
 
 pub least_or_now-requires-clause-range : goal.least_or_now-requires-clause-range
 least_or_now-requires-clause-range c = λ x low high. times_in_range x c.args.set.now high
+
+pub start_from-requires-clause-range : goal.start_from-requires-clause-range
+start_from-requires-clause-range c = λ x low high. times_in_range x c.args.set.now high

@@ -5,6 +5,11 @@ use Rattle.cop_room.specs.Room.{CanFall, period_now}
 use Rattle.cop_room.proofs.RangeLemmas.{sync_in_range}
 use Rattle.cop_room.proofs.rooms.sync_room.Goals as goal
 
+pub start_from-requires-clause-range : goal.start_from-requires-clause-range
+start_from-requires-clause-range c =
+    let value : c.period_of-now.result ≡ period_now c.args.set.now c.in-Some.sync = rw c.streams-2.ensures.items at c.period_of-now.ensures.value in
+    λ x low high. sync_in_range c.args.set.now c.in-Some.sync x c.requires.synced (sym c.in-Some.ensures.place) low (omega (arith, high, value))
+
 pub least_or_now-requires-clause-range : goal.least_or_now-requires-clause-range
 least_or_now-requires-clause-range c =
     let value : c.period_of-now.result ≡ period_now c.args.set.now c.in-Some.sync = rw c.streams-2.ensures.items at c.period_of-now.ensures.value in

@@ -1,0 +1,3 @@
+pub mod AskingLemmas
+pub mod ReachingLemmas
+pub mod SurveyLemmas

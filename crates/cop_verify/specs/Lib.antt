@@ -1,0 +1,4 @@
+pub mod Checks
+pub mod Laws
+pub mod Telling
+pub mod Verifying
