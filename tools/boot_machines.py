@@ -5,8 +5,9 @@
 
 The adapter and the slaves stand in tools/machine/, and share nothing with canplan: they read the EDS and DCF files by themselves.
 Of each case it is seen what the program says and its status, which NMT commands were on the bus, and, where all nodes are
-ready, that each device has what its DCF file says. Where devices are asked whether they are as planned, of frames requests of uploads alone come. A case whose name holds one of the words given is run, or each.
+ready, that each device has what its DCF file says. Where devices are asked whether they are as planned, or what they are, of frames requests of uploads alone come. An NMT command is the only frame that is sent. A case whose name holds one of the words given is run, or each.
 """
+import csv
 import json
 import os
 import re
@@ -14,6 +15,11 @@ import shutil
 import subprocess
 import sys
 import tempfile
+
+from files import network_in
+
+sys.path.append(f"{os.path.dirname(os.path.realpath(__file__))}/machine")
+from eds import dictionary  # noqa: E402
 
 HERE = os.path.dirname(os.path.dirname(os.path.realpath(__file__)))
 PROGRAM = os.environ.get("CANPLAN", f"{HERE}/bin/canplan")
@@ -70,6 +76,9 @@ CASES = {
     "flags that tell of no errors": ("valve", "--flags 5B", {}),
     "an adapter that cannot listen only": ("valve", "--refuse L", {}),
     "an adapter that cannot listen only and answers nothing": ("valve", "--refuse L --answers none", {}),
+    "drives, with a table of settings": ("drives", "", {}),
+    "a value of the table of settings is aborted": ("drives", "--abort 12:6060:0:06090030", {12: "aborted 6060 00 06090030"}),
+    "a value of the table of settings is lost": ("drives", "--lost 13:6060:0", {13: "differs 6060 00 00000008"}),
     "has stored another identifier": ("valve", "--has 5:1800:1:40000191", {}),
     "has stored another identifier, and does not tell it": (
         "valve", "--has 5:1800:1:40000191 --unread 5:1800:1:08000022", {5: "aborted 1800 01 08000022"}),
@@ -194,6 +203,49 @@ VERIFIED = {
 }
 
 # What makes of an EDS file that of a device that can store its settings, and go back to those that it left the factory with.
+# NMT commands to the valve: the words of the rig and of the program, the commands on the bus, what is said, and the status.
+COMMANDED = {
+    "command: stops a node that runs": ("--running 5", ["stop", "5"], ["0205"], "sent stop to node 5\n", 0),
+    "command: stops all, on a bus with traffic": ("--running 5 --traffic 50 --chunk 7", ["stop", "--all"], ["0200"], "sent stop to all nodes\n", 0),
+    "command: starts a node": ("", ["start", "5"], ["0105"], "sent start to node 5\n", 0),
+    "command: back to pre-operational": ("--running 5", ["preop", "5"], ["8005"], "sent preop to node 5\n", 0),
+    "command: resets a node, over an adapter that cannot listen only": ("--refuse L", ["reset", "5"], ["8105"], "sent reset to node 5\n", 0),
+    "command: resets the communication of all": ("--answers none", ["reset-communication", "--all"], ["8200"], "sent reset-communication to all nodes\n", 0),
+    "command: another node than there is": ("", ["stop", "6"], ["0206"], "sent stop to node 6\n", 0),
+    "command: lines that are no frames": ("--running 5 --garbled", ["stop", "5"], [], "refused 103 ", 3),
+    "command: errors on the bus": ("--flags 80", ["stop", "5"], [], "refused 102 0", 3),
+    "command: the rate is refused": ("--refuse S", ["stop", "5"], [], "refused 104 0", 3),
+    "command: no node is named": ("", ["stop"], None, "<NODE>", 2),
+    "command: a node and all": ("", ["stop", "5", "--all"], None, "cannot be used with", 2),
+    "command: no number of a node": ("", ["stop", "128"], None, "1..=127", 2),
+}
+
+# Who is on a bus: the example, the words of the rig and of the program, what a node tells otherwise than its EDS file (None: nothing at all), and the
+# status; in place of that what is refused.
+SCANNED = {
+    "scan: the conveyor": ("conveyor", "", ["--up-to", "14"], {}, 0),
+    "scan: a machine that runs": ("conveyor", "--running 1 11 12 13 14 --traffic 20", ["--up-to", "14", "--gently", "20"], {}, 0),
+    "scan: one that does not tell its product": ("conveyor", "--unread 12:1018:2:06090011 --chunk 5", ["--up-to", "13"], {12: {(0x1018, 2): None}}, 0),
+    "scan: another device, as a document": ("conveyor", "--identity 13:1018:2:191", ["--up-to", "14", "--json"], {13: {(0x1018, 2): 0x191}}, 0),
+    "scan: silent ones": ("conveyor", "--silent 11 --mute 13", ["--up-to", "14"], {11: None, 13: None}, 0),
+    "scan: nobody": ("valve", "--silent 5", ["--up-to", "6"], {5: None}, 3),
+    "scan: nobody, as a document": ("valve", "--silent 5", ["--up-to", "5", "--json"], {5: None}, 3),
+    "scan: lines that are no frames": ("valve", "--running 5 --garbled", ["--up-to", "5"], "refused 103 ", 3),
+    "scan: errors on the bus": ("valve", "--flags 80", ["--up-to", "5"], "refused 102 0", 3),
+    "scan: the rate is refused": ("valve", "--refuse S", [], "refused 104 0", 3),
+}
+
+# The page of a boot: the example, the words of the rig, the program's status, and what has to stand on the page.
+SHEETS = {
+    "page: all ready": ("drives", "--error 12:4210:09", 0, [
+        "At 500 kbit/s", ">started<", "<td>X axis</td><td>drive.eds</td><td>ready</td><td>–</td><td></td>", "<td>ready</td><td>–</td><td>4210h (temperature), error register 09h </td>",
+        "<h3>Y axis <small>node 12</small></h3>", "<li>6060h sub 0: 07h</li>", "<li>1800h sub 1: 40000185h</li>"]),
+    "page: one aborts": ("drives", "--abort 12:6060:0:06090030", 3, [">not started<", "<td>aborted 6060h sub 0: 06090030h</td>"]),
+    "page: another device": ("conveyor", "--identity 13:1018:2:191", 3, [">not started<", "<td>other 1018h sub 2: 00000191h</td>"]),
+    "page: the line fails": ("drives", "--gone 45", 5, [">not known to be started<", "<td>unfinished</td>"]),
+    "page: no boot": ("valve", "--running 5", 3, None),
+}
+
 SIGNED = "[{0}]\nObjectType=0x8\nSubNumber=2\n[{0}sub0]\nDataType=0x0005\nAccessType=ro\nDefaultValue=1\n[{0}sub1]\nDataType=0x0007\nAccessType=rw\n"
 STORE = SIGNED.format("1010") + SIGNED.format("1011")
 
@@ -214,7 +266,7 @@ def storing(example, folder):
     """An example's tables, with devices that can store their settings."""
     source = f"{HERE}/examples/{example}"
     for name in os.listdir(source):
-        if name in ("nodes.csv", "pdos.csv"):
+        if name in ("nodes.csv", "pdos.csv", "setup.csv"):
             shutil.copy(f"{source}/{name}", folder)
         elif name.endswith(".eds"):
             with open(f"{source}/{name}", newline="") as it, open(f"{folder}/{name}", "w", newline="") as out:
@@ -291,7 +343,7 @@ def left_alone(name, folder):
 
 def boot(example, words, options, folder):
     """What the program gives with a rig, and what the rig reports."""
-    tables = [f"{HERE}/examples/{example}/{file}" for file in ("nodes.csv", "pdos.csv")]
+    tables = network_in(f"{HERE}/examples/{example}")
     port, report = f"{folder}/port", f"{folder}/report.json"
     rig = subprocess.Popen([sys.executable, RIG, tables[0], port, "--expect", os.path.dirname(tables[0]), "--log", f"{folder}/log",
                             "--report", report, *words.split()], stdout=subprocess.PIPE, text=True)
@@ -334,7 +386,7 @@ def reach(name, folder):
     example, words, options, text, status, commands, set_up = REACHES[name]
     if example == "storing":
         storing("valve", folder)
-    tables = [f"{folder if example == 'storing' else f'{HERE}/examples/{example}'}/{file}" for file in ("nodes.csv", "pdos.csv")]
+    tables = network_in(folder if example == "storing" else f"{HERE}/examples/{example}")
     expected = f"{HERE}/examples/{'valve' if example == 'storing' else example}"
     port, report = f"{folder}/port", f"{folder}/report.json"
     rig = subprocess.Popen([sys.executable, RIG, tables[0], port, "--expect", expected, "--log", f"{folder}/log", "--report", report, *words.split()],
@@ -369,7 +421,7 @@ def twice(name, folder):
     """What is wrong with the second boot of devices that have stored what the first one set."""
     example = TWICE[name]
     storing(example, folder)
-    tables = [f"{folder}/{file}" for file in ("nodes.csv", "pdos.csv")]
+    tables = network_in(folder)
     port, report = f"{folder}/port", f"{folder}/report.json"
     rig = subprocess.Popen([sys.executable, RIG, tables[0], port, "--expect", f"{HERE}/examples/{example}", "--sessions", "2", "--log", f"{folder}/log", "--report", report],
                            stdout=subprocess.PIPE, text=True)
@@ -425,7 +477,7 @@ def said_by(it, options):
 def verified(name, folder):
     """What is wrong with a case in which the devices are asked whether they are as planned."""
     example, words, before, options, ends, status = VERIFIED[name]
-    tables = [f"{HERE}/examples/{example}/{file}" for file in ("nodes.csv", "pdos.csv")]
+    tables = network_in(f"{HERE}/examples/{example}")
     port, report, log = f"{folder}/port", f"{folder}/report.json", f"{folder}/log"
     rig = subprocess.Popen([sys.executable, RIG, tables[0], port, "--expect", os.path.dirname(tables[0]), "--log", log, "--report", report,
                             "--sessions", "1" if before is None else "2", *words.split()], stdout=subprocess.PIPE, text=True)
@@ -454,9 +506,98 @@ def verified(name, folder):
     return faults + ([f"standard error: {it.stderr}"] if faults else [])
 
 
+def commanded(name, folder):
+    """What is wrong with a case in which an NMT command is sent."""
+    words, options, commands, said, status = COMMANDED[name]
+    port, report = f"{folder}/port", f"{folder}/report.json"
+    call = [PROGRAM, "nmt", "--port", port, "--rate", "500", *options]
+    if commands is None:
+        it = subprocess.run(call, capture_output=True, text=True, timeout=120)
+        return [] if it.returncode == status and not it.stdout and said in it.stderr else [f"status {it.returncode}, says {it.stdout!r} {it.stderr!r}"]
+    rig = subprocess.Popen([sys.executable, RIG, f"{HERE}/examples/valve/nodes.csv", port, "--log", f"{folder}/log", "--report", report, *words.split()],
+                           stdout=subprocess.PIPE, text=True)
+    rig.stdout.readline()
+    it = subprocess.run(call, capture_output=True, text=True, timeout=120)
+    rig.wait(timeout=60)
+    with open(report) as file:
+        seen = json.load(file)
+    faults = []
+    is_as_wanted = it.stdout == said if status == 0 else not it.stdout and f"canplan: {said}" in it.stderr
+    if it.returncode != status or not is_as_wanted:
+        faults.append(f"status {it.returncode}, says {it.stdout!r}")
+    if seen["commands"] != commands or seen["frames_from_manager"] != len(commands):
+        faults.append(f"NMT commands {seen['commands']}, frames {seen['frames_from_manager']}")
+    if seen["given"][-1:] and seen["given"][-1][1] != "C":
+        faults.append(f"the adapter is left open: {seen['given']}")
+    return faults + ([f"standard error: {it.stderr}"] if faults else [])
+
+
+def told_by(example, node, ends):
+    """What a node of an example tells of its device: of each object its value, or None."""
+    with open(f"{HERE}/examples/{example}/nodes.csv", newline="") as file:
+        eds = next(row["eds"] for row in csv.DictReader(file) if row["row"] == "device" and row["node"] == str(node))
+    entries = dictionary(f"{HERE}/examples/{example}/{eds}", node)
+    told = {key: entries[key].value if key in entries else None for key in ((0x1000, 0), (0x1018, 1), (0x1018, 2), (0x1018, 3))}
+    return {**told, **ends.get(node, {})}
+
+
+def scanned_text(example, nodes, ends, options):
+    """What is to be said of the nodes of an example that answer."""
+    told = {node: list(told_by(example, node, ends).values()) for node in nodes if node <= int(options[1]) and ends.get(node, {}) is not None}
+    if "--json" in options:
+        return {"command": "scan", "nodes": [dict(zip(("node", "device_type", "vendor", "product", "revision"), (node, *values))) for node, values in told.items()]}
+    names = ("type", "vendor", "product", "revision")
+    return "".join(f"node {node} " + " ".join(f"{name} {'-' if value is None else f'{value:08X}'}" for name, value in zip(names, values)) + "\n" for node, values in told.items())
+
+
+def scanned(name, folder):
+    """What is wrong with a case in which the nodes are asked what their devices are."""
+    example, words, options, ends, status = SCANNED[name]
+    port, report, log = f"{folder}/port", f"{folder}/report.json", f"{folder}/log"
+    rig = subprocess.Popen([sys.executable, RIG, f"{HERE}/examples/{example}/nodes.csv", port, "--log", log, "--report", report, *words.split()],
+                           stdout=subprocess.PIPE, text=True)
+    rig.stdout.readline()
+    it = subprocess.run([PROGRAM, "scan", "--port", port, "--rate", "250" if example == "conveyor" else "500", *options], capture_output=True, text=True, timeout=120)
+    rig.wait(timeout=60)
+    with open(report) as file:
+        seen = json.load(file)
+    if isinstance(ends, str):
+        is_as_wanted = not it.stdout and f"canplan: {ends}" in it.stderr and not seen["frames_from_manager"]
+        faults = []
+    else:
+        wanted = scanned_text(example, sorted(int(node) for node in seen["devices"]), ends, options)
+        is_as_wanted = (json.loads(it.stdout) if "--json" in options else it.stdout) == wanted and ("no node answered" in it.stderr) == (status == 3)
+        faults = asking_faults(requests_in(log), range(1, int(options[1]) + 1), options)
+    if it.returncode != status or not is_as_wanted:
+        faults.append(f"status {it.returncode}, says {it.stdout!r}")
+    if seen["commands"] or any(device["writes"] or device["resets"] for device in seen["devices"].values()):
+        faults.append("a device is written to, or reset")
+    if seen["given"][-1:] and seen["given"][-1][1] != "C":
+        faults.append(f"the adapter is left open: {seen['given']}")
+    return faults + ([f"standard error: {it.stderr}"] if faults else [])
+
+
+def sheet(name, folder):
+    """What is wrong with the page of a boot."""
+    example, words, status, parts = SHEETS[name]
+    page = f"{folder}/page.html"
+    it, _ = boot(example, words, ["--report", page], folder)
+    faults = [] if it.returncode == status else [f"status {it.returncode}, says {it.stdout!r}"]
+    if parts is None:
+        return faults + (["there is a page"] if os.path.exists(page) else [])
+    if not os.path.exists(page):
+        return faults + [f"there is no page: {it.stderr}"]
+    with open(page, encoding="utf-8") as file:
+        text = file.read()
+    faults += [f"no {part!r} on the page" for part in parts if part not in text]
+    if re.search(r"(?:src|href)=", text) or not text.endswith("</html>\n"):
+        faults.append("the page is not whole, or loads something")
+    return faults
+
+
 def faults_of(name, folder):
     """What is wrong with a case."""
-    for cases, tried in ((CASES, run), (LEFT_ALONE, left_alone), (TOLD, told), (REACHES, reach), (TWICE, twice), (VERIFIED, verified)):
+    for cases, tried in ((CASES, run), (LEFT_ALONE, left_alone), (TOLD, told), (REACHES, reach), (TWICE, twice), (VERIFIED, verified), (COMMANDED, commanded), (SCANNED, scanned), (SHEETS, sheet)):
         if name in cases:
             return tried(name, folder)
     return []
@@ -464,7 +605,7 @@ def faults_of(name, folder):
 
 def main(words):
     passed, failed = 0, 0
-    for name in [*CASES, *LEFT_ALONE, *TOLD, *REACHES, *TWICE, *VERIFIED]:
+    for name in [*CASES, *LEFT_ALONE, *TOLD, *REACHES, *TWICE, *VERIFIED, *COMMANDED, *SCANNED, *SHEETS]:
         if words and not any(word in name for word in words):
             continue
         with tempfile.TemporaryDirectory() as folder:

@@ -1,21 +1,26 @@
 #!/usr/bin/env python3
-"""Boots the valve of the examples over a pseudo terminal, at whose other end stands python-can's own slcan bus (Debian: python3-can, python3-serial).
+"""Boots the valve of the examples over a pseudo terminal, at whose other end stands python-can's own slcan bus (Debian: python3-can, python3-serial), and over
+tools/slcan_bridge.py at python-can's virtual bus.
 
     /usr/bin/python3 tools/boot_with_python_can.py
 
 python-can reads the lines that canplan writes as frames, and writes the node's frames as lines. The frames that it reads have to be the
 reset, the question which COB-ID the node has, the reset, the settings of its DCF file, the requests of uploads by which they are read back and the start, and canplan has to tell
-the node ready.
+the node ready. At another rate than the bridge's nothing may be sent.
 """
 import os
 import subprocess
 import sys
+import tempfile
 import threading
 import time
 import tty
 import termios
 
 import can
+
+import slcan_bridge
+from files import status_of
 
 HERE = os.path.dirname(os.path.dirname(os.path.realpath(__file__)))
 WANTED = [
@@ -77,26 +82,52 @@ def serve(bus, seen, is_over):
             bus.send(can.Message(arbitration_id=0x585, data=[0x60, *frame.data[1:4], 0, 0, 0, 0], is_extended_id=False))
 
 
-def main():
+def boot_over(port, bus, rates=()):
+    """What the program answers, and the frames that node 5 heard on a bus."""
+    seen, is_over = [], threading.Event()
+    peer = threading.Thread(target=serve, args=(bus, seen, is_over))
+    peer.start()
+    program = os.environ.get("CANPLAN", f"{HERE}/bin/canplan")
+    tables = [f"{HERE}/examples/valve/{file}" for file in ("nodes.csv", "pdos.csv")]
+    it = subprocess.run([*program.split(), "boot", "--port", port, "--watch", "0", *rates, *tables], capture_output=True, text=True, timeout=600)
+    time.sleep(0.3)
+    is_over.set()
+    peer.join()
+    bus.shutdown()
+    return it, seen
+
+
+def over_slcan():
+    """The boot at python-can's own slcan bus."""
     ours, _ours_slave, port = terminal()
     theirs, _theirs_slave, channel = terminal()
     for source, target in ((ours, theirs), (theirs, ours)):
         threading.Thread(target=pass_on, args=(source, target), daemon=True).start()
     bus = can.Bus(interface="slcan", channel=channel, bitrate=500000, sleep_after_open=0)
     time.sleep(0.2)
-    seen, is_over = [], threading.Event()
-    peer = threading.Thread(target=serve, args=(bus, seen, is_over))
-    peer.start()
-    program = os.environ.get("CANPLAN", f"{HERE}/bin/canplan")
-    tables = [f"{HERE}/examples/valve/{file}" for file in ("nodes.csv", "pdos.csv")]
-    it = subprocess.run([*program.split(), "boot", "--port", port, "--watch", "0", *tables], capture_output=True, text=True, timeout=600)
-    time.sleep(0.3)
-    is_over.set()
-    peer.join()
-    bus.shutdown()
-    right = it.returncode == 0 and it.stdout == "node 5 ready\nstarted\n" and seen == WANTED
-    print("ok" if right else f"FAILED: status {it.returncode}, says {it.stdout!r}, {it.stderr!r}, frames {seen}")
-    return 0 if right else 1
+    return boot_over(port, bus)
+
+
+def over_bridge(rates=()):
+    """The boot over tools/slcan_bridge.py, at python-can's virtual bus."""
+    channel = f"bus{len(rates)}"
+    with tempfile.TemporaryDirectory() as folder:
+        port = f"{folder}/port"
+        near = can.Bus(interface="virtual", channel=channel)
+        threading.Thread(target=slcan_bridge.run, args=(port, near, 500000), daemon=True).start()
+        time.sleep(0.2)
+        return boot_over(port, can.Bus(interface="virtual", channel=channel), rates)
+
+
+def main():
+    faults = []
+    for name, (it, seen) in (("slcan", over_slcan()), ("bridge", over_bridge())):
+        if it.returncode != 0 or it.stdout != "node 5 ready\nstarted\n" or seen != WANTED:
+            faults.append(f"{name}: status {it.returncode}, says {it.stdout!r}, {it.stderr!r}, frames {seen}")
+    it, seen = over_bridge(("--rates", "1000"))
+    if it.returncode != 3 or "canplan: refused 104 0" not in it.stderr or seen:
+        faults.append(f"another rate than the bridge's: status {it.returncode}, says {it.stdout!r}, {it.stderr!r}, frames {seen}")
+    return status_of(faults)
 
 
 if __name__ == "__main__":

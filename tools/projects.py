@@ -27,6 +27,8 @@ SAID = (
     ('choice = "margin"\n', ["--margin"]),
     ("rates = [1000, 500]\n", ["--rates", "1000,500"]),
     ('choice = "margin"\nrates = [500]\n', ["--rates", "500", "--margin"]),
+    ('setup = "settings.csv"\n', ["--setup", "net/settings.csv"]),
+    ('rates = [500]\nsetup = "wrong.csv"\n', ["--setup", "net/wrong.csv", "--rates", "500"]),
 )
 # The words before a network, and those behind it.
 CALLS = (
@@ -58,6 +60,8 @@ REFUSED = (
     (TABLES + 'rates = ["500"]\n', "151 3"),
     (TABLES + "\n[frames]\n", "151 4"),
     ('nodes = 1\npdos = "pdos.csv"\n', "151 1"),
+    (TABLES + "setup = true\n", "151 3"),
+    (TABLES + 'setup = ""\n', "152 3"),
     (TABLES + "rates = []\n", "152 3"),
     (TABLES + "rates = [500, 501]\n", "152 3"),
     (TABLES + 'choice = "row"\n', "152 3"),
@@ -66,7 +70,7 @@ REFUSED = (
     ('nodes = "nodes.csv"\npdos = "a\\nb"\n', "152 2"),
 )
 # Words that say what a project file says, too.
-TWICE = (["--margin"], ["--rates", "500"], ["--rates=500"])
+TWICE = (["--margin"], ["--rates", "500"], ["--rates=500"], ["--setup", "net/settings.csv"], ["--setup=net/settings.csv"])
 
 
 def run(folder, *words):
@@ -85,6 +89,9 @@ def fresh(folder, example):
     shutil.rmtree(folder, ignore_errors=True)
     os.makedirs(f"{folder}/out")
     shutil.copytree(f"{HERE}/examples/{example}", f"{folder}/net")
+    for name, row in ("settings", "2000,1" if example == "drives" else ""), ("wrong", "1017,5"):
+        node = 11 if example == "drives" else 5
+        write(f"{folder}/net/{name}.csv", f"row,node,object,value\n{f'set,{node},{row}' if row else ''}\n".encode())
     return folder
 
 

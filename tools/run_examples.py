@@ -15,6 +15,8 @@ import subprocess
 import sys
 import tempfile
 
+from files import network_in
+
 HERE = os.path.dirname(os.path.dirname(os.path.realpath(__file__)))
 EXAMPLES = f"{HERE}/examples"
 PROGRAM = os.environ.get("CANPLAN", f"{HERE}/bin/canplan")
@@ -130,7 +132,7 @@ def faults_of_long_run():
 def faults_of(name):
     """What differs in an example network."""
     folder, page = f"{EXAMPLES}/{name}", bytes_of(f"{EXAMPLES}/README.md")
-    tables = [f"{folder}/nodes.csv", f"{folder}/pdos.csv"]
+    tables = network_in(folder)
     plan, refusals = bytes_of(f"{folder}/plan.txt"), bytes_of(f"{folder}/refusals.csv")
     with tempfile.TemporaryDirectory() as out:
         if run("plan", *tables, out) != (0, plan):

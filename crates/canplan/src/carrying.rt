@@ -9,7 +9,7 @@ use cop_engine::{Fault, status, test_status};
 use cop_files::{Failure, Form, print};
 use cop_makers::carry_tidy;
 use cop_orders::{Order, Request};
-use cop_serial::{boot_machine, verify_machine};
+use cop_serial::{boot_machine, command_nodes, scan_bus, verify_machine};
 use std::io::Write;
 
 /// Says that a number has no rule, which is a usage fault, and which have one.
@@ -36,6 +36,15 @@ fn explain(rt: &HostRuntime, number: Option<u8>) -> Result<u8, Failure> {
     Ok(0)
 }
 
+/// The form of a test. A line for each stream is much, so at a terminal too it is said only if it is asked for.
+fn test_form(request: Request<'_>, form: Form) -> Form {
+    if request.explain || form == Form::Document {
+        form
+    } else {
+        Form::Lines
+    }
+}
+
 /// Carries a request out in a form, and gives its status. What it reads is kept.
 pub fn carry_out(
     rt: &HostRuntime,
@@ -45,10 +54,7 @@ pub fn carry_out(
 ) -> Result<u8, Failure> {
     match request.order {
         Order::Test { rate, file, strict } => {
-            // A line for each stream is much, so at a terminal too it is said only where it is asked for.
-            let is_asked = request.explain || form == Form::Document;
-            let form = if is_asked { form } else { Form::Lines };
-            let all_pass = test(rt, rate, file, form, inputs)?;
+            let all_pass = test(rt, rate, file, test_form(request, form), inputs)?;
             Ok(test_status(all_pass || !strict))
         }
         Order::Plan(order) => plan(rt, order, form, inputs),
@@ -61,6 +67,8 @@ pub fn carry_out(
         Order::Boot { seed, network } => boot(rt, seed, network, form, inputs),
         Order::Machine(order) => boot_machine(rt, order, form, inputs),
         Order::Verify(order) => verify_machine(rt, order, form, inputs),
+        Order::Nmt(order) => command_nodes(rt, order, form),
+        Order::Scan(order) => scan_bus(rt, order, form),
         Order::Judge { network, trace } => judge(rt, network, trace, form, inputs),
         Order::Run {
             seed,

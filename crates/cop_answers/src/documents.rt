@@ -29,6 +29,7 @@ fn name_of_table(table: Table) -> &'static str {
     match table {
         Table::Nodes => "nodes",
         Table::Pdos => "pdos",
+        Table::Settings => "setup",
     }
 }
 

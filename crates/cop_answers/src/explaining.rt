@@ -29,7 +29,11 @@ pub(crate) fn network_of<'a>(order: Order<'a>) -> Option<NetworkFiles<'a>> {
         Order::Watch(order) => Some(order.network),
         Order::Machine(order) => Some(order.network),
         Order::Verify(order) => Some(order.network),
-        Order::Test { .. } | Order::Tidy(_) | Order::Explain { .. } => None,
+        Order::Test { .. }
+        | Order::Nmt(_)
+        | Order::Scan(_)
+        | Order::Tidy(_)
+        | Order::Explain { .. } => None,
     }
 }
 
@@ -81,6 +85,10 @@ fn refused_network(
         pdos: Source {
             name: files.pdos,
             text: &texts.pdos,
+        },
+        settings: Source {
+            name: files.setup.unwrap_or(""),
+            text: &texts.settings,
         },
         eds_files: &texts.eds_files,
         wanted: &texts.asked.rates,

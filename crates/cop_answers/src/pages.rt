@@ -48,6 +48,12 @@ fn inputs<'a>(
         name: sources.network.pdos,
         size: sources.inputs.network.pdos.len(),
     })?;
+    if let Some(name) = sources.network.setup {
+        inputs.push(Input {
+            name,
+            size: sources.inputs.network.settings.len(),
+        })?;
+    }
     if let Some(name) = sources.shown.trace {
         inputs.push(Input {
             name,

@@ -61,6 +61,10 @@ pub fn spot_in_network(
     match refusal.table {
         Table::Nodes => record_spot(alloc, files.nodes, &inputs.network.nodes, refusal.place),
         Table::Pdos => record_spot(alloc, files.pdos, &inputs.network.pdos, refusal.place),
+        Table::Settings => match files.setup {
+            Some(name) => record_spot(alloc, name, &inputs.network.settings, refusal.place),
+            None => Ok(Spot::nowhere()),
+        },
     }
 }
 

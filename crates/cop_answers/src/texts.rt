@@ -17,6 +17,8 @@ pub struct Tables {
 pub struct Texts {
     pub nodes: Vec<u8>,
     pub pdos: Vec<u8>,
+    /// The table of settings; no bytes, if none is named.
+    pub settings: Vec<u8>,
     /// The EDS files by their names, each once.
     pub eds_files: Vec<(String, Vec<u8>)>,
     /// What is asked of the plan.
@@ -38,6 +40,7 @@ impl Inputs {
             network: Texts {
                 nodes: Vec::new(alloc),
                 pdos: Vec::new(alloc),
+                settings: Vec::new(alloc),
                 eds_files: Vec::new(alloc),
                 asked: Asked {
                     rates: all_rates(),

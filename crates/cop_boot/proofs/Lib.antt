@@ -21,5 +21,6 @@ pub mod SetupLemmas
 pub mod NetworkAdmits
 pub mod PlannedLemmas
 pub mod PayloadLemmas
+pub mod AskedValueLemmas
 pub mod PdoLemmas
 pub mod UnderWayLemmas

@@ -18,7 +18,8 @@ use Rattle.cop_setup.specs.declared.setting.Setting.{Setting}
 use Rattle.cop_setup.specs.Settings.{bytes_of, with_setting, planned}
 use Rattle.cop_dcf.specs.Identifiers.{id_at}
 use Rattle.cop_dcf.specs.Planned.{settled, IsNodeReadAgain}
-use Rattle.cop_dcf.specs.Settings.{dictionary_of, node_settings, settings_by}
+use Rattle.cop_dcf.specs.Settings.{dictionary_of, asked_of, node_settings, settings_by}
+use Rattle.cop_dcf.proofs.AskedLemmas.{node_taken}
 use Rattle.cop_boot.specs.declared.«end».End.TheVariants.{Ready}
 use Rattle.cop_boot.specs.Manager.{Managing, end_at}
 use Rattle.cop_boot.specs.Device.{Attached}
@@ -54,8 +55,8 @@ pub network_as_planned : (net : Net) (ids : List ℕ) (node : ℕ) (dict : List 
 network_as_planned net ids node dict e is range its inside cob =
     let time = heartbeat_of net.nodes.frames node in
     let plain = network_plain net is ids range node dict its e inside cob in
-    subst (λ (o : Option (List Entry)). IsAsPlanned (id_at net.rows ids node e.index) (option_and_then unsigned32_of (entry_at (planned dict (settings_by (id_at net.rows ids node) time o)) e.index 1))) (sym its)
-    (as_planned dict (id_at net.rows ids node) time (network_admits net is ids range node dict its) (ids_low net is ids range node dict its) e plain.0 inside cob plain.1)
+    subst (λ (o : Option (List Entry)). IsAsPlanned (id_at net.rows ids node e.index) (option_and_then unsigned32_of (entry_at (planned dict (settings_by (asked_of net node) (id_at net.rows ids node) time o)) e.index 1))) (sym its)
+    (as_planned dict (asked_of net node) (id_at net.rows ids node) time (network_admits net is ids range node dict its) (node_taken net node dict is its) (ids_low net is ids range node dict its) e plain.0 inside cob plain.1)
 
 -- and so is each communication record
 pub records_as_planned : (net : Net) (ids : List ℕ) (node : ℕ) (dict : List Entry) → IsNetwork net → All IsPdoId ids → dictionary_of net node ≡ Some dict

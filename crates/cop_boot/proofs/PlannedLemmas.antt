@@ -6,12 +6,13 @@ use Rattle.std.specs.List.{filter_map, cons_option}
 use Rattle.std.specs.Option.{option_and_then}
 use Rattle.std.specs.Ordering.{int_eq}
 use Rattle.std.proofs.Math.Bool.{and-false}
-use Rattle.std.proofs.lemmas.Bool.{eqb-true}
+use Rattle.std.proofs.lemmas.Bool.{eqb-true, and_parts}
 use Rattle.std.proofs.lemmas.Bool.Decides.{nat_tests}
 use Rattle.cop_dict.specs.Types.{is_unsigned32}
 use Rattle.cop_dict.specs.Number.{number}
 use Rattle.cop_dict.specs.Find.{Entry, entry_at, unsigned32_of}
-use Rattle.cop_dict.specs.Pdo.{is_cob_id, exists_by}
+use Rattle.cop_dict.specs.Pdo.{is_cob_id, is_communication, exists_by}
+use Rattle.cop_net.specs.Asking.{AreTaken}
 use Rattle.cop_dict.specs.Dict.{valued}
 use Rattle.cop_dict.proofs.DictLemmas.{own_place}
 use Rattle.cop_dict.proofs.PatternLemmas.{own_number}
@@ -24,7 +25,7 @@ use Rattle.cop_setup.specs.InTurn.{IsElsewhere}
 use Rattle.cop_boot.specs.PlanSettings.{Admits}
 use Rattle.cop_boot.specs.PlannedPdos.{IsAsPlanned}
 use Rattle.cop_setup.proofs.InTurn.{kept_by_all, planned_append, have_values}
-use Rattle.cop_boot.proofs.PlanInTurn.{off_own, on_own}
+use Rattle.cop_boot.proofs.PlanInTurn.{off_own, on_own, asked_beside}
 use Rattle.cop_setup.proofs.CobIdLemmas.{Own, AtCobId, apart_of, values_of, sub_of}
 
 -- ---- numbers
@@ -75,7 +76,7 @@ abbrev switched : Option ℕ → ℕ → Option Entry → Option Entry
 switched None v o = o
 switched (Some id) v o = option_map (valued (word (pdo.on v id))) o
 
-module _ (dict : List Entry) (ids : ℕ → Option ℕ) (time : ℕ) (can : Admits dict ids time) (low : (index id : ℕ) → ids index ≡ Some id → id < 2 ^ 11) where
+module _ (dict : List Entry) (asked : List Setting) (ids : ℕ → Option ℕ) (time : ℕ) (can : Admits dict ids time) (are : AreTaken dict asked) (low : (index id : ℕ) → ids index ≡ Some id → id < 2 ^ 11) where
   here_at : (e : Entry) → Contains dict e → is_cob_id e ≡ true → entry_at dict e.index 1 ≡ Some e
   here_at e inside cob = ap (entry_at dict e.index) (sym (sub_of e cob)) ∙ own_place dict e can.sorted inside
 
@@ -111,6 +112,10 @@ module _ (dict : List Entry) (ids : ℕ → Option ℕ) (time : ℕ) (can : Admi
   abbrev beat : List Setting
   beat = time_set time (option_and_then whole_of (entry_at dict 0x1017 0))
 
+  -- with what is asked, after the PDOs are switched off
+  abbrev equipped : List Entry
+  equipped = planned (planned dict offs) asked
+
   all_inside : All (Contains dict) dict
   all_inside = λ k d lt. (k, lt, get_or_default dict k (get_or dict k d) d lt)
 
@@ -128,42 +133,46 @@ module _ (dict : List Entry) (ids : ℕ → Option ℕ) (time : ℕ) (can : Admi
 
   -- and after those of the plan are switched on
   on_value : (e : Entry) (v : ℕ) → Contains dict e → is_cob_id e ≡ true → unsigned32_of e ≡ Some v → (o : Option ℕ) → ids e.index ≡ o
-      → entry_at (planned (planned dict offs) ons) e.index 1 ≡ switched o v (entry_at (planned dict offs) e.index 1)
+      → entry_at (planned equipped ons) e.index 1 ≡ switched o v (entry_at equipped e.index 1)
   on_value e v inside cob is (Some id) t =
       let set : set_of on_set ids e ≡ Some (cob_id_set e.index (pdo.on v id)) = rw (cob, is, t) refl in
-      let have = values_of (set_of on_set ids) (on_own ids) (planned dict offs) (planned (planned dict offs) ons) dict (have_values ons (planned dict offs) (apart_of (set_of on_set ids) (on_own ids) dict can.sorted)) inside.0 e inside.1 in
-      let own = subst (λ (x : Entry). IfSome (set_of on_set ids x) (λ s. entry_at (planned (planned dict offs) ons) s.index s.sub ≡ option_map (valued (bytes_of s)) (entry_at (planned dict offs) s.index s.sub))) inside.2 have in
+      let have = values_of (set_of on_set ids) (on_own ids) equipped (planned equipped ons) dict (have_values ons equipped (apart_of (set_of on_set ids) (on_own ids) dict can.sorted)) inside.0 e inside.1 in
+      let own = subst (λ (x : Entry). IfSome (set_of on_set ids x) (λ s. entry_at (planned equipped ons) s.index s.sub ≡ option_map (valued (bytes_of s)) (entry_at equipped s.index s.sub))) inside.2 have in
       rw set at own
   on_value e v inside cob is None t =
       let set : set_of on_set ids e ≡ None = rw (cob, is, t) refl in
-      kept_by_all ons (planned dict offs) e.index 1 (elsewhere_of (set_of on_set ids) (on_own ids) e inside cob set dict all_inside)
+      kept_by_all ons equipped e.index 1 (elsewhere_of (set_of on_set ids) (on_own ids) e inside cob set dict all_inside)
 
-  at_end : (e : Entry) → entry_at (planned dict (settings_of dict ids time)) e.index 1 ≡ entry_at (planned (planned dict offs) ons) e.index 1
+  equipped_value : (e : Entry) → is_cob_id e ≡ true → entry_at equipped e.index 1 ≡ entry_at (planned dict offs) e.index 1
+  equipped_value e cob = kept_by_all asked (planned dict offs) e.index 1 (asked_beside asked e.index 1 are.settable (and_parts (is_communication e.index) (e.sub == 1) cob).0)
+
+  at_end : (e : Entry) → entry_at (planned dict (settings_of dict asked ids time)) e.index 1 ≡ entry_at (planned equipped ons) e.index 1
   at_end e =
-      ap (λ (d : List Entry). entry_at d e.index 1) (planned_append (offs ++ ons) beat dict ∙ ap (λ (d : List Entry). planned d beat) (planned_append offs ons dict))
-      ∙ kept_by_all beat (planned (planned dict offs) ons) e.index 1 (beat_elsewhere time e.index (option_and_then whole_of (entry_at dict 0x1017 0)))
+      ap (λ (d : List Entry). entry_at d e.index 1)
+      (planned_append ((offs ++ asked) ++ ons) beat dict ∙ ap (λ (d : List Entry). planned d beat) (planned_append (offs ++ asked) ons dict ∙ ap (λ (d : List Entry). planned d ons) (planned_append offs asked dict)))
+      ∙ kept_by_all beat (planned equipped ons) e.index 1 (beat_elsewhere time e.index (option_and_then whole_of (entry_at dict 0x1017 0)))
 
   pub as_planned : (e : Entry) (v : ℕ) → Contains dict e → is_cob_id e ≡ true → unsigned32_of e ≡ Some v
-      → IsAsPlanned (ids e.index) (option_and_then unsigned32_of (entry_at (planned dict (settings_of dict ids time)) e.index 1))
+      → IsAsPlanned (ids e.index) (option_and_then unsigned32_of (entry_at (planned dict (settings_of dict asked ids time)) e.index 1))
   as_planned e v inside cob is = rw (at_end e) (by_id (ids e.index) refl (exists_by v) refl)
     where
-      by_id : (o : Option ℕ) → ids e.index ≡ o → (b : Bool) → exists_by v ≡ b → IsAsPlanned o (option_and_then unsigned32_of (entry_at (planned (planned dict offs) ons) e.index 1))
+      by_id : (o : Option ℕ) → ids e.index ≡ o → (b : Bool) → exists_by v ≡ b → IsAsPlanned o (option_and_then unsigned32_of (entry_at (planned equipped ons) e.index 1))
       by_id (Some id) own b ex =
           let t : (is_some (ids e.index) || exists_by v) ≡ true = rw own refl in
           let small : id < 2 ^ 11 = low e.index id own in
           let fits : pdo.on v id < 2 ^ 32 = let s = on_small v id small in omega (arith, s) in
-          let off = off_value e v inside cob is true t in
-          let on : entry_at (planned (planned dict offs) ons) e.index 1 ≡ Some (valued (word (pdo.on v id)) (valued (word (pdo.off v)) e)) =
+          let off = equipped_value e cob ∙ off_value e v inside cob is true t in
+          let on : entry_at (planned equipped ons) e.index 1 ≡ Some (valued (word (pdo.on v id)) (valued (word (pdo.off v)) e)) =
           on_value e v inside cob is (Some id) own ∙ ap (option_map (valued (word (pdo.on v id)))) off in
           let now : unsigned32_of (valued (word (pdo.on v id)) (valued (word (pdo.off v)) e)) ≡ Some (pdo.on v id) =
           has_word (valued (word (pdo.off v)) e) (number (word (pdo.off v))) (pdo.on v id) (keeps_type e v (pdo.off v) is) fits in
           rw (on, now) (on_exists v id small, on_identifier v id small)
       by_id None own true ex =
           let t : (is_some (ids e.index) || exists_by v) ≡ true = rw (own, ex) refl in
-          let on : entry_at (planned (planned dict offs) ons) e.index 1 ≡ Some (valued (word (pdo.off v)) e) = on_value e v inside cob is None own ∙ off_value e v inside cob is true t in
+          let on : entry_at (planned equipped ons) e.index 1 ≡ Some (valued (word (pdo.off v)) e) = on_value e v inside cob is None own ∙ equipped_value e cob ∙ off_value e v inside cob is true t in
           let now : unsigned32_of (valued (word (pdo.off v)) e) ≡ Some (pdo.off v) = has_word e v (pdo.off v) is (off_small v) in
           rw (on, now) (off_exists v)
       by_id None own false ex =
           let t : (is_some (ids e.index) || exists_by v) ≡ false = rw (own, ex) refl in
-          let on : entry_at (planned (planned dict offs) ons) e.index 1 ≡ Some e = on_value e v inside cob is None own ∙ off_value e v inside cob is false t in
+          let on : entry_at (planned equipped ons) e.index 1 ≡ Some e = on_value e v inside cob is None own ∙ equipped_value e cob ∙ off_value e v inside cob is false t in
           rw (on, is) ex

@@ -1,6 +1,6 @@
 //! Laws of the definitions that contracts cite: when settings are accepted in turn, and what they give.
 
-ghost use Rattle.std.specs.Prelude.{◌≡◌, ◌≤◌, ◌++◌, ℕ, List, [], filter, All, Contains, true, Option, Some, None};
+ghost use Rattle.std.specs.Prelude.{◌≡◌, ◌≤◌, ◌++◌, ◌&&◌, ◌==◌, ℕ, List, [], filter, All, Contains, true, false, Option, Some, None, option_map};
 ghost use Rattle.std.specs.Option.{option_and_then};
 ghost use Rattle.std.specs.List.{AllByRecursion, filter_map};
 ghost use Rattle.cop_dict.specs.declared.mapping.Direction.{Direction};
@@ -9,6 +9,7 @@ ghost use Rattle.cop_dict.specs.Pdo.{is_cob_id, is_communication};
 ghost use Rattle.cop_dict.specs.Dict.{valued, refused_alone};
 ghost use Rattle.cop_pdo.specs.CobIds.{off, on};
 ghost use Rattle.cop_pdo.specs.Payload.{payload_of};
+ghost use Rattle.cop_net.specs.Asking.{AreTaken};
 ghost use Rattle.cop_net.specs.Heartbeats.{heartbeat_of};
 ghost use Rattle.cop_net.specs.Network.{Net, IsNetwork};
 ghost use Rattle.cop_net.specs.Settings.{word, takes};
@@ -17,7 +18,7 @@ ghost use Rattle.cop_frame.specs.declared.rates.Rate.{Rate};
 ghost use Rattle.cop_rows.specs.declared.node_table.DeviceRow.{DeviceRow};
 ghost use Rattle.cop_net.specs.Devices.{File};
 ghost use Rattle.cop_dcf.specs.Planned.{IsNodeReadAgain};
-ghost use Rattle.cop_setup.specs.Settings.{planned};
+ghost use Rattle.cop_setup.specs.Settings.{bytes_of, planned};
 ghost use Rattle.cop_boot.specs.declared.«end».End.TheVariants.{Ready};
 ghost use Rattle.cop_boot.specs.Manager.{Managing, Meeting, driven, node_of, end_at, start_all, all_ready, is_command, commands_of};
 ghost use Rattle.cop_boot.specs.Ends.{IsConfigured, events, first_end};
@@ -29,7 +30,7 @@ ghost use Rattle.cop_boot.specs.NetworkBoot.{IsPlanOf, HasWhatItsDcfSays};
 ghost use Rattle.cop_setup.specs.InTurn.{AcceptsInTurn, IsElsewhere};
 ghost use Rattle.cop_setup.specs.Offs.{every_off};
 ghost use Rattle.cop_dcf.specs.Identifiers.{id_at};
-ghost use Rattle.cop_dcf.specs.Settings.{on_set, set_of, settings_of, node_settings, dictionary_of};
+ghost use Rattle.cop_dcf.specs.Settings.{on_set, set_of, settings_of, asked_of, node_settings, dictionary_of};
 ghost use Rattle.cop_net.specs.Signals.{IsPdoId};
 ghost use Rattle.cop_boot.specs.PlanSettings.{Admits};
 ghost use Rattle.cop_boot.specs.PlannedPdos.{IsAsPlanned, HasPlannedPdos};
@@ -40,10 +41,10 @@ pub fn switched_off_then_on()
         → (refused_alone e (word (off cob_id)) ≡ None) × (refused_alone (valued (word (off cob_id)) e) (word (on cob_id id)) ≡ None) }
 {}
 
-/// What a plan sets in a dictionary that admits it is accepted in turn: all PDOs that it switches off, then those that it
-/// switches on with their identifiers, at last the heartbeat's time.
+/// What a plan sets in a dictionary that admits it is accepted in turn: all PDOs that it switches off, then what is asked of the
+/// device, if the device takes it, then the PDOs that are switched on with their identifiers, at last the heartbeat's time.
 pub fn plan_is_accepted()
-    ensures { (dict : List Entry) (ids : ℕ → Option ℕ) (time : ℕ) → Admits dict ids time → AcceptsInTurn dict (settings_of dict ids time) }
+    ensures { (dict : List Entry) (asked : List Setting) (ids : ℕ → Option ℕ) (time : ℕ) → Admits dict ids time → AreTaken dict asked → AcceptsInTurn dict (settings_of dict asked ids time) }
 {}
 
 /// The same around a setup of a device that is configured whole: each PDO that can be is switched off, then comes the setup, which the
@@ -74,8 +75,22 @@ pub fn planned_pdos_exist()
 /// A device that has the settings of a plan of its network moves by each of its 512 RPDOs and 512 TPDOs exactly what its EDS file says: the
 /// same objects, in the same order, with the same bits. So the frames of a booted machine are those that the plan counted.
 pub fn planned_payloads()
-    ensures { (net : Net) (ids : List ℕ) (node : ℕ) (dict : List Entry) (direction : Direction) (number : ℕ) → dictionary_of net node ≡ Some dict → 1 ≤ number → number ≤ 512
+    ensures { (net : Net) (ids : List ℕ) (node : ℕ) (dict : List Entry) (direction : Direction) (number : ℕ) → IsNetwork net → dictionary_of net node ≡ Some dict → 1 ≤ number → number ≤ 512
         → payload_of (planned dict (node_settings net ids node)) direction number ≡ payload_of dict direction number }
+{}
+
+/// A device that has the settings of a plan of its network has the value of each setting that the table of settings asks of it.
+pub fn asked_values_are_there()
+    ensures { (net : Net) (ids : List ℕ) (node : ℕ) (dict : List Entry) → IsNetwork net → dictionary_of net node ≡ Some dict
+        → AllByRecursion (λ s. option_map (λ e. e.value) (entry_at (planned dict (node_settings net ids node)) s.index s.sub) ≡ Some (bytes_of s)) (asked_of net node) }
+{}
+
+/// And it is as its EDS file says at each other object, but for the COB-IDs of PDOs (sub 1 of 1400h to 15FFh and of 1800h to 19FFh) and the
+/// heartbeat's time (1017h).
+pub fn nothing_else_is_set()
+    ensures { (net : Net) (ids : List ℕ) (node : ℕ) (dict : List Entry) (index sub : ℕ) → dictionary_of net node ≡ Some dict
+        → is_communication index && (sub == 1) ≡ false → (0x1017 == index) && (0 == sub) ≡ false → IsElsewhere index sub (asked_of net node)
+        → entry_at (planned dict (node_settings net ids node)) index sub ≡ entry_at dict index sub }
 {}
 
 /// What a boot makes of the devices of a network is what the network's DCF files say: where a node is ready, the dictionary that

@@ -18,9 +18,10 @@ pub use driving::drive;
 pub use end::End;
 pub use input::Input;
 pub use laws::{
-    networks_take_their_settings, nothing_else_is_sent, plan_is_accepted, planned_payloads,
-    planned_pdos_exist, ready_devices_have_what_their_dcf_says, ready_nodes_are_configured,
-    setups_are_taken, switched_off_then_on,
+    asked_values_are_there, networks_take_their_settings, nothing_else_is_sent,
+    nothing_else_is_set, plan_is_accepted, planned_payloads, planned_pdos_exist,
+    ready_devices_have_what_their_dcf_says, ready_nodes_are_configured, setups_are_taken,
+    switched_off_then_on,
 };
 pub use manager::{Manager, can_manage};
 pub use schedule::{Boot, run_schedule};

@@ -2,12 +2,13 @@
 
 use crate::commands::command;
 use clap::{ArgMatches, Error};
+use cop_command::Command;
 use cop_eds::Access;
 use cop_engine::rate_of;
 use cop_frame::Rate;
 use cop_orders::{
-    Format, MachineOrder, NetworkFiles, Order, PlanOrder, Rates, Request, Shown, TidyChoices,
-    TidyOrder, VerifyOrder, WatchOrder,
+    Format, MachineOrder, NetworkFiles, NmtOrder, Order, PlanOrder, Rates, Request, ScanOrder,
+    Shown, TidyChoices, TidyOrder, VerifyOrder, WatchOrder,
 };
 use cop_plan::Choice;
 use cop_tidy_lines::{Digits, Unlisted};
@@ -20,6 +21,7 @@ fn network_of<'a>(matches: &ArgMatches<'a>) -> NetworkFiles<'a> {
     NetworkFiles {
         nodes: matches.get_str("NODES").unwrap_or("-"),
         pdos: matches.get_str("PDOS").unwrap_or("-"),
+        setup: matches.get_str("setup"),
         rates: Rates::listed(matches.get_strs("rates")),
         choice: if matches.get_flag("margin") {
             Choice::Margin
@@ -29,13 +31,17 @@ fn network_of<'a>(matches: &ArgMatches<'a>) -> NetworkFiles<'a> {
     }
 }
 
-fn test_order<'a>(matches: &ArgMatches<'a>) -> Order<'a> {
-    let rate = match matches.get_str("rate") {
+/// The rate that is named, and 125 kbit/s if none is.
+fn rate_in(matches: &ArgMatches<'_>) -> Rate {
+    match matches.get_str("rate") {
         Some(word) => rate_of(word.as_bytes()).unwrap_or(Rate::Kbit125),
         None => Rate::Kbit125,
-    };
+    }
+}
+
+fn test_order<'a>(matches: &ArgMatches<'a>) -> Order<'a> {
     Order::Test {
-        rate,
+        rate: rate_in(matches),
         strict: matches.get_flag("strict"),
         file: matches.get_str("FILE").unwrap_or("-"),
     }
@@ -82,6 +88,7 @@ fn boot_order<'a>(matches: &ArgMatches<'a>) -> Order<'a> {
             store: matches.get_flag("store"),
             watch: matches.get_one("watch"),
             limit: matches.get_one("limit"),
+            report: matches.get_str("report"),
         }),
         None => Order::Boot {
             seed: matches.get_one("seed").unwrap_or(0),
@@ -95,6 +102,36 @@ fn verify_order<'a>(matches: &ArgMatches<'a>) -> Order<'a> {
         network: network_of(matches),
         port: matches.get_str("port").unwrap_or("-"),
         only: node_of(matches, "only"),
+        gently: matches.get_one("gently").unwrap_or(0),
+        limit: matches.get_one("limit"),
+    })
+}
+
+fn command_of(word: Option<&str>) -> Command {
+    match word {
+        Some("start") => Command::Start,
+        Some("preop") => Command::EnterPreOperational,
+        Some("reset") => Command::ResetNode,
+        Some("reset-communication") => Command::ResetCommunication,
+        _ => Command::Stop,
+    }
+}
+
+fn nmt_order<'a>(matches: &ArgMatches<'a>) -> Order<'a> {
+    Order::Nmt(NmtOrder {
+        port: matches.get_str("port").unwrap_or("-"),
+        rate: rate_in(matches),
+        command: command_of(matches.get_str("COMMAND")),
+        only: node_of(matches, "NODE"),
+        limit: matches.get_one("limit"),
+    })
+}
+
+fn scan_order<'a>(matches: &ArgMatches<'a>) -> Order<'a> {
+    Order::Scan(ScanOrder {
+        port: matches.get_str("port").unwrap_or("-"),
+        rate: rate_in(matches),
+        up_to: node_of(matches, "up-to").unwrap_or(127),
         gently: matches.get_one("gently").unwrap_or(0),
         limit: matches.get_one("limit"),
     })
@@ -230,6 +267,8 @@ fn order_of<'a>(name: &str, matches: &ArgMatches<'a>) -> Order<'a> {
         "check" => check_order(matches),
         "boot" => boot_order(matches),
         "verify" => verify_order(matches),
+        "nmt" => nmt_order(matches),
+        "scan" => scan_order(matches),
         "judge" => judge_order(matches),
         "run" => run_order(matches),
         "report" => report_order(matches),
@@ -245,7 +284,7 @@ fn order_of<'a>(name: &str, matches: &ArgMatches<'a>) -> Order<'a> {
 fn has_document(name: &str) -> bool {
     matches!(
         name,
-        "plan" | "room" | "check" | "test" | "judge" | "boot" | "verify" | "watch"
+        "plan" | "room" | "check" | "test" | "judge" | "boot" | "verify" | "scan" | "watch"
     )
 }
 

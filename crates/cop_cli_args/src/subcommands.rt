@@ -1,8 +1,8 @@
 //! The subcommands, and their words.
 
 use crate::words::{
-    CHANNEL, Choices, DELTA, DRIFT, ERROR, EXPLAIN, JSON, Kind, LISTED_RATES, MARGIN, NODES, Need,
-    PDOS, PORT, Word,
+    BUS_RATE, CHANNEL, Choices, DELTA, DRIFT, ERROR, EXPLAIN, JSON, Kind, LISTED_RATES, MARGIN,
+    NODES, Need, PDOS, PORT, SETUP, Word,
 };
 use cop_orders::MOST_UNTIL;
 
@@ -44,9 +44,10 @@ static TEST: [Word; 5] = [
     EXPLAIN,
 ];
 
-static PLAN: [Word; 8] = [
+static PLAN: [Word; 9] = [
     NODES,
     PDOS,
+    SETUP,
     LISTED_RATES,
     MARGIN,
     EXPLAIN,
@@ -65,11 +66,12 @@ static PLAN: [Word; 8] = [
     },
 ];
 
-static ROOM: [Word; 6] = [NODES, PDOS, LISTED_RATES, MARGIN, EXPLAIN, JSON];
+static ROOM: [Word; 7] = [NODES, PDOS, SETUP, LISTED_RATES, MARGIN, EXPLAIN, JSON];
 
-static CHECK: [Word; 8] = [
+static CHECK: [Word; 9] = [
     NODES,
     PDOS,
+    SETUP,
     LISTED_RATES,
     MARGIN,
     EXPLAIN,
@@ -88,9 +90,10 @@ static CHECK: [Word; 8] = [
     },
 ];
 
-static BOOT: [Word; 17] = [
+static BOOT: [Word; 19] = [
     NODES,
     PDOS,
+    SETUP,
     LISTED_RATES,
     MARGIN,
     EXPLAIN,
@@ -161,11 +164,18 @@ static BOOT: [Word; 17] = [
         need: Need::Against("seed"),
         help: "The seconds after which the port is given up",
     },
+    Word {
+        name: "report",
+        kind: Kind::Text("OUT"),
+        need: Need::Against("seed"),
+        help: "Writes a page that shows how the boot ended, and what each node was set to",
+    },
 ];
 
-static VERIFY: [Word; 10] = [
+static VERIFY: [Word; 11] = [
     NODES,
     PDOS,
+    SETUP,
     LISTED_RATES,
     MARGIN,
     EXPLAIN,
@@ -191,9 +201,65 @@ static VERIFY: [Word; 10] = [
     },
 ];
 
-static RUN: [Word; 8] = [
+static NMT: [Word; 7] = [
+    Word {
+        name: "COMMAND",
+        kind: Kind::PlaceOf(Choices::Commands),
+        need: Need::Required,
+        help: "What the nodes are to do",
+    },
+    Word {
+        name: "NODE",
+        kind: Kind::PlaceOfNumber(MOST_NODE),
+        need: Need::Unless("all"),
+        help: "The node that gets the command",
+    },
+    Word {
+        name: "all",
+        kind: Kind::Flag,
+        need: Need::Against("NODE"),
+        help: "Every node gets it",
+    },
+    PORT,
+    BUS_RATE,
+    Word {
+        name: "limit",
+        kind: Kind::Number(MOST_SECONDS),
+        need: Need::Optional,
+        help: "The seconds after which the port is given up",
+    },
+    EXPLAIN,
+];
+
+static SCAN: [Word; 7] = [
+    PORT,
+    BUS_RATE,
+    Word {
+        name: "up-to",
+        kind: Kind::Positive(MOST_NODE),
+        need: Need::Optional,
+        help: "The greatest node that is asked; 127 if it is left out",
+    },
+    Word {
+        name: "gently",
+        kind: Kind::Number(MOST_PAUSE),
+        need: Need::Optional,
+        help: "The milliseconds in which nothing is sent before each question; 0 if it is left out",
+    },
+    Word {
+        name: "limit",
+        kind: Kind::Number(MOST_SECONDS),
+        need: Need::Optional,
+        help: "The seconds after which the port is given up",
+    },
+    EXPLAIN,
+    JSON,
+];
+
+static RUN: [Word; 9] = [
     NODES,
     PDOS,
+    SETUP,
     LISTED_RATES,
     MARGIN,
     EXPLAIN,
@@ -217,9 +283,10 @@ static RUN: [Word; 8] = [
     },
 ];
 
-static JUDGE: [Word; 7] = [
+static JUDGE: [Word; 8] = [
     NODES,
     PDOS,
+    SETUP,
     LISTED_RATES,
     MARGIN,
     EXPLAIN,
@@ -232,9 +299,10 @@ static JUDGE: [Word; 7] = [
     },
 ];
 
-static REPORT: [Word; 12] = [
+static REPORT: [Word; 13] = [
     NODES,
     PDOS,
+    SETUP,
     LISTED_RATES,
     MARGIN,
     EXPLAIN,
@@ -262,7 +330,7 @@ static REPORT: [Word; 12] = [
     DELTA,
 ];
 
-static EXPORT: [Word; 8] = [
+static EXPORT: [Word; 9] = [
     Word {
         name: "FORMAT",
         kind: Kind::PlaceOf(Choices::Formats),
@@ -294,6 +362,7 @@ static EXPORT: [Word; 8] = [
         help: "The node that is the manager, which is no slave in master.csv; without it the first one that makes SYNC by its EDS file",
     },
     MARGIN,
+    SETUP,
     LISTED_RATES,
     EXPLAIN,
 ];
@@ -350,9 +419,10 @@ static TIDY: [Word; 9] = [
     },
 ];
 
-static WATCH: [Word; 11] = [
+static WATCH: [Word; 12] = [
     NODES,
     PDOS,
+    SETUP,
     LISTED_RATES,
     MARGIN,
     EXPLAIN,
@@ -393,6 +463,8 @@ pub(crate) enum Subcommand {
     Check,
     Boot,
     Verify,
+    Nmt,
+    Scan,
     Run,
     Judge,
     Report,
@@ -404,13 +476,15 @@ pub(crate) enum Subcommand {
 
 impl Subcommand {
     /// All of them, as a help lists them.
-    pub const ALL: [Subcommand; 13] = [
+    pub const ALL: [Subcommand; 15] = [
         Subcommand::Test,
         Subcommand::Plan,
         Subcommand::Room,
         Subcommand::Check,
         Subcommand::Boot,
         Subcommand::Verify,
+        Subcommand::Nmt,
+        Subcommand::Scan,
         Subcommand::Run,
         Subcommand::Judge,
         Subcommand::Report,
@@ -428,6 +502,8 @@ impl Subcommand {
             Subcommand::Check => "check",
             Subcommand::Boot => "boot",
             Subcommand::Verify => "verify",
+            Subcommand::Nmt => "nmt",
+            Subcommand::Scan => "scan",
             Subcommand::Run => "run",
             Subcommand::Judge => "judge",
             Subcommand::Report => "report",
@@ -456,6 +532,12 @@ impl Subcommand {
             }
             Subcommand::Verify => {
                 "Asks the devices at an adapter whether they are as planned, also where they run, and writes nothing to them"
+            }
+            Subcommand::Nmt => {
+                "Sends an NMT command to a node at an adapter, or to all: no node confirms one"
+            }
+            Subcommand::Scan => {
+                "Asks each node at an adapter what its device is, and writes nothing to any"
             }
             Subcommand::Run => "Runs the plan on a simulated bus, and writes the trace",
             Subcommand::Judge => "Judges a trace of the bus by the plan of a network",
@@ -489,6 +571,11 @@ impl Subcommand {
             Subcommand::Verify => {
                 "Example: canplan verify --port /dev/ttyACM0 nodes.csv pdos.csv"
             }
+            Subcommand::Nmt => {
+                "Examples: canplan nmt --port /dev/ttyACM0 --rate 500 stop 5
+          canplan nmt --port /dev/ttyACM0 --rate 500 start --all"
+            }
+            Subcommand::Scan => "Example: canplan scan --port /dev/ttyACM0 --rate 500",
             Subcommand::Run => {
                 "Example: canplan run --seed 1 --until 1000000 nodes.csv pdos.csv trace.csv"
             }
@@ -510,6 +597,8 @@ impl Subcommand {
             Subcommand::Check => CHECK.as_slice(),
             Subcommand::Boot => BOOT.as_slice(),
             Subcommand::Verify => VERIFY.as_slice(),
+            Subcommand::Nmt => NMT.as_slice(),
+            Subcommand::Scan => SCAN.as_slice(),
             Subcommand::Run => RUN.as_slice(),
             Subcommand::Judge => JUDGE.as_slice(),
             Subcommand::Report => REPORT.as_slice(),

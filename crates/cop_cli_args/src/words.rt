@@ -7,6 +7,8 @@ pub(crate) enum Choices {
     Rates,
     /// What a plan is exported as.
     Formats,
+    /// The NMT commands.
+    Commands,
     /// The accesses that objects of an EDS file may have.
     Accesses,
     /// What may become of the PDOs that no list of an EDS file names.
@@ -17,6 +19,8 @@ static RATES: [&str; 8] = ["10", "20", "50", "125", "250", "500", "800", "1000"]
 
 static FORMATS: [&str; 2] = ["dbc", "cdcf"];
 
+static COMMANDS: [&str; 5] = ["start", "stop", "preop", "reset", "reset-communication"];
+
 static ACCESSES: [&str; 6] = ["ro", "wo", "rw", "rwr", "rww", "const"];
 
 static UNLISTED: [&str; 2] = ["add", "leave"];
@@ -26,6 +30,7 @@ impl Choices {
         match self {
             Choices::Rates => RATES.as_slice(),
             Choices::Formats => FORMATS.as_slice(),
+            Choices::Commands => COMMANDS.as_slice(),
             Choices::Accesses => ACCESSES.as_slice(),
             Choices::Unlisted => UNLISTED.as_slice(),
         }
@@ -97,6 +102,22 @@ pub(crate) const PORT: Word = Word {
     kind: Kind::Text("PORT"),
     need: Need::Required,
     help: "The serial device of a CAN adapter that speaks slcan; - is standard input and output",
+};
+
+/// The rate of a bus whose network is not named.
+pub(crate) const BUS_RATE: Word = Word {
+    name: "rate",
+    kind: Kind::OneOf(Choices::Rates),
+    need: Need::Required,
+    help: "The bus's rate in kbit/s",
+};
+
+/// The table of settings.
+pub(crate) const SETUP: Word = Word {
+    name: "setup",
+    kind: Kind::Text("FILE"),
+    need: Need::Optional,
+    help: "The table of settings, which the devices get besides: row,node,object,value",
 };
 
 /// The rates that the plan may have.

@@ -33,10 +33,6 @@ pub on_err : {T E : Type 0} (result : Result T E) (claim : Type 0) → claim →
 on_err (Ok x) claim h = tt
 on_err (Err e) claim h = h
 
-pub either_so : (A B C : Type 0) → (B → C) → A ⊎ B → A ⊎ C
-either_so A B C so (inl a) = inl a
-either_so A B C so (inr b) = inr (so b)
-
 -- a boot gave out before its settings were read back
 pub unread_so : {P : Type 0} (reads writes : ByteStep P) (asks : ClockStep P) (fails : ByteStep P) (way : Way) (reach : Reach) (m later : Managing) (nodes : List ℕ) (settings : List Question) (p q : P)
     → reach ≡ way.reach → ReadBackFails reads writes asks fails reach m nodes settings p later q → ClosingFails reads writes asks fails way m nodes settings p later false q

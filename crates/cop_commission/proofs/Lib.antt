@@ -1,5 +1,4 @@
 pub mod CommissioningLemmas
-pub mod PlannedLemmas
 pub mod RefrainingLemmas
 pub mod MeantLemmas
 pub mod ToldLemmas

@@ -1,5 +1,5 @@
 -- The boot of the devices of a planned network over a port, and what is said of it.
-use Rattle.std.specs.Prelude.{◌≡◌, ◌⊎◌, ℕ, max, List, [], ◌∷◌, ◌++◌, length, Bool, true, false, ◌&&◌, nat_le, is_some, if◌then◌else◌, Option, Some, None}
+use Rattle.std.specs.Prelude.{◌≡◌, ◌⊎◌, ℕ, max, List, [], ◌∷◌, ◌++◌, Bool, true, false, ◌&&◌, nat_le, is_some, if◌then◌else◌, Option, Some, None}
 use Rattle.cop_frame.specs.declared.rates.Rate.{Rate}
 use Rattle.cop_rows.specs.declared.pdo_table.PdoRow.{PdoRow}
 use Rattle.cop_net.specs.Devices.{File}
@@ -7,8 +7,6 @@ use Rattle.cop_net.specs.Network.{Net}
 use Rattle.cop_plan.specs.declared.assigning.Outcome.{Outcome}
 use Rattle.cop_plan.specs.declared.assigning.Outcome.TheVariants.{Planned, Refused}
 use Rattle.cop_plan.specs.declared.choices.Asked.{Asked}
-use Rattle.cop_plan.specs.declared.choices.Choice.{Choice}
-use Rattle.cop_plan.specs.Plans.{IsOutcome, IsChosenBy}
 use Rattle.cop_dcf.specs.Settings.{dictionary_of}
 use Rattle.cop_boot.specs.Manager.{Managing}
 use Rattle.cop_live.specs.Log.{ByteStep, ClockStep}
@@ -204,10 +202,6 @@ IsCommissionedFor reads writes asks net (Planned plan) approach p q ended = IsCo
 IsCommissionedFor reads writes asks net (Refused refusals) approach p q ended = IsWithoutPlan p q ended
 
 -- what came of the boot of a network by what the planner answers for it
-abbrev pub IsCommissionedBy : {P : Type 0} → ByteStep P → ByteStep P → ClockStep P → Choice → Net → Approach → P → P → Commissioned → Type 0
-IsCommissionedBy reads writes asks choice net approach p q ended =
-    (outcome : Outcome) × IsOutcome net.equipment.rates net.set (length net.rows) outcome × IsChosenBy choice outcome × IsCommissionedFor reads writes asks net outcome approach p q ended
-
 -- what came of the boot of the network that the tables and the EDS files say, by what is asked of its plan
 pub record IsCommissioning {P : Type 0} (reads writes : ByteStep P) (asks : ClockStep P) (asked : Asked) (nodes pdos : List ℕ) (eds : List File) (approach : Approach) (p q : P) (ended : Commissioned) : Type 0 where
   pub outcome : Outcome
@@ -270,12 +264,6 @@ FailsFor reads writes asks fails net (Refused refusals) approach p q answer = �
 abbrev pub StopsFor : {P : Type 0} → ByteStep P → ByteStep P → ClockStep P → ByteStep P → Net → Outcome → Approach → P → P → Type 0
 StopsFor reads writes asks fails net (Planned plan) approach p q = CommissionStops reads writes asks fails net plan.rate plan.ids approach p q
 StopsFor reads writes asks fails net (Refused refusals) approach p q = ⊥
-
-abbrev pub FailsBy : {P : Type 0} → ByteStep P → ByteStep P → ClockStep P → ByteStep P → Choice → Net → Approach → P → P → Told → Type 0
-FailsBy reads writes asks fails choice net approach p q answer = (outcome : Outcome) × IsOutcome net.equipment.rates net.set (length net.rows) outcome × IsChosenBy choice outcome × FailsFor reads writes asks fails net outcome approach p q answer
-
-abbrev pub StopsBy : {P : Type 0} → ByteStep P → ByteStep P → ClockStep P → ByteStep P → Choice → Net → Approach → P → P → Type 0
-StopsBy reads writes asks fails choice net approach p q = (outcome : Outcome) × IsOutcome net.equipment.rates net.set (length net.rows) outcome × IsChosenBy choice outcome × StopsFor reads writes asks fails net outcome approach p q
 
 -- the boot of the network that the tables and the EDS files say gave out
 pub record CommissioningFails {P : Type 0} (reads writes : ByteStep P) (asks : ClockStep P) (fails : ByteStep P) (asked : Asked) (nodes pdos : List ℕ) (eds : List File) (approach : Approach) (p q : P) (answer : Told) : Type 0 where

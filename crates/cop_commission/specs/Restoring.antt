@@ -1,5 +1,5 @@
 -- Devices that take the values that they left the factory with (CiA 301, object 1011h, "restore default parameters"), and what is said of them.
-use Rattle.std.specs.Prelude.{ℕ, Bool, true, false, not, List, [], ◌∷◌, map, is_some, if◌then◌else◌, Option, Some, None}
+use Rattle.std.specs.Prelude.{ℕ, Bool, true, false, List, [], ◌∷◌, map, is_some, if◌then◌else◌, Some}
 use Rattle.std.specs.List.{flat_map, list_any}
 use Rattle.std.specs.Option.{option_map_or}
 use Rattle.cop_dict.specs.Find.{entry_at}

@@ -7,8 +7,8 @@ ghost use Rattle.cop_plan.specs.Plans.{IsPlan};
 ghost use Rattle.cop_engine.specs.Networks.{ExplainsNetwork};
 ghost use Rattle.cop_heartbeats.specs.Attending.{are_all_operational};
 ghost use Rattle.cop_commission.specs.Sessions.{awaited_if};
-ghost use Rattle.cop_commission.specs.Commissioning.{senders_of, questions_for, settings_for, meant_nodes, is_meant_device, awaited_for, longest, limit_for, way_of, ended_answer, IsBooting, IsMet, IsCommissioned, IsCommissionedBy, IsCommissioning};
-ghost use Rattle.cop_commission.specs.Commissioning.{if_failed, BootingFails, BootingStops, MeetingFails, MeetingStops, CommissionFails, CommissionStops, FailsBy, StopsBy, CommissioningFails, CommissioningStops};
+ghost use Rattle.cop_commission.specs.Commissioning.{senders_of, questions_for, settings_for, meant_nodes, is_meant_device, awaited_for, longest, limit_for, way_of, ended_answer, IsBooting, IsMet, IsCommissioned, IsCommissionedFor, IsCommissioning};
+ghost use Rattle.cop_commission.specs.Commissioning.{if_failed, BootingFails, BootingStops, MeetingFails, MeetingStops, CommissionFails, CommissionStops, FailsFor, StopsFor, CommissioningFails, CommissioningStops};
 
 use crate::heartbeats::{attendance_lines, awaited_of};
 use crate::identities::{identity_answer, questions_of};
@@ -20,13 +20,13 @@ use crate::told::{off_questions, told_manager};
 use crate::unended::unended_answer;
 use cop_boot::Manager;
 use cop_boot_answer::BootAnswer;
-use cop_engine::{Fault, device_nodes};
+use cop_engine::{Fault, PlannedNetwork, device_nodes, planned};
 use cop_frame::Rate;
 use cop_heartbeats::{Awaited, Heartbeats};
 use cop_identity::{Exchange, Question};
 use cop_live::{Command, Port, Runner, Sender};
-use cop_net::{Network, network, read_nodes, read_pdos};
-use cop_plan::{Asked, Choice, Outcome, Plan, plan};
+use cop_net::{Network, read_nodes, read_pdos};
+use cop_plan::{Asked, Outcome, Plan};
 use cop_readback::{Reach, ReadBack};
 use cop_rows::PdoRow;
 use std::alloc::{AllocError, Global};
@@ -358,7 +358,7 @@ fn commission_nodes<P: Port>(
 }
 
 /// The boot of a network by its plan.
-fn commission_planned<P: Port>(
+fn commission_by<P: Port>(
     alloc: Global,
     network: &Network<'_>,
     plan: &Plan,
@@ -379,33 +379,33 @@ fn commission_planned<P: Port>(
     }
 }
 
-/// The boot of a network by what the planner answers for it.
-fn commission_network<P: Port>(
+/// The boot of the devices of a planned network over a port, of one node alone or of all. The adapter is opened
+/// at the plan's rate. Unless the bus is taken over, it is opened to listen only, if it can, for 2 s. No frame is sent if somebody who is
+/// meant is heard to run, if lines come of which none is a frame, or if none comes and the adapter's flags tell of errors. If
+/// they are to be identified, the devices are asked who they are, and if one is another than its EDS file says nothing else is sent. If they
+/// are to, those that can take the values that they left the factory with, and if one does not nothing else is sent.
+/// If PDOs are to be switched off the nodes are reset then, and those that boot up are asked which COB-IDs these have, which are switched
+/// off as they are. Then the nodes are reset; the settings of each node are sent to it, and read back once the boot of each has ended; devices that have theirs store them, if
+/// they are to and can; the nodes are started if they are to be, if each has its settings; and the adapter is closed. If no rate passes
+/// nothing is done. `Err` is want of memory.
+pub fn commission_planned<P: Port>(
     alloc: Global,
-    network: &Network<'_>,
-    choice: Choice,
+    planned: &PlannedNetwork<'_>,
     approach: Approach,
     port: &mut P,
 ) -> Result<Commissioned, AllocError>
-    requires { IsNetwork network.now }
-    ensures commissioned { IfOk result (λ ended. IsCommissionedBy P.reads P.writes P.asks choice network.now approach port.old port.new ended) }
-    ensures failed { IfOk result (λ ended. if_failed ended (FailsBy P.reads P.writes P.asks P.fails choice network.now approach port.old port.new)) }
-    ensures short { OnErr result ((port.old ≡ port.new) ⊎ StopsBy P.reads P.writes P.asks P.fails choice network.now approach port.old port.new) }
+    ensures commissioned { IfOk result (λ ended. IsCommissionedFor P.reads P.writes P.asks planned.now.net planned.now.outcome approach port.old port.new ended) }
+    ensures failed { IfOk result (λ ended. if_failed ended (FailsFor P.reads P.writes P.asks P.fails planned.now.net planned.now.outcome approach port.old port.new)) }
+    ensures short { OnErr result (StopsFor P.reads P.writes P.asks P.fails planned.now.net planned.now.outcome approach port.old port.new) }
 {
-    match plan(alloc, network, choice)? {
-        Outcome::Planned(plan) => commission_planned(alloc, network, &plan, approach, port),
+    let (network, outcome) = planned.parts();
+    match outcome {
+        Outcome::Planned(plan) => commission_by(alloc, network, plan, approach, port),
         Outcome::Refused(_) => Ok(Commissioned::NonePasses),
     }
 }
 
-/// The boot of the devices of a planned network over a port, of one node alone or of all. The network is planned, and the adapter is opened
-/// at its rate. Unless the bus is taken over, it is opened to listen only, if it can, for 2 s, and where somebody who is meant is heard to run,
-/// or lines come of which none is a frame, or none comes and the adapter's flags tell of errors, no frame is sent. If
-/// they are to be identified, the devices are asked who they are, and where one is another than its EDS file says nothing else is sent. If they are to, those that can take the values that they left the factory with, and where one
-/// does not nothing else is sent.
-/// Where PDOs are to be switched off the nodes are reset then, and those that boot up are asked which COB-IDs these have, which are switched
-/// off as they are. Then the nodes are reset; the settings of each node are sent to it, and read back once the boot of each has ended; devices that have theirs store them, if
-/// they are to and can; the nodes are started if they are to be, where each has its settings; and the adapter is closed. Otherwise the
+/// The boot of the devices of the network of some tables and EDS files by its plan, as `commission_planned` does it. Otherwise the
 /// first rule that the network breaks, or want of memory.
 pub fn commission<P: Port>(
     alloc: Global,
@@ -424,6 +424,6 @@ pub fn commission<P: Port>(
 {
     let nodes = read_nodes(alloc, nodes)?;
     let pdos = read_pdos(alloc, pdos)?;
-    let network = network(alloc, &asked.rates, &nodes, &pdos, eds_files)?;
-    Ok(commission_network(alloc, &network, asked.choice, approach, port)?)
+    let planned = planned(alloc, asked, &nodes, &pdos, eds_files)?;
+    Ok(commission_planned(alloc, &planned, approach, port)?)
 }

@@ -12,7 +12,9 @@ mod sessions;
 mod told;
 mod unended;
 
-pub use commissioning::{Approach, Commissioned, Watch, commission, meant_nodes};
+pub use commissioning::{
+    Approach, Commissioned, Watch, commission, commission_planned, meant_nodes,
+};
 pub use cop_live::{Command, Runner};
 pub use cop_readback::Reach;
 pub use identities::add_identity;

@@ -23,6 +23,12 @@ use Rattle.cop_net.specs.declared.faults.Rule.TheVariants as rules
 use Rattle.cop_net.specs.Faults.{at_node}
 use Rattle.cop_net.specs.declared.uses.Used.{Used}
 use Rattle.cop_net.specs.Devices.{File, Equipment, text_of, text_at, text_read, refused_at, entries_of, with_device, described, device_added, no_device, devices_of}
+use Rattle.std.specs.Option.{option_map_or}
+use Rattle.cop_table.specs.Reading.{◌>>=◌}
+use Rattle.cop_setup.specs.declared.setting.Setting.{Setting}
+use Rattle.cop_rows.specs.SettingRows.{AreSettingRows}
+use Rattle.cop_net.specs.Asking.{settings_asked}
+use Rattle.cop_net.proofs.TakenLemmas.{asked_taken}
 use Rattle.cop_net.specs.Fixed.{IsTimed, key_of, rank_of}
 use Rattle.cop_net.specs.Heartbeats.{heartbeat_of}
 use Rattle.cop_net.specs.Pdos.{pdos_of}
@@ -35,7 +41,7 @@ use Rattle.cop_net.proofs.NetworkLemmas.{timed}
 use Rattle.cop_rows.proofs.RangeLemmas.{bind_ok}
 use Rattle.cop_net.proofs.TextLemmas.{read_as_itself}
 use Rattle.cop_dcf.specs.Identifiers.{id_at}
-use Rattle.cop_dcf.specs.Settings.{settings_by, dictionary_of, node_settings}
+use Rattle.cop_dcf.specs.Settings.{settings_by, dictionary_of, asked_of, node_settings}
 use Rattle.cop_dcf.specs.Dcf.{dcf_of}
 use Rattle.cop_dcf.specs.Planned.{IsReadAgain, IsNodeReadAgain}
 use Rattle.cop_setup.specs.Settings.{IsNumber}
@@ -59,7 +65,9 @@ record IsStep (files : List File) (found next : Equipment) (row : DeviceRow) : T
   accepted : reading text ≡ Ok text
   entries : List Entry
   described : built text row.node ≡ Ok entries
-  devices : next.devices ≡ slice_set found.devices row.node (Some (record { place = row.place; dictionary = entries }))
+  settings : List Setting
+  asked : settings_asked row.node entries row.settings ≡ Ok settings
+  devices : next.devices ≡ slice_set found.devices row.node (Some (record { place = row.place; dictionary = entries; settings = settings }))
 
 step : (files : List File) (found next : Equipment) (row : DeviceRow) → device_added (text_of files) found row ≡ Ok next → IsStep files found next row
 step files found next row h =
@@ -67,15 +75,18 @@ step files found next row h =
     let q = bind_ok (text_at row.place (text_of files row.eds)) (λ text. refused_at row.place (reading text)) p.0 p.1 in
     let read : reading q.0 ≡ Ok p.0 = accepted_by row.place (reading q.0) p.0 q.2 in
     let same : p.0 ≡ q.0 = read_as_itself q.0 p.0 read in
-    let r = bind_ok (entries_of row.place row.node p.0) (λ entries. Ok (with_device found row p.0 entries)) next p.2 in
-    let whole : ◌≡◌ {A = Result Equipment Refusal} (Ok (with_device found row p.0 r.0)) (Ok next) = r.2 in
-    let made : with_device found row p.0 r.0 ≡ next = cc in
+    let r = bind_ok (entries_of row.place row.node p.0) (λ entries. settings_asked row.node entries row.settings >>= λ settings. Ok (with_device found row p.0 entries settings)) next p.2 in
+    let t = bind_ok (settings_asked row.node r.0 row.settings) (λ settings. Ok (with_device found row p.0 r.0 settings)) next r.2 in
+    let whole : ◌≡◌ {A = Result Equipment Refusal} (Ok (with_device found row p.0 r.0 t.0)) (Ok next) = t.2 in
+    let made : with_device found row p.0 r.0 t.0 ≡ next = cc in
     record {
       text = q.0;
       there = text_is row.place (text_of files row.eds) q.0 q.1;
       accepted = read ∙ ap Ok same;
       entries = r.0;
       described = ap (λ t. built t row.node) (sym same) ∙ accepted_by row.place (built p.0 row.node) r.0 r.1;
+      settings = t.0;
+      asked = t.1;
       devices = ap (λ (e : Equipment). e.devices) (sym made);
     }
 
@@ -93,7 +104,7 @@ others files node (row ∷ rows) found more h none =
     by_test true is k s later = cc
     by_test false is k s later =
         let apart : node ≢ row.node = λ e. let yes : (row.node == node) ≡ true = grind (arith, nat_tests) in let bad : true ≡ false = sym yes ∙ is in cc in
-        later k ∙ ap (λ ds. get_or ds node None) s.devices ∙ get_or-set_other found.devices row.node node (Some (record { place = row.place; dictionary = s.entries })) None apart
+        later k ∙ ap (λ ds. get_or ds node None) s.devices ∙ get_or-set_other found.devices row.node node (Some (record { place = row.place; dictionary = s.entries; settings = s.settings })) None apart
 
 -- the device of a row
 pub record IsDevice (files : List File) (devices : List (Option Device)) (node : ℕ) (row : DeviceRow) : Type 0 where
@@ -102,7 +113,9 @@ pub record IsDevice (files : List File) (devices : List (Option Device)) (node :
   pub accepted : reading text ≡ Ok text
   pub entries : List Entry
   pub described : built text node ≡ Ok entries
-  pub device : get_or devices node None ≡ Some (record { place = row.place; dictionary = entries })
+  pub settings : List Setting
+  pub asked : settings_asked node entries row.settings ≡ Ok settings
+  pub device : get_or devices node None ≡ Some (record { place = row.place; dictionary = entries; settings = settings })
 
 Apart : List DeviceRow → Type 0
 Apart rows = AllPairs (λ d e. d.node ≢ e.node) rows
@@ -120,7 +133,7 @@ device_there files node row [] found more apart small h e = cc
 device_there files node row (x ∷ xs) found more apart small h e =
     let p = bind_ok (device_added (text_of files) found x) (λ next. folded (device_added (text_of files)) next xs) more h in
     let s = step files found p.0 x p.1 in
-    let size : length p.0.devices ≡ length found.devices = ap length s.devices ∙ length-set found.devices x.node (Some (record { place = x.place; dictionary = s.entries })) in
+    let size : length p.0.devices ≡ length found.devices = ap length s.devices ∙ length-set found.devices x.node (Some (record { place = x.place; dictionary = s.entries; settings = s.settings })) in
     by_test p.0 s p.2 (x.node == node) refl e (device_there files node row xs p.0 more (λ i j d lt inside. apart (suc i) (suc j) d (omega arith) (omega arith)) (omega (arith, small, size)) p.2)
   where
     by_test : (next : Equipment) → IsStep files found next x → folded (device_added (text_of files)) next xs ≡ Ok more → (b : Bool) → (x.node == node) ≡ b → cond b (Some x) (find (λ row. row.node == node) xs) ≡ Some row
@@ -137,11 +150,13 @@ device_there files node row (x ∷ xs) found more apart small h e =
           accepted = s.accepted;
           entries = s.entries;
           described = ap (built s.text) (sym own) ∙ s.described;
+          settings = s.settings;
+          asked = ap (λ n. settings_asked n s.entries x.settings) (sym own) ∙ s.asked;
           device =
               ap (λ n. get_or more.devices n None) (sym own)
               ∙ others files x.node xs next more rest none
               ∙ ap (λ ds. get_or ds x.node None) s.devices
-              ∙ get_or-set_same found.devices x.node (Some (record { place = x.place; dictionary = s.entries })) None (omega (arith, small, own));
+              ∙ get_or-set_same found.devices x.node (Some (record { place = x.place; dictionary = s.entries; settings = s.settings })) None (omega (arith, small, own));
         })
 
 -- each device takes the time of its heartbeat
@@ -216,14 +231,22 @@ module _ (net : Net) (wanted : List Rate) (files : List File) (made : network_of
   pub beating : beats device.entries (heartbeat_of net.nodes.frames node) ≡ true
   beating =
       let s = settable_in net.nodes.frames net.rows net.equipment (accepted net) equipment.streams in
-      let h = settable_at net.nodes.frames s.0 0 node net.equipment.devices (record { place = row.place; dictionary = device.entries }) s.1 device.device in
+      let h = settable_at net.nodes.frames s.0 0 node net.equipment.devices (record { place = row.place; dictionary = device.entries; settings = device.settings }) s.1 device.device in
       let same : 0 + node ≡ node = omega arith in
       ap (λ n. beats device.entries (heartbeat_of net.nodes.frames n)) (sym same) ∙ h
 
+  row_settings : AreSettingRows row.settings
+  row_settings = rw own at (found_all (λ d. AreSettingRows d.settings) (λ r. r.node == node) net.nodes.devices table.settings)
+
+  asked_numbers : All (IsNumber device.entries) (asked_of net node)
+  asked_numbers =
+      let same : asked_of net node ≡ device.settings = ap (λ (o : Option Device). option_map_or (λ (d : Device). d.settings) o []) device.device in
+      subst (λ xs. All (IsNumber device.entries) xs) (sym same) (asked_taken node device.entries row.settings device.settings row_settings device.asked).numbers
+
   numbers : (ids : List ℕ) → All (λ id. id < 2 ^ 11) ids → All (IsNumber device.entries) (node_settings net ids node)
   numbers ids small =
-      subst (λ o. All (IsNumber device.entries) (settings_by (id_at net.rows ids node) (heartbeat_of net.nodes.frames node) o)) (sym dictionary)
-      (all_numbers device.entries (built_sorted device.text node device.entries device.described) (id_at net.rows ids node) (heartbeat_of net.nodes.frames node)
+      subst (λ o. All (IsNumber device.entries) (settings_by (asked_of net node) (id_at net.rows ids node) (heartbeat_of net.nodes.frames node) o)) (sym dictionary)
+      (all_numbers device.entries (built_sorted device.text node device.entries device.described) (asked_of net node) (id_at net.rows ids node) (heartbeat_of net.nodes.frames node) asked_numbers
       (λ index. id_small net.rows ids node index small)
       (short_time (find (λ row. key_of row == 6 * node + rank_of Heartbeat) net.nodes.frames) (found_all IsTimed (λ row. key_of row == 6 * node + rank_of Heartbeat) net.nodes.frames (timed net.nodes table)))
       beating)

@@ -1,4 +1,5 @@
 pub mod IdentifierLemmas
+pub mod AskedLemmas
 pub mod SettingsLemmas
 pub mod TableLemmas
 pub mod PieceLemmas

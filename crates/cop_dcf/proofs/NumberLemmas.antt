@@ -19,6 +19,7 @@ use Rattle.cop_dict.specs.Pdo.{is_cob_id, is_communication, exists_by}
 use Rattle.cop_dict.proofs.DictLemmas.{own_place}
 use Rattle.cop_pdo.specs.CobIds.{off, on}
 use Rattle.cop_net.specs.Settings.{whole_of, is_unsigned16, has_or_takes, beats, beats_by}
+use Rattle.cop_setup.specs.declared.setting.Setting.{Setting}
 use Rattle.cop_setup.specs.declared.setting.Width.TheVariants.{Two, Four}
 use Rattle.cop_dcf.specs.Settings.{off_set, on_set, set_of, time_set, heartbeat_set, settings_of}
 use Rattle.cop_setup.specs.Settings.{cob_id_set, has_numbers, IsNumber}
@@ -93,10 +94,13 @@ module _ (dict : List Entry) (sorted : IsSorted dict) where
       by_entry None is k = none
       by_entry (Some e) is k = by_now e is (whole_of e) k
 
-  pub all_numbers : (ids : ℕ → Option ℕ) (time : ℕ) → ((index : ℕ) → IfSome (ids index) (λ id. id < 2 ^ 11)) → time < 2 ^ 16 → beats dict time ≡ true → All (IsNumber dict) (settings_of dict ids time)
-  all_numbers ids time small low h =
-      All-append (IsNumber dict) (filter_map (set_of off_set ids) dict ++ filter_map (set_of on_set ids) dict) (time_set time (option_and_then whole_of (entry_at dict 0x1017 0)))
-      (All-append (IsNumber dict) (filter_map (set_of off_set ids) dict) (filter_map (set_of on_set ids) dict)
-      (all_given (IsNumber dict) (set_of off_set ids) dict (λ k d lt. off_number ids (get_or dict k d) (inside dict k d lt)))
+  pub all_numbers : (asked : List Setting) (ids : ℕ → Option ℕ) (time : ℕ) → All (IsNumber dict) asked → ((index : ℕ) → IfSome (ids index) (λ id. id < 2 ^ 11)) → time < 2 ^ 16 → beats dict time ≡ true
+      → All (IsNumber dict) (settings_of dict asked ids time)
+  all_numbers asked ids time numbers small low h =
+      let offs : List Setting = filter_map (set_of off_set ids) dict in
+      let ons : List Setting = filter_map (set_of on_set ids) dict in
+      All-append (IsNumber dict) ((offs ++ asked) ++ ons) (time_set time (option_and_then whole_of (entry_at dict 0x1017 0)))
+      (All-append (IsNumber dict) (offs ++ asked) ons
+      (All-append (IsNumber dict) offs asked (all_given (IsNumber dict) (set_of off_set ids) dict (λ k d lt. off_number ids (get_or dict k d) (inside dict k d lt))) numbers)
       (all_given (IsNumber dict) (set_of on_set ids) dict (λ k d lt. on_number ids (get_or dict k d) (inside dict k d lt) (small (get_or dict k d).index))))
       (time_number time low h)

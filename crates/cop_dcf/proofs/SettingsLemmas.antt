@@ -1,5 +1,5 @@
 -- What is set in a node, entry by entry.
-use Rattle.std.proofs.Common.{◌≡◌, ◌<◌, ◌≤◌, ℕ, zero, suc, ◌+◌, ◌-◌, ◌*◌, ◌^◌, inl, inr, Bool, true, false, ◌||◌, ◌==◌, nat_le, cond, List, [], ◌∷◌, ◌++◌, length, take, get_or, find, Option, Some, None, IsSome, is_some, refl, sym, ap, ◌∙◌, arith, append_assoc, append-nil, All, IfSome}
+use Rattle.std.proofs.Common.{◌≡◌, ◌<◌, ◌≤◌, ℕ, zero, suc, ◌+◌, ◌-◌, ◌*◌, ◌^◌, inl, inr, Bool, true, false, ◌||◌, ◌==◌, nat_le, cond, List, [], ◌∷◌, ◌++◌, length, take, get_or, find, Option, Some, None, IsSome, is_some, refl, sym, ap, subst, ◌∙◌, arith, append_assoc, append-nil, All, IfSome}
 use Rattle.std.specs.Prelude.{ℤ, pos}
 use Rattle.std.specs.List.{filter_map, cons_option}
 use Rattle.std.specs.Option.{option_and_then}
@@ -27,9 +27,10 @@ use Rattle.cop_plan.specs.Plans.{IsPlan}
 use Rattle.cop_plan.specs.Values.{PlanValue}
 use Rattle.cop_setup.specs.declared.setting.Setting.{Setting}
 use Rattle.cop_dcf.specs.Identifiers.{id_at, id_in, KnowsIds}
-use Rattle.cop_dcf.specs.Settings.{off_set, on_set, set_of, time_set, heartbeat_set, settings_of, settings_by, dictionary_of, node_settings}
+use Rattle.cop_dcf.specs.Settings.{off_set, on_set, set_of, time_set, heartbeat_set, settings_of, settings_by, dictionary_of, asked_of, node_settings}
 use Rattle.cop_setup.specs.Settings.{cob_id_set, IsFit, HasObject}
 use Rattle.cop_dcf.proofs.IdentifierLemmas.{id_small}
+use Rattle.cop_dcf.proofs.AskedLemmas.{node_taken, numbers_have_objects}
 
 -- one element more
 pub grown : {X Y : Type 0} (f : X → Option Y) (xs : List X) (i : ℕ) (d : X) → i < length xs → filter_map f (take (i + 1) xs) ≡ filter_map f (take i xs) ++ cons_option (f (get_or xs i d)) []
@@ -102,18 +103,22 @@ set_by_rows set places rows ids node (entry ∷ dict) knows =
         ap (λ id. option_and_then (set id entry.index) (unsigned32_of entry)) same
 
 -- what is set, put together
-pub node_settings_are : (net : Net) (ids : List ℕ) (node : ℕ) (dict : List Entry) (places : List (Option ℕ)) (first offs ons all : List Setting) (time : Option Setting)
+pub node_settings_are : (net : Net) (ids : List ℕ) (node : ℕ) (dict : List Entry) (places : List (Option ℕ)) (first offs asked ons all : List Setting) (time : Option Setting)
     → dictionary_of net node ≡ Some dict → KnowsIds places net.rows ids node → first ≡ [] → offs ≡ first ++ filter_map (set_of off_set (id_in places)) dict
-    → ons ≡ offs ++ filter_map (set_of on_set (id_in places)) dict → cons_option time [] ≡ time_set (heartbeat_of net.nodes.frames node) (option_and_then whole_of (entry_at dict 0x1017 0))
+    → asked ≡ offs ++ asked_of net node → ons ≡ asked ++ filter_map (set_of on_set (id_in places)) dict
+    → cons_option time [] ≡ time_set (heartbeat_of net.nodes.frames node) (option_and_then whole_of (entry_at dict 0x1017 0))
     → all ≡ ons ++ cons_option time [] → all ≡ node_settings net ids node
-node_settings_are net ids node dict places first offs ons all time own knows none a b c d =
-    let off_part : offs ≡ filter_map (set_of off_set (id_at net.rows ids node)) dict = a ∙ ap (λ xs. xs ++ filter_map (set_of off_set (id_in places)) dict) none ∙ set_by_rows off_set places net.rows ids node dict knows in
-    let on_part : ons ≡ filter_map (set_of off_set (id_at net.rows ids node)) dict ++ filter_map (set_of on_set (id_at net.rows ids node)) dict =
-    b ∙ ap (λ xs. xs ++ filter_map (set_of on_set (id_in places)) dict) off_part
-    ∙ ap (λ ys. filter_map (set_of off_set (id_at net.rows ids node)) dict ++ ys) (set_by_rows on_set places net.rows ids node dict knows) in
+node_settings_are net ids node dict places first offs asked ons all time own knows none a m b c d =
+    let offs_by : List Setting = filter_map (set_of off_set (id_at net.rows ids node)) dict in
+    let ons_by : List Setting = filter_map (set_of on_set (id_at net.rows ids node)) dict in
+    let off_part : offs ≡ offs_by = a ∙ ap (λ xs. xs ++ filter_map (set_of off_set (id_in places)) dict) none ∙ set_by_rows off_set places net.rows ids node dict knows in
+    let asked_part : asked ≡ offs_by ++ asked_of net node = m ∙ ap (λ xs. xs ++ asked_of net node) off_part in
+    let on_part : ons ≡ (offs_by ++ asked_of net node) ++ ons_by =
+    b ∙ ap (λ xs. xs ++ filter_map (set_of on_set (id_in places)) dict) asked_part
+    ∙ ap (λ ys. (offs_by ++ asked_of net node) ++ ys) (set_by_rows on_set places net.rows ids node dict knows) in
     d ∙ ap (λ xs. xs ++ cons_option time []) on_part
-    ∙ ap (λ ys. (filter_map (set_of off_set (id_at net.rows ids node)) dict ++ filter_map (set_of on_set (id_at net.rows ids node)) dict) ++ ys) c
-    ∙ sym (ap (settings_by (id_at net.rows ids node) (heartbeat_of net.nodes.frames node)) own)
+    ∙ ap (λ ys. ((offs_by ++ asked_of net node) ++ ons_by) ++ ys) c
+    ∙ sym (ap (settings_by (asked_of net node) (id_at net.rows ids node) (heartbeat_of net.nodes.frames node)) own)
 
 -- what holds of each thing that is given holds of all
 pub all_given : {X Y : Type 0} (P : Y → Type 0) (f : X → Option Y) (xs : List X) → All (λ x. IfSome (f x) P) xs → All P (filter_map f xs)
@@ -159,11 +164,14 @@ time_fits time (Some now) small = by_test (int_eq now (pos time))
     by_test true = λ k d lt. absurd (omega arith)
     by_test false = All-cons IsFit (heartbeat_set time) [] (record { value = omega arith }) (λ k d lt. absurd (omega arith))
 
-pub all_fit : (dict : List Entry) (ids : ℕ → Option ℕ) (time : ℕ) → ((index : ℕ) → IfSome (ids index) (λ id. id < 2 ^ 11)) → time < 2 ^ 16 → All IsFit (settings_of dict ids time)
-all_fit dict ids time small short =
-    All-append IsFit (filter_map (set_of off_set ids) dict ++ filter_map (set_of on_set ids) dict) (time_set time (option_and_then whole_of (entry_at dict 0x1017 0)))
-    (All-append IsFit (filter_map (set_of off_set ids) dict) (filter_map (set_of on_set ids) dict)
-    (all_given IsFit (set_of off_set ids) dict (λ k d lt. off_all_fit ids (get_or dict k d)))
+pub all_fit : (dict : List Entry) (asked : List Setting) (ids : ℕ → Option ℕ) (time : ℕ) → All IsFit asked → ((index : ℕ) → IfSome (ids index) (λ id. id < 2 ^ 11)) → time < 2 ^ 16
+    → All IsFit (settings_of dict asked ids time)
+all_fit dict asked ids time fits small short =
+    let offs : List Setting = filter_map (set_of off_set ids) dict in
+    let ons : List Setting = filter_map (set_of on_set ids) dict in
+    All-append IsFit ((offs ++ asked) ++ ons) (time_set time (option_and_then whole_of (entry_at dict 0x1017 0)))
+    (All-append IsFit (offs ++ asked) ons
+    (All-append IsFit offs asked (all_given IsFit (set_of off_set ids) dict (λ k d lt. off_all_fit ids (get_or dict k d))) fits)
     (all_given IsFit (set_of on_set ids) dict (λ k d lt. on_all_fit ids (get_or dict k d) (small (get_or dict k d).index))))
     (time_fits time (option_and_then whole_of (entry_at dict 0x1017 0)) short)
 
@@ -173,12 +181,12 @@ short_time None timed = omega arith
 short_time (Some row) timed = let most = timed.period in omega arith
 
 pub all_fit_in : (net : Net) (ids : List ℕ) (node : ℕ) → IsNetwork net → All (λ id. id < 2 ^ 11) ids → All IsFit (node_settings net ids node)
-all_fit_in net ids node network small = by_dict (dictionary_of net node)
+all_fit_in net ids node network small = by_dict (dictionary_of net node) refl
   where
-    by_dict : (o : Option (List Entry)) → All IsFit (settings_by (id_at net.rows ids node) (heartbeat_of net.nodes.frames node) o)
-    by_dict None = λ k d lt. absurd (omega arith)
-    by_dict (Some dict) =
-        all_fit dict (id_at net.rows ids node) (heartbeat_of net.nodes.frames node) (λ index. id_small net.rows ids node index small)
+    by_dict : (o : Option (List Entry)) → dictionary_of net node ≡ o → All IsFit (settings_by (asked_of net node) (id_at net.rows ids node) (heartbeat_of net.nodes.frames node) o)
+    by_dict None e = λ k d lt. absurd (omega arith)
+    by_dict (Some dict) e =
+        all_fit dict (asked_of net node) (id_at net.rows ids node) (heartbeat_of net.nodes.frames node) (node_taken net node dict network e).fits (λ index. id_small net.rows ids node index small)
         (short_time (find (λ row. key_of row == 6 * node + rank_of Heartbeat) net.nodes.frames) (found_all IsTimed (λ row. key_of row == 6 * node + rank_of Heartbeat) net.nodes.frames (timed net.nodes network.nodes)))
 
 -- an entry has its address
@@ -233,13 +241,17 @@ time_here dict time = by_entry (entry_at dict 0x1017 0) refl
     by_entry None e = λ k d lt. absurd (omega arith)
     by_entry (Some entry) e = by_now (whole_of entry) (rw e refl)
 
-pub all_have_objects : (dict : List Entry) (ids : ℕ → Option ℕ) (time : ℕ) → All (HasObject dict) (settings_of dict ids time)
-all_have_objects dict ids time =
-    All-append (HasObject dict) (filter_map (set_of off_set ids) dict ++ filter_map (set_of on_set ids) dict) (time_set time (option_and_then whole_of (entry_at dict 0x1017 0)))
-    (All-append (HasObject dict) (filter_map (set_of off_set ids) dict) (filter_map (set_of on_set ids) dict)
-    (all_given (HasObject dict) (set_of off_set ids) dict (λ k d lt. off_here dict ids k d lt))
+pub all_have_objects : (dict : List Entry) (asked : List Setting) (ids : ℕ → Option ℕ) (time : ℕ) → All (HasObject dict) asked → All (HasObject dict) (settings_of dict asked ids time)
+all_have_objects dict asked ids time have =
+    let offs : List Setting = filter_map (set_of off_set ids) dict in
+    let ons : List Setting = filter_map (set_of on_set ids) dict in
+    All-append (HasObject dict) ((offs ++ asked) ++ ons) (time_set time (option_and_then whole_of (entry_at dict 0x1017 0)))
+    (All-append (HasObject dict) (offs ++ asked) ons
+    (All-append (HasObject dict) offs asked (all_given (HasObject dict) (set_of off_set ids) dict (λ k d lt. off_here dict ids k d lt)) have)
     (all_given (HasObject dict) (set_of on_set ids) dict (λ k d lt. on_here dict ids k d lt)))
     (time_here dict time)
 
-pub all_have_objects_in : (net : Net) (ids : List ℕ) (node : ℕ) (dict : List Entry) → dictionary_of net node ≡ Some dict → All (HasObject dict) (node_settings net ids node)
-all_have_objects_in net ids node dict e = rw e (all_have_objects dict (id_at net.rows ids node) (heartbeat_of net.nodes.frames node))
+pub all_have_objects_in : (net : Net) (ids : List ℕ) (node : ℕ) (dict : List Entry) → IsNetwork net → dictionary_of net node ≡ Some dict → All (HasObject dict) (node_settings net ids node)
+all_have_objects_in net ids node dict is e =
+    subst (λ o. All (HasObject dict) (settings_by (asked_of net node) (id_at net.rows ids node) (heartbeat_of net.nodes.frames node) o)) (sym e)
+    (all_have_objects dict (asked_of net node) (id_at net.rows ids node) (heartbeat_of net.nodes.frames node) (numbers_have_objects dict (asked_of net node) (node_taken net node dict is e).numbers))

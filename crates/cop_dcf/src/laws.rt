@@ -20,15 +20,15 @@ ghost use Rattle.cop_dcf.specs.Planned.{IsReadAgain, SaysNode, IsNodeReadAgain};
 
 /// The value of each setting fits its bytes.
 pub fn settings_fit()
-    ensures dictionary { (dict : List Entry) (ids : ℕ → Option ℕ) (time : ℕ) → ((index : ℕ) → IfSome (ids index) (λ id. id < 2 ^ 11)) → time < 2 ^ 16
-        → All IsFit (settings_of dict ids time) }
+    ensures dictionary { (dict : List Entry) (asked : List Setting) (ids : ℕ → Option ℕ) (time : ℕ) → All IsFit asked → ((index : ℕ) → IfSome (ids index) (λ id. id < 2 ^ 11)) → time < 2 ^ 16
+        → All IsFit (settings_of dict asked ids time) }
     ensures network { (net : Net) (ids : List ℕ) (node : ℕ) → IsNetwork net → All (λ id. id < 2 ^ 11) ids → All IsFit (node_settings net ids node) }
 {}
 
 /// Each setting is of an object that the dictionary of its node has.
 pub fn settings_have_objects()
-    ensures dictionary { (dict : List Entry) (ids : ℕ → Option ℕ) (time : ℕ) → All (HasObject dict) (settings_of dict ids time) }
-    ensures network { (net : Net) (ids : List ℕ) (node : ℕ) (dict : List Entry) → dictionary_of net node ≡ Some dict → All (HasObject dict) (node_settings net ids node) }
+    ensures dictionary { (dict : List Entry) (asked : List Setting) (ids : ℕ → Option ℕ) (time : ℕ) → All (HasObject dict) asked → All (HasObject dict) (settings_of dict asked ids time) }
+    ensures network { (net : Net) (ids : List ℕ) (node : ℕ) (dict : List Entry) → IsNetwork net → dictionary_of net node ≡ Some dict → All (HasObject dict) (node_settings net ids node) }
 {}
 
 /// A DCF is read again. That of an accepted text, where it is not longer than texts may be, is accepted, and the dictionary

@@ -102,6 +102,14 @@ fn add_offs(
     Ok(())
 }
 
+/// Adds what is asked of the device.
+fn add_asked(settings: &mut Vec<Setting>, asked: &[Setting]) -> Result<(), AllocError>
+    ensures { OnOk result (settings.new.items ≡ settings.old.items ++ asked.now) }
+{
+    settings.extend_from_slice(asked)?;
+    Ok(())
+}
+
 /// Adds the identifiers of the PDOs that are used.
 fn add_ons(
     settings: &mut Vec<Setting>,
@@ -120,7 +128,8 @@ fn add_ons(
 }
 
 /// What a plan sets in a node of its network, in order: each PDO that is used, and each other that exists, is switched
-/// off; each that is used gets its identifier; the heartbeat gets its time. `Err` is want of memory.
+/// off; then come the settings that are asked of the device; each PDO that is used gets its identifier; the heartbeat gets its
+/// time. `Err` is want of memory.
 pub fn settings(
     alloc: Global,
     plan: &Plan,
@@ -136,6 +145,7 @@ pub fn settings(
     };
     let places = identifiers(network.rows(), plan.ids(), node);
     add_offs(&mut settings, dict.entries(), &places)?;
+    add_asked(&mut settings, network.settings(node))?;
     add_ons(&mut settings, dict.entries(), &places)?;
     if let Some(setting) = time_set(dict, network.heartbeat(node)) {
         settings.push(setting)?;

@@ -7,6 +7,7 @@ use cop_boot_answer::{BootAnswer, Detail, NodeLine, State};
 use cop_cert::Refusal;
 use cop_logbook::abort_words;
 use cop_rta::Verdict;
+use cop_scan::Found;
 use cop_sdo::Address;
 use serde_json::Value;
 use std::alloc::{AllocError, Global};
@@ -142,6 +143,35 @@ pub fn verify_document(
         .plain("planned", answer.is_some())
         .plain("as_planned", as_planned)
         .plain("nodes", nodes)
+        .end()?;
+    document.to_string(alloc)
+}
+
+/// A number that was told, if it was.
+fn told(number: Option<u32>) -> Value {
+    number_if(number.map(u64::from))
+}
+
+/// What the device of a node told.
+fn found_of(alloc: Global, found: &Found) -> Result<Value, AllocError> {
+    Object::new(alloc)
+        .plain("node", found.node)
+        .plain("device_type", told(found.device_type))
+        .plain("vendor", told(found.vendor))
+        .plain("product", told(found.product))
+        .plain("revision", told(found.revision))
+        .end()
+}
+
+/// The answer of a scan: the nodes that answered.
+pub fn scan_document(alloc: Global, found: &[Found]) -> Result<String, AllocError> {
+    let mut nodes = Vec::new(alloc);
+    for one in found {
+        nodes.push(found_of(alloc, one)?)?;
+    }
+    let document = Object::new(alloc)
+        .text("command", "scan")
+        .plain("nodes", Value::Array(nodes))
         .end()?;
     document.to_string(alloc)
 }

@@ -15,7 +15,8 @@ use Rattle.cop_plan.specs.Values.{PlanValue}
 use Rattle.cop_plan.specs.Plans.{IsPlan}
 use Rattle.cop_setup.specs.declared.setting.Setting.{Setting}
 use Rattle.cop_dcf.specs.Identifiers.{id_at}
-use Rattle.cop_dcf.specs.Settings.{dictionary_of, node_settings, settings_by}
+use Rattle.cop_dcf.specs.Settings.{dictionary_of, asked_of, node_settings, settings_by}
+use Rattle.cop_dcf.proofs.AskedLemmas.{node_taken}
 use Rattle.cop_setup.specs.Settings.{IsFit}
 use Rattle.cop_dcf.proofs.SettingsLemmas.{all_fit_in}
 use Rattle.cop_boot.specs.Settings.{is_short_value}
@@ -124,7 +125,8 @@ module _ (net : Net) (is : IsNetwork net) (ids : List ℕ) (range : All IsPdoId 
           let begins : dictionary_at net node ≡ dict = begins_as_built node dict its in
           let time : ℕ = heartbeat_of net.nodes.frames node in
           let accepted : AcceptsInTurn dict (node_settings net ids node) =
-          subst (λ (o : Option (List Entry)). AcceptsInTurn dict (settings_by (id_at net.rows ids node) time o)) (sym its) (plan_accepted dict (id_at net.rows ids node) time (network_admits net is ids range node dict its)) in
+          subst (λ (o : Option (List Entry)). AcceptsInTurn dict (settings_by (asked_of net node) (id_at net.rows ids node) time o)) (sym its)
+          (plan_accepted dict (asked_of net node) (id_at net.rows ids node) time (network_admits net is ids range node dict its) (node_taken net node dict is its)) in
           subst (CanBeSet (node_settings net ids node)) (sym begins)
           (record { short = each_short (node_settings net ids node) (all_fit_in net ids node is small); accepts = accepted; built = resets.1 })
 

@@ -38,8 +38,8 @@ device_names place row d h =
     let dated = bind_ok (no_text columns.Deadline (field row 6)) _ d three.2 in
     let four = bind_ok (name_of columns.Name (field row 2)) _ d dated.2 in
     let five = bind_ok (name_of columns.Eds (field row 3)) _ d four.2 in
-    let whole : ◌≡◌ {A = Result DeviceRow Rule} (Ok (record { place = place; node = one.0; name = four.0; eds = five.0 })) (Ok d) = five.2 in
-    let same : record { place = place; node = one.0; name = four.0; eds = five.0 } ≡ d = cc in
+    let whole : ◌≡◌ {A = Result DeviceRow Rule} (Ok (record { place = place; node = one.0; name = four.0; eds = five.0; settings = [] })) (Ok d) = five.2 in
+    let same : record { place = place; node = one.0; name = four.0; eds = five.0; settings = [] } ≡ d = cc in
     subst HasNames same (name_is columns.Name (field row 2) four.0 four.1, name_is columns.Eds (field row 3) five.0 five.1)
 
 placed_ok : {A : Type 0} (place : ℕ) (r : Result A Rule) (x : A) → placed place r ≡ Ok x → r ≡ Ok x

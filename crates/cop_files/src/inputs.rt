@@ -3,7 +3,7 @@
 use crate::failures::{Failure, Use, file_failure};
 use cop_answers::{Tables, Texts, beside};
 use cop_engine::read_all;
-use cop_net::{NodeTable, read_nodes};
+use cop_net::{NodeTable, read_nodes, read_settings};
 use cop_orders::NetworkFiles;
 use cop_plan::Asked;
 use std::collections::BTreeSet;
@@ -84,7 +84,7 @@ fn read_each(
     Ok(files)
 }
 
-/// Reads the bytes of the two tables of a network.
+/// Reads the bytes of the tables of a network.
 pub fn read_tables(
     rt: &HostRuntime,
     texts: &mut Texts,
@@ -92,6 +92,9 @@ pub fn read_tables(
 ) -> Result<(), Failure> {
     texts.nodes = read_file(rt, files.nodes)?;
     texts.pdos = read_file(rt, files.pdos)?;
+    if let Some(setup) = files.setup {
+        texts.settings = read_file(rt, setup)?;
+    }
     texts.asked = Asked {
         rates: files.rates.set(),
         choice: files.choice,
@@ -105,7 +108,10 @@ pub fn read_eds_files(
     texts: &mut Texts,
     files: NetworkFiles<'_>,
 ) -> Result<Tables, Failure> {
-    let nodes = read_nodes(rt.alloc(), &texts.nodes)?;
+    let mut nodes = read_nodes(rt.alloc(), &texts.nodes)?;
+    if files.setup.is_some() {
+        nodes = read_settings(rt.alloc(), nodes, &texts.settings)?;
+    }
     texts.eds_files = read_each(rt, files.nodes, &nodes)?;
     Ok(texts.tables(rt.alloc(), nodes)?)
 }

@@ -11,3 +11,5 @@ pub mod ApartLemmas
 pub mod HeartbeatLemmas
 pub mod StrayLemmas
 pub mod NetworkLemmas
+pub mod AskingLemmas
+pub mod TakenLemmas

@@ -16,6 +16,8 @@ use Rattle.cop_net.specs.declared.faults.Rule.TheVariants as rules
 use Rattle.cop_net.specs.declared.devices.Device.{Device}
 use Rattle.cop_net.specs.Faults.{at_node}
 use Rattle.cop_net.specs.Rates.{in_order}
+use Rattle.cop_setup.specs.declared.setting.Setting.{Setting}
+use Rattle.cop_net.specs.Asking.{settings_asked}
 use Rattle.cop_net.specs.Steps.{folded}
 
 -- a file that is handed in
@@ -68,15 +70,15 @@ abbrev pub no_device : List Rate → Equipment
 no_device wanted = record { devices = replicate 128 None; rates = in_order wanted }
 
 -- one device more
-abbrev pub with_device : Equipment → DeviceRow → List ℕ → List Entry → Equipment
-with_device found row text entries = record {
-  devices = slice_set found.devices row.node (Some (record { place = row.place; dictionary = entries }));
+abbrev pub with_device : Equipment → DeviceRow → List ℕ → List Entry → List Setting → Equipment
+with_device found row text entries settings = record {
+  devices = slice_set found.devices row.node (Some (record { place = row.place; dictionary = entries; settings = settings }));
   rates = filter (supports text) found.rates;
 }
 
--- the device of a row that an accepted text describes
+-- the device of a row that an accepted text describes, with the settings that are asked of it
 abbrev pub described : Equipment → DeviceRow → List ℕ → Result Equipment Refusal
-described found row text = entries_of row.place row.node text >>= λ entries. Ok (with_device found row text entries)
+described found row text = entries_of row.place row.node text >>= λ entries. settings_asked row.node entries row.settings >>= λ settings. Ok (with_device found row text entries settings)
 
 -- the device of a row
 abbrev pub device_added : (List ℕ → Option (List ℕ)) → Equipment → DeviceRow → Result Equipment Refusal

@@ -3,6 +3,7 @@ pub mod Steps
 pub mod Sets
 pub mod Fixed
 pub mod Rates
+pub mod Asking
 pub mod Devices
 pub mod Texts
 pub mod Uses

@@ -1,6 +1,7 @@
 //! The devices of a network.
 
-ghost use Rattle.std.specs.Prelude.{◌≡◌, ◌≤◌, ◌↔◌, None, Ok, get_or, length};
+ghost use Rattle.std.specs.Prelude.{◌≡◌, ◌≤◌, ◌↔◌, IfOk, None, Ok, get_or, length};
+ghost use Rattle.cop_dict.specs.Dict.{initial};
 ghost use Rattle.std.specs.List.{Contains};
 ghost use Rattle.cop_frame.specs.declared.rates.Rate.{Rate};
 ghost use Rattle.cop_net.specs.Rates.{is_some_rate};
@@ -12,20 +13,23 @@ ghost use Rattle.cop_net.specs.declared.faults.Rule.TheVariants as rules;
 ghost use Rattle.cop_net.specs.declared.faults.PlanFault.TheVariants.{Refused};
 ghost use Rattle.cop_net.specs.Devices.{no_device, described, entries_of};
 
+use crate::asking::settings_asked;
 use crate::faults::{PlanFault, Refusal, Rule, Table};
 use crate::rates::{same, supported};
 use cop_dict::{Blueprint, Dictionary};
 use cop_eds::EdsFault;
 use cop_frame::RateSet;
 use cop_rows::DeviceRow;
+use cop_setup::SettingList;
 use std::alloc::Global;
 use std::marker::Model;
 
-/// A device: the record of its row, and its dictionary.
+/// A device: the record of its row, its dictionary, and the settings that are asked of it.
 #[derive(Drop)]
 pub struct Device {
     pub place: u64,
     pub dictionary: Dictionary,
+    pub settings: SettingList,
 }
 
 /// The devices by their nodes, and the candidates: the rates that are wanted and that all of them support.
@@ -65,7 +69,8 @@ fn dictionary_of(
     blueprint: &Blueprint<'_>,
     row: &DeviceRow,
 ) -> Result<Dictionary, PlanFault>
-    ensures { Gives (λ d. d) refusal result (entries_of row.now.place row.now.node blueprint.now) }
+    ensures value { Gives (λ d. d) refusal result (entries_of row.now.place row.now.node blueprint.now) }
+    ensures stays { IfOk result (λ d. initial d ≡ d) }
 {
     match blueprint.dictionary(alloc, row.node) {
         Ok(dictionary) => Ok(dictionary),
@@ -99,10 +104,12 @@ impl Devices {
         requires { row.now.node ≤ 127 }
         ensures { Gives (λ _. self.new) refusal result (described self.old row.now blueprint.now) }
     {
-        let dictionary = dictionary_of(alloc, blueprint, row)?;
+        let mut dictionary = dictionary_of(alloc, blueprint, row)?;
+        let settings = settings_asked(alloc, &mut dictionary, row)?;
         self.devices[usize::from(row.node)] = Some(Device {
             place: row.place,
             dictionary,
+            settings,
         });
         self.rates = supported(&self.rates, blueprint.eds());
         Ok(())

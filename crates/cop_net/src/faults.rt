@@ -6,6 +6,7 @@ ghost use Rattle.cop_net.specs.Faults.{number_of_rule};
 
 use cop_dict::{Direction, MappingFault};
 use cop_rows::Consumer;
+use cop_setup::AskFault;
 use std::alloc::{AllocError, AllocFailed};
 use thiserror::Error;
 
@@ -14,6 +15,7 @@ use thiserror::Error;
 pub enum Table {
     Nodes,
     Pdos,
+    Settings,
 }
 
 /// What keeps a TPDO from being sent by SYNC, or by events.
@@ -75,6 +77,8 @@ pub enum Rule {
     Heartbeat,
     /// No rate is supported by all devices.
     NoRate,
+    /// The device does not have the value that is asked of the object at this index and sub.
+    Asked(u16, u8, AskFault),
 }
 
 impl Rule {
@@ -93,6 +97,8 @@ impl Rule {
             Rule::StaysOn(_) => 50,
             Rule::Heartbeat => 51,
             Rule::NoRate => 52,
+            Rule::Asked(_, _, AskFault::Aborted(_)) => 54,
+            Rule::Asked(_, _, _) => 55,
         }
     }
 }

@@ -2,6 +2,7 @@
 //! and the streams of its bus.
 #![tactic(auto)]
 
+mod asking;
 mod devices;
 mod eds_files;
 mod equipping;
@@ -22,9 +23,10 @@ mod uses;
 pub use cop_rows::{
     Consumer, Consumers, DeviceRow, FrameKind, FrameRow, Name, NodeTable, PdoRow, PdoTable,
 };
+pub use cop_setup::{AskFault, Setting};
 pub use eds_files::EdsFiles;
 pub use faults::{DevicePdo, PlanFault, ReceiveFault, Refusal, Rule, SyncFault, Table};
 pub use making::{network, network_of_files};
 pub use networks::Network;
 pub use rates::all_rates;
-pub use tables::{read_nodes, read_pdos};
+pub use tables::{read_nodes, read_pdos, read_settings};

@@ -1,8 +1,8 @@
 //! A network.
 
-ghost use Rattle.std.specs.Prelude.{◌≡◌, ◌≤◌, ◌↔◌, None, length, get_or};
+ghost use Rattle.std.specs.Prelude.{◌≡◌, ◌≤◌, ◌↔◌, None, [], length, get_or};
 ghost use Rattle.std.specs.List.{Contains};
-ghost use Rattle.std.specs.Option.{option_copied, option_map};
+ghost use Rattle.std.specs.Option.{option_copied, option_map, option_map_or};
 ghost use Rattle.cop_frame.specs.declared.rates.Rate.{Rate};
 ghost use Rattle.cop_net.specs.Heartbeats.{heartbeat_of};
 ghost use Rattle.cop_net.specs.Network.{IsNetwork};
@@ -13,6 +13,7 @@ use cop_dict::Dictionary;
 use cop_frame::RateSet;
 use cop_rows::{DeviceRow, NodeTable, PdoRow, PdoTable};
 use cop_rta::StreamSet;
+use cop_setup::Setting;
 use std::marker::Model;
 
 /// A network: the tables, the dictionary of each device, the candidates, and the streams.
@@ -92,6 +93,16 @@ impl<'a> Network<'a> {
         match self.devices.device(node) {
             Some(device) => Some(&device.dictionary),
             None => None,
+        }
+    }
+
+    /// The settings that are asked of a node's device, in their order: none, if there is no device.
+    pub fn settings(&self, node: u8) -> &[Setting]
+        ensures { result.now ≡ option_map_or (λ device. device.settings) (get_or self.now.equipment.devices node None) [] }
+    {
+        match self.devices.device(node) {
+            Some(device) => device.settings.as_slice(),
+            None => &[],
         }
     }
 }

@@ -4,7 +4,8 @@ ghost use Rattle.std.specs.Prelude.{◌≡◌};
 ghost use Rattle.cop_table.specs.Reading.{Gives};
 ghost use Rattle.cop_rows.specs.NodeReading.{nodes_of};
 ghost use Rattle.cop_rows.specs.PdoReading.{pdos_of};
-ghost use Rattle.cop_net.specs.declared.faults.Table.TheVariants.{Nodes, Pdos};
+ghost use Rattle.cop_rows.specs.SettingReading.{with_settings};
+ghost use Rattle.cop_net.specs.declared.faults.Table.TheVariants.{Nodes, Pdos, Settings};
 ghost use Rattle.cop_net.specs.declared.faults.Rule.TheVariants as rules;
 ghost use Rattle.cop_net.specs.declared.faults.PlanFault.TheVariants.{Refused};
 ghost use Rattle.cop_net.specs.Faults.{refusal};
@@ -44,6 +45,18 @@ pub fn read_pdos(alloc: Global, bytes: &[u8]) -> Result<PdoTable, PlanFault>
     match cop_rows::read_pdos(alloc, bytes) {
         Ok(table) => Ok(table),
         Err(RowFault::Refused(refusal)) => Err(refused(Table::Pdos, refusal)),
+        Err(RowFault::Memory) => Err(PlanFault::Memory),
+    }
+}
+
+/// The table of nodes with the values that a table of settings asks of its devices: its first record that breaks a rule counts, and of
+/// its rules the one of least number.
+pub fn read_settings(alloc: Global, nodes: NodeTable, bytes: &[u8]) -> Result<NodeTable, PlanFault>
+    ensures { Gives (λ table. table) refusal result (in_table Settings (with_settings nodes bytes.now)) }
+{
+    match cop_rows::read_settings(alloc, nodes, bytes) {
+        Ok(table) => Ok(table),
+        Err(RowFault::Refused(refusal)) => Err(refused(Table::Settings, refusal)),
         Err(RowFault::Memory) => Err(PlanFault::Memory),
     }
 }

@@ -4,6 +4,6 @@
 mod orders;
 
 pub use orders::{
-    Format, MOST_UNTIL, MachineOrder, NetworkFiles, Order, PlanOrder, Rates, Request, Shown,
-    TidyChoices, TidyOrder, VerifyOrder, WatchOrder,
+    Format, MOST_UNTIL, MachineOrder, NetworkFiles, NmtOrder, Order, PlanOrder, Rates, Request,
+    ScanOrder, Shown, TidyChoices, TidyOrder, VerifyOrder, WatchOrder,
 };

@@ -1,5 +1,6 @@
 //! What the command line asks for.
 
+use cop_command::Command;
 use cop_eds::Access;
 use cop_engine::rate_of;
 use cop_frame::{Rate, RateSet};
@@ -42,11 +43,13 @@ impl Rates {
     }
 }
 
-/// The names of the two tables of a network, and what is asked of its plan. The EDS files lie beside the table of nodes.
+/// The names of the tables of a network, and what is asked of its plan. The EDS files lie beside the table of nodes.
 #[derive(Clone, Copy)]
 pub struct NetworkFiles<'a> {
     pub nodes: &'a str,
     pub pdos: &'a str,
+    /// The table of settings, if there is one.
+    pub setup: Option<&'a str>,
     pub rates: Rates,
     pub choice: Choice,
 }
@@ -84,6 +87,8 @@ pub struct MachineOrder<'a> {
     pub watch: Option<u64>,
     /// After how many seconds the port is given up, if it ever is.
     pub limit: Option<u64>,
+    /// The file that the page of the boot is written to, if one is wanted.
+    pub report: Option<&'a str>,
 }
 
 /// The devices at the adapter of a port, which are asked whether they are as their network is planned.
@@ -93,6 +98,33 @@ pub struct VerifyOrder<'a> {
     pub port: &'a str,
     /// The node that is asked alone. Otherwise all are.
     pub only: Option<u8>,
+    /// For how many milliseconds nothing is sent before each question.
+    pub gently: u64,
+    /// After how many seconds the port is given up, if it ever is.
+    pub limit: Option<u64>,
+}
+
+/// An NMT command to nodes at the adapter of a port.
+#[derive(Clone, Copy)]
+pub struct NmtOrder<'a> {
+    pub port: &'a str,
+    /// The bus's rate.
+    pub rate: Rate,
+    pub command: Command,
+    /// The node that it is sent to alone. Otherwise all get it.
+    pub only: Option<u8>,
+    /// After how many seconds the port is given up, if it ever is.
+    pub limit: Option<u64>,
+}
+
+/// The question who is on the bus behind the adapter of a port.
+#[derive(Clone, Copy)]
+pub struct ScanOrder<'a> {
+    pub port: &'a str,
+    /// The bus's rate.
+    pub rate: Rate,
+    /// The greatest node that is asked. All from 1 on are.
+    pub up_to: u8,
     /// For how many milliseconds nothing is sent before each question.
     pub gently: u64,
     /// After how many seconds the port is given up, if it ever is.
@@ -182,6 +214,10 @@ pub enum Order<'a> {
     Machine(MachineOrder<'a>),
     /// The question whether the devices at a port are as their network is planned.
     Verify(VerifyOrder<'a>),
+    /// An NMT command to nodes at a port.
+    Nmt(NmtOrder<'a>),
+    /// The question who is on the bus behind a port.
+    Scan(ScanOrder<'a>),
     /// The judgement of a trace by the plan of a network.
     Judge {
         network: NetworkFiles<'a>,

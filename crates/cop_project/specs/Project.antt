@@ -18,12 +18,13 @@ use Rattle.cop_project.specs.declared.project.Project.{Project}
 pub record Says : Type 0 where
   pub nodes : List ℕ
   pub pdos : List ℕ
+  pub setup : Option (List ℕ)
   pub rates : List Rate
   pub choice : Choice
 
 -- what a project that was read says
 abbrev pub says : Project → Says
-says p = record { nodes = string_bytes p.nodes; pdos = string_bytes p.pdos; rates = p.rates.items; choice = p.choice }
+says p = record { nodes = string_bytes p.nodes; pdos = string_bytes p.pdos; setup = option_map string_bytes p.setup; rates = p.rates.items; choice = p.choice }
 
 infixl 10 ◌>>=◌
 abbrev ◌>>=◌ : {A B E : Type 0} → Result A E → (A → Result B E) → Result B E
@@ -33,7 +34,7 @@ Err e >>= f = Err e
 -- ---- keys
 
 abbrev pub is_key : List ℕ → Bool
-is_key k = bytes_eq k (codes "nodes") || (bytes_eq k (codes "pdos") || (bytes_eq k (codes "rates") || bytes_eq k (codes "choice")))
+is_key k = bytes_eq k (codes "nodes") || (bytes_eq k (codes "pdos") || (bytes_eq k (codes "setup") || (bytes_eq k (codes "rates") || bytes_eq k (codes "choice"))))
 
 -- the first key that is another one
 abbrev pub unknown_key : Members → Option (List ℕ)
@@ -56,6 +57,11 @@ name_in s = if is_name s then Ok s else Err Value
 -- the name at a key, which has to be there
 abbrev pub name_at : List ℕ → Members → Result (List ℕ) Rule
 name_at k ms = ok_or (option_and_then as_str (get_member k ms)) Key >>= name_in
+
+-- the name at a key that may be there
+abbrev pub name_of : Option Data → Result (Option (List ℕ)) Rule
+name_of None = Ok None
+name_of (Some d) = ok_or (as_str d) Key >>= (λ s. name_in s >>= (λ s. Ok (Some s)))
 
 -- ---- rates
 
@@ -111,9 +117,10 @@ unfoldable pub said_by : Members → Result Says Broken
 said_by ms =
     at_key (codes "nodes") (name_at (codes "nodes") ms) >>= (λ nodes.
     at_key (codes "pdos") (name_at (codes "pdos") ms) >>= (λ pdos.
+    at_key (codes "setup") (name_of (get_member (codes "setup") ms)) >>= (λ setup.
     at_key (codes "rates") (rates_of (get_member (codes "rates") ms)) >>= (λ rates.
     at_key (codes "choice") (choice_of (get_member (codes "choice") ms)) >>= (λ choice.
-    Ok (record { nodes = nodes; pdos = pdos; rates = rates; choice = choice })))))
+    Ok (record { nodes = nodes; pdos = pdos; setup = setup; rates = rates; choice = choice }))))))
 
 abbrev pub unless_unknown : Option (List ℕ) → Result Says Broken → Result Says Broken
 unless_unknown None said = said

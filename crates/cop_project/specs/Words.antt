@@ -1,5 +1,5 @@
 -- Which word of the command line names a project file, and the words that stand in its place.
-use Rattle.std.specs.Prelude.{ℕ, ◌+◌, ◌-◌, Bool, false, not, ◌&&◌, ◌||◌, ◌==◌, nat_le, nat_eq, List, [], ◌∷◌, ◌++◌, length, take, drop, map, codes, slice_index, slice_index_or, decimal, if◌then◌else◌, String}
+use Rattle.std.specs.Prelude.{ℕ, ◌+◌, ◌-◌, Bool, false, not, ◌&&◌, ◌||◌, ◌==◌, nat_le, nat_eq, List, [], ◌∷◌, ◌++◌, length, take, drop, map, codes, slice_index, slice_index_or, decimal, if◌then◌else◌, Option, Some, None, String}
 use Rattle.std.specs.List.{list_any, starts_with, ends_with}
 use Rattle.std.specs.Str.{bytes_eq}
 use Rattle.std.specs.String.{string_bytes}
@@ -57,7 +57,9 @@ names_project words i =
 
 -- a word that says what a project file says, too
 abbrev pub is_said : List ℕ → Bool
-is_said w = bytes_eq w (codes "--rates") || (bytes_eq w (codes "--margin") || (starts_with nat_eq w (codes "--rates=") || starts_with nat_eq w (codes "--margin=")))
+is_said w =
+    (bytes_eq w (codes "--rates") || (bytes_eq w (codes "--margin") || bytes_eq w (codes "--setup")))
+    || (starts_with nat_eq w (codes "--rates=") || (starts_with nat_eq w (codes "--margin=") || starts_with nat_eq w (codes "--setup=")))
 
 abbrev pub has_slash : List ℕ → Bool
 has_slash [] = false
@@ -88,9 +90,14 @@ choice_words Margin = codes "--margin" ∷ []
 abbrev pub rates_words : List Rate → List (List ℕ)
 rates_words rates = if length rates == 0 then [] else codes "--rates" ∷ (rates_text [] rates ∷ [])
 
+-- the table of settings, if one is named
+abbrev pub setup_words : List ℕ → Option (List ℕ) → List (List ℕ)
+setup_words named None = []
+setup_words named (Some setup) = codes "--setup" ∷ (beside named setup ∷ [])
+
 -- what a project file of a name stands for: the two tables, and the options
 abbrev pub project_words : List ℕ → Says → List (List ℕ)
-project_words named said = beside named said.nodes ∷ (beside named said.pdos ∷ (rates_words said.rates ++ choice_words said.choice))
+project_words named said = beside named said.nodes ∷ (beside named said.pdos ∷ (setup_words named said.setup ++ (rates_words said.rates ++ choice_words said.choice)))
 
 -- the words with those that the project file at a place stands for
 abbrev pub with_project : List (List ℕ) → ℕ → Says → List (List ℕ)

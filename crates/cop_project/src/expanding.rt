@@ -1,8 +1,8 @@
 //! The words that a project file stands for.
 
-ghost use Rattle.std.specs.Prelude.{◌≡◌, ◌<◌, ◌≤◌, ◌-◌, ◌++◌, ◌∷◌, [], length, take, slice_index, IfOk, OnOk, string_bytes};
+ghost use Rattle.std.specs.Prelude.{◌≡◌, ◌<◌, ◌≤◌, ◌-◌, ◌++◌, ◌∷◌, [], length, take, slice_index, IfOk, OnOk, option_copied, string_bytes};
 ghost use Rattle.cop_project.specs.Project.{says};
-ghost use Rattle.cop_project.specs.Words.{texts, folder_of, beside, with_rate, rates_text, choice_words, rates_words, project_words, with_project};
+ghost use Rattle.cop_project.specs.Words.{texts, folder_of, beside, with_rate, rates_text, setup_words, choice_words, rates_words, project_words, with_project};
 
 use crate::project::{Choice, Project};
 use crate::words::word_at;
@@ -88,6 +88,23 @@ fn push_words(alloc: Global, words: &mut Vec<String>, more: &[String]) -> Result
     Ok(())
 }
 
+/// Adds the table of settings, if one is named.
+fn push_setup(
+    alloc: Global,
+    words: &mut Vec<String>,
+    named: &str,
+    setup: Option<&str>,
+) -> Result<(), AllocError>
+    ensures { OnOk result (texts words.new.items ≡ texts words.old.items ++ setup_words named.now (option_copied setup.entry)) }
+{
+    let Some(setup) = setup else {
+        return Ok(());
+    };
+    push_word(alloc, words, "--setup")?;
+    let setup = beside(alloc, named, setup)?;
+    push_word(alloc, words, setup.as_str())
+}
+
 /// Adds the rates if some are listed.
 fn push_rates(alloc: Global, words: &mut Vec<String>, rates: &[Rate]) -> Result<(), AllocError>
     ensures { OnOk result (texts words.new.items ≡ texts words.old.items ++ rates_words rates.now) }
@@ -123,6 +140,7 @@ fn push_project(
     push_word(alloc, words, nodes.as_str())?;
     let pdos = beside(alloc, named, project.pdos.as_str())?;
     push_word(alloc, words, pdos.as_str())?;
+    push_setup(alloc, words, named, project.setup.as_deref())?;
     push_rates(alloc, words, project.rates.as_slice())?;
     push_choice(alloc, words, project.choice)
 }

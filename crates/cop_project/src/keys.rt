@@ -2,7 +2,7 @@
 
 ghost use Rattle.std.specs.Prelude.{◌≡◌, [], Some, Ok, Err, IfOk, IfErr, MatchResult, option_copied, option_map, option_and_then, string_bytes, codes};
 ghost use Rattle.std.specs.List.{list_any};
-ghost use Rattle.cop_project.specs.Project.{is_key, unknown_key, is_control, is_name, name_in, name_at, rate_of, rate_in, rates_from, rates_in, rates_of, choice_in, choice_of, project_in, said_by, says};
+ghost use Rattle.cop_project.specs.Project.{is_key, unknown_key, is_control, is_name, name_in, name_at, name_of, rate_of, rate_in, rates_from, rates_in, rates_of, choice_in, choice_of, project_in, said_by, says};
 ghost use Rattle.toml.specs.Data.{as_str, get_member};
 ghost use Rattle.toml.specs.View.{view, items_view, table_view};
 
@@ -14,7 +14,7 @@ use toml::{Table, Value};
 fn is_key(key: &str) -> bool
     ensures { result ≡ is_key key.now }
 {
-    key == "nodes" || (key == "pdos" || (key == "rates" || key == "choice"))
+    key == "nodes" || (key == "pdos" || (key == "setup" || (key == "rates" || key == "choice")))
 }
 
 /// The first key that is none of a project file.
@@ -82,6 +82,19 @@ fn name_at<'a>(table: &'a Table, key: &str) -> Result<&'a str, Rule>
 {
     match text_at(table, key) {
         Some(word) => name_in(word),
+        None => Err(Rule::Key),
+    }
+}
+
+/// The name at a key that may be there.
+fn name_of<'a>(table: &'a Table, key: &str) -> Result<Option<&'a str>, Rule>
+    ensures { MatchResult result (λ o. name_of (get_member key.now (table_view table.now)) ≡ Ok (option_copied o)) (λ rule. name_of (get_member key.now (table_view table.now)) ≡ Err rule) }
+{
+    let Some(value) = value_at(table, key) else {
+        return Ok(None);
+    };
+    match value.as_str() {
+        Some(word) => Ok(Some(name_in(word)?)),
         None => Err(Rule::Key),
     }
 }
@@ -167,6 +180,16 @@ fn choice_of(table: &Table) -> Result<Choice, Rule>
     }
 }
 
+/// A text of one's own, if there is one.
+fn copied(alloc: Global, text: Option<&str>) -> Result<Option<String>, AllocError>
+    ensures { IfOk result (λ o. option_map string_bytes o ≡ option_copied text.entry) }
+{
+    match text {
+        Some(text) => Ok(Some(String::from_str(alloc, text)?)),
+        None => Ok(None),
+    }
+}
+
 /// A rule, and the key that breaks it.
 #[derive(Clone, Copy, Debug)]
 pub(crate) struct Broken<'a> {
@@ -187,6 +210,10 @@ fn said_by<'a>(alloc: Global, table: &'a Table) -> Result<Result<Project, Broken
         Ok(name) => name,
         Err(rule) => return Ok(Err(Broken { rule, key: "pdos" })),
     };
+    let setup = match name_of(table, "setup") {
+        Ok(name) => name,
+        Err(rule) => return Ok(Err(Broken { rule, key: "setup" })),
+    };
     let rates = match rates_of(alloc, table)? {
         Ok(rates) => rates,
         Err(rule) => return Ok(Err(Broken { rule, key: "rates" })),
@@ -201,6 +228,7 @@ fn said_by<'a>(alloc: Global, table: &'a Table) -> Result<Result<Project, Broken
     Ok(Ok(Project {
         nodes: String::from_str(alloc, nodes)?,
         pdos: String::from_str(alloc, pdos)?,
+        setup: copied(alloc, setup)?,
         rates,
         choice,
     }))

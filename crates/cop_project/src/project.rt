@@ -19,6 +19,8 @@ pub struct Project {
     pub nodes: String,
     /// The table of PDOs, as the file names it.
     pub pdos: String,
+    /// The table of settings, as the file names it, if it does.
+    pub setup: Option<String>,
     /// The rates that the plan may have, in the order of the file; empty where it lists none, and all are meant.
     pub rates: Vec<Rate>,
     pub choice: Choice,

@@ -104,14 +104,15 @@ pub fn project_word(words: &[String]) -> Option<usize>
     None
 }
 
-/// Whether a word says what a project file says, too: the rates or the choice.
+/// Whether a word says what a project file says, too: the table of settings, the rates or the choice.
 fn is_said(word: &str) -> bool
     ensures { result ≡ is_said word.now }
 {
     let bytes = word.as_bytes();
-    word == "--rates"
-        || (word == "--margin"
-            || (bytes.starts_with(b"--rates=") || bytes.starts_with(b"--margin=")))
+    let is_name = word == "--rates" || (word == "--margin" || word == "--setup");
+    let has_value = bytes.starts_with(b"--rates=")
+        || (bytes.starts_with(b"--margin=") || bytes.starts_with(b"--setup="));
+    is_name || has_value
 }
 
 /// Whether some word says what a project file says, too.

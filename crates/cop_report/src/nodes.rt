@@ -3,7 +3,7 @@
 ghost use Rattle.std.specs.Prelude.{length};
 ghost use Rattle.cop_plan.specs.Plans.{IsPlan};
 
-use crate::units::{Escaped, Identifier};
+use crate::units::{Escaped, Identifier, Value};
 use cop_dcf::{Setting, settings};
 use cop_net::{DeviceRow, Network};
 use cop_plan::Plan;
@@ -12,7 +12,7 @@ use std::str;
 
 /// Whether a setting is that of a PDO's COB-ID.
 fn is_cob_id(setting: &Setting) -> bool {
-    setting.sub == 1
+    setting.sub == 1 && matches!(setting.index, 0x1400..=0x15FF | 0x1800..=0x19FF)
 }
 
 /// Whether a COB-ID switches its PDO off: its bit 31 is set.
@@ -23,7 +23,7 @@ fn is_off(setting: &Setting) -> bool {
 /// The kind and the number of the PDO with a communication record.
 fn pdo_of(index: u16) -> (&'static str, u16) {
     if index >= 0x1800 {
-        ("TPDO", index - 0x17FF)
+        ("TPDO", index.saturating_sub(0x17FF))
     } else {
         ("RPDO", index.saturating_sub(0x13FF))
     }
@@ -66,6 +66,16 @@ fn push_unused(page: &mut String, settings: &[Setting]) -> Result<(), AllocError
     Ok(())
 }
 
+/// Adds the values that the table of settings asks of a device.
+fn push_asked(page: &mut String, asked: &[Setting]) -> Result<(), AllocError> {
+    for setting in asked {
+        let value = Value(*setting);
+        let (index, sub) = (setting.index, setting.sub);
+        write!(page, "<li>{index:04X}h sub {sub} is set to {value}</li>\n")?;
+    }
+    Ok(())
+}
+
 /// Adds the time of a heartbeat.
 fn push_heartbeat(page: &mut String, time: u16) -> Result<(), AllocError> {
     if time == 0 {
@@ -80,7 +90,7 @@ fn push_device(
     page: &mut String,
     row: &DeviceRow,
     settings: &[Setting],
-    heartbeat: u16,
+    network: &Network<'_>,
 ) -> Result<(), AllocError> {
     let name = Escaped(str::from_utf8(row.name.as_bytes()).unwrap_or("?"));
     let eds = Escaped(str::from_utf8(row.eds.as_bytes()).unwrap_or("?"));
@@ -91,7 +101,8 @@ fn push_device(
     )?;
     push_used(page, settings)?;
     push_unused(page, settings)?;
-    push_heartbeat(page, heartbeat)?;
+    push_asked(page, network.settings(node))?;
+    push_heartbeat(page, network.heartbeat(node))?;
     page.push_str("</ul>\n</article>\n")
 }
 
@@ -109,7 +120,7 @@ pub(crate) fn push_nodes(
     )?;
     for row in network.devices() {
         let settings = settings(alloc, plan, network, row.node)?;
-        push_device(page, row, &settings, network.heartbeat(row.node))?;
+        push_device(page, row, &settings, network)?;
     }
     page.push_str("</div>\n</section>\n")
 }

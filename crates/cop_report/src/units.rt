@@ -1,5 +1,6 @@
 //! How values are shown on a page.
 
+use cop_dcf::{Setting, Width};
 use std::fmt;
 
 /// A text in which no character is markup.
@@ -99,5 +100,20 @@ impl fmt::Display for Count<'_> {
         let (number, thing) = (self.number, self.thing);
         let plural = if number == 1 { "" } else { "s" };
         write!(f, "{number} {thing}{plural}")
+    }
+}
+
+/// The value of a setting, with as many hexadecimal digits as it is wide.
+#[derive(Clone, Copy, Debug)]
+pub(crate) struct Value(pub Setting);
+
+impl fmt::Display for Value {
+    fn fmt<W: fmt::Write>(&self, f: &mut fmt::Formatter<W>) -> fmt::Result {
+        let value = self.0.value;
+        match self.0.width {
+            Width::One => write!(f, "{value:02X}h"),
+            Width::Two => write!(f, "{value:04X}h"),
+            Width::Four => write!(f, "{value:08X}h"),
+        }
     }
 }

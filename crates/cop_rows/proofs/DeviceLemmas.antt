@@ -39,8 +39,9 @@ lacks_none devices (f ∷ frames) h =
 pub table : (lists : NodeLists) → IsNodeRows lists → first_lacking lists.devices lists.frames ≡ None → length lists.devices ≢ 0 → IsNodeTable lists
 table lists h none some = record {
   some_device = omega (arith, some);
-  nodes = h.nodes;
+  nodes = λ k d lt. ((h.nodes k d lt).node_least, (h.nodes k d lt).node_most);
   one_device = h.one_device;
+  settings = λ k d lt. (h.nodes k d lt).settings;
   frames = λ k d lt.
       let f = h.frames k d lt in
       record {

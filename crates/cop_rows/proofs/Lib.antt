@@ -5,3 +5,4 @@ pub mod NamedLemmas
 pub mod LackingLemmas
 pub mod RowsKept
 pub mod DeviceLemmas
+pub mod SettingLemmas

@@ -51,7 +51,7 @@ pub kept_device : (flags : List Bool) (lists : NodeLists) (d : DeviceRow) (devic
     → IsNodeRows lists → KnowsRows flags lists → IsDeviceRow d → get_or flags d.node false ≡ false
     → IsNodeRows (record { devices = devices; frames = lists.frames }) × KnowsRows (set flags d.node true) (record { devices = devices; frames = lists.frames })
 kept_device flags lists d devices e h knows is free =
-    let new : has_device lists.devices d.node ≡ false = sym (knows.devices d.node is.1) ∙ free in rw e (
+    let new : has_device lists.devices d.node ≡ false = sym (knows.devices d.node is.node_most) ∙ free in rw e (
       record {
         nodes = All-push IsDeviceRow lists.devices d h.nodes is;
         one_device = all_pairs_push (λ d e. d.node ≢ e.node) lists.devices d h.one_device
@@ -62,11 +62,11 @@ kept_device flags lists d devices e h knows is free =
       record {
         size = length-set flags d.node true ∙ knows.size;
         devices = λ node high. ⊎_elim
-            (λ (same : d.node ≡ node). rw (← same) (get_or-set_same flags d.node true false (omega (arith, knows.size, is.1)) ∙ sym (found_last (λ x. x.node == d.node) lists.devices d (eq-eqb d.node d.node refl))))
+            (λ (same : d.node ≡ node). rw (← same) (get_or-set_same flags d.node true false (omega (arith, knows.size, is.node_most)) ∙ sym (found_last (λ x. x.node == d.node) lists.devices d (eq-eqb d.node d.node refl))))
             (λ (other : d.node ≢ node). get_or-set_other flags d.node node true false (λ e. other (sym e)) ∙ knows.devices node high ∙ sym (not_last (λ x. x.node == node) lists.devices d (ne_eqb d.node node other)))
             (cases_eq d.node node);
         frames = λ kind node high.
-            get_or-set_other flags d.node (flag_of kind node) true false (λ e. omega (arith, number_least kind, is.1, e)) ∙ knows.frames kind node high;
+            get_or-set_other flags d.node (flag_of kind node) true false (λ e. omega (arith, number_least kind, is.node_most, e)) ∙ knows.frames kind node high;
       },
     )
 

@@ -7,3 +7,5 @@ pub mod Nodes
 pub mod PdoReading
 pub mod Pdos
 pub mod Refusals
+pub mod SettingReading
+pub mod SettingRows

@@ -96,7 +96,7 @@ device_in place row = do
   no_deadline ← no_text columns.Deadline (field row 6)
   name ← name_of columns.Name (field row 2)
   eds ← name_of columns.Eds (field row 3)
-  Ok (record { place = place; node = node; name = name; eds = eds })
+  Ok (record { place = place; node = node; name = name; eds = eds; settings = [] })
 
 -- the row's word is one of those
 abbrev pub or_word : {A : Type 0} → Option A → Result A Rule

@@ -8,9 +8,13 @@ use Rattle.cop_rows.specs.declared.node_rows.Row.{Row}
 use Rattle.cop_rows.specs.declared.node_rows.Row.TheVariants as variants
 use Rattle.cop_rows.specs.NodeReading.{has_node, has_device, has_frame, number_of_kind}
 use Rattle.cop_rows.specs.Nodes.{NodeLists, IsFrameDeadline}
+use Rattle.cop_rows.specs.SettingRows.{AreSettingRows}
 
-abbrev pub IsDeviceRow : DeviceRow → Type 0
-IsDeviceRow d = (1 ≤ d.node) × (d.node ≤ 127)
+-- the ranges of a device's row
+pub record IsDeviceRow (d : DeviceRow) : Type 0 where
+  pub node_least : 1 ≤ d.node
+  pub node_most : d.node ≤ 127
+  pub settings : AreSettingRows d.settings
 
 -- the ranges of a frame's row: its times are in microseconds
 pub record IsFrameRow (f : FrameRow) : Type 0 where

@@ -4,6 +4,7 @@ use Rattle.std.specs.List.{Any}
 use Rattle.cop_rows.specs.declared.node_table.DeviceRow.{DeviceRow}
 use Rattle.cop_rows.specs.declared.node_table.FrameRow.{FrameRow}
 use Rattle.cop_rows.specs.declared.node_table.FrameKind.{FrameKind}
+use Rattle.cop_rows.specs.SettingRows.{AreSettingRows}
 use Rattle.cop_rows.specs.declared.node_table.FrameKind.TheVariants.{Nmt, Sync, Emcy, SdoResponse, SdoRequest, Heartbeat}
 
 -- the device rows and the other rows, each in the order of their records
@@ -53,5 +54,6 @@ pub record IsNodeTable (table : NodeLists) : Type 0 where
   pub some_device : 1 ≤ length table.devices
   pub nodes : All (λ d. (1 ≤ d.node) × (d.node ≤ 127)) table.devices
   pub one_device : AllPairs (λ d e. d.node ≢ e.node) table.devices
+  pub settings : All (λ d. AreSettingRows d.settings) table.devices
   pub frames : All (IsFrame table.devices) table.frames
   pub one_row : AllPairs (λ f g. f.kind ≡ g.kind → f.node ≢ g.node) table.frames

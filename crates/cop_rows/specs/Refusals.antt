@@ -16,6 +16,7 @@ number_of_rule rules.RowRepeated = 42
 number_of_rule rules.NoDevice = 42
 number_of_rule rules.PdoRepeated = 44
 number_of_rule rules.Full = 49
+number_of_rule rules.NotSettable = 57
 
 -- a fault's refusal, which want of memory has not
 abbrev pub refusal : RowFault → Option Refusal

@@ -1,4 +1,4 @@
-//! The tables of a network: its nodes and its PDOs.
+//! The tables of a network: its nodes, its PDOs, and the settings that are asked of its devices.
 #![tactic(auto)]
 
 mod fields;
@@ -10,6 +10,8 @@ mod pdo_rows;
 mod pdo_table;
 mod pdos;
 mod refusals;
+mod setting_rows;
+mod settings;
 
 pub use names::Name;
 pub use node_table::{DeviceRow, FrameKind, FrameRow, NodeTable};
@@ -17,3 +19,5 @@ pub use nodes::read_nodes;
 pub use pdo_table::{Consumer, Consumers, PdoRow, PdoTable};
 pub use pdos::read_pdos;
 pub use refusals::{Column, Refusal, RowFault, Rule};
+pub use setting_rows::{SettingRow, SettingRows};
+pub use settings::read_settings;

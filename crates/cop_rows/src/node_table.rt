@@ -1,18 +1,27 @@
 //! The table of nodes.
 
-ghost use Rattle.std.specs.Prelude.{◌≡◌};
+ghost use Rattle.std.specs.Prelude.{◌≡◌, ◌<◌, ◌==◌, IfSome, length};
+ghost use Rattle.std.specs.List.{position};
+ghost use Rattle.cop_table.specs.Reading.{Gives};
+ghost use Rattle.cop_rows.specs.Refusals.{broken};
+ghost use Rattle.cop_rows.specs.SettingReading.{with_asked, asked_in};
+ghost use Rattle.cop_rows.specs.SettingRows.{is_settable, AreSettingRows};
 
 use crate::names::Name;
+use crate::refusals::{RecordFault, Rule};
+use crate::setting_rows::{SettingRow, SettingRows};
+use crate::settings::Asked;
 use std::marker::Model;
 
-/// The row of a device. `place` is its record, from 1 on.
-#[derive(Clone, Drop)]
+/// The row of a device, with the values that a table of settings asks of it. `place` is its record, from 1 on.
+#[derive(Drop)]
 pub struct DeviceRow {
     pub place: u64,
     pub node: u8,
     pub name: Name,
     /// The name of the device's EDS file.
     pub eds: Name,
+    pub settings: SettingRows,
 }
 
 /// What a frame of fixed identifier is.
@@ -45,6 +54,33 @@ pub struct NodeTable {
     pub(crate) frames: Vec<FrameRow>,
 }
 
+/// Whether a row may ask for the value of an object: error behaviour, and all that are not in the communication profile area.
+fn is_settable(index: u16) -> bool
+    ensures { result ≡ is_settable index }
+{
+    index >= 0x2000 || index == 0x1029
+}
+
+/// The place of a node's row.
+fn place_of(devices: &[DeviceRow], node: u8) -> Option<usize>
+    ensures place { result ≡ position (λ d. d.node == node) devices.now }
+    ensures within { IfSome result (λ place. place < length devices.now) }
+{
+    devices.iter().position(|row| row.node == node)
+}
+
+/// Asks a value of a device.
+fn ask_device(device: &mut DeviceRow, row: SettingRow) -> Result<(), RecordFault>
+    ensures value { Gives (λ _. device.new) broken result (with_asked device.old row) }
+    ensures others { device.new ≡ record device.old { settings = device.new.settings } }
+    ensures apart { AreSettingRows device.old.settings → AreSettingRows device.new.settings }
+{
+    if !is_settable(row.index) {
+        return Err(RecordFault::Broken(Rule::NotSettable));
+    }
+    device.settings.push(row)
+}
+
 impl Model for NodeTable {
     ghost use Rattle.cop_rows.specs.Nodes.{NodeLists, IsNodeTable};
 
@@ -72,5 +108,15 @@ impl NodeTable {
         ensures table { IsNodeTable self.now }
     {
         &self.frames
+    }
+
+    /// Asks a value of a device, if its object may be set and no earlier row has it.
+    pub(crate) fn ask(&mut self, asked: Asked) -> Result<(), RecordFault>
+        ensures { Gives (λ _. self.new) broken result (asked_in self.old asked) }
+    {
+        match place_of(&self.devices, asked.node) {
+            Some(place) => ask_device(&mut self.devices[place], asked.row),
+            None => Err(RecordFault::Broken(Rule::NoDevice)),
+        }
     }
 }

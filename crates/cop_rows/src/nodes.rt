@@ -14,6 +14,7 @@ use crate::names::Name;
 use crate::node_rows::{NodeRows, Row, has_node};
 use crate::node_table::{DeviceRow, FrameKind, FrameRow, NodeTable};
 use crate::refusals::{Column, RecordFault, Refusal, RowFault, Rule};
+use crate::setting_rows::SettingRows;
 use cop_table::{Record, Records, TableError, under_one_of};
 use std::alloc::Global;
 
@@ -172,6 +173,7 @@ fn device_in(alloc: Global, place: u64, row: &Record) -> Result<DeviceRow, Recor
         node: node as u8,
         name,
         eds,
+        settings: SettingRows::new(alloc),
     })
 }
 

@@ -5,7 +5,7 @@ ghost use Rattle.cop_rows.specs.declared.refusals.RowFault.TheVariants.{Memory};
 ghost use Rattle.cop_rows.specs.declared.refusals.RecordFault.TheVariants as records;
 ghost use Rattle.cop_rows.specs.Refusals.{number_of_rule, fault_at};
 
-use std::alloc::AllocError;
+use std::alloc::{AllocError, AllocFailed};
 use thiserror::Error;
 
 /// A column of a table, by the name in its header.
@@ -20,6 +20,8 @@ pub enum Column {
     Jitter,
     Deadline,
     Consumers,
+    Object,
+    Value,
 }
 
 /// The rule that a table breaks.
@@ -39,6 +41,8 @@ pub enum Rule {
     PdoRepeated,
     /// There are more than 512 PDOs.
     Full,
+    /// The value of an object is asked that the plan sets, or that says what a device sends and hears.
+    NotSettable,
 }
 
 impl Rule {
@@ -52,6 +56,7 @@ impl Rule {
             Rule::RowRepeated | Rule::NoDevice => 42,
             Rule::PdoRepeated => 44,
             Rule::Full => 49,
+            Rule::NotSettable => 57,
         }
     }
 }
@@ -91,6 +96,14 @@ impl From<AllocError> for RecordFault {
     ghost from_gives = { λ _ fault. fault ≡ records.Memory };
 
     fn from(_error: AllocError) -> RecordFault {
+        RecordFault::Memory
+    }
+}
+
+impl<T: Drop> From<AllocFailed<T>> for RecordFault {
+    ghost from_gives = { λ _ fault. fault ≡ records.Memory };
+
+    fn from(_error: AllocFailed<T>) -> RecordFault {
         RecordFault::Memory
     }
 }

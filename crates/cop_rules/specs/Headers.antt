@@ -2,8 +2,9 @@
 use Rattle.std.specs.Prelude.{ℕ, List, [], ◌∷◌, ◌++◌, codes}
 use Rattle.cop_rows.specs.NodeReading as nodes
 use Rattle.cop_rows.specs.PdoReading as pdos
+use Rattle.cop_rows.specs.SettingReading as settings
 use Rattle.cop_net.specs.declared.faults.Table.{Table}
-use Rattle.cop_net.specs.declared.faults.Table.TheVariants.{Nodes, Pdos}
+use Rattle.cop_net.specs.declared.faults.Table.TheVariants.{Nodes, Pdos, Settings}
 
 -- fields with commas between them
 abbrev pub with_commas : List (List ℕ) → List ℕ
@@ -15,6 +16,7 @@ with_commas (field ∷ next ∷ fields) = field ++ (codes "," ++ with_commas (ne
 abbrev pub header_of : Table → List ℕ
 header_of Nodes = with_commas nodes.header
 header_of Pdos = with_commas pdos.header
+header_of Settings = with_commas settings.header
 
 -- the header of the table of nodes with deadlines of SDO frames
 abbrev pub header_with_deadline : List ℕ

@@ -13,6 +13,7 @@ pub fn header(table: Table) -> &'static str
     match table {
         Table::Nodes => "row,node,name,eds,period,jitter",
         Table::Pdos => "node,tpdo,period,jitter,deadline,consumers",
+        Table::Settings => "row,node,object,value",
     }
 }
 
@@ -35,6 +36,8 @@ pub fn name_of(column: Column) -> &'static str {
         Column::Jitter => "jitter",
         Column::Deadline => "deadline",
         Column::Consumers => "consumers",
+        Column::Object => "object",
+        Column::Value => "value",
     }
 }
 
@@ -71,10 +74,22 @@ fn wanted_of_pdos(column: Column) -> &'static str {
     }
 }
 
+fn wanted_of_settings(column: Column) -> &'static str {
+    match column {
+        Column::Row => "set",
+        Column::Node => "1 to 127",
+        Column::Object => {
+            "four hexadecimal digits of an index, and behind a dot one or two of a sub, such as 6065 or 2100.1"
+        }
+        _ => "a number as EDS files have it: 2000, -3, 0xFFFB or $NODEID+0x80",
+    }
+}
+
 /// What a column of a table wants. Numbers have 1 to 10 decimal digits.
 pub fn wanted(table: Table, column: Column) -> &'static str {
     match table {
         Table::Nodes => wanted_of_nodes(column),
         Table::Pdos => wanted_of_pdos(column),
+        Table::Settings => wanted_of_settings(column),
     }
 }

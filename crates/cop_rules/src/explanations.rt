@@ -19,7 +19,8 @@ const STREAMS_HEADER: &str = "id,bytes,period,jitter,deadline";
 
 const TRACE_HEADER: &str = "kind,moment,id,event,bits,data";
 
-static EXPLANATIONS: [Explanation; 50] = [
+/// Of tables of streams, EDS texts, mappings and files of refusals.
+static OF_TEXTS: [Explanation; 26] = [
     Explanation {
         number: 1,
         rule: "the table of streams begins with another header, or with none",
@@ -176,11 +177,15 @@ static EXPLANATIONS: [Explanation; 50] = [
         cause: "evidence that was not written by canplan",
         right: "at most 200,000 numbers",
     },
+];
+
+/// Of networks and traces.
+static OF_NETWORKS: [Explanation; 27] = [
     Explanation {
         number: 40,
         rule: "the table begins with another header, or a record has another number of fields than its header",
         cause: "the two tables in the wrong order on the command line, or a missing comma",
-        right: "row,node,name,eds,period,jitter of nodes, with ,deadline behind it for SDO frames; node,tpdo,period,jitter,deadline,consumers of PDOs",
+        right: "row,node,name,eds,period,jitter of nodes, with ,deadline behind it for SDO frames; node,tpdo,period,jitter,deadline,consumers of PDOs; row,node,object,value of settings",
     },
     Explanation {
         number: 41,
@@ -259,6 +264,24 @@ static EXPLANATIONS: [Explanation; 50] = [
         rule: "the rows of the TPDO and of SYNC do not go with the TPDO's transmission type: by events (254 or 255) it has a period of its own; by SYNC (1 to 240) it has period 0, a row of SYNC has a period, so many of its periods are at most 60000000 microseconds, and SYNC's jitter and the PDO's together at most 40000000",
         cause: "a PDO that is sent by SYNC with a period of its own or without a row of SYNC, or one that is sent by events with period 0",
         right: "sync,0,,,10000,0 of nodes and 5,1,0,100,1620, of PDOs for type 1; 5,1,10000,0,670, for type 255",
+    },
+    Explanation {
+        number: 54,
+        rule: "the device does not take a value that the table of settings asks of it",
+        cause: "an object that nobody can write, or a value beyond the limits that the EDS file gives it",
+        right: "a value between LowLimit and HighLimit, of an object whose AccessType lets it be written",
+    },
+    Explanation {
+        number: 55,
+        rule: "a row of the table of settings asks a value of an object that the device does not have, or that its type does not have",
+        cause: "an index or a sub mistyped, a text or a REAL in place of a number, or a number beyond the type",
+        right: "set,5,6065,2000 or set,5,6060,-3: BOOLEAN, and integers of 1, 2 and 4 bytes, can be set",
+    },
+    Explanation {
+        number: 57,
+        rule: "a row of the table of settings names an object of 1000h to 1FFFh other than 1029h",
+        cause: "an identifier, a mapping, a heartbeat or SYNC, which a plan sets or relies on",
+        right: "set,5,2100,7; periods and heartbeats stand in the tables of nodes and PDOs",
     },
     Explanation {
         number: 60,
@@ -347,9 +370,12 @@ fn find(explanations: &'static [Explanation], number: u8) -> Option<&'static Exp
 }
 
 /// The explanation of a rule by its number: of each that a refusal can have, 1 to 6, 10 to 18, 20 to 23, 30 to 36, 40 to
-/// 53 and 60 to 69.
+/// 55, 57 and 60 to 69.
 pub fn explained(number: u8) -> Option<&'static Explanation>
     ensures { IfSome result (λ e. e.now.number ≡ number) }
 {
-    find(&EXPLANATIONS, number)
+    match find(&OF_TEXTS, number) {
+        Some(explanation) => Some(explanation),
+        None => find(&OF_NETWORKS, number),
+    }
 }

@@ -1,2 +1,5 @@
 pub mod Boots
+pub mod Commanding
+pub mod Reasons
+pub mod Scanning
 pub mod Verifying

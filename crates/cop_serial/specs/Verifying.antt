@@ -4,11 +4,10 @@ use Rattle.std.specs.Option.{option_map_or}
 use Rattle.cop_engine.specs.declared.faults.Fault.{Fault}
 use Rattle.cop_engine.specs.declared.faults.Fault.TheVariants.{Refused}
 use Rattle.cop_orders.specs.declared.orders.VerifyOrder.{VerifyOrder}
-use Rattle.cop_survey.specs.declared.reaching.Reason.{Reason}
-use Rattle.cop_survey.specs.declared.reaching.Reason.TheVariants.{Garbled, Erroneous, Unopened}
 use Rattle.cop_verify.specs.declared.verifying.Way.{Way}
 use Rattle.cop_verify.specs.declared.verifying.Verified.{Verified}
 use Rattle.cop_verify.specs.declared.verifying.Verified.TheVariants.{Asked, Left, Absent, NonePasses, Failed}
+use Rattle.cop_serial.specs.Reasons.{refused_for}
 
 -- the ticks of so many milliseconds, at most 2^64 - 1
 abbrev pub ticks_of_milliseconds : ℕ → ℕ
@@ -25,12 +24,6 @@ status_of NonePasses = Some 4
 status_of (Left reason at) = None
 status_of Absent = None
 status_of Failed = None
-
--- why nothing is sent is refused by the number of a rule, and a place
-abbrev pub refused_for : Reason → Fault
-refused_for (Garbled lines) = Refused 103 lines
-refused_for (Erroneous flags) = Refused 102 0
-refused_for (Unopened command) = Refused 104 0
 
 -- as what is refused what was found at the port: by the number of its rule, and a place
 abbrev pub refused_as : Option ℕ → Verified → Option Fault

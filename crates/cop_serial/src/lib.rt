@@ -1,13 +1,17 @@
-//! The boot of the devices at the port of a CAN adapter, and the question whether they are as planned. The port is a serial line, or standard
+//! The boot of the devices at the port of a CAN adapter, the questions whether they are as planned and who is there, and NMT commands to them. The port is a serial line, or standard
 //! streams in its place.
 #![tactic(auto)]
 
+mod commanding;
 mod heard;
 mod machines;
+mod scanning;
 mod serial;
 mod telling;
 mod verifying;
 
+pub use commanding::command_nodes;
 pub use machines::boot_machine;
+pub use scanning::scan_bus;
 pub use telling::answer;
 pub use verifying::verify_machine;

@@ -4,18 +4,20 @@ ghost use Rattle.std.specs.Prelude.{◌≡◌, IfOk, IfErr, Some};
 ghost use Rattle.cop_engine.specs.declared.faults.Fault.TheVariants.{Refused};
 ghost use Rattle.cop_serial.specs.Boots.{watch_of, approach_of, status_of, refused_as, FailsBy};
 
-use crate::serial::{Serial, open_serial};
+use crate::serial::{SECOND, Serial, limit_of, open_serial};
 use crate::telling::{
-    SECOND, answer, errors_refusal, line_failure, refusal, say, tell_adapter, tell_heard,
+    answer, emergencies_of, errors_refusal, line_failure, refusal, say, tell_adapter, tell_heard,
     unopened_refusal,
 };
 use cop_answers::{ABSENT, GARBLED, Inputs, RUNNING, boot_notes, identity_notes};
 use cop_boot_answer::BootAnswer;
-use cop_commission::{Approach, Commissioned, Reach, Runner, Watch, commission};
+use cop_commission::{Approach, Commissioned, Reach, Runner, Watch, commission_planned};
 use cop_documents::boot_document;
-use cop_engine::boot_text;
-use cop_files::{Failure, Form, Use, file_failure, read_network};
+use cop_engine::{PlannedNetwork, boot_text};
+use cop_files::{Failure, Form, Use, file_failure, read_network, write_file};
 use cop_orders::MachineOrder;
+use cop_plan::Outcome;
+use cop_report::{Sheet, sheet_of};
 use std::str;
 
 /// Gives the answer of a boot in a form, and that no rate passes where there is none.
@@ -128,6 +130,46 @@ fn tell_ended(
     }
 }
 
+/// What is told of the nodes at the end of a boot, if it came so far.
+fn answer_of(ended: &Commissioned) -> Option<&BootAnswer> {
+    match ended {
+        Commissioned::Ended { answer, .. }
+        | Commissioned::Others { answer, .. }
+        | Commissioned::Unrestored { answer }
+        | Commissioned::Failed { answer } => Some(answer),
+        _ => None,
+    }
+}
+
+/// Writes the page of a boot, if one is wanted, and if there is something to tell of the nodes.
+fn write_sheet(
+    rt: &HostRuntime,
+    order: MachineOrder<'_>,
+    planned: &PlannedNetwork<'_>,
+    ended: &Commissioned,
+    port: &Serial<'_>,
+) -> Result<(), Failure> {
+    let Some(out) = order.report else {
+        return Ok(());
+    };
+    let Some(answer) = answer_of(ended) else {
+        return Ok(());
+    };
+    let (network, outcome) = planned.parts();
+    let Outcome::Planned(plan) = outcome else {
+        return Ok(());
+    };
+    let emergencies = emergencies_of(rt.alloc(), port)?;
+    let sheet = Sheet {
+        network,
+        plan,
+        answer,
+        emergencies: &emergencies,
+    };
+    let page = sheet_of(rt.alloc(), sheet)?;
+    write_file(rt, out, page.as_bytes())
+}
+
 /// What is said before a boot to a person who waits for it.
 fn said_before(order: MachineOrder<'_>) -> &'static str {
     match (order.take_over, order.identify) {
@@ -175,31 +217,21 @@ pub fn boot_machine(
     form: Form,
     inputs: &mut Inputs,
 ) -> Result<u8, Failure> {
-    let _tables = read_network(rt, &mut inputs.network, order.network)?;
-    let texts = &inputs.network;
-    let limit = match order.limit {
-        Some(seconds) => seconds.saturating_mul(SECOND),
-        None => u64::MAX,
-    };
-    let mut port = match open_serial(rt, order.port, limit) {
+    let tables = read_network(rt, &mut inputs.network, order.network)?;
+    let planned = inputs.network.planned(rt.alloc(), &tables)?;
+    let mut port = match open_serial(rt, order.port, limit_of(order.limit)) {
         Ok(port) => port,
         Err(error) => return Err(file_failure(rt, order.port, Use::Read, &error)),
     };
     if form == Form::Told {
         say(rt, said_before(order).as_bytes());
     }
-    let approach = approach_of(order);
-    let ended = commission(
-        rt.alloc(),
-        &texts.nodes,
-        &texts.pdos,
-        &texts.eds_files,
-        &texts.asked,
-        approach,
-        &mut port,
-    )?;
+    let ended = commission_planned(rt.alloc(), &planned, approach_of(order), &mut port)?;
     port.close_if_over();
     tell_adapter(rt, &port);
     tell_heard(rt, &port);
-    tell_ended(rt, order, form, &ended, &port)
+    let written = write_sheet(rt, order, &planned, &ended, &port);
+    let status = tell_ended(rt, order, form, &ended, &port)?;
+    written?;
+    Ok(status)
 }

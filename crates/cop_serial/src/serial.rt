@@ -11,6 +11,12 @@ use std::time::Instant;
 /// BEL, by which an adapter refuses a command.
 const BEL: u8 = 0x07;
 
+/// A second has so many ticks.
+pub(crate) const SECOND: u64 = 4_000_000;
+
+/// A millisecond has so many ticks.
+pub(crate) const MILLISECOND: u64 = 4_000;
+
 /// A tick is so many nanoseconds.
 const TICK: u128 = 250;
 
@@ -57,6 +63,14 @@ fn open_device(rt: &HostRuntime, name: &str) -> io::Result<File> {
             io::ErrorKind::InvalidInput,
             "it is no device file of a serial line, and nothing was written to it",
         ))
+    }
+}
+
+/// After how many ticks a line is given up that is after so many seconds, if it ever is.
+pub(crate) fn limit_of(seconds: Option<u64>) -> u64 {
+    match seconds {
+        Some(seconds) => seconds.saturating_mul(SECOND),
+        None => u64::MAX,
     }
 }
 

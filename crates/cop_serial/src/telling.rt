@@ -2,20 +2,20 @@
 
 ghost use Rattle.std.specs.Prelude.{◌≡◌};
 ghost use Rattle.cop_engine.specs.declared.faults.Fault.TheVariants.{Refused};
+ghost use Rattle.cop_serial.specs.Reasons.{refused_for};
 
 use crate::heard::{Emergency, NmtCommand};
 use crate::serial::Serial;
-use cop_answers::{ERRONEOUS, UNOPENED};
+use cop_answers::{ERRONEOUS, GARBLED, UNOPENED};
 use cop_commission::Command;
 use cop_engine::Fault;
 use cop_files::{Failure, Use, file_failure, print};
 use cop_frame::Rate;
+use cop_report as report;
 use cop_slcan::rate_digit;
+use cop_survey::Reason;
 use std::alloc::{AllocError, Global};
 use std::io::Write;
-
-/// A second has so many ticks.
-pub(crate) const SECOND: u64 = 4_000_000;
 
 /// Says something on standard error.
 pub(crate) fn say(rt: &HostRuntime, words: &[u8]) {
@@ -62,6 +62,25 @@ fn emergency_line(alloc: Global, node: u8, emergency: Emergency) -> Result<Strin
     format!(in alloc;
         "canplan: node {node} told an error by EMCY: code {code:04X}h ({kind}), error register {register:02X}h\n"
     )
+}
+
+/// The errors that devices told meanwhile, by node.
+pub(crate) fn emergencies_of(
+    alloc: Global,
+    port: &Serial<'_>,
+) -> Result<Vec<report::Emergency>, AllocError> {
+    let mut all = Vec::new(alloc);
+    for node in 1..128_u8 {
+        if let Some(told) = port.heard.emergency(node) {
+            all.push(report::Emergency {
+                node,
+                code: told.code,
+                register: told.register,
+                kind: told.kind(),
+            })?;
+        }
+    }
+    Ok(all)
 }
 
 /// What is said of another manager, by a command of its own.
@@ -118,6 +137,17 @@ pub(crate) fn unopened_refusal(rt: &HostRuntime, command: Command, rate: Rate) -
         Command::Open => format!(in rt.alloc(); "it refuses O, at {kbits} kbit/s\n"),
     };
     refusal(UNOPENED, 0, line.ok())
+}
+
+/// The refusal where nothing is sent at a rate.
+pub(crate) fn reason_refusal(rt: &HostRuntime, reason: Reason, rate: Rate) -> Failure
+    ensures { result.fault ≡ refused_for reason }
+{
+    match reason {
+        Reason::Garbled { lines } => refusal(GARBLED, lines, None),
+        Reason::Erroneous { flags } => errors_refusal(rt, flags, rate),
+        Reason::Unopened { command } => unopened_refusal(rt, command, rate),
+    }
 }
 
 /// The failure of a line that was opened.

@@ -2,24 +2,19 @@
 
 ghost use Rattle.std.specs.Prelude.{◌≡◌, IfOk, IfErr, Some};
 ghost use Rattle.cop_serial.specs.Boots.{FailsBy};
-ghost use Rattle.cop_serial.specs.Verifying.{way_of, status_of, refused_for, refused_as};
+ghost use Rattle.cop_serial.specs.Verifying.{way_of, status_of, refused_as};
 
-use crate::serial::{Serial, open_serial};
+use crate::serial::{MILLISECOND, Serial, limit_of, open_serial};
 use crate::telling::{
-    SECOND, answer, errors_refusal, line_failure, refusal, say, tell_adapter, tell_heard,
-    unopened_refusal,
+    answer, line_failure, reason_refusal, refusal, say, tell_adapter, tell_heard,
 };
-use cop_answers::{ABSENT, GARBLED, Inputs, verify_notes};
+use cop_answers::{ABSENT, Inputs, verify_notes};
 use cop_boot_answer::BootAnswer;
 use cop_documents::verify_document;
 use cop_engine::boot_text;
 use cop_files::{Failure, Form, Use, file_failure, read_network};
-use cop_frame::Rate;
 use cop_orders::VerifyOrder;
-use cop_verify::{Reason, Verified, Way, verify};
-
-/// A millisecond has so many ticks.
-const MILLISECOND: u64 = 4_000;
+use cop_verify::{Verified, Way, verify_planned};
 
 /// Gives the answer in a form, and that no rate passes where there is none.
 fn answer_in(
@@ -34,17 +29,6 @@ fn answer_in(
         answer(rt, port, format!(in rt.alloc(); "{document}\n")?.as_bytes())
     } else {
         answer(rt, port, &boot_text(rt.alloc(), told)?)
-    }
-}
-
-/// The refusal where nothing is sent at a rate.
-fn reason_refusal(rt: &HostRuntime, reason: Reason, rate: Rate) -> Failure
-    ensures { result.fault ≡ refused_for reason }
-{
-    match reason {
-        Reason::Garbled { lines } => refusal(GARBLED, lines, None),
-        Reason::Erroneous { flags } => errors_refusal(rt, flags, rate),
-        Reason::Unopened { command } => unopened_refusal(rt, command, rate),
     }
 }
 
@@ -99,13 +83,9 @@ pub fn verify_machine(
     form: Form,
     inputs: &mut Inputs,
 ) -> Result<u8, Failure> {
-    let _tables = read_network(rt, &mut inputs.network, order.network)?;
-    let texts = &inputs.network;
-    let limit = match order.limit {
-        Some(seconds) => seconds.saturating_mul(SECOND),
-        None => u64::MAX,
-    };
-    let mut port = match open_serial(rt, order.port, limit) {
+    let tables = read_network(rt, &mut inputs.network, order.network)?;
+    let planned = inputs.network.planned(rt.alloc(), &tables)?;
+    let mut port = match open_serial(rt, order.port, limit_of(order.limit)) {
         Ok(port) => port,
         Err(error) => return Err(file_failure(rt, order.port, Use::Read, &error)),
     };
@@ -115,15 +95,7 @@ pub fn verify_machine(
             b"canplan: listening for 2 s at most, then the devices are asked; nothing is written to them\n",
         );
     }
-    let verified = verify(
-        rt.alloc(),
-        &texts.nodes,
-        &texts.pdos,
-        &texts.eds_files,
-        &texts.asked,
-        way_of(order),
-        &mut port,
-    )?;
+    let verified = verify_planned(rt.alloc(), &planned, way_of(order), &mut port)?;
     port.close_if_over();
     tell_adapter(rt, &port);
     tell_heard(rt, &port);

@@ -3,3 +3,4 @@ pub mod Settings
 pub mod InTurn
 pub mod Offs
 pub mod Trying
+pub mod Asking

@@ -1,7 +1,10 @@
 //! Settings of a device.
 
-ghost use Rattle.std.specs.Prelude.{◌≡◌};
+ghost use Rattle.std.specs.Prelude.{◌≡◌, ◌++◌, ◌∷◌, [], OnOk, OnErr};
 ghost use Rattle.cop_setup.specs.Width.{size_of};
+
+use std::alloc::{AllocError, Global};
+use std::marker::Model;
 
 /// How many bytes a value has.
 #[derive(Clone, Copy, PartialEq, Eq, Debug)]
@@ -33,4 +36,46 @@ pub struct Setting {
     pub value: u32,
     /// How many bytes the object's values have.
     pub width: Width,
+}
+
+/// Settings of a device, in their order. Contracts see the list.
+#[derive(Drop)]
+pub struct SettingList {
+    items: Vec<Setting>,
+}
+
+impl Model for SettingList {
+    ghost use Rattle.std.specs.Prelude.{List};
+    ghost use Rattle.cop_setup.specs.declared.setting.Setting.{Setting};
+
+    ghost Value = { List Setting };
+
+    ghost view = { λ s. s.items.items };
+}
+
+impl SettingList {
+    /// No setting.
+    pub fn new(alloc: Global) -> SettingList
+        ensures { result ≡ [] }
+    {
+        SettingList {
+            items: Vec::new(alloc),
+        }
+    }
+
+    /// Puts a setting behind the others. Otherwise want of memory, and none is added.
+    pub fn push(&mut self, setting: Setting) -> Result<(), AllocError>
+        ensures ok { OnOk result (self.new ≡ self.old ++ setting ∷ []) }
+        ensures err { OnErr result (self.new ≡ self.old) }
+    {
+        self.items.push(setting)?;
+        Ok(())
+    }
+
+    /// The settings in their order.
+    pub fn as_slice(&self) -> &[Setting]
+        ensures { result.now ≡ self.now }
+    {
+        &self.items
+    }
 }

@@ -1,13 +1,11 @@
 -- The devices of a planned network are asked over a port whether they are as planned, and nothing is written to them.
-use Rattle.std.specs.Prelude.{◌≡◌, ◌⊎◌, ℕ, List, [], ◌∷◌, length, Bool}
+use Rattle.std.specs.Prelude.{◌≡◌, ◌⊎◌, ℕ, List, [], ◌∷◌, Bool}
 use Rattle.cop_frame.specs.declared.rates.Rate.{Rate}
 use Rattle.cop_net.specs.Devices.{File}
 use Rattle.cop_net.specs.Network.{Net}
 use Rattle.cop_plan.specs.declared.assigning.Outcome.{Outcome}
 use Rattle.cop_plan.specs.declared.assigning.Outcome.TheVariants.{Planned, Refused}
 use Rattle.cop_plan.specs.declared.choices.Asked as choices
-use Rattle.cop_plan.specs.declared.choices.Choice.{Choice}
-use Rattle.cop_plan.specs.Plans.{IsOutcome, IsChosenBy}
 use Rattle.cop_live.specs.Log.{ByteStep, ClockStep}
 use Rattle.cop_identity.specs.declared.asking.Exchange.{Exchange}
 use Rattle.cop_boot_answer.specs.Answers.{Told}
@@ -46,10 +44,6 @@ abbrev pub IsVerifiedFor : {P : Type 0} → ByteStep P → ByteStep P → ClockS
 IsVerifiedFor reads writes asks fails net (Planned plan) way p q verified = IsVerifiedOrAbsent reads writes asks fails net plan.rate plan.ids (meant_nodes net way.only) way.pause p q verified
 IsVerifiedFor reads writes asks fails net (Refused refusals) way p q verified = (verified ≡ NonePasses) × (p ≡ q)
 
-abbrev pub IsVerifiedBy : {P : Type 0} → ByteStep P → ByteStep P → ClockStep P → ByteStep P → Choice → Net → Way → P → P → Verified → Type 0
-IsVerifiedBy reads writes asks fails choice net way p q verified =
-    (outcome : Outcome) × IsOutcome net.equipment.rates net.set (length net.rows) outcome × IsChosenBy choice outcome × IsVerifiedFor reads writes asks fails net outcome way p q verified
-
 -- what came of it for the network that the tables and the EDS files say, by what is asked of its plan
 pub record IsVerifying {P : Type 0} (reads writes : ByteStep P) (asks : ClockStep P) (fails : ByteStep P) (asked : choices.Asked) (nodes pdos : List ℕ) (eds : List File) (way : Way) (p q : P) (verified : Verified) : Type 0 where
   pub outcome : Outcome
@@ -64,9 +58,6 @@ VerifyStops {P} reads writes asks net rate ids nodes ticks p q =
 abbrev pub StopsFor : {P : Type 0} → ByteStep P → ByteStep P → ClockStep P → Net → Outcome → Way → P → P → Type 0
 StopsFor reads writes asks net (Planned plan) way p q = VerifyStops reads writes asks net plan.rate plan.ids (meant_nodes net way.only) way.pause p q
 StopsFor reads writes asks net (Refused refusals) way p q = ⊥
-
-abbrev pub StopsBy : {P : Type 0} → ByteStep P → ByteStep P → ClockStep P → Choice → Net → Way → P → P → Type 0
-StopsBy reads writes asks choice net way p q = (outcome : Outcome) × IsOutcome net.equipment.rates net.set (length net.rows) outcome × IsChosenBy choice outcome × StopsFor reads writes asks net outcome way p q
 
 -- a rule was broken, or there was no memory: nothing was done at the port, or so much of that network's questions
 pub record VerifyingStops {P : Type 0} (reads writes : ByteStep P) (asks : ClockStep P) (asked : choices.Asked) (nodes pdos : List ℕ) (eds : List File) (way : Way) (p q : P) : Type 0 where

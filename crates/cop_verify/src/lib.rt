@@ -10,4 +10,4 @@ mod verifying;
 pub use cop_survey::Reason;
 pub use laws::{planned_ones_answered, reads_alone};
 pub use telling::{are_planned, verify_answer};
-pub use verifying::{Verified, Way, verify};
+pub use verifying::{Verified, Way, verify, verify_planned};

@@ -2,22 +2,21 @@
 
 ghost use Rattle.std.specs.Prelude.{◌≡◌, ◌⊎◌, length, IfOk, OnErr, MatchResult};
 ghost use Rattle.cop_net.specs.Devices.{handed_in};
-ghost use Rattle.cop_net.specs.Network.{IsNetwork};
 ghost use Rattle.cop_plan.specs.Plans.{IsPlan};
 ghost use Rattle.cop_engine.specs.Networks.{ExplainsNetwork};
 ghost use Rattle.cop_commission.specs.Commissioning.{meant_nodes};
-ghost use Rattle.cop_verify.specs.Verifying.{IsVerified, IsVerifiedOrAbsent, IsVerifiedBy, IsVerifying, VerifyStops, StopsBy, VerifyingStops};
+ghost use Rattle.cop_verify.specs.Verifying.{IsVerified, IsVerifiedOrAbsent, IsVerifiedFor, IsVerifying, VerifyStops, StopsFor, VerifyingStops};
 
 use crate::checks::checks_of;
 use crate::telling::{are_planned, verify_answer};
 use cop_boot_answer::BootAnswer;
 use cop_commission::meant_nodes;
-use cop_engine::Fault;
+use cop_engine::{Fault, PlannedNetwork, planned};
 use cop_frame::Rate;
 use cop_identity::Exchange;
 use cop_live::Port;
-use cop_net::{Network, network, read_nodes, read_pdos};
-use cop_plan::{Asked, Choice, Outcome, Plan, plan};
+use cop_net::{Network, read_nodes, read_pdos};
+use cop_plan::{Asked, Outcome, Plan};
 use cop_survey::{Reason, Surveyed, survey};
 use std::alloc::{AllocError, Global};
 
@@ -86,7 +85,7 @@ fn verify_nodes<P: Port>(
 }
 
 // Asks the nodes of a network that are meant whether they are as its plan has them.
-fn verify_planned<P: Port>(
+fn verify_by<P: Port>(
     alloc: Global,
     network: &Network<'_>,
     plan: &Plan,
@@ -105,28 +104,28 @@ fn verify_planned<P: Port>(
     }
 }
 
-// Asks the nodes of a network whether they are as the planner answers.
-fn verify_network<P: Port>(
+/// Asks the devices of a planned network over a port whether they are as planned, one node alone or all. The adapter
+/// is opened at the plan's rate, after it was listened for 2 s, or until somebody is heard to run, which is no fault. Of each node is asked who its device
+/// is (1000h, 1018h), what the plan relies on in it (types and mappings of used PDOs, and that each other PDO is off), and what the plan sets. Of
+/// frames requests of uploads alone are sent, each once the pause has passed since the one before; then the adapter is closed. If no rate
+/// passes nothing is done. `Err` is want of memory.
+pub fn verify_planned<P: Port>(
     alloc: Global,
-    network: &Network<'_>,
-    choice: Choice,
+    planned: &PlannedNetwork<'_>,
     way: Way,
     port: &mut P,
 ) -> Result<Verified, AllocError>
-    requires { IsNetwork network.now }
-    ensures verified { IfOk result (λ verified. IsVerifiedBy P.reads P.writes P.asks P.fails choice network.now way port.old port.new verified) }
-    ensures short { OnErr result ((port.old ≡ port.new) ⊎ StopsBy P.reads P.writes P.asks choice network.now way port.old port.new) }
+    ensures verified { IfOk result (λ verified. IsVerifiedFor P.reads P.writes P.asks P.fails planned.now.net planned.now.outcome way port.old port.new verified) }
+    ensures short { OnErr result (StopsFor P.reads P.writes P.asks planned.now.net planned.now.outcome way port.old port.new) }
 {
-    match plan(alloc, network, choice)? {
-        Outcome::Planned(plan) => verify_planned(alloc, network, &plan, way, port),
+    let (network, outcome) = planned.parts();
+    match outcome {
+        Outcome::Planned(plan) => verify_by(alloc, network, plan, way, port),
         Outcome::Refused(_) => Ok(Verified::NonePasses),
     }
 }
 
-/// Asks the devices of a planned network over a port whether they are as planned, one node alone or all. The network is planned, and the adapter
-/// is opened at its rate, after it was listened for 2 s, or until somebody is heard to run, which is no fault. Of each node is asked who its device
-/// is (1000h, 1018h), what the plan relies on in it (types and mappings of used PDOs, and that each other PDO is off), and what the plan sets. Of
-/// frames requests of uploads alone are sent, each once the pause has passed since the one before; then the adapter is closed. Otherwise the
+/// Asks the devices of the network of some tables and EDS files whether they are as its plan has them, as `verify_planned` does it. Otherwise the
 /// first rule that the network breaks, or want of memory.
 pub fn verify<P: Port>(
     alloc: Global,
@@ -144,6 +143,6 @@ pub fn verify<P: Port>(
 {
     let nodes = read_nodes(alloc, nodes)?;
     let pdos = read_pdos(alloc, pdos)?;
-    let network = network(alloc, &asked.rates, &nodes, &pdos, eds_files)?;
-    Ok(verify_network(alloc, &network, asked.choice, way, port)?)
+    let planned = planned(alloc, asked, &nodes, &pdos, eds_files)?;
+    Ok(verify_planned(alloc, &planned, way, port)?)
 }

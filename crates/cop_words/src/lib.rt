@@ -18,6 +18,7 @@ mod rates;
 mod refusals;
 mod reports;
 mod separators;
+mod settings;
 mod warnings;
 mod words;
 

@@ -6,6 +6,7 @@ use crate::pdos::{RefusedRow, push_cob_id, push_receive, push_stray, push_transm
 use crate::places::{line_at, record_at};
 use crate::rates::{is_list, push_all_rates};
 use crate::separators::seen;
+use crate::settings::{Asked, node_of_setting, push_asked};
 use crate::words::{Source, push_explanation, push_place, push_rule, push_shown};
 use cop_frame::RateSet;
 use cop_net::{DeviceRow, NodeTable, Refusal, Rule, Table, read_nodes};
@@ -17,6 +18,8 @@ use std::alloc::{AllocError, Global};
 pub struct Network<'a> {
     pub nodes: Source<'a>,
     pub pdos: Source<'a>,
+    /// The table of settings; no bytes, if there is none.
+    pub settings: Source<'a>,
     pub eds_files: &'a [(String, Vec<u8>)],
     pub wanted: &'a RateSet,
 }
@@ -40,7 +43,9 @@ fn header_words(alloc: Global, table: Table) -> Result<String, AllocError> {
             let other = header_with_deadline();
             format!(in alloc; "wanted as the first record: {header}, or with deadlines {other}\n")
         }
-        Table::Pdos => format!(in alloc; "wanted as the first record: {header}\n"),
+        Table::Pdos | Table::Settings => {
+            format!(in alloc; "wanted as the first record: {header}\n")
+        }
     }
 }
 
@@ -51,7 +56,12 @@ fn field_words(alloc: Global, table: Table, nodes: &[u8]) -> Result<String, Allo
         return format!(in alloc; "wanted are seven fields: {header}\n");
     }
     let header = header(table);
-    format!(in alloc; "wanted are six fields: {header}\n")
+    let count = if table == Table::Settings {
+        "four"
+    } else {
+        "six"
+    };
+    format!(in alloc; "wanted are {count} fields: {header}\n")
 }
 
 /// What a rule of records wants.
@@ -69,10 +79,25 @@ fn row_words(
             let (name, wanted) = (name_of(column), wanted(table, column));
             format!(in alloc; "wanted in column {name}: {wanted}\n")
         }
+        cop_rows::Rule::RowRepeated if table == Table::Settings => {
+            format!(in alloc; "{seen} node and object\n")
+        }
         cop_rows::Rule::RowRepeated => format!(in alloc; "{seen} row and node\n"),
         cop_rows::Rule::PdoRepeated => format!(in alloc; "{seen} node and tpdo\n"),
         cop_rows::Rule::NoDevice => String::from_str(alloc, "its device row is missing\n"),
         cop_rows::Rule::Full => String::from_str(alloc, "there are more than 512\n"),
+        cop_rows::Rule::NotSettable => {
+            String::from_str(alloc, "a plan sets this object, or relies on it\n")
+        }
+    }
+}
+
+/// A table of a network.
+fn table_of(files: Network<'_>, table: Table) -> Source<'_> {
+    match table {
+        Table::Nodes => files.nodes,
+        Table::Pdos => files.pdos,
+        Table::Settings => files.settings,
     }
 }
 
@@ -90,10 +115,7 @@ fn push_record(
     }
     let said = row_words(alloc, refusal.table, files.nodes.text, rule)?;
     words.extend_from_slice(said.as_bytes())?;
-    let text = match refusal.table {
-        Table::Nodes => files.nodes.text,
-        Table::Pdos => files.pdos.text,
-    };
+    let text = table_of(files, refusal.table).text;
     let record = record_at(text, refusal.place).map(|place| place.text);
     if let Some(said) = seen(text, record) {
         words.extend_from_slice(said.as_bytes())?;
@@ -143,6 +165,19 @@ fn push_network(
             None => Ok(()),
         },
         Rule::NoRate => push_all_rates(words, alloc, files, nodes),
+        Rule::Asked(index, sub, fault) => {
+            match node_of_setting(alloc, files.settings.text, refusal.place) {
+                Some(node) => push_asked(
+                    words,
+                    alloc,
+                    files,
+                    nodes,
+                    node,
+                    Asked { index, sub, fault },
+                ),
+                None => Ok(()),
+            }
+        }
         rule => {
             let place = refusal.place;
             push_pdo(
@@ -232,6 +267,7 @@ fn push_devices(
     let sender = match refusal.table {
         Table::Nodes => None,
         Table::Pdos => sender(alloc, files.pdos.text, refusal.place).map(|pdo| pdo.node),
+        Table::Settings => node_of_setting(alloc, files.settings.text, refusal.place),
     };
     for device in nodes.devices() {
         let own = refusal.table == Table::Nodes && device.place == refusal.place;
@@ -259,10 +295,7 @@ pub fn network_words(
     files: Network<'_>,
     refusal: &Refusal,
 ) -> Result<Vec<u8>, AllocError> {
-    let table = match refusal.table {
-        Table::Nodes => files.nodes,
-        Table::Pdos => files.pdos,
-    };
+    let table = table_of(files, refusal.table);
     let mut words = Vec::new(alloc);
     match record_at(table.text, refusal.place) {
         Some(place) if refusal.rule != Rule::NoRate => {

@@ -7,4 +7,6 @@ mod dcf;
 #[cfg(test)]
 mod networks;
 #[cfg(test)]
+mod settings;
+#[cfg(test)]
 mod tables;

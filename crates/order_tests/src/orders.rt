@@ -29,10 +29,14 @@ fn write_rates(text: &mut String, word: &str, rates: Rates) -> Result<(), AllocE
     Ok(())
 }
 
-/// Adds the tables of a network, the rates that its plan may have if they are listed, and whether its margin is wanted.
+/// Adds the tables of a network, the rates that its plan may have if they are listed, and whether its margin is wanted. A table of settings stands
+/// behind the others.
 fn write_network(text: &mut String, network: NetworkFiles<'_>) -> Result<(), AllocError> {
     let (nodes, pdos) = (network.nodes, network.pdos);
     write!(text, " {nodes} {pdos}")?;
+    if let Some(setup) = network.setup {
+        write!(text, " set {setup}")?;
+    }
     if network.rates.are_listed() {
         write_rates(text, "at", network.rates)?;
     }
@@ -123,6 +127,36 @@ fn write_made(text: &mut String, order: Order<'_>) -> Result<(), AllocError> {
     }
 }
 
+/// Adds an order on devices at a port.
+fn write_at_port(text: &mut String, order: Order<'_>) -> Result<(), AllocError> {
+    match order {
+        Order::Machine(order) => {
+            let (port, take_over, boot_limit) = (order.port, order.take_over, order.boot_limit);
+            write!(text, "machine {port} {take_over} {boot_limit}")?;
+            if let Some(report) = order.report {
+                write!(text, " page {report}")?;
+            }
+            write_network(text, order.network)
+        }
+        Order::Verify(order) => {
+            let (port, only, gently) = (order.port, order.only.unwrap_or(0), order.gently);
+            write!(text, "verify {port} {only} {gently}")?;
+            write_network(text, order.network)
+        }
+        Order::Nmt(order) => {
+            let (port, command, only) = (order.port, order.command, order.only.unwrap_or(0));
+            let kbits = order.rate.kbits();
+            write!(text, "nmt {port} {kbits} {command:?} {only}")
+        }
+        Order::Scan(order) => {
+            let (port, up_to, gently) = (order.port, order.up_to, order.gently);
+            let kbits = order.rate.kbits();
+            write!(text, "scan {port} {kbits} {up_to} {gently}")
+        }
+        _ => write_made(text, order),
+    }
+}
+
 /// Adds an order.
 fn write_order(text: &mut String, order: Order<'_>) -> Result<(), AllocError> {
     match order {
@@ -133,16 +167,6 @@ fn write_order(text: &mut String, order: Order<'_>) -> Result<(), AllocError> {
         Order::Boot { seed, network } => {
             write!(text, "boot {seed}")?;
             write_network(text, network)
-        }
-        Order::Machine(order) => {
-            let (port, take_over, boot_limit) = (order.port, order.take_over, order.boot_limit);
-            write!(text, "machine {port} {take_over} {boot_limit}")?;
-            write_network(text, order.network)
-        }
-        Order::Verify(order) => {
-            let (port, only, gently) = (order.port, order.only.unwrap_or(0), order.gently);
-            write!(text, "verify {port} {only} {gently}")?;
-            write_network(text, order.network)
         }
         Order::Tidy(order) => {
             let (input, out) = (order.input, order.out.unwrap_or("no"));
@@ -156,7 +180,7 @@ fn write_order(text: &mut String, order: Order<'_>) -> Result<(), AllocError> {
             number: Some(number),
         } => write!(text, "explain {number}"),
         Order::Explain { number: None } => text.push_str("explain all"),
-        _ => write_made(text, order),
+        _ => write_at_port(text, order),
     }
 }
 
@@ -183,6 +207,12 @@ const ASKED: &[(&str, &str)] = &[
     ("test --strict --rate 10 --json -", "test 10 - true json"),
     ("plan n p out", "plan out false n p"),
     ("plan --strict n p out", "plan out true n p"),
+    ("plan --setup s.csv n p out", "plan out false n p set s.csv"),
+    (
+        "boot --port - --margin --setup=s n p",
+        "machine - false 5 n p set s margin",
+    ),
+    ("export dbc n p --setup s out", "export dbc out n p set s"),
     (
         "plan --explain --rates 250,500 --margin n p out",
         "plan out false n p at 250 at 500 margin explain",
@@ -200,10 +230,30 @@ const ASKED: &[(&str, &str)] = &[
         "boot --port - --boot-limit 600 n p",
         "machine - false 600 n p",
     ),
+    (
+        "boot --port x --report out.html n p",
+        "machine x false 5 page out.html n p",
+    ),
     ("verify --port - n p", "verify - 0 0 n p"),
     (
         "verify --port x --only 9 --gently 20 --json --margin n p",
         "verify x 9 20 n p margin json",
+    ),
+    ("nmt --port x --rate 500 stop 5", "nmt x 500 Stop 5"),
+    ("nmt start --all --port - --rate 10", "nmt - 10 Start 0"),
+    (
+        "nmt --port x --rate 125 preop 127 --explain",
+        "nmt x 125 EnterPreOperational 127 explain",
+    ),
+    ("nmt --port x --rate 125 reset 1", "nmt x 125 ResetNode 1"),
+    (
+        "nmt --port x --rate 1000 reset-communication --all",
+        "nmt x 1000 ResetCommunication 0",
+    ),
+    ("scan --port x --rate 500", "scan x 500 127 0"),
+    (
+        "scan --rate 50 --port - --up-to 9 --gently 20 --json",
+        "scan - 50 9 20 json",
     ),
     (
         "run --seed 1 --until 1000000000 n p t",
@@ -254,6 +304,7 @@ const REFUSED: &[&str] = &[
     "boot n p",
     "boot --seed 1 --port x n p",
     "boot --seed 1 --boot-limit 8 n p",
+    "boot --seed 1 --report out n p",
     "boot --port x --boot-limit 0 n p",
     "boot --port x --boot-limit 601 n p",
     "boot --seed 18446744073709551616 n p",
@@ -261,6 +312,22 @@ const REFUSED: &[&str] = &[
     "verify --port x --seed 1 n p",
     "verify --port x --take-over n p",
     "verify --port x --gently 10001 n p",
+    "nmt --port x --rate 500 stop",
+    "nmt --port x --rate 500 stop 0",
+    "nmt --port x --rate 500 stop 128",
+    "nmt --port x --rate 500 stop all",
+    "nmt --port x --rate 500 stop 5 --all",
+    "nmt --port x --rate 500 5",
+    "nmt --port x --rate 500 halt 5",
+    "nmt --port x stop 5",
+    "nmt --rate 500 stop 5",
+    "scan --port x",
+    "scan --rate 500",
+    "scan --port x --rate 500 --up-to 0",
+    "scan --port x --rate 500 --up-to 128",
+    "scan --port x --rate 500 n p",
+    "plan --setup n p out",
+    "test --setup s --rate 125 s.csv",
     "run --seed 1 --until 1000000001 n p t",
     "report n p",
     "export xml n p out",

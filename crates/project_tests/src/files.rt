@@ -8,6 +8,9 @@ use std::test::Fail;
 fn told(alloc: Global, project: &Project) -> Result<String, AllocError> {
     let (nodes, pdos) = (project.nodes.as_str(), project.pdos.as_str());
     let mut text = format!(in alloc; "{nodes} {pdos}")?;
+    if let Some(setup) = &project.setup {
+        write!(text, " setup {setup}")?;
+    }
     for rate in project.rates.iter() {
         let kbits = rate.kbits();
         write!(text, " {kbits}")?;
@@ -47,6 +50,10 @@ const SAID: &[(&[u8], &str)] = &[
         b"nodes = \"n\"\npdos = \"p\"\nrates = [\n  1000,\n  10,\n]\n",
         "n p 1000 10",
     ),
+    (
+        b"nodes = \"n\"\npdos = \"p\"\nsetup = \"s.csv\"\nrates = [10]\n",
+        "n p setup s.csv 10",
+    ),
     (b"\"nodes\" = \"/a b/n\"\npdos = \"../p\"\n", "/a b/n ../p"),
 ];
 
@@ -78,6 +85,15 @@ const REFUSED: &[(&[u8], &str)] = &[
     (
         b"nodes = \"n\"\npdos = \"p\"\nchoice = true\n",
         "refused 151 3",
+    ),
+    (b"nodes = \"n\"\npdos = \"p\"\nsetup = 5\n", "refused 151 3"),
+    (
+        b"nodes = \"n\"\npdos = \"p\"\nsetup = \"\"\n",
+        "refused 152 3",
+    ),
+    (
+        b"rates = 5\nnodes = \"n\"\npdos = \"p\"\nsetup = \"-s\"\n",
+        "refused 152 4",
     ),
     (b"nodes = \"\"\npdos = \"p\"\n", "refused 152 1"),
     (b"nodes = \"n\"\npdos = \"a\\nb\"\n", "refused 152 2"),

@@ -27,7 +27,7 @@ fn line_of(alloc: Global, words: &[String]) -> Result<String, AllocError> {
     Ok(line)
 }
 
-/// A project of two rates and the greatest margin.
+/// A project of a table of settings, two rates and the greatest margin.
 fn project(alloc: Global) -> Result<Project, AllocError> {
     let mut rates = Vec::new(alloc);
     rates.push(Rate::Kbit250)?;
@@ -35,6 +35,7 @@ fn project(alloc: Global) -> Result<Project, AllocError> {
     Ok(Project {
         nodes: String::from_str(alloc, "n.csv")?,
         pdos: String::from_str(alloc, "/p.csv")?,
+        setup: Some(String::from_str(alloc, "s.csv")?),
         rates,
         choice: Choice::Margin,
     })
@@ -53,27 +54,27 @@ fn expanded(alloc: Global, line: &str, project: &Project) -> Result<String, Allo
 const EXPANDED: &[(&str, &str)] = &[
     (
         "plan c.toml out",
-        "plan n.csv /p.csv --rates 250,500 --margin out",
+        "plan n.csv /p.csv --setup s.csv --rates 250,500 --margin out",
     ),
     (
         "boot --port /dev/a --json a/b/c.toml",
-        "boot --port /dev/a --json a/b/n.csv /p.csv --rates 250,500 --margin",
+        "boot --port /dev/a --json a/b/n.csv /p.csv --setup a/b/s.csv --rates 250,500 --margin",
     ),
     (
         "export cdcf /c.toml out --manager 3",
-        "export cdcf /n.csv /p.csv --rates 250,500 --margin out --manager 3",
+        "export cdcf /n.csv /p.csv --setup /s.csv --rates 250,500 --margin out --manager 3",
     ),
     (
         "room --json /c.toml",
-        "room --json /n.csv /p.csv --rates 250,500 --margin",
+        "room --json /n.csv /p.csv --setup /s.csv --rates 250,500 --margin",
     ),
     (
         "watch --channel=can0.toml c.toml d.toml",
-        "watch --channel=can0.toml n.csv /p.csv --rates 250,500 --margin d.toml",
+        "watch --channel=can0.toml n.csv /p.csv --setup s.csv --rates 250,500 --margin d.toml",
     ),
     (
         "report --log x.toml --strict c.toml out",
-        "report --log x.toml --strict n.csv /p.csv --rates 250,500 --margin out",
+        "report --log x.toml --strict n.csv /p.csv --setup s.csv --rates 250,500 --margin out",
     ),
     ("plan n.csv p.csv out", ""),
     ("plan", ""),
@@ -95,6 +96,9 @@ const SAID_TWICE: &[(&str, bool)] = &[
     ("plan c.toml --rates 250 out", true),
     ("plan c.toml out --rates=250", true),
     ("plan c.toml out --rate", false),
+    ("plan c.toml out --setup s.csv", true),
+    ("plan --setup=s.csv c.toml out", true),
+    ("plan c.toml --setups out", false),
 ];
 
 #[test]
@@ -112,6 +116,7 @@ fn nothing_is_added_where_nothing_is_said(rt: HostRuntime) -> Result<(), Fail> {
     let project = Project {
         nodes: String::from_str(alloc, "n")?,
         pdos: String::from_str(alloc, "p")?,
+        setup: None,
         rates: Vec::new(alloc),
         choice: Choice::Order,
     };

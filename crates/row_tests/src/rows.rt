@@ -436,22 +436,6 @@ fn copies_of_pdos_are_equal(rt: HostRuntime) -> Result<(), Fail> {
     Ok(())
 }
 
-/// Whether a copy has the place 1, the node 5, and the names of its row.
-fn is_device_copied(row: &DeviceRow) -> Result<bool, AllocError> {
-    let copy = row.clone()?;
-    let has_numbers = copy.place == 1 && copy.node == 5;
-    Ok(has_numbers && copy.name == row.name && copy.eds == row.eds)
-}
-
-#[test]
-fn copies_of_devices_are_equal(rt: HostRuntime) -> Result<(), Fail> {
-    let table = nodes_of(rt.alloc(), "device,5,Valve,unit.eds,0,0\n")?;
-    for row in table.devices() {
-        assert!(rt; is_device_copied(row)?);
-    }
-    Ok(())
-}
-
 /// Whether a fault is printed so.
 fn is_printed(alloc: Global, fault: &RowFault, wanted: &str) -> Result<bool, AllocError> {
     Ok(format!(in alloc; "{fault}")?.as_str() == wanted)

@@ -3,7 +3,11 @@
 #![tactic(auto)]
 
 #[cfg(test)]
+mod records;
+#[cfg(test)]
 mod refusals;
+#[cfg(test)]
+mod settings;
 #[cfg(test)]
 mod warnings;
 #[cfg(test)]

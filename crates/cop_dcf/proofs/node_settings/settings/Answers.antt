@@ -2,7 +2,7 @@ use Rattle.std.proofs.Common.{◌≡◌, ◌<◌, ◌++◌, [], Some, All, ap, s
 use Rattle.std.specs.List.{cons_option}
 use Rattle.std.specs.Option.{option_copied}
 use Rattle.cop_dcf.specs.Identifiers.{KnowsIds}
-use Rattle.cop_dcf.specs.Settings.{dictionary_of}
+use Rattle.cop_dcf.specs.Settings.{dictionary_of, asked_of}
 use Rattle.cop_dcf.proofs.SettingsLemmas.{ids_small, noted_small, node_settings_are}
 use Rattle.cop_dcf.proofs.node_settings.settings.Goals as goal
 use Rattle.cop_dcf.proofs.node_settings.settings.Goals.{in-Some-time_set+in_ok-push, in_default-time_set}
@@ -22,6 +22,7 @@ returns c =
     let own : dictionary_of net c.args.node ≡ Some dict = sym c.dictionary.ensures ∙ ap option_copied c.in-Some.is in
     let knows : KnowsIds c.identifiers-places.result net.rows plan.ids c.args.node = rw (← c.rows.ensures.rows, ← c.ids.ensures.ids) c.identifiers-places.ensures in
     let offs = c.in_ok-add_offs.ensures in
+    let asked : c.add_asked.new.settings.items ≡ c.add_offs.new.settings.items ++ asked_of net c.args.node = c.in_ok-add_asked.ensures ∙ ap (λ xs. c.add_offs.new.settings.items ++ xs) c.settings.ensures in
     let ons = c.in_ok-add_ons.ensures in
     let time = rw c.heartbeat.ensures at c.time_set.ensures in
     let offs_of = rw c.entries.ensures.value at offs in
@@ -32,5 +33,5 @@ returns c =
       | in_default-time_set w ↦
           ap (λ v. v.items) w.settings-is ∙ sym (append-nil c.add_ons.new.settings.items) ∙ ap (λ o. c.add_ons.new.settings.items ++ cons_option o []) (sym w.in_default-time_set.is)
     ] in
-    node_settings_are net plan.ids c.args.node dict c.identifiers-places.result c.new-settings.result.items c.add_offs.new.settings.items c.add_ons.new.settings.items c.match-time_set.settings.items c.time_set.result
-    own knows c.new-settings.ensures.items offs_of ons_of time all
+    node_settings_are net plan.ids c.args.node dict c.identifiers-places.result c.new-settings.result.items c.add_offs.new.settings.items c.add_asked.new.settings.items c.add_ons.new.settings.items c.match-time_set.settings.items c.time_set.result
+    own knows c.new-settings.ensures.items offs_of asked ons_of time all
