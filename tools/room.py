@@ -156,6 +156,24 @@ def stretched(rows, fixed, part):
     return [row | {"deadline": longer(row["deadline"], part)} for row in rows], [frame(row) for row in fixed]
 
 
+def faults_of_plan(folder, words, fastest):
+    """What `plan` and `report` say otherwise of what the fastest rate misses a plan by."""
+    faults = []
+    told = json.loads(called("plan", "--json", *words, folder).stdout)
+    if told["misses"] != fastest:
+        faults.append(f"plan --json misses {told['misses']}, not {fastest}")
+    said = called("plan", "--explain", *words, folder).stderr
+    called("report", *words, f"{folder}/page.html")
+    with open(f"{folder}/page.html", encoding="utf-8") as file:
+        page = file.read()
+    for miss in fastest:
+        times = miss["deadlines"] and f"{miss['deadlines'] // 1000}.{miss['deadlines'] % 1000:03} times as long"
+        wanted = times or "though each deadline were 60 s"
+        if wanted not in said or wanted not in page or said.count(" alone\n") != len(miss["without"]) or page.count(" kbit/s: no ") != len(miss["without"]):
+            faults.append(f"the words or the page of a plan do not say {miss}")
+    return faults
+
+
 def faults_of_misses(folder, rows, fixed, misses):
     """What is wrong with what the rates miss a plan by."""
     wrong = []
@@ -177,7 +195,7 @@ def faults_of_missed(folder, rows, fixed, *words):
     assert lines[0] == "no rate passes" and all(MISS.fullmatch(line) for line in lines[1:]), done.stdout
     misses = json.loads(called("room", "--json", *words).stdout)["misses"]
     assert [MISS.fullmatch(line).groups() for line in lines[1:]] == [words_of(miss) for miss in misses], (lines, misses)
-    return faults_of_misses(folder, rows, fixed, misses)
+    return faults_of_plan(folder, words, misses[-1:]) + faults_of_misses(folder, rows, fixed, misses)
 
 
 def faults_of(folder, rows, fixed):

@@ -1,5 +1,6 @@
 //! Answers and faults as documents in JSON.
 
+use crate::rooms::fastest_miss;
 use crate::spots::{Spot, spot_in_network, spot_of_refusal};
 use crate::texts::Inputs;
 use crate::warnings::all_warned;
@@ -21,7 +22,8 @@ pub fn plan_text(
 ) -> Result<String, AllocError> {
     let (network, outcome) = planned.parts();
     let warnings = all_warned(alloc, findings)?;
-    plan_document(alloc, network, outcome, figures, &warnings)
+    let misses = fastest_miss(alloc, network, outcome)?;
+    plan_document(alloc, network, outcome, figures, &warnings, &misses)
 }
 
 /// The name of a table of a network.

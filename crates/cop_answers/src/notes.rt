@@ -1,5 +1,6 @@
 //! What is said of a plan in words, where words are wanted.
 
+use crate::rooms::{fastest_miss, miss_words};
 use crate::texts::Texts;
 use crate::warnings::finding_lines;
 use cop_engine::PlannedNetwork;
@@ -60,7 +61,7 @@ fn margins_of(
     Ok(words)
 }
 
-/// What is said of a plan: why each rate is refused, what limits its margin, and what is worth a look before one relies on it.
+/// What is said of a plan: why each rate is refused, what the fastest misses a plan by if none passes, what limits its margin, and what is worth a look before one relies on it.
 pub fn plan_notes(
     alloc: Global,
     texts: &Texts,
@@ -71,6 +72,8 @@ pub fn plan_notes(
     let figures = figures_of(alloc, network, outcome)?;
     let mut reasons = refused_words(alloc, network, &figures.refused)?;
     reasons.extend_from_slice(&limits(alloc, network, outcome, &figures)?)?;
+    let misses = fastest_miss(alloc, network, outcome)?;
+    reasons.extend_from_slice(miss_words(alloc, network, &misses)?.as_bytes())?;
     let warnings = finding_lines(alloc, texts, nodes, network, &figures)?;
     Ok(Notes { reasons, warnings })
 }

@@ -2,6 +2,7 @@
 
 ghost use Rattle.cop_figures.specs.Figures.{AreFigures};
 
+use crate::rooms::fastest_miss;
 use crate::texts::{Inputs, beside};
 use crate::warnings::finding_lines;
 use cop_engine::{Fault, PlannedNetwork};
@@ -126,12 +127,14 @@ pub fn page_text(
     let opened = opened(alloc, sources)?;
     let inputs = inputs(alloc, sources, &opened)?;
     let warnings = finding_lines(alloc, &sources.inputs.network, nodes, network, &figures)?;
+    let misses = fastest_miss(alloc, network, outcome)?;
     let report = Report {
         network,
         outcome,
         figures: &figures,
         breakdowns: &breakdowns,
         unsorted: &unsorted,
+        misses: &misses,
         timeline,
         log,
         are_rates_listed: sources.network.rates.are_listed(),

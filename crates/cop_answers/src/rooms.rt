@@ -3,7 +3,7 @@
 use cop_cert::Refusal;
 use cop_frame::identifiers::SYNC;
 use cop_net::{Network, PdoRow};
-use cop_plan::{Plan, can_assign};
+use cop_plan::{Outcome, Plan, can_assign};
 use cop_room::{Miss, Room, RowRoom, nearest_miss};
 use cop_rta::Stream;
 use std::alloc::{AllocError, Global};
@@ -89,6 +89,63 @@ pub fn misses_of(
         }
     }
     Ok(misses)
+}
+
+/// What the fastest rate misses a plan by, if no rate passes.
+pub(crate) fn fastest_miss(
+    alloc: Global,
+    network: &Network<'_>,
+    outcome: &Outcome,
+) -> Result<Vec<Miss>, AllocError> {
+    let Outcome::Refused(refusals) = outcome else {
+        return Ok(Vec::new(alloc));
+    };
+    let refusals = refusals.as_slice();
+    let last = refusals.len().saturating_sub(1);
+    misses_of(alloc, network, refusals.get(last..).unwrap_or(&[]))
+}
+
+/// Adds with how much longer deadlines a rate has a plan.
+fn push_stretch(text: &mut String, network: &Network<'_>, miss: &Miss) -> Result<(), AllocError> {
+    let kbits = miss.rate.kbits();
+    let Some(stretch) = miss.stretch else {
+        return write!(
+            text,
+            "at {kbits} kbit/s nothing passes, though each deadline were 60 s\n"
+        );
+    };
+    let (whole, rest) = (stretch.thousandths / 1000, stretch.thousandths % 1000);
+    write!(
+        text,
+        "at {kbits} kbit/s a plan passes if each deadline is {whole}.{rest:03} times as long"
+    )?;
+    if let Some(pdo) = stretch.tightest {
+        if let Some(row) = network.rows().get(pdo) {
+            write!(text, "; {}.{} is the tightest then", row.node, row.tpdo)?;
+        }
+    }
+    text.push_str("\n")
+}
+
+/// In words what rates miss a plan by: with which deadlines one passes, and without which single frame.
+pub(crate) fn miss_words(
+    alloc: Global,
+    network: &Network<'_>,
+    misses: &[Miss],
+) -> Result<String, AllocError> {
+    let mut text = String::new(alloc);
+    for miss in misses {
+        push_stretch(&mut text, network, miss)?;
+        for index in &miss.spare {
+            if let Some(stream) = network.set().streams().get(*index) {
+                let kbits = miss.rate.kbits();
+                write!(text, "at {kbits} kbit/s a plan passes")?;
+                push_spare(&mut text, stream)?;
+                text.push_str(" alone\n")?;
+            }
+        }
+    }
+    Ok(text)
 }
 
 /// Adds the name of a fixed frame that could be left out.

@@ -1,11 +1,13 @@
 //! Plans.
 
 use crate::objects::Object;
+use crate::rooms::misses_of;
 use crate::values::{time, time_if};
 use crate::warnings::{Warned, warnings_of};
 use cop_figures::{Figures, FrameTimes, Load, PdoTimes, Reason, RefusedRate, SyncTimes};
 use cop_net::{Network, PdoRow};
 use cop_plan::Outcome;
+use cop_room::Miss;
 use cop_rta::Stream;
 use serde_json::Value;
 use std::alloc::{AllocError, Global};
@@ -108,7 +110,8 @@ fn refused_of(
     Ok(Value::Array(values))
 }
 
-/// What the planner answers for a network, with its numbers, as its report has them, and what is worth a look before one relies on it.
+/// What the planner answers for a network, with its numbers, as its report has them, what is worth a look before one relies on it, and what
+/// rates miss a plan by, if none passes.
 /// `Err` is want of memory.
 pub fn plan_document(
     alloc: Global,
@@ -116,6 +119,7 @@ pub fn plan_document(
     outcome: &Outcome,
     figures: &Figures,
     warnings: &[Warned<'_>],
+    misses: &[Miss],
 ) -> Result<String, AllocError> {
     let rate = match figures.rate {
         Some(rate) => Value::from(rate.kbits()),
@@ -125,7 +129,7 @@ pub fn plan_document(
         Outcome::Planned(plan) => (plan.margin(), plan.others()),
         Outcome::Refused(_) => (None, None),
     };
-    let document = Object::new(alloc)
+    let told = Object::new(alloc)
         .text("command", "plan")
         .plain("rate", rate)
         .with("pdos", pdos_of(alloc, network, &figures.pdos))
@@ -135,7 +139,10 @@ pub fn plan_document(
         .with("others", time_if(alloc, others))
         .with("loads", loads_of(alloc, &figures.loads))
         .with("refused", refused_of(alloc, network, &figures.refused))
-        .with("warnings", warnings_of(alloc, warnings))
-        .end()?;
-    document.to_string(alloc)
+        .with("warnings", warnings_of(alloc, warnings));
+    let told = match outcome {
+        Outcome::Planned(_) => told,
+        Outcome::Refused(_) => told.with("misses", misses_of(alloc, network, misses)),
+    };
+    told.end()?.to_string(alloc)
 }

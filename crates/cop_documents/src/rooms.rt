@@ -164,21 +164,30 @@ fn miss_of(alloc: Global, network: &Network<'_>, miss: &Miss) -> Result<Value, A
         .end()
 }
 
+/// What rates miss a plan by.
+pub(crate) fn misses_of(
+    alloc: Global,
+    network: &Network<'_>,
+    misses: &[Miss],
+) -> Result<Value, AllocError> {
+    let mut told = Vec::new(alloc);
+    for miss in misses {
+        told.push(miss_of(alloc, network, miss)?)?;
+    }
+    Ok(Value::Array(told))
+}
+
 /// What is missed where no rate passes, by rising rate.
 pub fn no_room_document(
     alloc: Global,
     network: &Network<'_>,
     misses: &[Miss],
 ) -> Result<String, AllocError> {
-    let mut told = Vec::new(alloc);
-    for miss in misses {
-        told.push(miss_of(alloc, network, miss)?)?;
-    }
     let document = Object::new(alloc)
         .text("command", "room")
         .plain("rate", Value::Null)
         .plain("room", Value::Null)
-        .with("misses", Ok(Value::Array(told)))
+        .with("misses", misses_of(alloc, network, misses))
         .end()?;
     document.to_string(alloc)
 }

@@ -6,6 +6,7 @@ mod bus;
 mod devices;
 mod frames;
 mod log;
+mod misses;
 mod nodes;
 mod page;
 mod parts;

@@ -7,6 +7,7 @@ use crate::bus::push_bus;
 use crate::devices::sent_by;
 use crate::frames::{has_fixed, push_frames};
 use crate::log::push_log;
+use crate::misses::push_misses;
 use crate::nodes::push_nodes;
 use crate::pdos::{push_pdos, tightest};
 use crate::premises::{push_inputs, push_premises};
@@ -19,6 +20,7 @@ use cop_figures::{Breakdown, Figures, Timeline, Unsorted};
 use cop_logbook::Logbook;
 use cop_net::Network;
 use cop_plan::Outcome;
+use cop_room::Miss;
 use std::alloc::{AllocError, Global};
 
 /// A file that was read: its name and how many bytes it has.
@@ -39,6 +41,8 @@ pub struct Report<'a, 'n> {
     pub breakdowns: &'a [Breakdown],
     /// What becomes of the PDOs if controllers do not sort, in the order of their numbers; empty where no rate passes.
     pub unsorted: &'a [Unsorted],
+    /// What rates miss a plan by, if none passes.
+    pub misses: &'a [Miss],
     pub timeline: Option<&'a Timeline>,
     pub log: Option<&'a Logbook<'a>>,
     /// Whether the rates that the plan may have were listed.
@@ -296,6 +300,7 @@ fn push_page(page: &mut String, alloc: Global, report: Report<'_, '_>) -> Result
     push_header(page, report)?;
     push_contents(page, report)?;
     push_warnings(page, report.warnings)?;
+    push_misses(page, report.network, report.misses)?;
     push_margin(page, report)?;
     push_rates(
         page,

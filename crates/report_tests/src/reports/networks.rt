@@ -179,6 +179,7 @@ fn page<'a>(
             figures,
             breakdowns,
             unsorted,
+            misses: &[],
             timeline,
             log: None,
             are_rates_listed: false,

@@ -1,0 +1,61 @@
+//! The section of a page on what would make a plan pass, if no rate does.
+
+use crate::devices::sent_by;
+use crate::senders::fixed_sender;
+use cop_net::Network;
+use cop_room::Miss;
+use std::alloc::AllocError;
+
+/// Adds with how much longer deadlines a rate has a plan.
+fn push_stretch(page: &mut String, network: &Network<'_>, miss: &Miss) -> Result<(), AllocError> {
+    let kbits = miss.rate.kbits();
+    let Some(stretch) = miss.stretch else {
+        return write!(
+            page,
+            "<li>at {kbits} kbit/s nothing passes, though each deadline were 60 s</li>\n"
+        );
+    };
+    let (whole, rest) = (stretch.thousandths / 1000, stretch.thousandths % 1000);
+    write!(
+        page,
+        "<li>at {kbits} kbit/s: each deadline {whole}.{rest:03} times as long"
+    )?;
+    if let Some(pdo) = stretch.tightest {
+        if let Some(row) = network.rows().get(pdo) {
+            let pdo = sent_by(network, row);
+            write!(page, "; {pdo} is the tightest then")?;
+        }
+    }
+    page.push_str("</li>\n")
+}
+
+/// Adds each frame without which, alone, a rate has a plan.
+fn push_spares(page: &mut String, network: &Network<'_>, miss: &Miss) -> Result<(), AllocError> {
+    let kbits = miss.rate.kbits();
+    for index in &miss.spare {
+        if let Some(stream) = network.set().streams().get(*index) {
+            let sender = fixed_sender(network, stream.id);
+            write!(page, "<li>at {kbits} kbit/s: no {sender}</li>\n")?;
+        }
+    }
+    Ok(())
+}
+
+/// Adds what would make a plan pass, each change alone.
+pub(crate) fn push_misses(
+    page: &mut String,
+    network: &Network<'_>,
+    misses: &[Miss],
+) -> Result<(), AllocError> {
+    if misses.is_empty() {
+        return Ok(());
+    }
+    page.push_str(
+        "<section id=\"misses\">\n<h2>What would make it pass</h2>\n<p>Each of these alone:</p>\n<ul>\n",
+    )?;
+    for miss in misses {
+        push_stretch(page, network, miss)?;
+        push_spares(page, network, miss)?;
+    }
+    page.push_str("</ul>\n</section>\n")
+}
