@@ -1,5 +1,5 @@
-//! Tests of what is done over a port: of listening, of questions, of the boot of a planned network and of one node alone, of what is read back, and of
-//! devices that are verified. The port gives what a script has.
+//! Tests of what is done over a port: of listening, of questions, of the boot of a planned network and of one node alone, of what is read back, of
+//! devices that are verified, of scans, and of NMT commands. The port gives what a script has.
 
 #![tactic(auto)]
 
@@ -8,6 +8,8 @@ mod asking;
 #[cfg(test)]
 mod boots;
 #[cfg(test)]
+mod commanding;
+#[cfg(test)]
 mod identities;
 #[cfg(test)]
 mod listening;
@@ -15,6 +17,8 @@ mod listening;
 mod reaches;
 #[cfg(test)]
 mod readings;
+#[cfg(test)]
+mod scanning;
 #[cfg(test)]
 mod scripts;
 #[cfg(test)]
