@@ -70,6 +70,19 @@ def example(folder):
     assert lines == [f"transfers {value['transfers']}", "on time"] and value["on_time"] and value["planned"], lines
     watch(tables, f"{folder}/run.csv")
     room(tables)
+    changes(folder, tables)
+
+
+def changes(folder, tables):
+    """What changes in the devices from the example's plan to the one that leaves the most room."""
+    with tempfile.TemporaryDirectory() as out:
+        run("plan", "--margin", *tables, out)
+        lines, _, value = answers("diff", folder, out)
+    heads = [f"node {it['node']}: " + (f"{len(it['values'])} values" if it["state"] == "changed" else it["state"]) for it in value["nodes"]]
+    assert [it for it in lines if it.startswith("node ")] == heads, lines
+    pdos = [f"pdo {node['node']}.{it['tpdo']} id {it['old']:03X}h -> {it['new']:03X}h" for node in value["nodes"] for it in node["identifiers"]]
+    assert [it for it in lines if it.startswith("pdo ")] == pdos, lines
+    assert value["same"] == all(it["state"] == "same" for it in value["nodes"]) and value["old_rate"] == value["new_rate"], value
 
 
 def room(tables):

@@ -7,6 +7,7 @@ use cop_calls::{
 };
 use cop_engine::{Fault, status, test_status};
 use cop_files::{Failure, Form, print};
+use cop_folders::{compare_plans, start_tables};
 use cop_makers::carry_tidy;
 use cop_orders::{Order, Request};
 use cop_serial::{boot_machine, command_nodes, scan_bus, verify_machine};
@@ -87,6 +88,8 @@ pub fn carry_out(
             out,
         } => export(rt, format, network, out, inputs),
         Order::Tidy(order) => carry_tidy(rt, order, form, inputs),
+        Order::Init(order) => start_tables(rt, order),
+        Order::Diff(order) => compare_plans(rt, order, form),
         Order::Watch(order) => watch_bus(rt, order, form, inputs),
         Order::Explain { number } => explain(rt, number),
     }

@@ -33,6 +33,8 @@ pub(crate) fn network_of<'a>(order: Order<'a>) -> Option<NetworkFiles<'a>> {
         | Order::Nmt(_)
         | Order::Scan(_)
         | Order::Tidy(_)
+        | Order::Init(_)
+        | Order::Diff(_)
         | Order::Explain { .. } => None,
     }
 }

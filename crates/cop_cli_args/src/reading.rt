@@ -7,8 +7,8 @@ use cop_eds::Access;
 use cop_engine::rate_of;
 use cop_frame::Rate;
 use cop_orders::{
-    Format, MachineOrder, NetworkFiles, NmtOrder, Order, PlanOrder, Rates, Request, ScanOrder,
-    Shown, TidyChoices, TidyOrder, VerifyOrder, WatchOrder,
+    DiffOrder, Format, InitOrder, MachineOrder, NetworkFiles, NmtOrder, Order, PlanOrder, Rates,
+    Request, ScanOrder, Shown, TidyChoices, TidyOrder, VerifyOrder, WatchOrder,
 };
 use cop_plan::Choice;
 use cop_tidy_lines::{Digits, Unlisted};
@@ -232,6 +232,20 @@ fn tidy_order<'a>(matches: &ArgMatches<'a>) -> Order<'a> {
     })
 }
 
+fn init_order<'a>(matches: &ArgMatches<'a>) -> Order<'a> {
+    Order::Init(InitOrder {
+        folder: matches.get_str("FOLDER").unwrap_or("-"),
+        out: matches.get_str("OUT").unwrap_or("-"),
+    })
+}
+
+fn diff_order<'a>(matches: &ArgMatches<'a>) -> Order<'a> {
+    Order::Diff(DiffOrder {
+        old: matches.get_str("OLD").unwrap_or("-"),
+        new: matches.get_str("NEW").unwrap_or("-"),
+    })
+}
+
 /// A log that is watched, by its name.
 fn watch_of<'a>(matches: &ArgMatches<'a>, log: &'a str) -> WatchOrder<'a> {
     let error = matches.get_one("error").unwrap_or(1000);
@@ -274,6 +288,8 @@ fn order_of<'a>(name: &str, matches: &ArgMatches<'a>) -> Order<'a> {
         "report" => report_order(matches),
         "export" => export_order(matches),
         "tidy" => tidy_order(matches),
+        "init" => init_order(matches),
+        "diff" => diff_order(matches),
         "watch" => watch_order(matches),
         "explain" => explain_order(matches),
         _ => test_order(matches),
@@ -284,7 +300,7 @@ fn order_of<'a>(name: &str, matches: &ArgMatches<'a>) -> Order<'a> {
 fn has_document(name: &str) -> bool {
     matches!(
         name,
-        "plan" | "room" | "check" | "test" | "judge" | "boot" | "verify" | "scan" | "watch"
+        "plan" | "room" | "check" | "test" | "judge" | "boot" | "verify" | "scan" | "diff" | "watch"
     )
 }
 

@@ -419,6 +419,39 @@ static TIDY: [Word; 9] = [
     },
 ];
 
+static INIT: [Word; 3] = [
+    Word {
+        name: "FOLDER",
+        kind: Kind::Place,
+        need: Need::Required,
+        help: "A folder with the EDS files of the devices",
+    },
+    Word {
+        name: "OUT",
+        kind: Kind::Place,
+        need: Need::Required,
+        help: "A folder, which has to be there, for nodes.csv, pdos.csv and network.toml; nothing that is there is replaced",
+    },
+    EXPLAIN,
+];
+
+static DIFF: [Word; 4] = [
+    Word {
+        name: "OLD",
+        kind: Kind::Place,
+        need: Need::Required,
+        help: "A folder that plan has written",
+    },
+    Word {
+        name: "NEW",
+        kind: Kind::Place,
+        need: Need::Required,
+        help: "Another one",
+    },
+    EXPLAIN,
+    JSON,
+];
+
 static WATCH: [Word; 12] = [
     NODES,
     PDOS,
@@ -470,13 +503,15 @@ pub(crate) enum Subcommand {
     Report,
     Export,
     Tidy,
+    Init,
+    Diff,
     Watch,
     Explain,
 }
 
 impl Subcommand {
     /// All of them, as a help lists them.
-    pub const ALL: [Subcommand; 15] = [
+    pub const ALL: [Subcommand; 17] = [
         Subcommand::Test,
         Subcommand::Plan,
         Subcommand::Room,
@@ -490,6 +525,8 @@ impl Subcommand {
         Subcommand::Report,
         Subcommand::Export,
         Subcommand::Tidy,
+        Subcommand::Init,
+        Subcommand::Diff,
         Subcommand::Watch,
         Subcommand::Explain,
     ];
@@ -509,6 +546,8 @@ impl Subcommand {
             Subcommand::Report => "report",
             Subcommand::Export => "export",
             Subcommand::Tidy => "tidy",
+            Subcommand::Init => "init",
+            Subcommand::Diff => "diff",
             Subcommand::Watch => "watch",
             Subcommand::Explain => "explain",
         }
@@ -548,6 +587,12 @@ impl Subcommand {
             Subcommand::Tidy => {
                 "Makes of an EDS file as makers ship it one that plan reads, and tells each change"
             }
+            Subcommand::Init => {
+                "Makes tables to start from of the EDS files of a folder, and tells each guess"
+            }
+            Subcommand::Diff => {
+                "Says which devices of a machine have to be set again for another plan, and to which values"
+            }
             Subcommand::Watch => {
                 "Reads a log of a real bus, and says whether it keeps to the tables"
             }
@@ -583,6 +628,8 @@ impl Subcommand {
             Subcommand::Report => "Example: canplan report nodes.csv pdos.csv report.html",
             Subcommand::Export => "Example: canplan export dbc nodes.csv pdos.csv plan.dbc",
             Subcommand::Tidy => "Example: canplan tidy unit.eds unit-tidy.eds",
+            Subcommand::Init => "Example: canplan init eds tables",
+            Subcommand::Diff => "Example: canplan diff old new",
             Subcommand::Watch => { "Example: candump -L can0 | canplan watch nodes.csv pdos.csv -" }
             Subcommand::Explain => "Example: canplan explain 41",
         }
@@ -604,6 +651,8 @@ impl Subcommand {
             Subcommand::Report => REPORT.as_slice(),
             Subcommand::Export => EXPORT.as_slice(),
             Subcommand::Tidy => TIDY.as_slice(),
+            Subcommand::Init => INIT.as_slice(),
+            Subcommand::Diff => DIFF.as_slice(),
             Subcommand::Watch => WATCH.as_slice(),
             Subcommand::Explain => EXPLAIN_RULE.as_slice(),
         }

@@ -15,6 +15,7 @@ pub use answers::{
 };
 pub use faults::{Told, fault_document};
 pub use logs::watch_document;
+pub use objects::{Object, text_of};
 pub use plans::plan_document;
 pub use rooms::{no_room_document, room_document};
 pub use warnings::Warned;

@@ -5,7 +5,7 @@ use std::alloc::{AllocError, Global};
 
 /// An object that is made member by member.
 #[derive(Drop)]
-pub(crate) struct Object {
+pub struct Object {
     alloc: Global,
     members: Result<Map<String, Value>, AllocError>,
 }
@@ -25,7 +25,7 @@ fn with_member(
 
 impl Object {
     /// No member yet.
-    pub(crate) fn new(alloc: Global) -> Object {
+    pub fn new(alloc: Global) -> Object {
         Object {
             alloc,
             members: Ok(Map::new(alloc)),
@@ -33,7 +33,7 @@ impl Object {
     }
 
     /// With one more member.
-    pub(crate) fn with(self, name: &str, value: Result<Value, AllocError>) -> Object {
+    pub fn with(self, name: &str, value: Result<Value, AllocError>) -> Object {
         Object {
             alloc: self.alloc,
             members: with_member(self.alloc, self.members, name, value),
@@ -41,23 +41,23 @@ impl Object {
     }
 
     /// With a number, true or false, or null.
-    pub(crate) fn plain(self, name: &str, value: impl Into<Value>) -> Object {
+    pub fn plain(self, name: &str, value: impl Into<Value>) -> Object {
         self.with(name, Ok(value.into()))
     }
 
     /// With a text.
-    pub(crate) fn text(self, name: &str, text: &str) -> Object {
+    pub fn text(self, name: &str, text: &str) -> Object {
         let alloc = self.alloc;
         self.with(name, text_of(alloc, text))
     }
 
     /// The object.
-    pub(crate) fn end(self) -> Result<Value, AllocError> {
+    pub fn end(self) -> Result<Value, AllocError> {
         Ok(Value::Object(self.members?))
     }
 }
 
 /// A text as a value.
-pub(crate) fn text_of(alloc: Global, text: &str) -> Result<Value, AllocError> {
+pub fn text_of(alloc: Global, text: &str) -> Result<Value, AllocError> {
     Ok(Value::String(String::from_str(alloc, text)?))
 }

@@ -2,38 +2,17 @@
 
 use crate::tidying::{Answer, answer_for, check_name, words_of};
 use crate::words::is_same;
-use cop_files::{Failure, Form, Use, file_failure, print, read_file, write_file};
+use cop_files::{Failure, Form, eds_names, print, read_file, write_file};
 use cop_orders::TidyOrder;
 use cop_tidy::{Refusal, Tidied, Words, told};
 use cop_words::{Source, maker_words};
-use std::fs;
-use std::io::{self, Write};
+use std::io::Write;
 
 /// An EDS file of the folder, made one that plan reads.
 #[derive(Drop)]
 struct Mended {
     name: String,
     tidied: Tidied,
-}
-
-fn is_eds_name(name: &str) -> bool {
-    match name.as_bytes() {
-        [_, .., b'.', e, d, s] => [*e, *d, *s].eq_ignore_ascii_case(b"eds"),
-        _ => false,
-    }
-}
-
-/// The names of the EDS files of a folder, in their order.
-fn names_in(rt: &HostRuntime, folder: &str) -> io::Result<Vec<String>> {
-    let mut names = Vec::new(rt.alloc());
-    for entry in fs::read_dir(rt, folder)? {
-        let entry = entry?;
-        if is_eds_name(entry.file_name()) {
-            names.push(String::from_str(rt.alloc(), entry.file_name())?)?;
-        }
-    }
-    names.sort()?;
-    Ok(names)
 }
 
 /// Says of a file of the folder that it is refused, in words too where they are wanted.
@@ -147,10 +126,7 @@ pub(crate) fn tidy_folder(
     order: TidyOrder<'_>,
     form: Form,
 ) -> Result<u8, Failure> {
-    let names = match names_in(rt, order.input) {
-        Ok(names) => names,
-        Err(error) => return Err(file_failure(rt, order.input, Use::Read, &error)),
-    };
+    let names = eds_names(rt, order.input)?;
     if order.out.is_some() {
         for name in names.as_slice() {
             check_name(rt.alloc(), name)?;

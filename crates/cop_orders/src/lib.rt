@@ -4,6 +4,6 @@
 mod orders;
 
 pub use orders::{
-    Format, MOST_UNTIL, MachineOrder, NetworkFiles, NmtOrder, Order, PlanOrder, Rates, Request,
-    ScanOrder, Shown, TidyChoices, TidyOrder, VerifyOrder, WatchOrder,
+    DiffOrder, Format, InitOrder, MOST_UNTIL, MachineOrder, NetworkFiles, NmtOrder, Order,
+    PlanOrder, Rates, Request, ScanOrder, Shown, TidyChoices, TidyOrder, VerifyOrder, WatchOrder,
 };

@@ -151,6 +151,23 @@ pub struct TidyOrder<'a> {
     pub choices: TidyChoices,
 }
 
+/// EDS files from which the tables of a network are to start.
+#[derive(Clone, Copy)]
+pub struct InitOrder<'a> {
+    /// The folder of the files.
+    pub folder: &'a str,
+    /// The folder that the tables are written to.
+    pub out: &'a str,
+}
+
+/// Two plans, of which it is asked what changes in the devices.
+#[derive(Clone, Copy)]
+pub struct DiffOrder<'a> {
+    /// The folders that the plans were written to.
+    pub old: &'a str,
+    pub new: &'a str,
+}
+
 /// What a plan is exported as.
 #[derive(Clone, Copy)]
 pub enum Format {
@@ -244,6 +261,10 @@ pub enum Order<'a> {
     },
     /// An EDS file as makers ship it, made one that plan reads.
     Tidy(TidyOrder<'a>),
+    /// Tables to start from, made of the EDS files of a folder.
+    Init(InitOrder<'a>),
+    /// What changes in the devices between two plans.
+    Diff(DiffOrder<'a>),
     /// A log of a real bus, watched by the plan of a network.
     Watch(WatchOrder<'a>),
     /// What the rule of a number says, or what all say.

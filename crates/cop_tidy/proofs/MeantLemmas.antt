@@ -17,7 +17,7 @@ use Rattle.cop_dict.specs.Find.{Entry}
 use Rattle.cop_dict.specs.Build.{built}
 use Rattle.cop_tidy_device.specs.Device.{Meaning, dictionary_for}
 use Rattle.cop_tidy_device.proofs.NodeLemmas.{built_between}
-use Rattle.cop_hazard.specs.Listed.{is_listed, AreListed}
+use Rattle.cop_eds_hazards.specs.Listed.{is_listed, AreListed}
 use Rattle.cop_tidy.specs.Meant.{has_each, IsInBoth, HaveSameSlow, HaveSameFast, HasRates, HasLists, HasAll, IsOf}
 
 -- ---- rates

@@ -11,10 +11,10 @@ use Rattle.cop_tidy_device.specs.Device.{Meaning}
 use Rattle.cop_tidy_reading.specs.declared.question.Question as reading
 use Rattle.cop_tidy_reading.specs.declared.words.Words.{Words}
 use Rattle.cop_tidy_reading.specs.Reading.{loosely}
-use Rattle.cop_hazard.specs.declared.hazards.Hazard.{Hazard}
-use Rattle.cop_hazard.specs.declared.tests.Test.TheVariants as tests
-use Rattle.cop_hazard.specs.Compact.{implicit_line}
-use Rattle.cop_hazard.specs.Hazards.{first_line, unlisted_line, beyond_line, hazard_at, hazard_of}
+use Rattle.cop_eds_hazards.specs.declared.hazards.Hazard.{Hazard}
+use Rattle.cop_eds_hazards.specs.declared.tests.Test.TheVariants as tests
+use Rattle.cop_eds_hazards.specs.Compact.{implicit_line}
+use Rattle.cop_eds_hazards.specs.Hazards.{first_line, unlisted_line, beyond_line, hazard_at, hazard_of}
 use Rattle.cop_tidy.specs.declared.judging.Left.{Left}
 use Rattle.cop_tidy.specs.Accepted.{IsAccepted}
 use Rattle.cop_tidy.specs.Identified.{identified, IsIdentified, AreIdentified}

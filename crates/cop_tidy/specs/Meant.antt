@@ -8,7 +8,7 @@ use Rattle.cop_frame.specs.declared.rates.Rate.TheVariants.{Kbit10, Kbit20, Kbit
 use Rattle.cop_eds.specs.Rates.{support_of}
 use Rattle.cop_dict.specs.Find.{Entry}
 use Rattle.cop_dict.specs.Build.{built}
-use Rattle.cop_hazard.specs.Listed.{is_listed}
+use Rattle.cop_eds_hazards.specs.Listed.{is_listed}
 use Rattle.cop_tidy_device.specs.Device.{Meaning, dictionary_for}
 use Rattle.cop_tidy_reading.specs.declared.words.Words.{Words}
 use Rattle.cop_tidy_reading.specs.Reading.{loosely}

@@ -7,8 +7,8 @@ use Rattle.cop_eds.specs.Rules.{number_of}
 use Rattle.cop_eds.specs.Reading.{reading}
 use Rattle.cop_dict.specs.Find.{Entry}
 use Rattle.cop_dict.specs.Build.{built}
-use Rattle.cop_hazard.specs.declared.hazards.Hazard.{Hazard}
-use Rattle.cop_hazard.specs.Hazards.{hazard_of}
+use Rattle.cop_eds_hazards.specs.declared.hazards.Hazard.{Hazard}
+use Rattle.cop_eds_hazards.specs.Hazards.{hazard_of}
 use Rattle.cop_tidy_lines.specs.declared.choices.Unlisted.{Unlisted}
 use Rattle.cop_tidy_lines.specs.declared.choices.Unlisted.TheVariants.{Add, Leave}
 use Rattle.cop_tidy_reading.specs.declared.words.Words.{Words}

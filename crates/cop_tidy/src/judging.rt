@@ -3,7 +3,7 @@
 ghost use Rattle.std.specs.Prelude.{◌≡◌, None, Some, Ok, Err, IfOk, IfErr, IfSome, IfNone};
 ghost use Rattle.std.specs.Option.{option_map};
 ghost use Rattle.cop_dict.specs.Build.{built};
-ghost use Rattle.cop_hazard.specs.Hazards.{hazard_of};
+ghost use Rattle.cop_eds_hazards.specs.Hazards.{hazard_of};
 ghost use Rattle.cop_tidy.specs.Accepted.{IsAccepted};
 ghost use Rattle.cop_tidy.specs.Meant.{IsOf};
 ghost use Rattle.cop_tidy.specs.Standing.{is_leaving, left_at, left_of, misread, standing, standing_built, unidentified, IsFound};
@@ -14,7 +14,7 @@ use crate::meaning::is_of;
 use crate::taking::{Taken, taken_of};
 use cop_dict::Dictionary;
 use cop_eds::{Eds, EdsFault, Refusal, parse};
-use cop_hazard::first_hazard;
+use cop_eds_hazards::first_hazard;
 use cop_tidy_device::Device;
 use cop_tidy_reading::{Unlisted, Words};
 use std::alloc::{AllocError, Global};

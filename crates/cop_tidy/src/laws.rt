@@ -3,7 +3,7 @@
 ghost use Rattle.std.specs.Prelude.{◌≡◌, ℕ, ◌+◌, ◌∷◌, ◌++◌, List, None};
 ghost use Rattle.cop_change.specs.declared.change.Change.{Change};
 ghost use Rattle.cop_change.specs.Applied.{here, lines_with};
-ghost use Rattle.cop_hazard.specs.Hazards.{hazard_of};
+ghost use Rattle.cop_eds_hazards.specs.Hazards.{hazard_of};
 ghost use Rattle.cop_tidy_reading.specs.declared.words.Words.{Words};
 ghost use Rattle.cop_tidy.specs.Accepted.{IsAccepted};
 ghost use Rattle.cop_tidy.specs.Identified.{AreIdentified};

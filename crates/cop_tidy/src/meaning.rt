@@ -5,7 +5,7 @@ ghost use Rattle.std.specs.List.{Contains};
 ghost use Rattle.std.specs.Ordering.{nat_cmp};
 ghost use Rattle.std.specs.BTreeSet.{contains};
 ghost use Rattle.cop_frame.specs.declared.rates.Rate.{Rate};
-ghost use Rattle.cop_hazard.specs.Listed.{is_listed, AreListed};
+ghost use Rattle.cop_eds_hazards.specs.Listed.{is_listed, AreListed};
 ghost use Rattle.cop_tidy_device.specs.Device.{dictionary_for};
 ghost use Rattle.cop_tidy.specs.Taken.{IsTaken};
 ghost use Rattle.cop_tidy.specs.Meant.{has_each, is_among, IsInBoth, HaveSameSlow, HaveSameFast, HasRates, HasLists, HasAll, IsOf};
@@ -13,8 +13,8 @@ ghost use Rattle.cop_tidy.specs.Meant.{has_each, is_among, IsInBoth, HaveSameSlo
 use crate::taking::Taken;
 use cop_dict::Dictionary;
 use cop_eds::Eds;
+use cop_eds_hazards::listed_indexes;
 use cop_frame::{Rate, RateSet};
-use cop_hazard::listed_indexes;
 use cop_tidy_device::{Device, is_dictionary_of};
 use std::alloc::{AllocError, Global};
 use std::collections::BTreeSet;

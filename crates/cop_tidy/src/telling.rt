@@ -4,7 +4,7 @@ use crate::tidying::Tidied;
 use cop_bytes::TextChange;
 use cop_change::{Cause, Change};
 use cop_eds::{Eds, EdsFault, parse};
-use cop_hazard::{Hazard, all_hazards, index_at, miscounts};
+use cop_eds_hazards::{Hazard, all_hazards, index_at, miscounts};
 use std::alloc::{AllocError, Global};
 use std::collections::BTreeSet;
 

@@ -9,7 +9,7 @@ use crate::types::{Main, address, stated};
 use cop_change::Cause;
 use cop_dict::DataType;
 use cop_eds::Amount;
-use cop_hazard::LEFT_OUT;
+use cop_eds_hazards::LEFT_OUT;
 use cop_tidy_lines::{
     Digits, Key, SectionName, amount_meant, bare_text, greatest_of, is_no, is_no_value, is_yes,
     limit_stated, typed_limit, typed_value,

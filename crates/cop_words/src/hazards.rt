@@ -7,7 +7,7 @@ use crate::owners::push_owner;
 use crate::parameters::push_parameters;
 use crate::words::push_shown;
 use cop_eds::Eds;
-use cop_hazard::{Hazard, all_hazards, index_at, miscounts};
+use cop_eds_hazards::{Hazard, all_hazards, index_at, miscounts};
 use cop_net::{DeviceRow, NodeTable};
 use std::alloc::{AllocError, Global};
 use std::collections::BTreeSet;
@@ -122,7 +122,7 @@ fn line_words(alloc: Global, text: Text<'_, '_, '_>, hazard: Hazard) -> Result<S
             "{line} stands behind the number of entries of its list: nothing reads it. canplan tidy counts it"
         ),
         84 => format!(in alloc;
-            "{line} is spelled otherwise than CiA 306 says: nothing reads that section. canplan tidy respells it"
+            "{line} is spelled otherwise than CiA 306 says: nothing reads that section. canplan tidy respells it if the name has one reading; else correct it, or make the section a comment"
         ),
         _ => format!(in alloc;
             "{line} is more than the lists of {devices} name: the number is wrong, or PDOs are not switched off: correct it, or list the PDOs that the device has"

@@ -2,7 +2,7 @@
 
 use crate::findings::{EdsLine, Finding};
 use crate::hazards::{Text, devices_of, line_of, shown};
-use cop_hazard::LEFT_OUT;
+use cop_eds_hazards::LEFT_OUT;
 use std::alloc::{AllocError, Global};
 use std::str;
 

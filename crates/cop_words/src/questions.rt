@@ -60,7 +60,7 @@ fn hazard_words(number: u8) -> &'static str {
             "rule 83: an entry of a list behind its number of entries names a section\nusually: a number of entries that was not raised\nright: SupportedObjects as many as there are entries\n"
         }
         _ => {
-            "rule 84: a section that describes an object has a name that nothing reads\nusually: 0x, a blank or an underline in the name\nright: [1800sub1]\n"
+            "rule 84: a section that describes an object has a name that nothing reads\nusually: 0x, a blank or an underline in the name; or a word of the maker behind the digits of a listed object\nright: [1800sub1]\n"
         }
     }
 }

@@ -8,6 +8,8 @@ mod asking;
 #[cfg(test)]
 mod dictionaries;
 #[cfg(test)]
+mod differences;
+#[cfg(test)]
 mod eds;
 #[cfg(test)]
 mod pdos;

@@ -153,6 +153,14 @@ fn write_at_port(text: &mut String, order: Order<'_>) -> Result<(), AllocError> 
             let kbits = order.rate.kbits();
             write!(text, "scan {port} {kbits} {up_to} {gently}")
         }
+        Order::Init(order) => {
+            let (folder, out) = (order.folder, order.out);
+            write!(text, "init {folder} {out}")
+        }
+        Order::Diff(order) => {
+            let (old, new) = (order.old, order.new);
+            write!(text, "diff {old} {new}")
+        }
         _ => write_made(text, order),
     }
 }
@@ -260,6 +268,9 @@ const ASKED: &[(&str, &str)] = &[
         "run 1 1000000000 t n p",
     ),
     ("judge --json n p t", "judge t n p json"),
+    ("init --explain f out", "init f out explain"),
+    ("diff a b", "diff a b"),
+    ("diff --json a b", "diff a b json"),
     ("room --json n p", "room n p json"),
     ("room --rates 125,500 n p", "room n p at 125 at 500"),
     ("report n p out", "report out no n p"),
@@ -326,6 +337,10 @@ const REFUSED: &[&str] = &[
     "scan --port x --rate 500 --up-to 0",
     "scan --port x --rate 500 --up-to 128",
     "scan --port x --rate 500 n p",
+    "init f",
+    "init --json f out",
+    "diff a",
+    "diff a b c",
     "plan --setup n p out",
     "test --setup s --rate 125 s.csv",
     "run --seed 1 --until 1000000001 n p t",

@@ -112,7 +112,7 @@ const WARNED: &[(&str, &str, &str, &str, &str)] = &[
         "BaudRate",
         "[0x2001]\nDataType=7\n",
         "5,1,10000,0,670,",
-        "warning: unit.eds, line 56: [0x2001] is spelled otherwise than CiA 306 says: nothing reads that section. canplan tidy respells it\n",
+        "warning: unit.eds, line 56: [0x2001] is spelled otherwise than CiA 306 says: nothing reads that section. canplan tidy respells it if the name has one reading; else correct it, or make the section a comment\n",
     ),
     (
         "BaudRate_250=1",

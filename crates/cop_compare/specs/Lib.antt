@@ -1,0 +1,4 @@
+pub mod Differences
+pub mod Identifiers
+pub mod Laws
+pub mod Steps

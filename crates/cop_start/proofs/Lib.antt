@@ -1,0 +1,6 @@
+pub mod EachLemmas
+pub mod TakeLemmas
+pub mod DeviceLemmas
+pub mod FrameLemmas
+pub mod RowLemmas
+pub mod CompleteLemmas

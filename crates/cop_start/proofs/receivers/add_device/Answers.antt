@@ -1,0 +1,14 @@
+use Rattle.std.proofs.Common.{◌≡◌, ◌++◌, ◌+◌, sym, ap, ◌∙◌, append-nil, append_assoc}
+use Rattle.cop_start.specs.Senders.{each_to, receiver_at}
+use Rattle.cop_start.proofs.EachLemmas.{receivers_none, receivers_more}
+use Rattle.cop_start.proofs.receivers.add_device.Goals as goal
+
+pub loop-before-init : goal.loop-before-init
+loop-before-init c = rw (receivers_none (receiver_at c.args.node c.args.dict.now)) (sym (append-nil c.args.receivers.now.items))
+
+pub loop-before-preserved : goal.loop-before-preserved
+loop-before-preserved c =
+    let f = receiver_at c.args.node c.args.dict.now in
+    let before = c.loop-before.before in
+    let now = c.args.receivers.now.items in
+    c.in_ok-add_receiver.ensures ∙ rw c.loop-before.invariant (append_assoc now (each_to f before) (f (before + 1)) ∙ ap (λ t. now ++ t) (sym (receivers_more f before)))

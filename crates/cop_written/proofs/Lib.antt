@@ -1,0 +1,4 @@
+pub mod CsvLemmas
+pub mod NumberLemmas
+pub mod NodeLemmas
+pub mod PdoLemmas
