@@ -235,6 +235,53 @@ SCANNED = {
     "scan: the rate is refused": ("valve", "--refuse S", [], "refused 104 0", 3),
 }
 
+# Values of one node that are read or written: the example, the words of the rig (none where nothing is opened), those of the program, what it says, the
+# status, and what the device has then that its EDS file has not.
+def held(count):
+    """The bytes that a rig puts into an object of so many, in hexadecimal digits."""
+    return bytes(7 * i % 251 for i in range(count)).hex().upper()
+
+
+LONG = "5A" * 889
+
+TRANSFERRED = {
+    "read: a number by its type": ("valve", "", ["read", "--type", "UNSIGNED32", "5", "1800", "1"], "node 5 has 1800 01 1073742213\n", 0, {}),
+    "read: a number by the EDS file": ("valve", "--chunk 1", ["read", "--eds", "EXAMPLE/unit.eds", "5", "1800h", "01"], "node 5 has 1800 01 1073742213\n", 0, {}),
+    "read: bytes, if no type is known": ("valve", "--stamps --lower", ["read", "5", "0x1800", "1"], "node 5 has 1800 01 85010040\n", 0, {}),
+    "read: a text in segments": ("conveyor", "", ["read", "--eds", "EXAMPLE/io.eds", "12", "1008", "0"], "node 12 has 1008 00 IO-3216\n", 0, {}),
+    "read: 889 bytes": ("valve", "--holds 5:3000:0:889", ["read", "5", "3000", "0"], f"node 5 has 3000 00 {held(889)}\n", 0, {}),
+    "read: 889 bytes, beside a machine that runs": ("valve", "--running 5 --sends 181 080 --holds 5:3000:0:889", ["read", "5", "3000", "0"], f"node 5 has 3000 00 {held(889)}\n", 0, {}),
+    "read: nothing, which is a value too": ("valve", "--holds 5:3000:0:0", ["read", "5", "3000", "0"], "node 5 has 3000 00 \n", 0, {}),
+    "read: seven bytes": ("valve", "--holds 5:3000:0:7", ["read", "5", "3000", "0"], f"node 5 has 3000 00 {held(7)}\n", 0, {}),
+    "read: no such object": ("valve", "", ["read", "5", "3000", "0"], "node 5 aborted 3000 00 06020000\n", 3, {}),
+    "read: no such sub": ("valve", "", ["read", "5", "1800", "7F"], "node 5 aborted 1800 7F 06090011\n", 3, {}),
+    "read: a node that is silent": ("valve", "--silent 5", ["read", "5", "1000", "0"], "node 5 silent\n", 3, {}),
+    "read: slow answers": ("valve", "--slow 5:0.7 --holds 5:3000:0:20", ["read", "5", "3000", "0"], f"node 5 has 3000 00 {held(20)}\n", 0, {}),
+    "read: too slow answers": ("valve", "--slow 5:1.5", ["read", "5", "1000", "0"], "node 5 silent\n", 3, {}),
+    "read: the toggle bit does not alternate": ("valve", "--holds 5:3000:0:889 --bad-toggle 5:3", ["read", "5", "3000", "0"], "node 5 aborted 3000 00 05030000\n", 3, {}),
+    "read: no answer to a segment": ("valve", "--holds 5:3000:0:889 --hushed 5:5", ["read", "5", "3000", "0"], "node 5 silent\n", 3, {}),
+    "read: lines that are no frames": ("valve", "--running 5 --garbled", ["read", "5", "1000", "0"], "refused 103 ", 3, {}),
+    "read: errors on the bus": ("valve", "--flags 80", ["read", "5", "1000", "0"], "refused 102 0", 3, {}),
+    "read: the rate is refused": ("valve", "--refuse S", ["read", "5", "1000", "0"], "refused 104 0", 3, {}),
+    "read: no index": ("valve", None, ["read", "5", "10000", "0"], "INDEX and SUB are hexadecimal digits", 2, {}),
+    "read: an object that the EDS file has not": ("valve", None, ["read", "--eds", "EXAMPLE/unit.eds", "5", "3000", "0"], "describes no object 3000 00", 2, {}),
+    "write: a number by its type": ("valve", "", ["write", "--type", "UNSIGNED16", "5", "1017", "0", "250"], "node 5 took 1017 00 250\n", 0, {"1017:00": "FA"}),
+    "write: a number by the EDS file, among others that run": (
+        "conveyor", "--running 11 12 13 14", ["write", "--eds", "EXAMPLE/io.eds", "12", "1017", "0", "0x1F4"], "node 12 took 1017 00 500\n", 0, {"1017:00": "1F4"}),
+    "write: 889 bytes": ("valve", "--holds 5:3000:0:1", ["write", "--type", "DOMAIN", "5", "3000", "0", LONG], f"node 5 took 3000 00 {LONG}\n", 0, {"3000:00": LONG}),
+    "write: five bytes, byte by byte": ("valve", "--holds 5:3000:0:1 --chunk 1", ["write", "--type", "OCTET_STRING", "5", "3000", "0", "0102030405"], "node 5 took 3000 00 0102030405\n", 0, {"3000:00": "0102030405"}),
+    "write: a number below 0": ("valve", "--holds 5:3000:0:1", ["write", "--type", "INTEGER16", "5", "3000", "0", "-3"], "node 5 took 3000 00 -3\n", 0, {"3000:00": "FDFF"}),
+    "write: a text": ("valve", "--holds 5:3000:0:1", ["write", "--type", "VISIBLE_STRING", "5", "3000", "0", "pump house 7"], "node 5 took 3000 00 pump house 7\n", 0, {"3000:00": b"pump house 7".hex().upper()}),
+    "write: no bytes": ("valve", "--holds 5:3000:0:3", ["write", "--type", "DOMAIN", "5", "3000", "0", ""], "node 5 took 3000 00 \n", 0, {"3000:00": ""}),
+    "write: read only": ("valve", "", ["write", "--type", "UNSIGNED32", "5", "1000", "0", "1"], "node 5 aborted 1000 00 06010002\n", 3, {}),
+    "write: another width": ("valve", "", ["write", "--type", "UNSIGNED32", "5", "1017", "0", "1"], "node 5 aborted 1017 00 06070010\n", 3, {}),
+    "write: confirms another sub": ("valve", "--wrong 5:1017:0", ["write", "--type", "UNSIGNED16", "5", "1017", "0", "250"], "node 5 aborted 1017 00 05040001\n", 3, {"1017:00": "FA"}),
+    "write: refused at the end of the segments": ("valve", "--abort 5:3000:0:08000022 --holds 5:3000:0:1", ["write", "--type", "DOMAIN", "5", "3000", "0", LONG], "node 5 aborted 3000 00 08000022\n", 3, {}),
+    "write: slow to store": ("valve", "--slow 5:3", ["write", "--type", "UNSIGNED16", "5", "1017", "0", "250"], "node 5 took 1017 00 250\n", 0, {"1017:00": "FA"}),
+    "write: no value of the type": ("valve", None, ["write", "--type", "UNSIGNED8", "5", "1017", "0", "256"], "VALUE is no value of its type", 2, {}),
+    "write: no type": ("valve", None, ["write", "5", "1017", "0", "256"], "--type", 2, {}),
+}
+
 # The page of a boot: the example, the words of the rig, the program's status, and what has to stand on the page.
 SHEETS = {
     "page: all ready": ("drives", "--error 12:4210:09", 0, [
@@ -577,6 +624,44 @@ def scanned(name, folder):
     return faults + ([f"standard error: {it.stderr}"] if faults else [])
 
 
+def transfer_faults(requests, node, seen):
+    """Whether something else than requests of one node was sent, or an abort or more behind the end."""
+    wanted = f"{0x600 + node:03X}"
+    faults = [f"sends {ident} {' '.join(data)}" for _, ident, data in requests if ident != wanted or len(data) != 8]
+    others = [number for number, device in seen["devices"].items() if int(number) != node and (device["reads"] or device["writes"])]
+    return faults + ([f"the nodes {others} were asked"] if others else [])
+
+
+def transferred(name, folder):
+    """What is wrong with a case in which a value of one node is read or written."""
+    example, words, options, said, status, changed = TRANSFERRED[name]
+    port, report, log = f"{folder}/port", f"{folder}/report.json", f"{folder}/log"
+    call = [PROGRAM, options[0], "--port", port, "--rate", "250" if example == "conveyor" else "500", "--explain", *options[1:]]
+    call = [it.replace("EXAMPLE", f"{HERE}/examples/{example}") for it in call]
+    if words is None:
+        it = subprocess.run(call, capture_output=True, text=True, timeout=120)
+        return [] if it.returncode == status and not it.stdout and said in it.stderr else [f"status {it.returncode}, says {it.stdout!r} {it.stderr!r}"]
+    rig = subprocess.Popen([sys.executable, RIG, f"{HERE}/examples/{example}/nodes.csv", port, "--log", log, "--report", report, *words.split()],
+                           stdout=subprocess.PIPE, text=True)
+    rig.stdout.readline()
+    it = subprocess.run(call, capture_output=True, text=True, timeout=120)
+    rig.wait(timeout=60)
+    with open(report) as file:
+        seen = json.load(file)
+    is_refused = said.startswith("refused")
+    is_as_wanted = f"canplan: {said}" in it.stderr and not it.stdout and not seen["frames_from_manager"] if is_refused else it.stdout == said
+    faults = [] if it.returncode == status and is_as_wanted else [f"status {it.returncode}, says {it.stdout!r}"]
+    node = int(next(word for word in options[1:] if word.isdigit()))
+    faults += transfer_faults(requests_in(log), node, seen)
+    if seen["commands"] or any(device["resets"] for device in seen["devices"].values()):
+        faults.append("a device is reset")
+    if seen["devices"][str(node)]["changed"] != changed:
+        faults.append(f"the device has {seen['devices'][str(node)]['changed']}")
+    if seen["given"][-1:] and seen["given"][-1][1] != "C":
+        faults.append(f"the adapter is left open: {seen['given']}")
+    return faults + ([f"standard error: {it.stderr}"] if faults else [])
+
+
 def sheet(name, folder):
     """What is wrong with the page of a boot."""
     example, words, status, parts = SHEETS[name]
@@ -597,7 +682,7 @@ def sheet(name, folder):
 
 def faults_of(name, folder):
     """What is wrong with a case."""
-    for cases, tried in ((CASES, run), (LEFT_ALONE, left_alone), (TOLD, told), (REACHES, reach), (TWICE, twice), (VERIFIED, verified), (COMMANDED, commanded), (SCANNED, scanned), (SHEETS, sheet)):
+    for cases, tried in ((CASES, run), (LEFT_ALONE, left_alone), (TOLD, told), (REACHES, reach), (TWICE, twice), (VERIFIED, verified), (COMMANDED, commanded), (SCANNED, scanned), (TRANSFERRED, transferred), (SHEETS, sheet)):
         if name in cases:
             return tried(name, folder)
     return []
@@ -605,7 +690,7 @@ def faults_of(name, folder):
 
 def main(words):
     passed, failed = 0, 0
-    for name in [*CASES, *LEFT_ALONE, *TOLD, *REACHES, *TWICE, *VERIFIED, *COMMANDED, *SCANNED, *SHEETS]:
+    for name in [*CASES, *LEFT_ALONE, *TOLD, *REACHES, *TWICE, *VERIFIED, *COMMANDED, *SCANNED, *TRANSFERRED, *SHEETS]:
         if words and not any(word in name for word in words):
             continue
         with tempfile.TemporaryDirectory() as folder:

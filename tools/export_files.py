@@ -224,7 +224,7 @@ def faults_of_database(network, tables, out):
 
 
 def settings_of(network, device):
-    """What the plan sets in a device: PDOs off, those that are used on, the heartbeat's time."""
+    """What the plan sets in a device: it switches PDOs off, switches the used ones on, and sets the heartbeat's time."""
     used = {}
     for row in network.pdos:
         if int(row["node"]) == device.node:

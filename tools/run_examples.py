@@ -20,6 +20,7 @@ from files import network_in
 HERE = os.path.dirname(os.path.dirname(os.path.realpath(__file__)))
 EXAMPLES = f"{HERE}/examples"
 PROGRAM = os.environ.get("CANPLAN", f"{HERE}/bin/canplan")
+UNPROVED = "canplan: unproved"
 
 
 def bytes_of(file):
@@ -33,8 +34,9 @@ def run(*words):
 
 
 def fault_of(*words):
-    """What the program says on standard error, as lines."""
-    return subprocess.run([PROGRAM, *words], capture_output=True, cwd="/").stderr.decode().splitlines()
+    """What the program says on standard error, as lines, but for what `tools/unproved` says of it."""
+    lines = subprocess.run([PROGRAM, *words], capture_output=True, cwd="/").stderr.decode().splitlines()
+    return [it for it in lines if it != UNPROVED]
 
 
 def indented(text):

@@ -72,6 +72,7 @@ DEVICES = (
     (118, listed("0x1006", "[1006]\nDataType=7\nAccessType=rw\nDefaultValue=0\nLowLimit=10\nHighLimit=5"), NODES, ROW, 5, "node 5: 1006h sub 0 takes no value by its EDS file"),
     (119, [("", ";left out: DefaultValue=2000 counts\n")], NODES, ROW, 5, "DefaultValue=2000 counts is left out of Valve, since it has no one reading"),
     (119, [("", ";left out: LowLimit=x\n;left out: HighLimit=y\n")], NODES, ROW, 5, "LowLimit=x and 1 more lines are left out of Valve"),
+    (None, [], NODES, "5,1,10000,0,130,\n", 5, "TPDO 1 of node 5: its deadline of 130 us is less than its frame alone takes at 1000 kbit/s, 135 us: is it a time in milliseconds?"),
     (116, [], NODES, "5,1,10000,0,700,\n", 5, "one error on the bus takes up to 664 us, and TPDO 1 of node 5 has 160 us left"),
 )
 

@@ -12,7 +12,7 @@ class Device:
         self.boot_at, self.boots, self.pending = None, 0, []
         self.upload = self.download = None
         self.resets = self.starts = self.reads = self.read_back = 0
-        self.stored, self.restores = None, False
+        self.stored, self.restores, self.segments = None, False, 0
         if faults.get("running"):
             self.state, self.next_beat = 0x05, now
 
@@ -81,12 +81,21 @@ class Device:
         if cs == 1:
             return self.write_first(d, index, sub, now)
         if cs == 0 and self.download:
-            return self.write_more(d, now)
+            return self.segment(self.write_more(d, now))
         if cs == 2:
             return self.read_first(index, sub, now)
         if cs == 3 and self.upload:
-            return self.read_more(d)
+            return self.segment(self.read_more(d))
         return self.refuse(index, sub, 0x05040001)
+
+    def segment(self, answer):
+        """The answer to a segment, if it is given, and with its toggle bit."""
+        self.segments += 1
+        if self.segments == self.faults.get("hushed"):
+            return None
+        if self.segments == self.faults.get("bad_toggle") and answer[0] != 0x80:
+            return bytes([answer[0] ^ 0x10]) + answer[1:]
+        return answer
 
     def refuse(self, index, sub, code):
         self.upload = self.download = None

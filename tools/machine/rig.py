@@ -155,6 +155,10 @@ class Rig:
             device = found[int(node)]
             device.entries[int(index, 16), int(sub, 16)].value = int(value, 16)
             device.stored = {key: e.value for key, e in device.entries.items()}
+        for text in self.args.holds:
+            node, index, sub, count = text.split(":")
+            entry = eds.Entry(int(index, 16), int(sub, 16), 0x0F, "rw", bytes(7 * i % 251 for i in range(int(count))))
+            found[int(node)].entries[entry.index, entry.sub] = entry
         return found
 
     def faults(self):
@@ -200,6 +204,10 @@ class Rig:
         for text in self.args.reboot_at_read:
             node, after = text.split(":")
             at(node)["reboot_at_read"] = int(after)
+        for name in ("bad_toggle", "hushed"):
+            for text in getattr(self.args, name):
+                node, segment = text.split(":")
+                at(node)[name] = int(segment)
         for text in self.args.reboot:
             node, after = text.split(":")
             at(node)["reboot"] = int(after)
@@ -277,7 +285,7 @@ class Rig:
     def report(self):
         wanted_all, told, good = self.args.expect, {}, True
         for node, d in sorted(self.devices.items()):
-            changed = {f"{e.index:04X}:{e.sub:02X}": f"{e.value:X}" for e in d.entries.values() if e.size and e.value != e.default}
+            changed = {f"{e.index:04X}:{e.sub:02X}": f"{e.value:X}" if e.size else e.value.hex().upper() for e in d.entries.values() if e.value != e.default}
             one = {"state": d.told(), "boots": d.boots, "resets": d.resets, "starts": d.starts, "reads": d.reads,
                    "writes": len(d.writes), "stored": d.stored is not None, "aborted": [f"{i:04X}:{s:02X} {c:08X}" for i, s, _, c in d.writes if c], "changed": changed}
             if wanted_all:
@@ -350,6 +358,9 @@ def words():
     p.add_argument("--no-stty", dest="stty", action="store_false", help="leave the terminal at min 1 time 0, for who sets it by stty")
     p.add_argument("--sessions", type=int, default=1, help="end once the adapter was closed so many times after it was open to send")
     p.add_argument("--has", nargs="*", default=[], metavar="NODE:INDEX:SUB:VALUE", help="has stored another value there than its EDS file says")
+    p.add_argument("--holds", nargs="*", default=[], metavar="NODE:INDEX:SUB:COUNT", help="has a DOMAIN of so many bytes there, which can be written")
+    p.add_argument("--bad-toggle", nargs="*", default=[], metavar="NODE:K", help="does not alternate the toggle bit in its K-th answer to a segment")
+    p.add_argument("--hushed", nargs="*", default=[], metavar="NODE:K", help="does not answer the K-th segment")
     p.add_argument("--stay", action="store_true", help="go on after C")
     p.add_argument("--until", type=float, default=60, help="end after so many seconds")
     p.add_argument("--seed", type=int, default=1)

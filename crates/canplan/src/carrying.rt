@@ -10,7 +10,7 @@ use cop_files::{Failure, Form, print};
 use cop_folders::{compare_plans, start_tables};
 use cop_makers::carry_tidy;
 use cop_orders::{Order, Request};
-use cop_serial::{boot_machine, command_nodes, scan_bus, verify_machine};
+use cop_serial::{boot_machine, carry_transfer, command_nodes, scan_bus, verify_machine};
 use std::io::Write;
 
 /// Says that a number has no rule, which is a usage fault, and which have one.
@@ -70,6 +70,7 @@ pub fn carry_out(
         Order::Verify(order) => verify_machine(rt, order, form, inputs),
         Order::Nmt(order) => command_nodes(rt, order, form),
         Order::Scan(order) => scan_bus(rt, order, form),
+        Order::Transfer(order) => carry_transfer(rt, order, form),
         Order::Judge { network, trace } => judge(rt, network, trace, form, inputs),
         Order::Run {
             seed,

@@ -1,5 +1,6 @@
 //! What is said of a failure in words, below its line.
 
+use crate::hints::{file_hint, log_hint};
 use cop_answers::{Inputs, refused_eds, words_on_file, words_on_network, words_on_refusal};
 use cop_engine::Fault;
 use cop_files::Failure;
@@ -24,6 +25,11 @@ fn push_earlier(words: &mut Vec<u8>, rt: &HostRuntime, order: Order<'_>) -> Resu
         words.extend_from_slice(line.as_bytes())?;
     }
     Ok(())
+}
+
+/// Whether a rule is one of logs.
+fn is_log_rule(number: u8) -> bool {
+    number >= 90 && number < 97
 }
 
 /// What is said of a failure in words.
@@ -51,9 +57,13 @@ pub fn explain(
         Fault::Refused { number, place } => {
             let said = words_on_refusal(alloc, order, inputs, *number, *place)?;
             words.extend_from_slice(&said)?;
+            if is_log_rule(*number) {
+                words.extend_from_slice(log_hint(rt, order).as_bytes())?;
+            }
             push_earlier(&mut words, rt, order)?;
         }
         Fault::File(name) => {
+            words.extend_from_slice(file_hint(rt, order, name)?.as_bytes())?;
             let said = words_on_file(alloc, order, inputs, name)?;
             words.extend_from_slice(said.as_bytes())?;
         }

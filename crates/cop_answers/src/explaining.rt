@@ -3,9 +3,12 @@
 use crate::booting::{is_machine_rule, machine_words};
 use crate::log_rules::log_rule_words;
 use crate::texts::{Inputs, beside};
+use crate::trace_forms::form_words;
 use cop_net::{Refusal, Rule, read_nodes};
 use cop_orders::{NetworkFiles, Order};
-use cop_words::{Network, Source, maker_words, network_words, record_words, rule_words};
+use cop_words::{
+    Network, Source, further_words, maker_words, network_words, record_words, rule_words,
+};
 use std::alloc::{AllocError, Global};
 use std::str;
 
@@ -32,6 +35,7 @@ pub(crate) fn network_of<'a>(order: Order<'a>) -> Option<NetworkFiles<'a>> {
         Order::Test { .. }
         | Order::Nmt(_)
         | Order::Scan(_)
+        | Order::Transfer(_)
         | Order::Tidy(_)
         | Order::Init(_)
         | Order::Diff(_)
@@ -95,7 +99,9 @@ fn refused_network(
         eds_files: &texts.eds_files,
         wanted: &texts.asked.rates,
     };
-    network_words(alloc, network, refusal)
+    let mut words = network_words(alloc, network, refusal)?;
+    words.extend_from_slice(&further_words(alloc, network, refusal)?)?;
+    Ok(words)
 }
 
 /// What is said of a refusal by a rule that is none of a network's: of what was read, where the rule is broken and what it is.
@@ -122,7 +128,9 @@ pub fn words_on_refusal(
     match file_of(order, number) {
         Some(name) => {
             let text = &inputs.other;
-            record_words(alloc, Source { name, text }, number, place)
+            let mut words = record_words(alloc, Source { name, text }, number, place)?;
+            words.extend_from_slice(form_words(number, text).as_bytes())?;
+            Ok(words)
         }
         None => rule_words(alloc, number),
     }

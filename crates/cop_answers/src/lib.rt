@@ -16,6 +16,7 @@ mod rooms;
 mod rules;
 mod spots;
 mod texts;
+mod trace_forms;
 mod verifying;
 mod warning_rules;
 mod warnings;

@@ -2,6 +2,7 @@
 
 ghost use Rattle.cop_figures.specs.Figures.{AreFigures};
 
+use crate::explaining::EdsText;
 use crate::rooms::fastest_miss;
 use crate::texts::{Inputs, beside};
 use crate::warnings::finding_lines;
@@ -14,6 +15,7 @@ use cop_net::{Network, NodeTable};
 use cop_orders::{NetworkFiles, Shown};
 use cop_plan::Outcome;
 use cop_report::{Input, Report, page_of};
+use sha2::{Digest, Sha256};
 use std::alloc::{AllocError, Global};
 use std::str;
 
@@ -25,44 +27,45 @@ pub struct Sources<'a> {
     pub inputs: &'a Inputs,
 }
 
-/// The EDS files as they are shown, with the names by which they were opened.
-fn opened(alloc: Global, sources: Sources<'_>) -> Result<Vec<(String, usize)>, AllocError> {
-    let mut names = Vec::new(alloc);
+/// The EDS files, with the names by which they were opened.
+fn opened<'a>(alloc: Global, sources: Sources<'a>) -> Result<Vec<EdsText<'a>>, AllocError> {
+    let mut files = Vec::new(alloc);
     for (name, text) in &sources.inputs.network.eds_files {
-        names.push((beside(alloc, sources.network.nodes, name)?, text.len()))?;
+        files.push(EdsText {
+            path: beside(alloc, sources.network.nodes, name)?,
+            text,
+        })?;
     }
-    Ok(names)
+    Ok(files)
+}
+
+/// A file that was read.
+fn input<'a>(name: &'a str, text: &[u8]) -> Input<'a> {
+    Input {
+        name,
+        size: text.len(),
+        digest: Sha256::digest(text),
+    }
 }
 
 /// The files that were read.
 fn inputs<'a>(
     alloc: Global,
     sources: Sources<'a>,
-    eds_files: &'a [(String, usize)],
+    eds_files: &'a [EdsText<'a>],
 ) -> Result<Vec<Input<'a>>, AllocError> {
     let mut inputs = Vec::new(alloc);
-    inputs.push(Input {
-        name: sources.network.nodes,
-        size: sources.inputs.network.nodes.len(),
-    })?;
-    inputs.push(Input {
-        name: sources.network.pdos,
-        size: sources.inputs.network.pdos.len(),
-    })?;
+    let texts = &sources.inputs.network;
+    inputs.push(input(sources.network.nodes, &texts.nodes))?;
+    inputs.push(input(sources.network.pdos, &texts.pdos))?;
     if let Some(name) = sources.network.setup {
-        inputs.push(Input {
-            name,
-            size: sources.inputs.network.settings.len(),
-        })?;
+        inputs.push(input(name, &texts.settings))?;
     }
     if let Some(name) = sources.shown.trace {
-        inputs.push(Input {
-            name,
-            size: sources.inputs.other.len(),
-        })?;
+        inputs.push(input(name, &sources.inputs.other))?;
     }
-    for (name, size) in eds_files {
-        inputs.push(Input { name, size: *size })?;
+    for file in eds_files {
+        inputs.push(input(&file.path, file.text))?;
     }
     Ok(inputs)
 }
@@ -129,6 +132,8 @@ pub fn page_text(
     let warnings = finding_lines(alloc, &sources.inputs.network, nodes, network, &figures)?;
     let misses = fastest_miss(alloc, network, outcome)?;
     let report = Report {
+        title: sources.shown.title,
+        date: sources.shown.date,
         network,
         outcome,
         figures: &figures,
@@ -139,6 +144,7 @@ pub fn page_text(
         log,
         are_rates_listed: sources.network.rates.are_listed(),
         inputs: &inputs,
+        eds_files: &sources.inputs.network.eds_files,
         warnings: str::from_utf8(&warnings).unwrap_or(""),
     };
     page_of(alloc, report)

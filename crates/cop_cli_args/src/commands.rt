@@ -27,6 +27,7 @@ Times in tables are microseconds, in answers ticks of 250 ns.";
 fn of_kind<'a>(arg: Arg<'a>, kind: Kind) -> Arg<'a> {
     match kind {
         Kind::Place => arg.action(ArgAction::Set),
+        Kind::PlaceOfValue => arg.allow_hyphen_values(true).action(ArgAction::Set),
         Kind::PlaceOf(choices) | Kind::OneOf(choices) => {
             arg.value_parser(choices.words()).action(ArgAction::Set)
         }
@@ -54,7 +55,7 @@ fn of_kind<'a>(arg: Arg<'a>, kind: Kind) -> Arg<'a> {
 fn placed<'a>(alloc: Global, word: &Word) -> Arg<'a> {
     let arg = of_kind(Arg::new(alloc, word.name).help(word.help), word.kind);
     match word.kind {
-        Kind::Place | Kind::PlaceOf(_) | Kind::PlaceOfNumber(_) => arg,
+        Kind::Place | Kind::PlaceOfValue | Kind::PlaceOf(_) | Kind::PlaceOfNumber(_) => arg,
         _ => arg.long(word.name),
     }
 }
@@ -71,7 +72,10 @@ fn arg_of<'a>(alloc: Global, word: &Word) -> Result<Arg<'a>, AllocError> {
 }
 
 /// A subcommand with its words.
-fn command_of<'a>(alloc: Global, subcommand: Subcommand) -> Result<Command<'a>, AllocError> {
+pub(crate) fn command_of<'a>(
+    alloc: Global,
+    subcommand: Subcommand,
+) -> Result<Command<'a>, AllocError> {
     let (name, about): (&'a str, &'a str) = (subcommand.name(), subcommand.about());
     let mut command: Command<'a> = Command::new(alloc, name)
         .about(about)
@@ -87,6 +91,16 @@ fn is_named(subcommand: Subcommand, given: &[String]) -> bool {
     given
         .get(1)
         .is_some_and(|word| word.as_str() == subcommand.name())
+}
+
+/// The subcommand that the words name.
+pub(crate) fn named(given: &[String]) -> Option<Subcommand> {
+    for subcommand in Subcommand::ALL {
+        if is_named(subcommand, given) {
+            return Some(subcommand);
+        }
+    }
+    None
 }
 
 /// The command line: with the subcommand alone that the words name, and with all where they name none.

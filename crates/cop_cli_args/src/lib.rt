@@ -2,6 +2,8 @@
 #![tactic(auto)]
 
 mod commands;
+mod machine_words;
+mod mistakes;
 mod reading;
 mod subcommands;
 mod words;

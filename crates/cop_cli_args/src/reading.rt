@@ -1,14 +1,16 @@
 //! What the words of the command line ask for.
 
 use crate::commands::command;
+use crate::mistakes::mistake;
 use clap::{ArgMatches, Error};
 use cop_command::Command;
+use cop_dict::DataType;
 use cop_eds::Access;
 use cop_engine::rate_of;
 use cop_frame::Rate;
 use cop_orders::{
     DiffOrder, Format, InitOrder, MachineOrder, NetworkFiles, NmtOrder, Order, PlanOrder, Rates,
-    Request, ScanOrder, Shown, TidyChoices, TidyOrder, VerifyOrder, WatchOrder,
+    Request, ScanOrder, Shown, TidyChoices, TidyOrder, TransferOrder, VerifyOrder, WatchOrder,
 };
 use cop_plan::Choice;
 use cop_tidy_lines::{Digits, Unlisted};
@@ -133,7 +135,54 @@ fn scan_order<'a>(matches: &ArgMatches<'a>) -> Order<'a> {
         rate: rate_in(matches),
         up_to: node_of(matches, "up-to").unwrap_or(127),
         gently: matches.get_one("gently").unwrap_or(0),
+        eds: matches.get_str("eds"),
         limit: matches.get_one("limit"),
+    })
+}
+
+/// The type of a name (CiA 301, "Data type entry usage").
+fn type_of(word: Option<&str>) -> Option<DataType> {
+    match word {
+        Some("BOOLEAN") => Some(DataType::Boolean),
+        Some("INTEGER8") => Some(DataType::Integer8),
+        Some("INTEGER16") => Some(DataType::Integer16),
+        Some("INTEGER32") => Some(DataType::Integer32),
+        Some("INTEGER64") => Some(DataType::Integer64),
+        Some("UNSIGNED8") => Some(DataType::Unsigned8),
+        Some("UNSIGNED16") => Some(DataType::Unsigned16),
+        Some("UNSIGNED32") => Some(DataType::Unsigned32),
+        Some("UNSIGNED64") => Some(DataType::Unsigned64),
+        Some("REAL32") => Some(DataType::Real32),
+        Some("REAL64") => Some(DataType::Real64),
+        Some("VISIBLE_STRING") => Some(DataType::VisibleString),
+        Some("OCTET_STRING") => Some(DataType::OctetString),
+        Some("DOMAIN") => Some(DataType::Domain),
+        _ => None,
+    }
+}
+
+fn transfer_of<'a>(matches: &ArgMatches<'a>) -> TransferOrder<'a> {
+    TransferOrder {
+        port: matches.get_str("port").unwrap_or("-"),
+        rate: rate_in(matches),
+        node: node_of(matches, "NODE").unwrap_or(0),
+        index: matches.get_str("INDEX").unwrap_or(""),
+        sub: matches.get_str("SUB").unwrap_or(""),
+        value: None,
+        data_type: type_of(matches.get_str("type")),
+        eds: matches.get_str("eds"),
+        limit: matches.get_one("limit"),
+    }
+}
+
+fn read_order<'a>(matches: &ArgMatches<'a>) -> Order<'a> {
+    Order::Transfer(transfer_of(matches))
+}
+
+fn write_order<'a>(matches: &ArgMatches<'a>) -> Order<'a> {
+    Order::Transfer(TransferOrder {
+        value: Some(matches.get_str("VALUE").unwrap_or("")),
+        ..transfer_of(matches)
     })
 }
 
@@ -161,6 +210,8 @@ fn shown_of<'a>(matches: &ArgMatches<'a>) -> Shown<'a> {
             Some(log) => Some(watch_of(matches, log)),
             None => None,
         },
+        title: matches.get_str("title"),
+        date: matches.get_str("date"),
     }
 }
 
@@ -283,6 +334,8 @@ fn order_of<'a>(name: &str, matches: &ArgMatches<'a>) -> Order<'a> {
         "verify" => verify_order(matches),
         "nmt" => nmt_order(matches),
         "scan" => scan_order(matches),
+        "read" => read_order(matches),
+        "write" => write_order(matches),
         "judge" => judge_order(matches),
         "run" => run_order(matches),
         "report" => report_order(matches),
@@ -307,7 +360,10 @@ fn has_document(name: &str) -> bool {
 /// What the words ask for, the program's name being the first. With no other word it is `test --rate 125 -`.
 pub fn read_request<'a>(alloc: Global, words: &'a [String]) -> Result<Request<'a>, Error> {
     let command = command(alloc, words)?;
-    let matches = command.try_get_matches_from(words)?;
+    let matches = match command.try_get_matches_from(words) {
+        Ok(matches) => matches,
+        Err(error) => return Err(mistake(alloc, words, error)),
+    };
     match matches.subcommand() {
         Some((name, matches)) => Ok(Request {
             order: order_of(name, matches),

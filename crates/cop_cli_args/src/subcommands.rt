@@ -1,22 +1,11 @@
 //! The subcommands, and their words.
 
+use crate::machine_words::{BOOT, NMT, READ, SCAN, VERIFY, WRITE};
 use crate::words::{
-    BUS_RATE, CHANNEL, Choices, DELTA, DRIFT, ERROR, EXPLAIN, JSON, Kind, LISTED_RATES, MARGIN,
-    NODES, Need, PDOS, PORT, SETUP, Word,
+    CHANNEL, Choices, DELTA, DRIFT, ERROR, EXPLAIN, JSON, Kind, LISTED_RATES, MARGIN, MOST_NODE,
+    NODES, Need, PDOS, SETUP, Word,
 };
 use cop_orders::MOST_UNTIL;
-
-/// The greatest number of a node.
-const MOST_NODE: u64 = 127;
-
-/// The greatest time at a port, a day in seconds.
-const MOST_SECONDS: u64 = 86400;
-
-/// The greatest time for a boot-up, ten minutes in seconds.
-const MOST_BOOT_SECONDS: u64 = 600;
-
-/// The greatest pause before a question, ten seconds in milliseconds.
-const MOST_PAUSE: u64 = 10000;
 
 /// The greatest number of a rule.
 const MOST_RULE: u64 = 255;
@@ -90,172 +79,6 @@ static CHECK: [Word; 9] = [
     },
 ];
 
-static BOOT: [Word; 19] = [
-    NODES,
-    PDOS,
-    SETUP,
-    LISTED_RATES,
-    MARGIN,
-    EXPLAIN,
-    JSON,
-    Word {
-        name: "seed",
-        kind: Kind::Number(u64::MAX),
-        need: Need::Unless("port"),
-        help: "The number that draws the turns of the simulated bus",
-    },
-    Word {
-        name: "port",
-        kind: Kind::Text("PORT"),
-        need: Need::Against("seed"),
-        help: "The serial device of a CAN adapter that speaks slcan: the devices there are booted; - is standard input and output",
-    },
-    Word {
-        name: "take-over",
-        kind: Kind::Flag,
-        need: Need::Against("seed"),
-        help: "Resets the nodes also where one is heard to run; without it such a machine is left alone",
-    },
-    Word {
-        name: "no-identity",
-        kind: Kind::Flag,
-        need: Need::Against("seed"),
-        help: "Does not ask the devices for their type, vendor and product; without it nothing is written to them where one is another than its EDS file says",
-    },
-    Word {
-        name: "only",
-        kind: Kind::Number(MOST_NODE),
-        need: Need::Against("seed"),
-        help: "The node that is reset, set and started alone; the others may run",
-    },
-    Word {
-        name: "no-start",
-        kind: Kind::Flag,
-        need: Need::Against("seed"),
-        help: "Leaves the nodes in pre-operational, for another manager to start them",
-    },
-    Word {
-        name: "boot-limit",
-        kind: Kind::Positive(MOST_BOOT_SECONDS),
-        need: Need::Against("seed"),
-        help: "The seconds after a reset in which a node has to boot up, before it is silent; 5 where it is left out",
-    },
-    Word {
-        name: "restore",
-        kind: Kind::Flag,
-        need: Need::Against("seed"),
-        help: "Has each device go back to the values that it left the factory with first (1011h sub 1), where its EDS file has that",
-    },
-    Word {
-        name: "store",
-        kind: Kind::Flag,
-        need: Need::Against("seed"),
-        help: "Has each device store its settings (1010h sub 1), where its EDS file has that",
-    },
-    Word {
-        name: "watch",
-        kind: Kind::Number(MOST_SECONDS),
-        need: Need::Against("seed"),
-        help: "The seconds after the start for which heartbeats are awaited, 0 for none; one and a half of the longest heartbeat time where it is left out",
-    },
-    Word {
-        name: "limit",
-        kind: Kind::Number(MOST_SECONDS),
-        need: Need::Against("seed"),
-        help: "The seconds after which the port is given up",
-    },
-    Word {
-        name: "report",
-        kind: Kind::Text("OUT"),
-        need: Need::Against("seed"),
-        help: "Writes a page that shows how the boot ended, and what each node was set to",
-    },
-];
-
-static VERIFY: [Word; 11] = [
-    NODES,
-    PDOS,
-    SETUP,
-    LISTED_RATES,
-    MARGIN,
-    EXPLAIN,
-    JSON,
-    PORT,
-    Word {
-        name: "only",
-        kind: Kind::Number(MOST_NODE),
-        need: Need::Optional,
-        help: "The node that is asked alone",
-    },
-    Word {
-        name: "gently",
-        kind: Kind::Number(MOST_PAUSE),
-        need: Need::Optional,
-        help: "The milliseconds in which nothing is sent before each question; 0 where it is left out",
-    },
-    Word {
-        name: "limit",
-        kind: Kind::Number(MOST_SECONDS),
-        need: Need::Optional,
-        help: "The seconds after which the port is given up",
-    },
-];
-
-static NMT: [Word; 7] = [
-    Word {
-        name: "COMMAND",
-        kind: Kind::PlaceOf(Choices::Commands),
-        need: Need::Required,
-        help: "What the nodes are to do",
-    },
-    Word {
-        name: "NODE",
-        kind: Kind::PlaceOfNumber(MOST_NODE),
-        need: Need::Unless("all"),
-        help: "The node that gets the command",
-    },
-    Word {
-        name: "all",
-        kind: Kind::Flag,
-        need: Need::Against("NODE"),
-        help: "Every node gets it",
-    },
-    PORT,
-    BUS_RATE,
-    Word {
-        name: "limit",
-        kind: Kind::Number(MOST_SECONDS),
-        need: Need::Optional,
-        help: "The seconds after which the port is given up",
-    },
-    EXPLAIN,
-];
-
-static SCAN: [Word; 7] = [
-    PORT,
-    BUS_RATE,
-    Word {
-        name: "up-to",
-        kind: Kind::Positive(MOST_NODE),
-        need: Need::Optional,
-        help: "The greatest node that is asked; 127 if it is left out",
-    },
-    Word {
-        name: "gently",
-        kind: Kind::Number(MOST_PAUSE),
-        need: Need::Optional,
-        help: "The milliseconds in which nothing is sent before each question; 0 if it is left out",
-    },
-    Word {
-        name: "limit",
-        kind: Kind::Number(MOST_SECONDS),
-        need: Need::Optional,
-        help: "The seconds after which the port is given up",
-    },
-    EXPLAIN,
-    JSON,
-];
-
 static RUN: [Word; 9] = [
     NODES,
     PDOS,
@@ -299,7 +122,7 @@ static JUDGE: [Word; 8] = [
     },
 ];
 
-static REPORT: [Word; 13] = [
+static REPORT: [Word; 15] = [
     NODES,
     PDOS,
     SETUP,
@@ -323,6 +146,18 @@ static REPORT: [Word; 13] = [
         kind: Kind::Text("LOG"),
         need: Need::Optional,
         help: "A log of the machine's bus, as watch takes it: the page shows what it shows, too",
+    },
+    Word {
+        name: "title",
+        kind: Kind::Text("TITLE"),
+        need: Need::Optional,
+        help: "The name of the machine at the page's head",
+    },
+    Word {
+        name: "date",
+        kind: Kind::Text("DATE"),
+        need: Need::Optional,
+        help: "The date at the page's head",
     },
     ERROR,
     DRIFT,
@@ -498,6 +333,8 @@ pub(crate) enum Subcommand {
     Verify,
     Nmt,
     Scan,
+    Read,
+    Write,
     Run,
     Judge,
     Report,
@@ -511,7 +348,7 @@ pub(crate) enum Subcommand {
 
 impl Subcommand {
     /// All of them, as a help lists them.
-    pub const ALL: [Subcommand; 17] = [
+    pub const ALL: [Subcommand; 19] = [
         Subcommand::Test,
         Subcommand::Plan,
         Subcommand::Room,
@@ -520,6 +357,8 @@ impl Subcommand {
         Subcommand::Verify,
         Subcommand::Nmt,
         Subcommand::Scan,
+        Subcommand::Read,
+        Subcommand::Write,
         Subcommand::Run,
         Subcommand::Judge,
         Subcommand::Report,
@@ -541,6 +380,8 @@ impl Subcommand {
             Subcommand::Verify => "verify",
             Subcommand::Nmt => "nmt",
             Subcommand::Scan => "scan",
+            Subcommand::Read => "read",
+            Subcommand::Write => "write",
             Subcommand::Run => "run",
             Subcommand::Judge => "judge",
             Subcommand::Report => "report",
@@ -578,6 +419,8 @@ impl Subcommand {
             Subcommand::Scan => {
                 "Asks each node at an adapter what its device is, and writes nothing to any"
             }
+            Subcommand::Read => "Reads the value of an object of a node at an adapter",
+            Subcommand::Write => "Writes a value to an object of a node at an adapter",
             Subcommand::Run => "Runs the plan on a simulated bus, and writes the trace",
             Subcommand::Judge => "Judges a trace of the bus by the plan of a network",
             Subcommand::Report => {
@@ -621,6 +464,10 @@ impl Subcommand {
           canplan nmt --port /dev/ttyACM0 --rate 500 start --all"
             }
             Subcommand::Scan => "Example: canplan scan --port /dev/ttyACM0 --rate 500",
+            Subcommand::Read => "Example: canplan read --port /dev/ttyACM0 --rate 500 5 1008 0",
+            Subcommand::Write => {
+                "Example: canplan write --port /dev/ttyACM0 --rate 500 --eds unit.eds 5 1017 0 1000"
+            }
             Subcommand::Run => {
                 "Example: canplan run --seed 1 --until 1000000 nodes.csv pdos.csv trace.csv"
             }
@@ -646,6 +493,8 @@ impl Subcommand {
             Subcommand::Verify => VERIFY.as_slice(),
             Subcommand::Nmt => NMT.as_slice(),
             Subcommand::Scan => SCAN.as_slice(),
+            Subcommand::Read => READ.as_slice(),
+            Subcommand::Write => WRITE.as_slice(),
             Subcommand::Run => RUN.as_slice(),
             Subcommand::Judge => JUDGE.as_slice(),
             Subcommand::Report => REPORT.as_slice(),

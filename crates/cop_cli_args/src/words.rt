@@ -1,5 +1,8 @@
 //! The words of the command line, and those that several subcommands have.
 
+/// The greatest number of a node.
+pub(crate) const MOST_NODE: u64 = 127;
+
 /// Words of which one or some may stand.
 #[derive(Clone, Copy)]
 pub(crate) enum Choices {
@@ -13,6 +16,8 @@ pub(crate) enum Choices {
     Accesses,
     /// What may become of the PDOs that no list of an EDS file names.
     Unlisted,
+    /// The types of values.
+    Types,
 }
 
 static RATES: [&str; 8] = ["10", "20", "50", "125", "250", "500", "800", "1000"];
@@ -25,6 +30,23 @@ static ACCESSES: [&str; 6] = ["ro", "wo", "rw", "rwr", "rww", "const"];
 
 static UNLISTED: [&str; 2] = ["add", "leave"];
 
+static TYPES: [&str; 14] = [
+    "BOOLEAN",
+    "INTEGER8",
+    "INTEGER16",
+    "INTEGER32",
+    "INTEGER64",
+    "UNSIGNED8",
+    "UNSIGNED16",
+    "UNSIGNED32",
+    "UNSIGNED64",
+    "REAL32",
+    "REAL64",
+    "VISIBLE_STRING",
+    "OCTET_STRING",
+    "DOMAIN",
+];
+
 impl Choices {
     pub fn words(self) -> &'static [&'static str] {
         match self {
@@ -33,6 +55,7 @@ impl Choices {
             Choices::Commands => COMMANDS.as_slice(),
             Choices::Accesses => ACCESSES.as_slice(),
             Choices::Unlisted => UNLISTED.as_slice(),
+            Choices::Types => TYPES.as_slice(),
         }
     }
 }
@@ -42,6 +65,8 @@ impl Choices {
 pub(crate) enum Kind {
     /// A word at its place, such as the name of a file.
     Place,
+    /// A word at its place that may begin with a minus.
+    PlaceOfValue,
     /// One of some words at its place.
     PlaceOf(Choices),
     /// A number at its place, from 1 up to this one.

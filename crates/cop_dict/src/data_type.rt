@@ -82,7 +82,7 @@ impl DataType {
     }
 
     /// The first pattern that stands for a negative number, in a signed type.
-    pub(crate) fn half(self) -> Option<u64>
+    pub fn half(self) -> Option<u64>
         ensures value { result ≡ half_of self }
         ensures bound { IfSome result (λ half. (1 ≤ half) × (half ≤ 2 ^ 63)) }
     {
@@ -97,7 +97,7 @@ impl DataType {
 
     /// The greatest number, in a type that has numbers. Strings, DOMAIN, REAL and opaque types have
     /// none.
-    pub(crate) fn greatest(self) -> Option<u64>
+    pub fn greatest(self) -> Option<u64>
         ensures { result ≡ greatest_of self }
     {
         match self {

@@ -32,3 +32,4 @@ pub use laws::{
 pub use mapping::{Direction, Mapped, MappingFault};
 pub use numbers::number;
 pub use object::Object;
+pub use pattern::pattern_of;

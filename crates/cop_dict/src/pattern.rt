@@ -36,8 +36,8 @@ fn greatest_pattern(half: Option<u64>, greatest: u64) -> u64
     }
 }
 
-/// The pattern of an amount, where the type has it.
-fn pattern_of(data_type: DataType, greatest: u64, node: u8, amount: Amount) -> Option<u64>
+/// The pattern of an amount, where the type, with this greatest number, has it: in a signed type the two's complement of a number below 0.
+pub fn pattern_of(data_type: DataType, greatest: u64, node: u8, amount: Amount) -> Option<u64>
     ensures { result ≡ pattern_of data_type greatest node amount }
 {
     match amount {

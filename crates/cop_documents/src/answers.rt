@@ -152,22 +152,42 @@ fn told(number: Option<u32>) -> Value {
     number_if(number.map(u64::from))
 }
 
-/// What the device of a node told.
-fn found_of(alloc: Global, found: &Found) -> Result<Value, AllocError> {
-    Object::new(alloc)
+/// The names of files.
+fn names_of(alloc: Global, names: &[String]) -> Result<Value, AllocError> {
+    let mut all = Vec::new(alloc);
+    for name in names {
+        all.push(Value::String(String::from_str(alloc, name)?))?;
+    }
+    Ok(Value::Array(all))
+}
+
+/// What the device of a node told, and which EDS files fit it, if they were looked for.
+fn found_of(alloc: Global, found: &Found, fitting: Option<&[String]>) -> Result<Value, AllocError> {
+    let object = Object::new(alloc)
         .plain("node", found.node)
         .plain("device_type", told(found.device_type))
         .plain("vendor", told(found.vendor))
         .plain("product", told(found.product))
-        .plain("revision", told(found.revision))
-        .end()
+        .plain("revision", told(found.revision));
+    match fitting {
+        Some(names) => object.plain("eds", names_of(alloc, names)?).end(),
+        None => object.end(),
+    }
 }
 
-/// The answer of a scan: the nodes that answered.
-pub fn scan_document(alloc: Global, found: &[Found]) -> Result<String, AllocError> {
+/// The answer of a scan: the nodes that answered, each with the names of the EDS files that fit it, if they were looked for.
+pub fn scan_document(
+    alloc: Global,
+    found: &[Found],
+    fitting: Option<&[Vec<String>]>,
+) -> Result<String, AllocError> {
     let mut nodes = Vec::new(alloc);
-    for one in found {
-        nodes.push(found_of(alloc, one)?)?;
+    for (place, one) in found.iter().enumerate() {
+        let names = match fitting {
+            Some(all) => all.get(place).map(|names| names.as_slice()),
+            None => None,
+        };
+        nodes.push(found_of(alloc, one, names)?)?;
     }
     let document = Object::new(alloc)
         .text("command", "scan")

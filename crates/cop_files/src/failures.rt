@@ -1,9 +1,10 @@
 //! Why an order is not carried out, with what the system says of a file.
 
+use cop_eds::EdsFault;
 use cop_engine::Fault;
 use cop_logbook::BookFault;
 use cop_net::PlanFault;
-use std::alloc::{AllocError, AllocFailed};
+use std::alloc::{AllocError, AllocFailed, Global};
 use std::io;
 
 /// Why an order is not carried out.
@@ -50,6 +51,20 @@ impl From<BookFault> for Failure {
             },
             BookFault::Memory => Fault::Memory,
         })
+    }
+}
+
+/// The failure of a text that is read as an EDS file and refused: by its rule, at its line.
+pub fn eds_failure(alloc: Global, path: &str, fault: EdsFault) -> Failure {
+    let EdsFault::Refused(refusal) = fault else {
+        return Failure::from(Fault::Memory);
+    };
+    Failure {
+        fault: Fault::Refused {
+            number: refusal.rule.number(),
+            place: refusal.line as u64,
+        },
+        reason: format!(in alloc; "it is in {path}\n").ok(),
     }
 }
 

@@ -9,7 +9,7 @@ mod forms;
 mod inputs;
 
 pub use earlier::{NodeFiles, remove_earlier};
-pub use failures::{Failure, Use, file_failure};
+pub use failures::{Failure, Use, eds_failure, file_failure};
 pub use files::{Folder, print, print_document, tell, write_file};
 pub use folders::eds_names;
 pub use forms::Form;

@@ -1,11 +1,11 @@
 //! What changes in the devices between two plans.
 
+use crate::devices::described;
 use crate::telling::{change_document, change_lines};
 use cop_compare::{Change, Difference, IdentifierChange, differences, identifier_changes};
-use cop_dict::{Dictionary, Object, build};
-use cop_eds::{EdsFault, parse};
-use cop_engine::{Fault, rate_of};
-use cop_files::{Failure, Form, print, print_document, read_file, tell};
+use cop_dict::{Dictionary, Object};
+use cop_engine::rate_of;
+use cop_files::{Failure, Form, eds_failure, print, print_document, read_file, tell};
 use cop_frame::Rate;
 use cop_orders::DiffOrder;
 use std::alloc::{AllocError, Global};
@@ -83,25 +83,6 @@ fn rate_in(rt: &HostRuntime, folder: &str) -> Result<Option<Rate>, Failure> {
     }
 }
 
-fn read_text(alloc: Global, text: &[u8], node: u8) -> Result<Dictionary, EdsFault> {
-    let eds = parse(alloc, text)?;
-    build(alloc, &eds, node)
-}
-
-/// The failure of a DCF file that is refused.
-fn refused(alloc: Global, path: &str, fault: EdsFault) -> Failure {
-    let EdsFault::Refused(refusal) = fault else {
-        return Failure::from(Fault::Memory);
-    };
-    Failure {
-        fault: Fault::Refused {
-            number: refusal.rule.number(),
-            place: refusal.line as u64,
-        },
-        reason: format!(in alloc; "it is in {path}\n").ok(),
-    }
-}
-
 /// What the DCF file of a node describes, if the plan in a folder has one.
 fn dictionary_in(rt: &HostRuntime, folder: &str, node: u8) -> Result<Option<Dictionary>, Failure> {
     let alloc = rt.alloc();
@@ -110,9 +91,9 @@ fn dictionary_in(rt: &HostRuntime, folder: &str, node: u8) -> Result<Option<Dict
         return Ok(None);
     }
     let text = read_file(rt, &path)?;
-    match read_text(alloc, &text, node) {
+    match described(alloc, &text, node) {
         Ok(dictionary) => Ok(Some(dictionary)),
-        Err(fault) => Err(refused(alloc, &path, fault)),
+        Err(fault) => Err(eds_failure(alloc, &path, fault)),
     }
 }
 

@@ -2,6 +2,7 @@
 #![tactic(auto)]
 
 mod comparing;
+mod devices;
 mod notes;
 mod starting;
 mod telling;

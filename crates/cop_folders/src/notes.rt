@@ -1,6 +1,7 @@
 //! What is told of tables to start from: what is left out, and each guess.
 
 use cop_dict::{Dictionary, Direction};
+use cop_eds::Refusal;
 use cop_pdo::payload;
 use cop_start::{Offer, Pace, Row, Sender, Source, Start, Tables, offered};
 use std::alloc::{AllocError, Global};
@@ -39,10 +40,10 @@ impl Notes {
     pub(crate) fn refused(
         &mut self,
         name: &str,
-        refused: (u8, usize),
+        refused: Refusal,
         tidy: &str,
     ) -> Result<(), AllocError> {
-        let (number, line) = refused;
+        let (number, line) = (refused.rule.number(), refused.line);
         let line = format!(in self.alloc;
             "{name}: left out, refused {number} at line {line}; canplan tidy {tidy}\n"
         )?;
@@ -50,8 +51,8 @@ impl Notes {
     }
 
     /// That tidy mended a file that plan refuses.
-    pub(crate) fn mended(&mut self, name: &str, refused: (u8, usize)) -> Result<(), AllocError> {
-        let (number, line) = refused;
+    pub(crate) fn mended(&mut self, name: &str, refused: Refusal) -> Result<(), AllocError> {
+        let (number, line) = (refused.rule.number(), refused.line);
         let line = format!(in self.alloc;
             "{name}: refused {number} at line {line}, written as canplan tidy mends it\n"
         )?;

@@ -1,12 +1,14 @@
 //! Tables to start from, made of the EDS files of a folder.
 
+use crate::devices::described;
 use crate::notes::{Notes, tell_rows};
-use cop_dict::{Dictionary, build};
-use cop_eds::{EdsFault, parse};
+use cop_dict::Dictionary;
+use cop_eds::{EdsFault, Refusal};
 use cop_engine::Fault;
 use cop_files::{Failure, Use, eds_names, file_failure, print, read_file, write_file};
 use cop_orders::InitOrder;
-use cop_start::{Start, Tables, first_tables, is_name};
+use cop_rows::is_name;
+use cop_start::{Start, Tables, first_tables};
 use cop_tidy::{TidyFault, Words, tidy};
 use cop_written::{node_text, pdo_text};
 use std::alloc::{AllocError, Global};
@@ -33,36 +35,6 @@ struct Found {
     notes: Notes,
 }
 
-/// Why a file is left out, or that there is no memory.
-#[derive(Clone, Copy, Drop)]
-enum Left {
-    Refused { number: u8, line: usize },
-    Memory,
-}
-
-fn left_by(fault: EdsFault) -> Left {
-    match fault {
-        EdsFault::Refused(refusal) => Left::Refused {
-            number: refusal.rule.number(),
-            line: refusal.line,
-        },
-        EdsFault::Memory => Left::Memory,
-    }
-}
-
-fn read_text(alloc: Global, text: &[u8], node: u8) -> Result<Dictionary, EdsFault> {
-    let eds = parse(alloc, text)?;
-    build(alloc, &eds, node)
-}
-
-/// What a text describes for a node.
-fn described(alloc: Global, text: &[u8], node: u8) -> Result<Dictionary, Left> {
-    match read_text(alloc, text, node) {
-        Ok(dictionary) => Ok(dictionary),
-        Err(fault) => Err(left_by(fault)),
-    }
-}
-
 impl Found {
     /// Takes a file with what it describes for the next node.
     fn take(
@@ -87,7 +59,7 @@ impl Found {
         text: &[u8],
         node: u8,
         is_copied: bool,
-        refused: (u8, usize),
+        refused: Refusal,
     ) -> Result<(), AllocError> {
         let alloc = self.notes.alloc();
         let tidied = match tidy(alloc, text, &Words::none(alloc)) {
@@ -103,8 +75,8 @@ impl Found {
                 self.notes.mended(name, refused)?;
                 self.take(name, tidied.text, dictionary)
             }
-            Err(Left::Refused { .. }) => self.notes.refused(name, refused, "does not mend it"),
-            Err(Left::Memory) => Err(AllocError),
+            Err(EdsFault::Refused(_)) => self.notes.refused(name, refused, "does not mend it"),
+            Err(EdsFault::Memory) => Err(AllocError),
         }
     }
 
@@ -121,10 +93,8 @@ impl Found {
         }
         match described(self.notes.alloc(), &text, node) {
             Ok(dictionary) => self.take(name, text, dictionary),
-            Err(Left::Refused { number, line }) => {
-                self.mend(name, &text, node, is_copied, (number, line))
-            }
-            Err(Left::Memory) => Err(AllocError),
+            Err(EdsFault::Refused(refusal)) => self.mend(name, &text, node, is_copied, refusal),
+            Err(EdsFault::Memory) => Err(AllocError),
         }
     }
 }

@@ -29,4 +29,5 @@ pub use faults::{DevicePdo, PlanFault, ReceiveFault, Refusal, Rule, SyncFault, T
 pub use making::{network, network_of_files};
 pub use networks::Network;
 pub use rates::all_rates;
+pub use settings::{every_at, whole_of};
 pub use tables::{read_nodes, read_pdos, read_settings};

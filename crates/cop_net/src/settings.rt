@@ -73,8 +73,8 @@ pub fn is_stuck(entry: &Object) -> bool
     exists(cob_id) && !may_hold(entry.description(), off(cob_id))
 }
 
-/// The number that an entry of an integer type has.
-fn whole_of(entry: &Object) -> Option<i128>
+/// The number that an entry of an integer type has; a BOOLEAN is none.
+pub fn whole_of(entry: &Object) -> Option<i128>
     ensures { result ≡ whole_of entry.now }
 {
     match entry.description().data_type {

@@ -5,5 +5,6 @@ mod orders;
 
 pub use orders::{
     DiffOrder, Format, InitOrder, MOST_UNTIL, MachineOrder, NetworkFiles, NmtOrder, Order,
-    PlanOrder, Rates, Request, ScanOrder, Shown, TidyChoices, TidyOrder, VerifyOrder, WatchOrder,
+    PlanOrder, Rates, Request, ScanOrder, Shown, TidyChoices, TidyOrder, TransferOrder,
+    VerifyOrder, WatchOrder,
 };

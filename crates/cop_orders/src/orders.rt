@@ -1,6 +1,7 @@
 //! What the command line asks for.
 
 use cop_command::Command;
+use cop_dict::DataType;
 use cop_eds::Access;
 use cop_engine::rate_of;
 use cop_frame::{Rate, RateSet};
@@ -127,6 +128,28 @@ pub struct ScanOrder<'a> {
     pub up_to: u8,
     /// For how many milliseconds nothing is sent before each question.
     pub gently: u64,
+    /// The folder of EDS files of which those that fit are named, if there is one.
+    pub eds: Option<&'a str>,
+    /// After how many seconds the port is given up, if it ever is.
+    pub limit: Option<u64>,
+}
+
+/// A value of an object of one node at the adapter of a port, which is to be read, or written.
+#[derive(Clone, Copy)]
+pub struct TransferOrder<'a> {
+    pub port: &'a str,
+    /// The bus's rate.
+    pub rate: Rate,
+    pub node: u8,
+    /// The object, in hexadecimal digits.
+    pub index: &'a str,
+    pub sub: &'a str,
+    /// The value to write; none if it is to be read.
+    pub value: Option<&'a str>,
+    /// The type of the value, if it is named.
+    pub data_type: Option<DataType>,
+    /// An EDS file that names the type.
+    pub eds: Option<&'a str>,
     /// After how many seconds the port is given up, if it ever is.
     pub limit: Option<u64>,
 }
@@ -199,6 +222,9 @@ pub struct Shown<'a> {
     pub trace: Option<&'a str>,
     /// A log of the machine's bus.
     pub log: Option<WatchOrder<'a>>,
+    /// What stands at its head: the machine's name, and the date.
+    pub title: Option<&'a str>,
+    pub date: Option<&'a str>,
 }
 
 /// What the words ask for.
@@ -235,6 +261,8 @@ pub enum Order<'a> {
     Nmt(NmtOrder<'a>),
     /// The question who is on the bus behind a port.
     Scan(ScanOrder<'a>),
+    /// A value of an object of one node at a port, to be read or written.
+    Transfer(TransferOrder<'a>),
     /// The judgement of a trace by the plan of a network.
     Judge {
         network: NetworkFiles<'a>,

@@ -4,7 +4,7 @@ use crate::frames::frame_with;
 use crate::page::Report;
 use crate::script::LANES_SCRIPT;
 use crate::senders::{Sender, sender_of};
-use crate::units::{Count, Identifier, Micros};
+use crate::units::{Count, Identifier, Millis, Short};
 use cop_bus::Transfer;
 use cop_figures::{Figures, Lane, Timeline};
 use cop_plan::Plan;
@@ -82,10 +82,10 @@ fn push_transfer(page: &mut String, window: Window, transfer: &Transfer) -> Resu
         ended,
         ..
     } = *transfer;
-    let (queue, start, end) = (Micros(queued), Micros(started), Micros(ended));
+    let (queue, start, end) = (Millis(queued), Millis(started), Millis(ended));
     write!(
         page,
-        "<g><title>queued at {queue} µs, on the bus from {start} µs to {end} µs</title>"
+        "<g><title>queued at {queue} ms, on the bus from {start} ms to {end} ms</title>"
     )?;
     if queued < started {
         let (place, width) = (
@@ -151,10 +151,10 @@ fn bound_of(figures: &Figures, id: u16) -> Option<u64> {
 
 /// Adds the end of a lane: the longest time in the trace, and what it is at most where that is known.
 fn push_end(page: &mut String, figures: &Figures, lane: &Lane) -> Result<(), AllocError> {
-    let longest = Micros(longest(lane));
+    let longest = Millis(longest(lane));
     write!(page, "</svg><div class=\"n\">{longest}")?;
     if let Some(bound) = bound_of(figures, lane.id) {
-        let bound = Micros(bound);
+        let bound = Millis(bound);
         write!(page, " / {bound}")?;
     }
     page.push_str("</div></div>\n")
@@ -183,12 +183,12 @@ fn push_axis(page: &mut String, window: Window) -> Result<(), AllocError> {
     write!(
         page,
         "<div id=\"lanes\" data-begin=\"{begin}\" data-span=\"{span}\" style=\"--span:{span};--first:{first};--step:{step}\">\n\
-<div class=\"lane axis\"><div>µs</div><div class=\"marks\">"
+<div class=\"lane axis\"><div>ms</div><div class=\"marks\">"
     )?;
     for number in 0..PARTS + 1 {
         let offset = first.saturating_add(step.saturating_mul(number));
         if offset <= span {
-            let moment = Micros(begin.saturating_add(offset));
+            let moment = Short(begin.saturating_add(offset));
             write!(page, "<span style=\"--at:{offset}\">{moment}</span>")?;
         }
     }
@@ -208,14 +208,14 @@ fn push_lateness(page: &mut String, late: Option<usize>) -> Result<(), AllocErro
 
 /// Adds what is drawn, and of how many transfers.
 fn push_words(page: &mut String, timeline: &Timeline) -> Result<(), AllocError> {
-    let until = Micros(timeline.until);
+    let until = Millis(timeline.until);
     let ended = Count {
         number: timeline.ended,
         thing: "transfer",
     };
     write!(
         page,
-        "<p>The trace goes up to {until} µs. In it {ended} came to an end."
+        "<p>The trace goes up to {until} ms. In it {ended} came to an end."
     )?;
     push_lateness(page, timeline.late)?;
     let drawn = drawn(&timeline.lanes);
@@ -237,10 +237,10 @@ fn push_lanes(
 ) -> Result<(), AllocError> {
     page.push_str(
         "<p>A lane for each identifier that sends. <span class=\"key fixed\"></span> The frame waits. \
-<span class=\"key pdo\"></span> The frame is on the bus. Beside a lane stand, in µs, the longest time from the queueing of a frame to the end of its \
+<span class=\"key pdo\"></span> The frame is on the bus. Beside a lane stand, in ms, the longest time from the queueing of a frame to the end of its \
 transfer, of those drawn, and where it is known its bound: the greatest response, which counts from the event.</p>\n\
 <p id=\"window\" hidden>\
-<label>from <input id=\"from\" type=\"number\" step=\"any\"> µs</label> <label>to <input id=\"to\" type=\"number\" step=\"any\"> µs</label> \
+<label>from <input id=\"from\" type=\"number\" step=\"any\"> ms</label> <label>to <input id=\"to\" type=\"number\" step=\"any\"> ms</label> \
 <button type=\"button\" id=\"in\">Zoom in</button> <button type=\"button\" id=\"out\">Zoom out</button> \
 <button type=\"button\" id=\"left\">Earlier</button> <button type=\"button\" id=\"right\">Later</button> \
 <button type=\"button\" id=\"whole\">All</button></p>\n",

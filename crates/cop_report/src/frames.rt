@@ -4,7 +4,7 @@ use crate::bars::ResponseBar;
 use crate::pdos::push_margin;
 use crate::rates::push_verdict;
 use crate::senders::fixed_sender;
-use crate::units::{Count, Identifier, Micros};
+use crate::units::{Count, Identifier, Millis};
 use cop_figures::{Figures, FrameTimes, PdoTimes};
 use cop_net::Network;
 use cop_rta::{IdRange, Stream, Verdict};
@@ -60,7 +60,7 @@ pub(crate) fn push_lower(
 
 /// The heads of the columns on deadlines.
 const DEADLINE_HEADS: &str =
-    "<th class=\"n\">Deadline</th><th class=\"n\">Response</th><th></th><th class=\"n\">Margin</th><th class=\"n\">of it</th>";
+    "<th class=\"n\">Deadline</th><th class=\"n\">Response</th><th></th><th class=\"n\">Margin</th><th class=\"n\">Left</th>";
 
 /// Whether a network has fixed frames.
 pub(crate) fn has_fixed(network: &Network<'_>) -> bool {
@@ -86,9 +86,8 @@ fn push_times(page: &mut String, frame: &FrameTimes) -> Result<(), AllocError> {
     let bar = ResponseBar {
         response: frame.response,
         deadline: frame.stream.deadline.unwrap_or(0),
-        is_tightest: false,
     };
-    let (deadline, response) = (Micros(bar.deadline), Micros(bar.response));
+    let (deadline, response) = (Millis(bar.deadline), Millis(bar.response));
     write!(
         page,
         "<td class=\"n\">{deadline}</td><td class=\"n\">{response}</td>"
@@ -104,7 +103,7 @@ fn push_frame(
     stream: &Stream,
 ) -> Result<(), AllocError> {
     let (id, bytes) = (Identifier(stream.id), stream.bytes);
-    let (period, jitter) = (Micros(stream.period), Micros(stream.jitter));
+    let (period, jitter) = (Millis(stream.period), Millis(stream.jitter));
     let sender = fixed_sender(network, stream.id);
     write!(
         page,
@@ -128,17 +127,17 @@ pub(crate) fn push_frames(
     }
     page.push_str(
         "<section id=\"frames\">\n<h2>Fixed frames by identifier</h2>\n\
-<p>CANopen gives these frames their identifiers, and the table of nodes says how often they are sent. Times are microseconds. Only SDO frames may \
+<p>CANopen gives these frames their identifiers, and the table of nodes says how often they are sent. Times are milliseconds. Only SDO frames may \
 have a deadline, and those that have one pass the same test as the PDOs.</p>\n\
-<div class=\"scroll\"><table>\n<tr><th>Identifier</th><th>Frame</th><th class=\"n\">Bytes</th><th class=\"n\">Period</th><th class=\"n\">Jitter</th>",
+<div class=\"scroll\"><table>\n<thead><tr><th>Identifier</th><th>Frame</th><th class=\"n\">Bytes</th><th class=\"n\">Period</th><th class=\"n\">Jitter</th>",
     )?;
     if !figures.frames.is_empty() {
         page.push_str(DEADLINE_HEADS)?;
     }
-    page.push_str("</tr>\n")?;
+    page.push_str("</tr></thead>\n<tbody>\n")?;
     let frames = fixed_frames(alloc, network)?;
     for stream in frames.iter() {
         push_frame(page, network, figures, stream)?;
     }
-    page.push_str("</table></div>\n</section>\n")
+    page.push_str("</tbody></table></div>\n</section>\n")
 }

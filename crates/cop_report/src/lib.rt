@@ -3,24 +3,32 @@
 
 mod bars;
 mod bus;
+mod cable;
 mod devices;
 mod frames;
 mod log;
+mod mappings;
+mod matrix;
 mod misses;
+mod names;
+mod nearest;
 mod nodes;
 mod page;
 mod parts;
 mod pdos;
+mod picture;
 mod premises;
 mod rates;
 mod script;
 mod senders;
 mod sheet;
 mod style;
+mod title;
 mod units;
 mod unsorted;
 mod warnings;
 
 pub use page::{Input, Report, page_of};
 pub use sheet::{Emergency, Sheet, sheet_of};
-pub use units::{Escaped, Identifier, Micros, Percent};
+pub use title::VERSION;
+pub use units::{Escaped, Identifier, Left, Millis, Percent};

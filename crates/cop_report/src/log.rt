@@ -2,7 +2,7 @@
 
 use crate::bars::{WIDTH, part};
 use crate::senders::sender_of;
-use crate::units::{Escaped, Identifier};
+use crate::units::{Escaped, Identifier, Millis};
 use cop_logbook::{Loads, Logbook, Seen, Spread};
 use cop_net::Network;
 use cop_plan::Plan;
@@ -59,14 +59,20 @@ impl fmt::Display for Hundredths {
     }
 }
 
+/// Microseconds as milliseconds.
+fn millis(micros: u64) -> Millis {
+    Millis(micros.saturating_mul(4))
+}
+
 /// Adds what the log is, and whether it breaks the tables.
 fn push_words(page: &mut String, plan: &Plan, log: &Logbook<'_>) -> Result<(), AllocError> {
     let all = log.all();
-    let (frames, span) = (all.frames, all.span());
-    let load = Hundredths(all.load(plan.rate(), span));
+    let frames = all.frames;
+    let load = Hundredths(all.load(plan.rate(), all.span()));
+    let span = millis(all.span());
     write!(
         page,
-        "<p>The log has {frames} frames in {span} µs, and they take {load} of the bus at least. "
+        "<p>The log has {frames} frames in {span} ms, and they take {load} of the bus at least. "
     )?;
     match log.breaches() {
         0 => page.push_str(
@@ -99,9 +105,10 @@ fn share_of(bits: u64, ticks: u64, width: u64) -> u64 {
 /// Adds the load over time: a bar for each part, and a line where the bus is full.
 fn push_loads(page: &mut String, plan: &Plan, loads: &Loads) -> Result<(), AllocError> {
     let (width, ticks) = (loads.width(), u64::from(plan.rate().ticks_per_bit()));
+    let part = millis(width);
     write!(
         page,
-        "<h3>Load over time</h3>\n<p>A bar for each {width} µs; the line on top is the full bus.</p>\n\
+        "<h3>Load over time</h3>\n<p>A bar for each {part} ms; the line on top is the full bus.</p>\n\
 <svg class=\"loads\" viewBox=\"0 0 240 1000\" preserveAspectRatio=\"none\" role=\"img\" aria-label=\"load over time\">\n\
 <line class=\"full\" x1=\"0\" x2=\"240\" y1=\"0\" y2=\"0\"/>\n"
     )?;
@@ -120,7 +127,8 @@ fn push_loads(page: &mut String, plan: &Plan, loads: &Loads) -> Result<(), Alloc
 
 /// Adds the line of a stream of which two frames were seen.
 fn push_distances(page: &mut String, seen: &Seen, spread: &Spread) -> Result<(), AllocError> {
-    let (least, mean, greatest) = (seen.least, seen.mean(), seen.greatest);
+    let (least, mean) = (millis(seen.least), millis(seen.mean()));
+    let greatest = millis(seen.greatest);
     let histogram = Histogram(spread);
     write!(
         page,
@@ -139,7 +147,7 @@ fn push_stream(
     let (Some(seen), Some(spread)) = (log.seen(stream.id), log.spread_of(place)) else {
         return Ok(());
     };
-    let (id, frames, period) = (Identifier(stream.id), seen.frames, stream.period / 4);
+    let (id, frames, period) = (Identifier(stream.id), seen.frames, Millis(stream.period));
     let sender = sender_of(network, log.plan(), stream.id);
     write!(
         page,
@@ -159,14 +167,14 @@ fn push_streams(
 ) -> Result<(), AllocError> {
     page.push_str(
         "<h3>Distances of frames</h3>\n\
-<p>Times are microseconds. A histogram has a bar for each tenth of the period; the line is at the period, and the last bar has all from two periods on.</p>\n\
-<div class=\"scroll\"><table>\n<tr><th>Identifier</th><th>Frame</th><th class=\"n\">Frames</th><th class=\"n\">Period</th>\
-<th class=\"n\">Least</th><th class=\"n\">Mean</th><th class=\"n\">Greatest</th><th>Distances</th></tr>\n",
+<p>Times are milliseconds. A histogram has a bar for each tenth of the period; the line is at the period, and the last bar has all from two periods on.</p>\n\
+<div class=\"scroll\"><table>\n<thead><tr><th>Identifier</th><th>Frame</th><th class=\"n\">Frames</th><th class=\"n\">Period</th>\
+<th class=\"n\">Least</th><th class=\"n\">Mean</th><th class=\"n\">Greatest</th><th>Distances</th></tr></thead>\n<tbody>\n",
     )?;
     for (place, stream) in log.plan().streams().streams().iter().enumerate() {
         push_stream(page, network, log, stream, place)?;
     }
-    page.push_str("</table></div>\n")
+    page.push_str("</tbody></table></div>\n")
 }
 
 /// Adds what a log shows.

@@ -1,10 +1,12 @@
-//! The section of a page on what would make a plan pass, if no rate does.
+//! The section of a page on how near the fastest rate is to a plan, if no rate passes, and on what would make it pass.
 
 use crate::devices::sent_by;
+use crate::nearest::push_fastest;
+use crate::page::Report;
 use crate::senders::fixed_sender;
 use cop_net::Network;
 use cop_room::Miss;
-use std::alloc::AllocError;
+use std::alloc::{AllocError, Global};
 
 /// Adds with how much longer deadlines a rate has a plan.
 fn push_stretch(page: &mut String, network: &Network<'_>, miss: &Miss) -> Result<(), AllocError> {
@@ -42,7 +44,7 @@ fn push_spares(page: &mut String, network: &Network<'_>, miss: &Miss) -> Result<
 }
 
 /// Adds what would make a plan pass, each change alone.
-pub(crate) fn push_misses(
+fn push_changes(
     page: &mut String,
     network: &Network<'_>,
     misses: &[Miss],
@@ -50,12 +52,25 @@ pub(crate) fn push_misses(
     if misses.is_empty() {
         return Ok(());
     }
-    page.push_str(
-        "<section id=\"misses\">\n<h2>What would make it pass</h2>\n<p>Each of these alone:</p>\n<ul>\n",
-    )?;
+    page.push_str("<p>Each of these alone would make it pass:</p>\n<ul>\n")?;
     for miss in misses {
         push_stretch(page, network, miss)?;
         push_spares(page, network, miss)?;
     }
-    page.push_str("</ul>\n</section>\n")
+    page.push_str("</ul>\n")
+}
+
+/// Adds how near the fastest rate is to a plan, if no rate passes.
+pub(crate) fn push_misses(
+    page: &mut String,
+    alloc: Global,
+    report: Report<'_, '_>,
+) -> Result<(), AllocError> {
+    if report.figures.rate.is_some() {
+        return Ok(());
+    }
+    page.push_str("<section id=\"misses\">\n<h2>The nearest miss</h2>\n")?;
+    push_changes(page, report.network, report.misses)?;
+    push_fastest(page, alloc, report.network, report.figures)?;
+    page.push_str("</section>\n")
 }

@@ -106,21 +106,43 @@ fn push_device(
     page.push_str("</ul>\n</article>\n")
 }
 
-/// Adds what each node is set to.
-pub(crate) fn push_nodes(
-    page: &mut String,
+/// What a plan sets in a node, in the order in which it is sent.
+#[derive(Drop)]
+pub(crate) struct NodeSettings {
+    pub node: u8,
+    pub settings: Vec<Setting>,
+}
+
+/// What a plan sets in each node of its network, in the order of the devices.
+pub(crate) fn all_settings(
     alloc: Global,
     network: &Network<'_>,
     plan: &Plan,
-) -> Result<(), AllocError>
+) -> Result<Vec<NodeSettings>, AllocError>
     requires { IsPlan network.now.equipment.rates network.now.set (length network.now.rows) plan.now }
 {
+    let mut all = Vec::new(alloc);
+    for row in network.devices() {
+        let settings = settings(alloc, plan, network, row.node)?;
+        all.push(NodeSettings {
+            node: row.node,
+            settings,
+        })?;
+    }
+    Ok(all)
+}
+
+/// Adds what each node is set to.
+pub(crate) fn push_nodes(
+    page: &mut String,
+    network: &Network<'_>,
+    all: &[NodeSettings],
+) -> Result<(), AllocError> {
     page.push_str(
         "<section id=\"nodes\">\n<h2>What each node is set to</h2>\n<div class=\"cards\">\n",
     )?;
-    for row in network.devices() {
-        let settings = settings(alloc, plan, network, row.node)?;
-        push_device(page, row, &settings, network)?;
+    for (row, set) in network.devices().iter().zip(all) {
+        push_device(page, row, &set.settings, network)?;
     }
     page.push_str("</div>\n</section>\n")
 }

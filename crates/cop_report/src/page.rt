@@ -3,18 +3,24 @@
 ghost use Rattle.std.specs.Prelude.{length};
 ghost use Rattle.cop_plan.specs.Plans.{IsOutcome};
 
+use crate::bars::Margin;
 use crate::bus::push_bus;
 use crate::devices::sent_by;
 use crate::frames::{has_fixed, push_frames};
 use crate::log::push_log;
 use crate::misses::push_misses;
-use crate::nodes::push_nodes;
-use crate::pdos::{push_pdos, tightest};
-use crate::premises::{push_inputs, push_premises};
+use crate::names::Names;
+use crate::nearest::push_nearest;
+use crate::nodes::{all_settings, push_nodes};
+use crate::pdos::{Source, push_pdos, tightest};
+use crate::picture::push_picture;
+use crate::premises::push_premises;
 use crate::rates::{load_at, push_loads, push_rates};
+use crate::script::PRINT_SCRIPT;
 use crate::senders::fixed_sender;
 use crate::style::STYLE;
-use crate::units::{Count, Identifier, Micros, Percent, Share};
+use crate::title::{VERSION, push_block, push_name, push_title};
+use crate::units::{Count, Identifier, Left, Percent, Share};
 use crate::warnings::push_warnings;
 use cop_figures::{Breakdown, Figures, Timeline, Unsorted};
 use cop_logbook::Logbook;
@@ -23,11 +29,12 @@ use cop_plan::Outcome;
 use cop_room::Miss;
 use std::alloc::{AllocError, Global};
 
-/// A file that was read: its name and how many bytes it has.
+/// A file that was read: its name, how many bytes it has, and their SHA-256.
 #[derive(Clone, Copy, Debug)]
 pub struct Input<'a> {
     pub name: &'a str,
     pub size: usize,
+    pub digest: [u8; 32],
 }
 
 /// What a page is made of: a network, what the planner answers for it, the numbers of that, what the responses of the PDOs are made of, in
@@ -35,6 +42,9 @@ pub struct Input<'a> {
 /// is one, and the files that were read.
 #[derive(Clone, Copy)]
 pub struct Report<'a, 'n> {
+    /// What the page is called and dated, if the call says so.
+    pub title: Option<&'a str>,
+    pub date: Option<&'a str>,
     pub network: &'a Network<'n>,
     pub outcome: &'a Outcome,
     pub figures: &'a Figures,
@@ -48,22 +58,10 @@ pub struct Report<'a, 'n> {
     /// Whether the rates that the plan may have were listed.
     pub are_rates_listed: bool,
     pub inputs: &'a [Input<'a>],
+    /// The texts of the EDS files by the names that the table of nodes gives them.
+    pub eds_files: &'a [(String, Vec<u8>)],
     /// What is worth a look before one relies on the plan, a line each.
     pub warnings: &'a str,
-}
-
-/// Adds the rate in large.
-fn push_title(page: &mut String, figures: &Figures) -> Result<(), AllocError> {
-    match figures.rate {
-        Some(rate) => {
-            let kbits = rate.kbits();
-            write!(
-                page,
-                "<h1>CANopen plan: <span class=\"good\">{kbits}&nbsp;kbit/s</span></h1>\n"
-            )
-        }
-        None => page.push_str("<h1>CANopen plan: <span class=\"bad\">no rate passes</span></h1>\n"),
-    }
 }
 
 /// Adds what the page is about.
@@ -115,14 +113,16 @@ fn push_tightest(
     let Some(row) = network.rows().get(times.pdo) else {
         return Ok(());
     };
-    let (margin, pdo) = (Micros(times.left()), sent_by(network, row));
+    let (margin, pdo) = (Left(times.left()), sent_by(network, row));
+    let whole = times.stream.deadline.unwrap_or(0);
     let share = Share {
         part: times.left(),
-        whole: times.stream.deadline.unwrap_or(0),
+        whole,
     };
+    let class = Margin::of(times.response, whole).class();
     write!(
         page,
-        "<div><b>{margin} µs, {share}</b>of its deadline left at the tightest: {pdo}</div>\n"
+        "<div><b class=\"{class}\">{margin} ms, {share}</b>of its deadline left at the tightest: {pdo}</div>\n"
     )
 }
 
@@ -139,20 +139,40 @@ fn push_planned_load(page: &mut String, figures: &Figures) -> Result<(), AllocEr
 fn push_header(page: &mut String, report: Report<'_, '_>) -> Result<(), AllocError> {
     let (network, figures) = (report.network, report.figures);
     page.push_str("<header>\n")?;
-    push_title(page, figures)?;
+    push_title(page, report)?;
+    push_block(page, report)?;
     push_lead(page, network, figures, report.are_rates_listed)?;
     page.push_str("<div class=\"tiles\">\n")?;
     push_tightest(page, network, figures)?;
+    push_nearest(page, network, figures)?;
     push_planned_load(page, figures)?;
-    let number = figures.refused.len();
-    let words = if number == 1 {
-        "refused rate"
-    } else {
-        "refused rates"
+    push_refused_count(page, figures.refused.len())?;
+    page.push_str("</div>\n")?;
+    push_hint(page, report)?;
+    page.push_str("</header>\n")
+}
+
+/// Adds the tile of the refused rates, if there are some.
+fn push_refused_count(page: &mut String, number: usize) -> Result<(), AllocError> {
+    let words = match number {
+        0 => return Ok(()),
+        1 => "refused rate",
+        _ => "refused rates",
     };
-    write!(
-        page,
-        "<div><b>{number}</b>{words}, with evidence</div>\n</div>\n</header>\n"
+    write!(page, "<div><b>{number}</b>{words}, with evidence</div>\n")
+}
+
+/// Adds what helps if nothing is left of a deadline, and the identifiers were not chosen for that.
+fn push_hint(page: &mut String, report: Report<'_, '_>) -> Result<(), AllocError> {
+    let is_for_margin = match report.outcome {
+        Outcome::Planned(plan) => plan.margin().is_some(),
+        Outcome::Refused(_) => true,
+    };
+    if is_for_margin || report.figures.pdos.iter().all(|times| times.left() > 0) {
+        return Ok(());
+    }
+    page.push_str(
+        "<p class=\"nothing\">Nothing is left of a deadline. Use <code>--margin</code>: it chooses the identifiers that leave each deadline the most.</p>\n",
     )
 }
 
@@ -169,6 +189,15 @@ fn push_link(
     Ok(())
 }
 
+/// What the section on the refused rates is called.
+pub(crate) fn why_words(is_planned: bool) -> &'static str {
+    if is_planned {
+        "Why no slower rate"
+    } else {
+        "Why no rate passes"
+    }
+}
+
 /// Adds the links to the sections.
 fn push_contents(page: &mut String, report: Report<'_, '_>) -> Result<(), AllocError> {
     let is_planned = matches!(report.outcome, Outcome::Planned(_));
@@ -180,7 +209,9 @@ fn push_contents(page: &mut String, report: Report<'_, '_>) -> Result<(), AllocE
         "warnings",
         "Before you rely on this",
     )?;
-    push_link(page, true, "rates", "Why no slower rate")?;
+    push_link(page, is_planned, "picture", "Who sends what")?;
+    push_link(page, !is_planned, "misses", "The nearest miss")?;
+    push_link(page, true, "rates", why_words(is_planned))?;
     push_link(page, true, "load", "Load")?;
     push_link(page, is_planned, "pdos", "PDOs")?;
     push_link(page, has_frames, "frames", "Fixed frames")?;
@@ -237,10 +268,10 @@ fn push_margin(page: &mut String, report: Report<'_, '_>) -> Result<(), AllocErr
     let Some(ticks) = plan.margin() else {
         return Ok(());
     };
-    let margin = Micros(ticks);
+    let margin = Left(ticks);
     write!(
         page,
-        "<p>Every PDO, and every SDO frame with a deadline, keeps at least {margin} µs of its deadline in every run. \
+        "<p>Every PDO, and every SDO frame with a deadline, keeps at least {margin} ms of its deadline in every run. \
 No other identifiers at this rate leave all of them more. These have no more than that:</p>\n<ul>\n"
     )?;
     push_limiting_pdos(page, report.network, report.figures, ticks)?;
@@ -254,10 +285,10 @@ fn push_others(page: &mut String, others: Option<u64>) -> Result<(), AllocError>
     let Some(ticks) = others else {
         return Ok(());
     };
-    let others = Micros(ticks);
+    let others = Left(ticks);
     write!(
         page,
-        "<p>Each of the others keeps at least {others} µs, or as much as any identifiers at this rate leave it.</p>\n"
+        "<p>Each of the others keeps at least {others} ms, or as much as any identifiers at this rate leave it.</p>\n"
     )
 }
 
@@ -266,10 +297,17 @@ fn push_plan(page: &mut String, alloc: Global, report: Report<'_, '_>) -> Result
     requires { IsOutcome report.network.now.equipment.rates report.network.now.set (length report.network.now.rows) report.outcome.now }
 {
     if let Outcome::Planned(plan) = report.outcome {
+        let names = Names::new(alloc, report.eds_files)?;
+        let settings = all_settings(alloc, report.network, plan)?;
+        let source = Source {
+            network: report.network,
+            settings: &settings,
+        };
         push_pdos(
             page,
             alloc,
-            report.network,
+            source,
+            &names,
             report.figures,
             report.breakdowns,
             report.unsorted,
@@ -281,7 +319,7 @@ fn push_plan(page: &mut String, alloc: Global, report: Report<'_, '_>) -> Result
         if let Some(log) = report.log {
             push_log(page, report.network, log)?;
         }
-        push_nodes(page, alloc, report.network, plan)?;
+        push_nodes(page, report.network, &settings)?;
         push_premises(page)?;
     }
     Ok(())
@@ -293,15 +331,18 @@ fn push_page(page: &mut String, alloc: Global, report: Report<'_, '_>) -> Result
 {
     page.push_str(
         "<!DOCTYPE html>\n<html lang=\"en\">\n<head>\n<meta charset=\"utf-8\">\n\
-<meta name=\"viewport\" content=\"width=device-width, initial-scale=1\">\n<title>CANopen plan</title>\n<style>",
+<meta name=\"viewport\" content=\"width=device-width, initial-scale=1\">\n",
     )?;
+    push_name(page, report)?;
+    page.push_str("<style>")?;
     page.push_str(STYLE)?;
     page.push_str("</style>\n</head>\n<body>\n<main>\n")?;
     push_header(page, report)?;
     push_contents(page, report)?;
     push_warnings(page, report.warnings)?;
-    push_misses(page, report.network, report.misses)?;
+    push_misses(page, alloc, report)?;
     push_margin(page, report)?;
+    push_picture(page, alloc, report.network, report.figures)?;
     push_rates(
         page,
         report.network,
@@ -310,8 +351,12 @@ fn push_page(page: &mut String, alloc: Global, report: Report<'_, '_>) -> Result
     )?;
     push_loads(page, report.figures)?;
     push_plan(page, alloc, report)?;
-    push_inputs(page, report.inputs)?;
-    page.push_str("<footer>Made by canplan.</footer>\n</main>\n</body>\n</html>\n")
+    write!(
+        page,
+        "<footer>Made by canplan {VERSION}.</footer>\n</main>\n<script>"
+    )?;
+    page.push_str(PRINT_SCRIPT)?;
+    page.push_str("</script>\n</body>\n</html>\n")
 }
 
 /// The page of a report. `Err` is want of memory.

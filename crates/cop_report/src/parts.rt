@@ -1,6 +1,6 @@
-//! What the response of a PDO is made of, as its cell shows it.
+//! What the response of a PDO is made of.
 
-use crate::units::{Count, Identifier, Micros};
+use crate::units::{Count, Identifier, Millis};
 use cop_figures::{Breakdown, Delay};
 use std::alloc::{AllocError, Global};
 use std::cmp::Reverse;
@@ -28,7 +28,7 @@ fn total(delays: &[Delay]) -> u64 {
 /// Adds the streams that go before.
 fn push_delays(page: &mut String, delays: &[Delay]) -> Result<(), AllocError> {
     for delay in delays.iter().take(MOST) {
-        let (id, transfers, time) = (Identifier(delay.id), delay.transfers, Micros(delay.ticks));
+        let (id, transfers, time) = (Identifier(delay.id), delay.transfers, Millis(delay.ticks));
         write!(page, "<li>{id} ×{transfers} <b>{time}</b></li>")?;
     }
     let others = delays.get(MOST..).unwrap_or(&[]);
@@ -39,7 +39,7 @@ fn push_delays(page: &mut String, delays: &[Delay]) -> Result<(), AllocError> {
         number: others.len(),
         thing: "other",
     };
-    let time = Micros(total(others));
+    let time = Millis(total(others));
     write!(page, "<li>{count} <b>{time}</b></li>")
 }
 
@@ -48,10 +48,10 @@ fn push_instances(page: &mut String, parts: &Breakdown, period: u64) -> Result<(
     if parts.instance == 0 {
         return Ok(());
     }
-    let own = Micros(parts.instance.saturating_mul(parts.transfer));
+    let own = Millis(parts.instance.saturating_mul(parts.transfer));
     let (count, later) = (
         parts.instance,
-        Micros(parts.instance.saturating_mul(period)),
+        Millis(parts.instance.saturating_mul(period)),
     );
     write!(
         page,
@@ -59,24 +59,21 @@ fn push_instances(page: &mut String, parts: &Breakdown, period: u64) -> Result<(
     )
 }
 
-/// Adds a response, and what it is made of: it is shown when the number is pressed.
+/// Adds what a response is made of.
 pub(crate) fn push_parts(
     page: &mut String,
     alloc: Global,
     parts: &Breakdown,
     period: u64,
 ) -> Result<(), AllocError> {
-    let (response, blocking) = (Micros(parts.response), Micros(parts.blocking));
-    let (jitter, transfer) = (Micros(parts.jitter), Micros(parts.transfer));
+    let (response, blocking) = (Millis(parts.response), Millis(parts.blocking));
+    let (jitter, transfer) = (Millis(parts.jitter), Millis(parts.transfer));
     write!(
         page,
-        "<details class=\"parts\"><summary>{response}</summary><ul><li>jitter <b>{jitter}</b></li>\
+        "<p class=\"parts\">Response of <b>{response}</b>:</p><ul class=\"parts\"><li>jitter <b>{jitter}</b></li>\
 <li>one from below <b>{blocking}</b></li>"
     )?;
     push_delays(page, &by_time(alloc, &parts.delays)?)?;
     push_instances(page, parts, period)?;
-    write!(
-        page,
-        "<li>its transfer <b>{transfer}</b></li></ul></details>"
-    )
+    write!(page, "<li>its transfer <b>{transfer}</b></li></ul>")
 }

@@ -1,11 +1,14 @@
 //! The section of a page on the PDOs.
 
-use crate::bars::ResponseBar;
+use crate::bars::{Margin, ResponseBar};
 use crate::devices::{device_of, taken_by};
 use crate::frames::{is_lower, push_lower};
+use crate::mappings::{objects_of, push_names, push_objects, push_sending};
+use crate::names::Names;
+use crate::nodes::NodeSettings;
 use crate::parts::push_parts;
 use crate::script::TABLE_SCRIPT;
-use crate::units::{Identifier, Micros, Share};
+use crate::units::{Identifier, Left, Millis, Share};
 use crate::unsorted::push_unsorted;
 use cop_figures::{Breakdown, Figures, PdoTimes, SyncTimes, Unsorted};
 use cop_net::{Consumer, Network, PdoRow};
@@ -21,9 +24,12 @@ fn used(times: &PdoTimes) -> u64 {
     times.response.saturating_mul(1000000) / deadline_of(times).max(1)
 }
 
-/// Whether less than a tenth of the deadline is left.
-fn is_close(times: &PdoTimes) -> bool {
-    900000 < used(times)
+/// The response of a PDO against its deadline.
+pub(crate) fn bar_of(times: &PdoTimes) -> ResponseBar {
+    ResponseBar {
+        response: times.response,
+        deadline: deadline_of(times),
+    }
 }
 
 /// The PDO that uses the most of its deadline.
@@ -56,7 +62,7 @@ fn push_consumers(
 
 /// Adds what a PDO is sent by: its period, and for a synchronous one how many SYNCs that is.
 fn push_period(page: &mut String, times: &PdoTimes) -> Result<(), AllocError> {
-    let period = Micros(times.stream.period);
+    let period = Millis(times.stream.period);
     match times.stream.every {
         0 => write!(page, "<td class=\"n\">{period}</td>"),
         1 => write!(
@@ -73,8 +79,8 @@ fn push_period(page: &mut String, times: &PdoTimes) -> Result<(), AllocError> {
 /// Adds what a PDO needs of the bus.
 fn push_stream(page: &mut String, times: &PdoTimes) -> Result<(), AllocError> {
     let bytes = times.stream.bytes;
-    let jitter = Micros(times.stream.jitter);
-    let deadline = Micros(deadline_of(times));
+    let jitter = Millis(times.stream.jitter);
+    let deadline = Millis(deadline_of(times));
     write!(page, "<td class=\"n\">{bytes}</td>")?;
     push_period(page, times)?;
     write!(
@@ -83,19 +89,17 @@ fn push_stream(page: &mut String, times: &PdoTimes) -> Result<(), AllocError> {
     )
 }
 
-/// Adds the response of a PDO with what it is made of, and of a synchronous one how much of it is SYNC's.
+/// Adds the response of a PDO, and of a synchronous one how much of it is SYNC's.
 fn push_response(
     page: &mut String,
-    alloc: Global,
     times: &PdoTimes,
-    parts: &Breakdown,
     sync: Option<SyncTimes>,
 ) -> Result<(), AllocError> {
-    page.push_str("<td class=\"n\">")?;
-    push_parts(page, alloc, parts, times.stream.period)?;
+    let response = Millis(times.response);
+    write!(page, "<td class=\"n\">{response}")?;
     if let Some(sync) = sync {
         if times.stream.every > 0 {
-            let part = Micros(sync.response);
+            let part = Millis(sync.response);
             write!(page, " <small>SYNC {part}</small>")?;
         }
     }
@@ -109,10 +113,10 @@ pub(crate) fn push_margin(page: &mut String, bar: ResponseBar) -> Result<(), All
         part: left,
         whole: bar.deadline,
     };
-    let margin = Micros(left);
+    let (class, margin) = (bar.margin().class(), Left(left));
     write!(
         page,
-        "<td class=\"wide\">{bar}</td><td class=\"n\">{margin}</td><td class=\"n\">{share}</td>"
+        "<td class=\"wide\">{bar}</td><td class=\"n {class}\">{margin}</td><td class=\"n {class}\">{share}</td>"
     )
 }
 
@@ -124,12 +128,14 @@ fn push_sender(
     times: &PdoTimes,
     is_tightest: bool,
 ) -> Result<(), AllocError> {
-    let (class, note) = if is_tightest {
-        (" class=\"tightest\"", " <em>tightest</em>")
-    } else if is_close(times) {
-        (" class=\"close\"", "")
+    let note = if is_tightest {
+        " <em>tightest</em>"
     } else {
-        ("", "")
+        ""
+    };
+    let class = match bar_of(times).margin() {
+        Margin::Missed | Margin::Nothing | Margin::Little => " class=\"close\"",
+        Margin::Fair | Margin::Ample => "",
     };
     let lower = if is_lower(times) {
         " <small>below SDO</small>"
@@ -141,7 +147,7 @@ fn push_sender(
     let (node, tpdo) = (row.node, row.tpdo);
     write!(
         page,
-        "<tr{class} id=\"pdo-{id}\"><th scope=\"row\">{id}{lower}</th><td><a href=\"#node-{node}\">{device}</a>{note}</td>\
+        "<tbody{class} id=\"pdo-{id}\">\n<tr><th scope=\"row\">{id}{lower}</th><td><a href=\"#node-{node}\">{device}</a>{note}</td>\
 <td class=\"n\">{tpdo}</td>"
     )
 }
@@ -156,26 +162,42 @@ struct Shown<'a> {
     is_tightest: bool,
 }
 
-/// Adds the line of a PDO.
+/// Adds what is folded below the line of a PDO: its objects, how it is sent, and what its response is made of.
+fn push_folded(
+    page: &mut String,
+    alloc: Global,
+    source: Source<'_, '_>,
+    names: &Names<'_>,
+    shown: Shown<'_>,
+) -> Result<(), AllocError> {
+    let objects = objects_of(alloc, source.network, names, shown.row)?;
+    page.push_str("<tr class=\"more\"><td colspan=\"12\"><details><summary>")?;
+    push_names(page, &objects)?;
+    page.push_str("</summary>")?;
+    push_objects(page, &objects)?;
+    let id = shown.times.stream.id;
+    push_sending(page, source.network, source.settings, shown.row, id)?;
+    push_parts(page, alloc, shown.parts, shown.times.stream.period)?;
+    page.push_str("</details></td></tr></tbody>\n")
+}
+
+/// Adds the lines of a PDO.
 fn push_pdo(
     page: &mut String,
     alloc: Global,
-    network: &Network<'_>,
+    source: Source<'_, '_>,
+    names: &Names<'_>,
     shown: Shown<'_>,
 ) -> Result<(), AllocError> {
     let Shown { row, times, .. } = shown;
-    push_sender(page, network, row, times, shown.is_tightest)?;
+    push_sender(page, source.network, row, times, shown.is_tightest)?;
     push_stream(page, times)?;
-    push_response(page, alloc, times, shown.parts, shown.sync)?;
-    let bar = ResponseBar {
-        response: times.response,
-        deadline: deadline_of(times),
-        is_tightest: shown.is_tightest,
-    };
-    push_margin(page, bar)?;
+    push_response(page, times, shown.sync)?;
+    push_margin(page, bar_of(times))?;
     page.push_str("<td class=\"taken\">")?;
-    push_consumers(page, network, row.consumers.as_slice())?;
-    page.push_str("</td></tr>\n")
+    push_consumers(page, source.network, row.consumers.as_slice())?;
+    page.push_str("</td></tr>\n")?;
+    push_folded(page, alloc, source, names, shown)
 }
 
 /// Adds what the times of synchronous PDOs count from, where there is one.
@@ -184,11 +206,11 @@ fn push_synchronous(page: &mut String, figures: &Figures) -> Result<(), AllocErr
         return Ok(());
     };
     if figures.pdos.iter().any(|times| times.stream.every > 0) {
-        let (period, response) = (Micros(sync.stream.period), Micros(sync.response));
+        let (period, response) = (Millis(sync.stream.period), Millis(sync.response));
         write!(
             page,
             "<p>The event of a synchronous PDO is that of its SYNC, and its jitter counts from the end of SYNC's transfer. SYNC (080h) \
-is sent each {period} µs; its transfer ends {response} µs after its event at the latest, and so much of the response is SYNC's.</p>\n"
+is sent each {period} ms; its transfer ends {response} ms after its event at the latest, and so much of the response is SYNC's.</p>\n"
         )?;
     }
     Ok(())
@@ -198,13 +220,14 @@ is sent each {period} µs; its transfer ends {response} µs after its event at t
 fn push_lines(
     page: &mut String,
     alloc: Global,
-    network: &Network<'_>,
+    source: Source<'_, '_>,
+    names: &Names<'_>,
     figures: &Figures,
     breakdowns: &[Breakdown],
 ) -> Result<(), AllocError> {
     let most = tightest(&figures.pdos).map(|times| times.pdo);
     for (times, parts) in figures.pdos.iter().zip(breakdowns) {
-        if let Some(row) = network.rows().get(times.pdo) {
+        if let Some(row) = source.network.rows().get(times.pdo) {
             let shown = Shown {
                 row,
                 times,
@@ -212,10 +235,31 @@ fn push_lines(
                 sync: figures.sync,
                 is_tightest: most == Some(times.pdo),
             };
-            push_pdo(page, alloc, network, shown)?;
+            push_pdo(page, alloc, source, names, shown)?;
         }
     }
     Ok(())
+}
+
+/// What the table is about, above it.
+const INTRODUCTION: &str = "<section id=\"pdos\">\n<h2>PDOs by identifier</h2>\n\
+<p>Times are milliseconds. The response is the greatest time from an event to the end of its transfer, and a bar is full if it takes the whole \
+deadline. Below each PDO stand the objects in it: click them for their bits, for how the PDO is sent, and for the parts of its response. Of the deadline is left: \
+<span class=\"key ample\"></span> half or more <span class=\"key fair\"></span> less than half \
+<span class=\"key little\"></span> less than a tenth <span class=\"key nothing\"></span> nothing.</p>\n";
+
+/// The field to find PDOs, and the heads of the columns.
+const HEADS: &str =
+    "<p id=\"find\" hidden><label>Find <input type=\"search\"></label> <output></output></p>\n\
+<div class=\"scroll\"><table>\n<thead><tr><th>Identifier</th><th>Device</th><th class=\"n\">TPDO</th>\
+<th class=\"n\">Bytes</th><th class=\"n\">Period</th><th class=\"n\">Jitter</th><th class=\"n\">Deadline</th>\
+<th class=\"n\">Response</th><th></th><th class=\"n\">Margin</th><th class=\"n\">Left</th><th>Taken by</th></tr></thead>\n";
+
+/// What the lines of the PDOs are made of, besides their numbers.
+#[derive(Clone, Copy)]
+pub(crate) struct Source<'a, 'n> {
+    pub network: &'a Network<'n>,
+    pub settings: &'a [NodeSettings],
 }
 
 /// Adds the PDOs by rising identifier, with what their responses are made of and what becomes of them if controllers do not sort. All stand in
@@ -223,27 +267,19 @@ fn push_lines(
 pub(crate) fn push_pdos(
     page: &mut String,
     alloc: Global,
-    network: &Network<'_>,
+    source: Source<'_, '_>,
+    names: &Names<'_>,
     figures: &Figures,
     breakdowns: &[Breakdown],
     unsorted: &[Unsorted],
 ) -> Result<(), AllocError> {
-    page.push_str(
-        "<section id=\"pdos\">\n<h2>PDOs by identifier</h2>\n\
-<p>Times are microseconds. The response is the greatest time from an event to the end of its transfer, and shows what it is made of where it is pressed; \
-a bar is full where it takes the whole deadline.</p>\n",
-    )?;
+    page.push_str(INTRODUCTION)?;
     push_synchronous(page, figures)?;
-    push_lower(page, network, figures)?;
-    page.push_str(
-        "<p id=\"find\" hidden><label>PDOs with <input type=\"search\"></label> <output></output></p>\n\
-<div class=\"scroll\"><table>\n<tr><th>Identifier</th><th>Device</th><th class=\"n\">TPDO</th>\
-<th class=\"n\">Bytes</th><th class=\"n\">Period</th><th class=\"n\">Jitter</th><th class=\"n\">Deadline</th>\
-<th class=\"n\">Response</th><th></th><th class=\"n\">Margin</th><th class=\"n\">of it</th><th>Taken by</th></tr>\n",
-    )?;
-    push_lines(page, alloc, network, figures, breakdowns)?;
+    push_lower(page, source.network, figures)?;
+    page.push_str(HEADS)?;
+    push_lines(page, alloc, source, names, figures, breakdowns)?;
     page.push_str("</table></div>\n")?;
-    push_unsorted(page, network, figures, unsorted)?;
+    push_unsorted(page, source.network, figures, unsorted)?;
     page.push_str("<script>")?;
     page.push_str(TABLE_SCRIPT)?;
     page.push_str("</script>\n</section>\n")

@@ -1,7 +1,5 @@
-//! The sections of a page on what the guarantee rests on: the machine, and the files that were read.
+//! The section of a page on what the guarantee rests on: the machine.
 
-use crate::page::Input;
-use crate::units::Escaped;
 use std::alloc::AllocError;
 
 /// What has to be true on the machine.
@@ -25,20 +23,4 @@ idle.</li>
 /// Adds what has to be true on the machine.
 pub(crate) fn push_premises(page: &mut String) -> Result<(), AllocError> {
     page.push_str(PREMISES)
-}
-
-/// Adds the files that were read.
-pub(crate) fn push_inputs(page: &mut String, inputs: &[Input<'_>]) -> Result<(), AllocError> {
-    page.push_str(
-        "<section id=\"files\">\n<h2>Files that were read</h2>\n<div class=\"scroll\"><table>\n\
-<tr><th>File</th><th class=\"n\">Bytes</th></tr>\n",
-    )?;
-    for input in inputs {
-        let (name, size) = (Escaped(input.name), input.size);
-        write!(
-            page,
-            "<tr><td>{name}</td><td class=\"n\">{size}</td></tr>\n"
-        )?;
-    }
-    page.push_str("</table></div>\n</section>\n")
 }

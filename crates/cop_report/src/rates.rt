@@ -2,8 +2,9 @@
 
 use crate::bars::LoadBar;
 use crate::devices::sent_by;
+use crate::page::why_words;
 use crate::senders::fixed_sender;
-use crate::units::{Count, Identifier, Micros, Percent};
+use crate::units::{Count, Identifier, Millis, Percent};
 use cop_figures::{Failing, FailingFrame, Figures, Load, Reason, RefusedRate};
 use cop_frame::Rate;
 use cop_net::Network;
@@ -41,15 +42,15 @@ pub(crate) fn push_verdict(
     verdict: Verdict,
     deadline: Option<u64>,
 ) -> Result<(), AllocError> {
-    let deadline = Micros(deadline.unwrap_or(0));
+    let deadline = Millis(deadline.unwrap_or(0));
     match verdict {
         Verdict::Late { response, .. } => {
-            let response = Micros(response);
-            write!(page, "needs {response} µs, its deadline is {deadline} µs")
+            let response = Millis(response);
+            write!(page, "needs {response} ms, its deadline is {deadline} ms")
         }
         _ => write!(
             page,
-            "has no busy time that ends within 10 s, which counts as failed; its deadline is {deadline} µs"
+            "has no busy time that ends within 10 s, which counts as failed; its deadline is {deadline} ms"
         ),
     }
 }
@@ -191,6 +192,16 @@ fn push_refused(
         page,
         "<h3>{kbits} kbit/s fails <small>at a load of {load}</small></h3>\n"
     )?;
+    push_reason(page, network, refused)
+}
+
+/// Adds the reason for which a rate fails.
+pub(crate) fn push_reason(
+    page: &mut String,
+    network: &Network<'_>,
+    refused: &RefusedRate,
+) -> Result<(), AllocError> {
+    let kbits = refused.rate.kbits();
     match &refused.reason {
         Reason::Places { members } => push_places(page, network, kbits, members.as_slice()),
         Reason::Sync => write!(
@@ -205,14 +216,16 @@ synchronous PDO waits for.</p>\n"
     }
 }
 
-/// Adds why each slower rate fails.
+/// Adds why each rate fails that is slower than the plan's; if no rate passes, why each does, the fastest first.
 pub(crate) fn push_rates(
     page: &mut String,
     network: &Network<'_>,
     figures: &Figures,
     are_rates_listed: bool,
 ) -> Result<(), AllocError> {
-    page.push_str("<section id=\"rates\">\n<h2>Why no slower rate</h2>\n")?;
+    let is_planned = figures.rate.is_some();
+    let words = why_words(is_planned);
+    write!(page, "<section id=\"rates\">\n<h2>{words}</h2>\n")?;
     if figures.refused.is_empty() {
         page.push_str(if are_rates_listed {
             "<p>No slower rate that was asked for is supported by all devices.</p>\n"
@@ -220,8 +233,14 @@ pub(crate) fn push_rates(
             "<p>No slower rate is supported by all devices.</p>\n"
         })?;
     }
-    for refused in figures.refused.iter() {
-        push_refused(page, network, figures, refused)?;
+    if is_planned {
+        for refused in figures.refused.iter() {
+            push_refused(page, network, figures, refused)?;
+        }
+    } else {
+        for refused in figures.refused.iter().rev() {
+            push_refused(page, network, figures, refused)?;
+        }
     }
     page.push_str("</section>\n")
 }
@@ -257,10 +276,10 @@ pub(crate) fn push_loads(page: &mut String, figures: &Figures) -> Result<(), All
         "<section id=\"load\">\n<h2>Load of the bus</h2>\n\
 <p>The longest frame of each stream over its period. The line is a full bus; a bar ends at 150&nbsp;%. \
 <span class=\"key pdo\"></span> PDOs <span class=\"key fixed\"></span> fixed frames</p>\n\
-<div class=\"scroll\"><table>\n<tr><th>Rate</th><th></th><th class=\"n\">Load</th><th class=\"n\">PDOs</th><th class=\"n\">Fixed</th></tr>\n",
+<div class=\"scroll\"><table>\n<thead><tr><th>Rate</th><th></th><th class=\"n\">Load</th><th class=\"n\">PDOs</th><th class=\"n\">Fixed</th></tr></thead>\n<tbody>\n",
     )?;
     for load in figures.loads.iter() {
         push_load(page, load, figures.rate)?;
     }
-    page.push_str("</table></div>\n</section>\n")
+    page.push_str("</tbody></table></div>\n</section>\n")
 }

@@ -1,13 +1,13 @@
 //! The scripts of a page. Without them it shows the same, in one order.
 
-/// Sorts the table of PDOs by the column whose head is pressed, and shows the rows that have some words. A column of numbers has its head
+/// Sorts the table of PDOs by the column whose head is pressed, and shows the PDOs that have some words. A PDO is a body of the table. A column of numbers has its head
 /// at the right, and the numbers stand first in their cells.
 pub(crate) const TABLE_SCRIPT: &str = "
 (() => {
   const table = document.querySelector('#pdos table'), find = document.getElementById('find');
   const field = find.querySelector('input'), shown = find.querySelector('output');
-  const heads = Array.from(table.rows[0].cells), rows = Array.from(table.rows).slice(1);
-  const text = (row, column) => row.cells[column].textContent;
+  const heads = Array.from(table.tHead.rows[0].cells), pdos = Array.from(table.tBodies);
+  const text = (pdo, column) => pdo.rows[0].cells[column].textContent;
   const byNumber = (column) => (a, b) => parseFloat(text(a, column)) - parseFloat(text(b, column));
   const byText = (column) => (a, b) => text(a, column).localeCompare(text(b, column));
 
@@ -15,17 +15,17 @@ pub(crate) const TABLE_SCRIPT: &str = "
     const falls = head.ariaSort === 'ascending';
     for (const other of heads) other.ariaSort = null;
     head.ariaSort = falls ? 'descending' : 'ascending';
-    rows.sort(head.className === 'n' ? byNumber(column) : byText(column));
-    table.tBodies[0].append(...(falls ? rows.slice().reverse() : rows));
+    pdos.sort(head.className === 'n' ? byNumber(column) : byText(column));
+    table.append(...(falls ? pdos.slice().reverse() : pdos));
   }
 
   function filter() {
     const words = field.value.toLowerCase().split(' ').filter(Boolean);
-    for (const row of rows) {
-      const has = row.textContent.toLowerCase();
-      row.hidden = !words.every((word) => has.includes(word));
+    for (const pdo of pdos) {
+      const has = pdo.textContent.toLowerCase();
+      pdo.hidden = !words.every((word) => has.includes(word));
     }
-    shown.value = `${rows.filter((row) => !row.hidden).length} of ${rows.length}`;
+    shown.value = `${pdos.filter((pdo) => !pdo.hidden).length} of ${pdos.length}`;
   }
 
   heads.forEach((head, column) => {
@@ -43,8 +43,26 @@ pub(crate) const TABLE_SCRIPT: &str = "
 })();
 ";
 
+/// Opens what is folded before the page is printed, and folds it again afterwards.
+pub(crate) const PRINT_SCRIPT: &str = "
+(() => {
+  addEventListener('beforeprint', () => {
+    for (const folded of document.querySelectorAll('details:not([open])')) {
+      folded.open = true;
+      folded.dataset.folded = '';
+    }
+  });
+  addEventListener('afterprint', () => {
+    for (const opened of document.querySelectorAll('details[data-folded]')) {
+      opened.open = false;
+      delete opened.dataset.folded;
+    }
+  });
+})();
+";
+
 /// Shows a window of the lanes: each bar is moved by the window's begin, and each lane gets its length. Moments are in ticks of
-/// 250 ns from the first one that is drawn; the fields and the axis have microseconds of the trace.
+/// 250 ns from the first one that is drawn; the fields and the axis have milliseconds of the trace.
 pub(crate) const LANES_SCRIPT: &str = "
 (() => {
   const least = 40;
@@ -53,8 +71,8 @@ pub(crate) const LANES_SCRIPT: &str = "
   const begin = Number(lanes.dataset.begin), whole = Number(lanes.dataset.span);
   const pictures = lanes.querySelectorAll('svg'), marks = lanes.querySelector('.marks');
   const bars = Array.from(lanes.querySelectorAll('rect'), (bar) => [bar, Number(bar.getAttribute('x'))]);
-  const micros = (tick) => String(Math.round((begin + tick) * 25) / 100);
-  const tick = (field) => Number(field.value) * 4 - begin;
+  const millis = (tick) => String(Math.round((begin + tick) / 4) / 1000);
+  const tick = (field) => Number(field.value) * 4000 - begin;
   let first = 0, span = whole;
 
   function step() {
@@ -71,7 +89,7 @@ pub(crate) const LANES_SCRIPT: &str = "
     for (let it = at; it <= span; it += each) {
       const shown = document.createElement('span');
       shown.style.setProperty('--at', it);
-      shown.textContent = micros(first + it);
+      shown.textContent = millis(first + it);
       marks.append(shown);
     }
   }
@@ -82,8 +100,8 @@ pub(crate) const LANES_SCRIPT: &str = "
     for (const [bar, at] of bars) bar.setAttribute('x', at - first);
     for (const picture of pictures) picture.setAttribute('viewBox', `0 0 ${span} 20`);
     mark();
-    from.value = micros(first);
-    to.value = micros(first + span);
+    from.value = millis(first);
+    to.value = millis(first + span);
   }
 
   function typed() {

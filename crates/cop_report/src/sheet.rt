@@ -84,12 +84,12 @@ fn push_row(page: &mut String, sheet: Sheet<'_, '_>, row: &DeviceRow) -> Result<
 fn push_devices(page: &mut String, sheet: Sheet<'_, '_>) -> Result<(), AllocError> {
     page.push_str(
         "<section id=\"devices\">\n<h2>The devices</h2>\n<div class=\"scroll\"><table>\n\
-<tr><th>Node</th><th>Device</th><th>EDS file</th><th>State</th><th>Heartbeat</th><th>Errors (EMCY)</th></tr>\n",
+<thead><tr><th>Node</th><th>Device</th><th>EDS file</th><th>State</th><th>Heartbeat</th><th>Errors (EMCY)</th></tr></thead>\n<tbody>\n",
     )?;
     for row in sheet.network.devices() {
         push_row(page, sheet, row)?;
     }
-    page.push_str("</table></div>\n</section>\n")
+    page.push_str("</tbody></table></div>\n</section>\n")
 }
 
 /// Adds the settings of a node, in the order in which they are sent.

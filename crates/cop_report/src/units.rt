@@ -28,20 +28,65 @@ impl fmt::Display for Escaped<'_> {
     }
 }
 
-/// Ticks of 250 ns as microseconds.
+/// Ticks of 250 ns as milliseconds with three digits, rounded up to a microsecond: no time is shown shorter than it is.
 #[derive(Clone, Copy, Debug)]
-pub struct Micros(pub u64);
+pub struct Millis(pub u64);
 
-impl fmt::Display for Micros {
+impl fmt::Display for Millis {
     fn fmt<W: fmt::Write>(&self, f: &mut fmt::Formatter<W>) -> fmt::Result {
-        let whole = self.0 / 4;
-        let rest = match self.0 % 4 {
-            0 => "",
-            1 => ".25",
-            2 => ".5",
-            _ => ".75",
-        };
-        write!(f, "{whole}{rest}")
+        let micros = self.0.div_ceil(4);
+        let (whole, rest) = (micros / 1000, micros % 1000);
+        write!(f, "{whole}.{rest:03}")
+    }
+}
+
+/// What is left of a deadline, of ticks of 250 ns, as milliseconds with three digits, rounded down.
+#[derive(Clone, Copy, Debug)]
+pub struct Left(pub u64);
+
+impl fmt::Display for Left {
+    fn fmt<W: fmt::Write>(&self, f: &mut fmt::Formatter<W>) -> fmt::Result {
+        let whole_micros = self.0.saturating_sub(self.0 % 4);
+        write!(f, "{}", Millis(whole_micros))
+    }
+}
+
+/// Ticks of 250 ns as milliseconds, rounded up to a microsecond, with no more digits than they need.
+#[derive(Clone, Copy, Debug)]
+pub(crate) struct Short(pub u64);
+
+impl fmt::Display for Short {
+    fn fmt<W: fmt::Write>(&self, f: &mut fmt::Formatter<W>) -> fmt::Result {
+        let micros = self.0.div_ceil(4);
+        let (whole, rest) = (micros / 1000, micros % 1000);
+        if rest == 0 {
+            write!(f, "{whole}")
+        } else if rest % 100 == 0 {
+            write!(f, "{whole}.{}", rest / 100)
+        } else if rest % 10 == 0 {
+            write!(f, "{whole}.{:02}", rest / 10)
+        } else {
+            write!(f, "{whole}.{rest:03}")
+        }
+    }
+}
+
+/// How many characters of a name a picture has room for.
+const ROOM: usize = 18;
+
+/// A name in which no character is markup, cut to what a picture has room for.
+#[derive(Clone, Copy, Debug)]
+pub(crate) struct Cut<'a>(pub &'a str);
+
+impl fmt::Display for Cut<'_> {
+    fn fmt<W: fmt::Write>(&self, f: &mut fmt::Formatter<W>) -> fmt::Result {
+        for (place, character) in self.0.chars().enumerate() {
+            if place == ROOM {
+                return f.write_char('…');
+            }
+            write_escaped(f, character)?;
+        }
+        Ok(())
     }
 }
 

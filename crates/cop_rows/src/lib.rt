@@ -13,7 +13,7 @@ mod refusals;
 mod setting_rows;
 mod settings;
 
-pub use names::Name;
+pub use names::{Name, is_name};
 pub use node_table::{DeviceRow, FrameKind, FrameRow, NodeTable};
 pub use nodes::read_nodes;
 pub use pdo_table::{Consumer, Consumers, PdoRow, PdoTable};

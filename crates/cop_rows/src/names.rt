@@ -45,8 +45,8 @@ fn has_name_codes(text: &[u8]) -> bool
     text.iter().all(|byte| is_name_code(*byte))
 }
 
-/// Whether a text is a name.
-fn is_name(text: &[u8]) -> bool
+/// Whether a text is a name: 1 to 40 letters, digits, blanks, `_`, `-` and `.`.
+pub fn is_name(text: &[u8]) -> bool
     ensures { result ≡ is_name text.now }
 {
     !text.is_empty() && text.len() <= 40 && has_name_codes(text)

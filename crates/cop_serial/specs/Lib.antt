@@ -2,4 +2,5 @@ pub mod Boots
 pub mod Commanding
 pub mod Reasons
 pub mod Scanning
+pub mod Transferring
 pub mod Verifying

@@ -4,6 +4,7 @@ ghost use Rattle.std.specs.Prelude.{◌≡◌, IfOk, IfErr, Some};
 ghost use Rattle.cop_serial.specs.Boots.{FailsBy};
 ghost use Rattle.cop_serial.specs.Scanning.{status_of, refused_as};
 
+use crate::fitting::{fitting_all, read_descriptions};
 use crate::serial::{MILLISECOND, Serial, limit_of, open_serial};
 use crate::telling::{answer, line_failure, reason_refusal, say, tell_adapter, tell_heard};
 use cop_documents::scan_document;
@@ -20,35 +21,72 @@ fn push_told(text: &mut String, name: &str, told: Option<u32>) -> Result<(), All
     }
 }
 
-/// The line of a node that answered.
-fn push_found(text: &mut String, found: &Found) -> Result<(), AllocError> {
+/// Adds the names of the EDS files that fit a device.
+fn push_names(text: &mut String, names: &[String]) -> Result<(), AllocError> {
+    if names.is_empty() {
+        return text.push_str(" eds -");
+    }
+    for name in names {
+        write!(text, " eds {name}")?;
+    }
+    Ok(())
+}
+
+/// The line of a node that answered, with the EDS files that fit it, if they were looked for.
+fn push_found(
+    text: &mut String,
+    found: &Found,
+    fitting: Option<&[String]>,
+) -> Result<(), AllocError> {
     let node = found.node;
     write!(text, "node {node}")?;
     push_told(text, "type", found.device_type)?;
     push_told(text, "vendor", found.vendor)?;
     push_told(text, "product", found.product)?;
     push_told(text, "revision", found.revision)?;
+    if let Some(names) = fitting {
+        push_names(text, names)?;
+    }
     text.push_str("\n")
 }
 
 /// The lines of the nodes that answered.
-fn found_lines(alloc: Global, found: &[Found]) -> Result<String, AllocError> {
+fn found_lines(
+    alloc: Global,
+    found: &[Found],
+    fitting: Option<&[Vec<String>]>,
+) -> Result<String, AllocError> {
     let mut text = String::new(alloc);
-    for one in found {
-        push_found(&mut text, one)?;
+    for (place, one) in found.iter().enumerate() {
+        let names = match fitting {
+            Some(all) => all.get(place).map(|names| names.as_slice()),
+            None => None,
+        };
+        push_found(&mut text, one, names)?;
     }
     Ok(text)
 }
 
 /// Gives the answer in a form.
-fn answer_in(rt: &HostRuntime, port: &str, form: Form, found: &[Found]) -> Result<(), Failure> {
-    let text = if form == Form::Document {
-        let document = scan_document(rt.alloc(), found)?;
-        format!(in rt.alloc(); "{document}\n")?
-    } else {
-        found_lines(rt.alloc(), found)?
+fn answer_in(
+    rt: &HostRuntime,
+    order: ScanOrder<'_>,
+    form: Form,
+    found: &[Found],
+) -> Result<(), Failure> {
+    let alloc = rt.alloc();
+    let fitting = match order.eds {
+        Some(folder) => Some(fitting_all(alloc, &read_descriptions(rt, folder)?, found)?),
+        None => None,
     };
-    answer(rt, port, text.as_bytes())
+    let fitting = fitting.as_ref().map(|all| all.as_slice());
+    let text = if form == Form::Document {
+        let document = scan_document(alloc, found, fitting)?;
+        format!(in alloc; "{document}\n")?
+    } else {
+        found_lines(alloc, found, fitting)?
+    };
+    answer(rt, order.port, text.as_bytes())
 }
 
 /// Tells what came of it, and gives its status: 3 if no node answered.
@@ -64,7 +102,7 @@ fn tell_scanned(
 {
     match scanned {
         Scanned::Seen { found } => {
-            answer_in(rt, order.port, form, found)?;
+            answer_in(rt, order, form, found)?;
             if found.is_empty() {
                 say(rt, b"canplan: no node answered\n");
                 return Ok(3);

@@ -1,14 +1,12 @@
 //! What a row of a table of settings asks of a device.
 
-ghost use Rattle.std.specs.Prelude.{◌≡◌, ◌≤◌, ◌<◌, ◌^◌, IfSome};
-ghost use Rattle.cop_dict.specs.Types.{greatest_of, half_of};
-ghost use Rattle.cop_dict.specs.Patterns.{at_most, negative, greatest_pattern, pattern_of};
+ghost use Rattle.std.specs.Prelude.{◌≡◌, ◌≤◌, IfSome};
 ghost use Rattle.cop_dict.specs.Dict.{HasWidth, written};
 ghost use Rattle.cop_setup.specs.Settings.{bytes_of};
 ghost use Rattle.cop_setup.specs.Asking.{number_width, pattern_in, with_width, is_so, by_write, asked_of, Asks};
 
 use crate::setting::{Setting, Width};
-use cop_dict::{Abort, Access, DataType, Dictionary, Object};
+use cop_dict::{Abort, Access, DataType, Dictionary, Object, pattern_of};
 use cop_eds::Amount;
 
 /// Why a device has not the value that is asked of it.
@@ -43,76 +41,11 @@ fn number_width(data_type: DataType) -> Option<Width>
     }
 }
 
-/// The greatest number of a type whose numbers have 1, 2 or 4 bytes.
-fn greatest_of(data_type: DataType) -> Option<u64>
-    ensures { IfSome (number_width data_type) (λ _. result ≡ greatest_of data_type) }
-{
-    match data_type {
-        DataType::Boolean => Some(1),
-        DataType::Integer8 => Some(0x7F),
-        DataType::Integer16 => Some(0x7FFF),
-        DataType::Integer32 => Some(0x7FFF_FFFF),
-        DataType::Unsigned8 => Some(0xFF),
-        DataType::Unsigned16 => Some(0xFFFF),
-        DataType::Unsigned32 => Some(0xFFFF_FFFF),
-        _ => None,
-    }
-}
-
-/// The first pattern that stands for a number below 0, in a signed type of 1, 2 or 4 bytes.
-fn half_of(data_type: DataType) -> Option<u64>
-    ensures value { IfSome (number_width data_type) (λ _. result ≡ half_of data_type) }
-    ensures bound { IfSome result (λ half. (1 ≤ half) × (half ≤ 2 ^ 31)) }
-{
-    match data_type {
-        DataType::Integer8 => Some(1 << 7),
-        DataType::Integer16 => Some(1 << 15),
-        DataType::Integer32 => Some(1 << 31),
-        _ => None,
-    }
-}
-
-fn at_most(greatest: u64, n: u64) -> Option<u64>
-    ensures { result ≡ at_most greatest n }
-{
-    (n <= greatest).then_some(n)
-}
-
-/// The pattern of a number so far below 0.
-fn negative(half: Option<u64>, n: u64) -> Option<u64>
-    requires { IfSome half (λ half. (1 ≤ half) × (half ≤ 2 ^ 31)) }
-    ensures { result ≡ negative half n }
-{
-    match half {
-        None => at_most(0, n),
-        Some(_) if n == 0 => Some(0),
-        Some(half) if n <= half => Some(half + (half - n)),
-        Some(_) => None,
-    }
-}
-
-fn greatest_pattern(half: Option<u64>, greatest: u64) -> u64
-    requires { IfSome half (λ half. (1 ≤ half) × (half ≤ 2 ^ 31)) }
-    ensures { result ≡ greatest_pattern half greatest }
-{
-    match half {
-        Some(half) => half - 1 + half,
-        None => greatest,
-    }
-}
-
 /// The pattern of an amount, where the type has it.
 fn pattern_in(node: u8, amount: Amount, data_type: DataType) -> Option<u64>
-    ensures { IfSome (number_width data_type) (λ _. result ≡ pattern_in node amount data_type) }
+    ensures { result ≡ pattern_in node amount data_type }
 {
-    let greatest = greatest_of(data_type)?;
-    let half = half_of(data_type);
-    match amount {
-        Amount::Decimal(n) => at_most(greatest, n),
-        Amount::Negative(n) => negative(half, n),
-        Amount::Hexadecimal(n) => at_most(greatest_pattern(half, greatest), n),
-        Amount::PlusNode(n) => at_most(greatest, n.checked_add(u64::from(node))?),
-    }
+    pattern_of(data_type, data_type.greatest()?, node, amount)
 }
 
 /// The setting that an amount asks of an object, where its type has numbers of 1, 2 or 4 bytes.

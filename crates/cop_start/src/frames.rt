@@ -4,24 +4,13 @@ ghost use Rattle.std.specs.Prelude.{◌≡◌, ◌≤◌, ◌<◌, ◌+◌, ◌^
 ghost use Rattle.cop_warn.specs.Warnings.{word_at};
 ghost use Rattle.cop_start.specs.Frames.{heartbeat_of, sync_period_of, is_by_sync, emcy_frames, heartbeat_frames, device_frames, frames_from, first_frames, may_beat};
 
-use crate::offers::natural_at;
 use crate::senders::Sender;
 use crate::start::{Source, Start};
 use cop_dict::{Access, DataType, Dictionary};
 use cop_rows::FrameKind;
+use cop_warn::{natural_at, word_at};
 use cop_written::Frame;
 use std::alloc::{AllocError, Global};
-
-/// The number of an UNSIGNED32.
-fn word_at(dict: &Dictionary, index: u16, sub: u8) -> Option<u64>
-    ensures value { result ≡ word_at dict.now index sub }
-    ensures most { IfSome result (λ n. n < 2 ^ 32) }
-{
-    let Some(entry) = dict.entry(index, sub) else {
-        return None;
-    };
-    entry.unsigned32()
-}
 
 /// Whether the time of a heartbeat can be written.
 fn may_beat(dict: &Dictionary) -> bool

@@ -14,5 +14,5 @@ pub use cop_written::{Device, Frame, Row};
 pub use laws::{each_sender_has_a_row, tables_are_read};
 pub use offers::{Offer, Pace, offered};
 pub use senders::Sender;
-pub use start::{Source, Start, is_name};
+pub use start::{Source, Start};
 pub use tables::{Tables, first_tables};

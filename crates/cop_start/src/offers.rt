@@ -1,13 +1,12 @@
 //! What the TPDOs of a device are good for before any plan.
 
-ghost use Rattle.std.specs.Prelude.{◌≡◌, ◌≤◌, ◌<◌, ◌^◌, IfSome};
-ghost use Rattle.cop_net.specs.Settings.{whole_of};
-ghost use Rattle.cop_net.specs.Pdos.{every_at};
-ghost use Rattle.cop_warn.specs.Warnings.{natural_at};
+ghost use Rattle.std.specs.Prelude.{◌≡◌, ◌≤◌};
 ghost use Rattle.cop_start.specs.Offers.{offer_of, pace_of, period_of};
 
-use cop_dict::{DataType, Dictionary, Direction, Object};
+use cop_dict::{Dictionary, Direction};
+use cop_net::every_at;
 use cop_pdo::{exists, payload};
+use cop_warn::natural_at;
 
 /// What a TPDO of a device is good for, as its EDS file describes it.
 #[derive(Clone, Copy, PartialEq, Eq, Debug)]
@@ -37,35 +36,6 @@ pub enum Pace {
     Guess,
 }
 
-/// The number that an entry of an integer type has.
-fn whole_of(entry: &Object) -> Option<i128>
-    ensures { result ≡ whole_of entry.now }
-{
-    match entry.description().data_type {
-        DataType::Boolean => None,
-        _ => entry.integer(),
-    }
-}
-
-/// After how many SYNCs the TPDO of a communication record is sent, 0 where it is sent by events.
-fn every_at(dict: &Dictionary, index: u16) -> Option<u8>
-    ensures { result ≡ every_at dict.now index }
-{
-    let Some(entry) = dict.entry(index, 2) else {
-        return None;
-    };
-    let Some(number) = whole_of(entry) else {
-        return None;
-    };
-    if number >= 1 && number <= 240 {
-        return Some(number as u8);
-    }
-    if number == 254 || number == 255 {
-        return Some(0);
-    }
-    None
-}
-
 /// What a TPDO, from 1 to 512, is good for (CiA 301, "PDO communication parameter record").
 pub fn offered(dict: &Dictionary, tpdo: u16) -> Offer
     requires { (1 ≤ tpdo) × (tpdo ≤ 512) }
@@ -91,24 +61,6 @@ pub fn offered(dict: &Dictionary, tpdo: u16) -> Offer
             every,
         },
         None => Offer::Untimed,
-    }
-}
-
-/// The number of an integer of at most 32 bits that is not negative.
-pub(crate) fn natural_at(dict: &Dictionary, index: u16, sub: u8) -> Option<u64>
-    ensures value { result ≡ natural_at dict.now index sub }
-    ensures most { IfSome result (λ n. n ≤ 4294967295) }
-{
-    let Some(entry) = dict.entry(index, sub) else {
-        return None;
-    };
-    let Some(number) = entry.integer() else {
-        return None;
-    };
-    if number >= 0 && number <= 4294967295 {
-        Some(number as u64)
-    } else {
-        None
     }
 }
 

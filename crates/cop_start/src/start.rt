@@ -1,11 +1,10 @@
 //! The devices from which tables start.
 
-ghost use Rattle.std.specs.Prelude.{◌≡◌, ◌≤◌, ◌+◌, ◌++◌, [], ◌∷◌, OnOk, OnErr, IfSome, length, All, IsTrue};
-ghost use Rattle.std.specs.List.{list_all};
-ghost use Rattle.cop_rows.specs.Names.{is_name, is_name_code};
-ghost use Rattle.cop_start.specs.Start.{added, next_node, AreSources};
+ghost use Rattle.std.specs.Prelude.{◌≡◌, ◌≤◌, ◌+◌, ◌++◌, [], ◌∷◌, OnOk, OnErr, IfSome, length, IfOk, All, IsTrue};
+ghost use Rattle.cop_start.specs.Start.{added, is_taken, next_node, AreSources};
 
 use cop_dict::Dictionary;
+use cop_rows::is_name;
 use std::alloc::{AllocError, Global};
 use std::marker::Model;
 
@@ -61,26 +60,6 @@ impl Model for Start {
     ghost invariant = { λ s. AreSources s.sources.items };
 }
 
-/// Whether a byte may stand in a name of a table.
-fn is_name_code(byte: u8) -> bool
-    ensures { result ≡ is_name_code byte }
-{
-    byte.is_ascii_alphanumeric() || byte == b' ' || byte == b'_' || byte == b'-' || byte == b'.'
-}
-
-fn has_name_codes(text: &[u8]) -> bool
-    ensures { result ≡ list_all is_name_code text.now }
-{
-    text.iter().all(|byte| is_name_code(*byte))
-}
-
-/// Whether a table of nodes takes a text as the name of a file: 1 to 40 letters, digits, blanks, `_`, `-` and `.`.
-pub fn is_name(text: &[u8]) -> bool
-    ensures { result ≡ is_name text.now }
-{
-    !text.is_empty() && text.len() <= 40 && has_name_codes(text)
-}
-
 impl Start {
     /// No devices.
     pub fn new(alloc: Global) -> Start
@@ -110,9 +89,10 @@ impl Start {
     }
 
     /// Adds a device with the next node, whose dictionary is that of this node; nothing where no node is left, or where a table does
-    /// not take the name of its file.
+    /// not take the name of its file. Tells whether it did.
     pub fn add(&mut self, file: Vec<u8>, dictionary: Dictionary) -> Result<bool, AllocError>
         ensures ok { OnOk result (self.new ≡ added self.old file.items dictionary) }
+        ensures told { IfOk result (λ is_added. is_added ≡ is_taken self.old file.items) }
         ensures err { OnErr result (self.new ≡ self.old) }
     {
         if self.sources.len() >= 127 || !is_name(&file) {

@@ -6,15 +6,15 @@ ghost use Rattle.cop_dict.specs.Build.{zeros};
 ghost use Rattle.cop_tidy_device.specs.Device.{pattern_for, bytes_for, limit_for, description_for, entry_for, dictionary_for};
 
 use crate::device::{Device, DeviceObject, Value};
-use cop_dict::{Access, DataType, Description, Dictionary, Object};
+use cop_dict::{Access, DataType, Description, Dictionary, Object, pattern_of};
 use cop_eds::Amount;
-use cop_tidy_lines::{greatest_of, number_of_pattern, pattern_of};
+use cop_tidy_lines::number_of_pattern;
 
 /// The pattern of an amount for a node, where its type has numbers, and this one.
 fn pattern_for(data_type: DataType, node: u8, amount: Amount) -> Option<u64>
     ensures { result ≡ pattern_for data_type node amount }
 {
-    pattern_of(data_type, greatest_of(data_type)?, node, amount)
+    pattern_of(data_type, data_type.greatest()?, node, amount)
 }
 
 /// A limit for a node.

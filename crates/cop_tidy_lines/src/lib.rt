@@ -19,7 +19,5 @@ pub use keys::{Key, key_meant};
 pub use kinds::{LineKind, kind_meant, stated_key, stated_value};
 pub use names::{ListName, SectionName, is_read, section_name};
 pub use numerals::{Unclear, flag_meant, is_no, is_yes, number_meant};
-pub use typed::{
-    Signed, greatest_of, limit_stated, number_of_pattern, pattern_of, typed_limit, typed_value,
-};
+pub use typed::{Signed, limit_stated, number_of_pattern, typed_limit, typed_value};
 pub use words::{access_meant, data_type_meant, object_type_meant};

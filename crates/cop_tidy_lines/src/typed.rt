@@ -4,10 +4,9 @@ ghost use Rattle.std.specs.Prelude.{◌≡◌, ◌≤◌, ◌+◌, ◌%◌, ◌^
 ghost use Rattle.std.specs.Option.{option_map, option_and_then};
 ghost use Rattle.cop_dict.specs.Types.{half_of, greatest_of, is_boolean};
 ghost use Rattle.cop_dict.specs.Number.{value_of};
-ghost use Rattle.cop_dict.specs.Patterns.{at_most, negative, greatest_pattern, pattern_of};
 ghost use Rattle.cop_tidy_lines.specs.Typed.{fits, are_ones, is_widened_to, is_widened, narrowed, low_bytes, typed_value, number_stated, of_pattern, limit_stated, is_below, least_of, greatest_number, only_if, end_for, unsigned_bytes, limit_bytes, is_past, possible, is_same, only, as_amount, limit_outside, typed_limit};
 
-use cop_dict::DataType;
+use cop_dict::{DataType, pattern_of};
 use cop_eds::Amount;
 
 /// A number with its sign.
@@ -17,88 +16,10 @@ pub struct Signed {
     pub size: u64,
 }
 
-/// The first pattern that stands for a negative number, in a signed type.
-fn half_of(data_type: DataType) -> Option<u64>
-    ensures value { result ≡ half_of data_type }
-    ensures bound { IfSome result (λ half. (1 ≤ half) × (half ≤ 2 ^ 63)) }
-{
-    match data_type {
-        DataType::Integer8 => Some(1 << 7),
-        DataType::Integer16 => Some(1 << 15),
-        DataType::Integer32 => Some(1 << 31),
-        DataType::Integer64 => Some(1 << 63),
-        _ => None,
-    }
-}
-
-/// The greatest number, in a type that has numbers.
-pub fn greatest_of(data_type: DataType) -> Option<u64>
-    ensures { result ≡ greatest_of data_type }
-{
-    match data_type {
-        DataType::Boolean => Some(1),
-        DataType::Integer8 => Some(0x7F),
-        DataType::Integer16 => Some(0x7FFF),
-        DataType::Integer32 => Some(0x7FFF_FFFF),
-        DataType::Integer64 => Some(0x7FFF_FFFF_FFFF_FFFF),
-        DataType::Unsigned8 => Some(0xFF),
-        DataType::Unsigned16 => Some(0xFFFF),
-        DataType::Unsigned32 => Some(0xFFFF_FFFF),
-        DataType::Unsigned64 => Some(u64::MAX),
-        DataType::Real32
-        | DataType::Real64
-        | DataType::VisibleString
-        | DataType::OctetString
-        | DataType::Domain
-        | DataType::Opaque => None,
-    }
-}
-
 fn is_boolean(data_type: DataType) -> bool
     ensures { result ≡ is_boolean data_type }
 {
     matches!(data_type, DataType::Boolean)
-}
-
-fn at_most(greatest: u64, n: u64) -> Option<u64>
-    ensures { result ≡ at_most greatest n }
-{
-    (n <= greatest).then_some(n)
-}
-
-/// The pattern of a number so far below 0.
-fn negative(half: Option<u64>, n: u64) -> Option<u64>
-    requires { IfSome half (λ half. (1 ≤ half) × (half ≤ 2 ^ 63)) }
-    ensures { result ≡ negative half n }
-{
-    match half {
-        None => at_most(0, n),
-        Some(_) if n == 0 => Some(0),
-        Some(half) if n <= half => Some(half + (half - n)),
-        Some(_) => None,
-    }
-}
-
-fn greatest_pattern(half: Option<u64>, greatest: u64) -> u64
-    requires { IfSome half (λ half. (1 ≤ half) × (half ≤ 2 ^ 63)) }
-    ensures { result ≡ greatest_pattern half greatest }
-{
-    match half {
-        Some(half) => half - 1 + half,
-        None => greatest,
-    }
-}
-
-/// The pattern of an amount for a node, where the type has it.
-pub fn pattern_of(data_type: DataType, greatest: u64, node: u8, amount: Amount) -> Option<u64>
-    ensures { result ≡ pattern_of data_type greatest node amount }
-{
-    match amount {
-        Amount::Decimal(n) => at_most(greatest, n),
-        Amount::Negative(n) => negative(half_of(data_type), n),
-        Amount::Hexadecimal(n) => at_most(greatest_pattern(half_of(data_type), greatest), n),
-        Amount::PlusNode(n) => at_most(greatest, n.checked_add(u64::from(node))?),
-    }
 }
 
 /// Whether each node has a pattern of the amount.
@@ -112,7 +33,7 @@ fn fits(data_type: DataType, greatest: u64, amount: Amount) -> bool
 pub fn number_of_pattern(data_type: DataType, pattern: u64) -> i128
     ensures { result ≡ value_of data_type pattern }
 {
-    match half_of(data_type) {
+    match data_type.half() {
         Some(half) if pattern >= half => i128::from(pattern) - 2 * i128::from(half),
         _ => i128::from(pattern),
     }
@@ -179,7 +100,7 @@ fn low_bytes(data_type: DataType, amount: Amount) -> Option<u64>
     if is_boolean(data_type) {
         return if are_ones(amount) { Some(1) } else { None };
     }
-    match half_of(data_type) {
+    match data_type.half() {
         Some(half) => narrowed(half, amount),
         None => None,
     }
@@ -241,7 +162,7 @@ pub fn limit_stated(data_type: DataType, greatest: u64, amount: Amount) -> Optio
         return None;
     }
     match pattern_of(data_type, greatest, 127, amount) {
-        Some(pattern) => Some(of_pattern(half_of(data_type), pattern)),
+        Some(pattern) => Some(of_pattern(data_type.half(), pattern)),
         None => None,
     }
 }
@@ -311,7 +232,7 @@ fn unsigned_bytes(greatest: u64, amount: Amount) -> Option<u64>
 fn limit_bytes(data_type: DataType, greatest: u64, amount: Amount) -> Option<u64>
     ensures { result ≡ limit_bytes data_type greatest amount }
 {
-    if is_boolean(data_type) || half_of(data_type).is_some() {
+    if is_boolean(data_type) || data_type.half().is_some() {
         low_bytes(data_type, amount)
     } else {
         unsigned_bytes(greatest, amount)
@@ -371,7 +292,7 @@ fn end_reading(is_low: bool, data_type: DataType, greatest: u64, amount: Amount)
     ensures { result ≡ option_and_then (end_for is_low (half_of data_type) greatest) (number_stated amount) }
 {
     match number_stated(amount) {
-        Some(number) => end_for(is_low, half_of(data_type), greatest, number),
+        Some(number) => end_for(is_low, data_type.half(), greatest, number),
         None => None,
     }
 }
@@ -381,7 +302,7 @@ fn byte_reading(data_type: DataType, greatest: u64, amount: Amount) -> Option<Si
     ensures { result ≡ option_map (of_pattern (half_of data_type)) (limit_bytes data_type greatest amount) }
 {
     match limit_bytes(data_type, greatest, amount) {
-        Some(pattern) => Some(of_pattern(half_of(data_type), pattern)),
+        Some(pattern) => Some(of_pattern(data_type.half(), pattern)),
         None => None,
     }
 }

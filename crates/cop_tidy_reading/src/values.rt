@@ -13,8 +13,8 @@ use cop_dict::DataType;
 use cop_eds::{Amount, same_name};
 use cop_tidy_device::{Bytes, Value};
 use cop_tidy_lines::{
-    Digits, Key, Unclear, amount_meant, greatest_of, is_no, is_no_value, is_yes, limit_stated,
-    typed_limit, typed_value,
+    Digits, Key, Unclear, amount_meant, is_no, is_no_value, is_yes, limit_stated, typed_limit,
+    typed_value,
 };
 use std::alloc::{AllocError, Global};
 
@@ -173,7 +173,7 @@ pub fn value_in(
 ) -> Result<Result<Value, Question>, AllocError>
     ensures { IfOk result (λ read. read ≡ value_in reader.entry.digits reader.entry.contents.now data_type is_needed (map source_seen sources.now)) }
 {
-    match greatest_of(data_type) {
+    match data_type.greatest() {
         Some(greatest) => {
             let numbers = Numbers {
                 data_type,
@@ -251,7 +251,7 @@ pub fn limits_in(
     ensures low { IfOk result (λ limits. limits.0 ≡ limit_in reader.entry.digits reader.entry.contents.now data_type reader.entry.section.number true) }
     ensures high { IfOk result (λ limits. limits.1 ≡ limit_in reader.entry.digits reader.entry.contents.now data_type reader.entry.section.number false) }
 {
-    let Some(greatest) = greatest_of(data_type) else {
+    let Some(greatest) = data_type.greatest() else {
         return Ok((None, None));
     };
     let low = limit_amount(alloc, reader, data_type, Key::LowLimit)?;

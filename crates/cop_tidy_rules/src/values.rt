@@ -11,8 +11,8 @@ use cop_dict::DataType;
 use cop_eds::Amount;
 use cop_eds_hazards::LEFT_OUT;
 use cop_tidy_lines::{
-    Digits, Key, SectionName, amount_meant, bare_text, greatest_of, is_no, is_no_value, is_yes,
-    limit_stated, typed_limit, typed_value,
+    Digits, Key, SectionName, amount_meant, bare_text, is_no, is_no_value, is_yes, limit_stated,
+    typed_limit, typed_value,
 };
 use std::alloc::{AllocError, Global};
 use std::collections::BTreeMap;
@@ -54,7 +54,7 @@ fn numbers_in(rows: &[Row<'_>], section: Section, digits: Option<Digits>) -> Opt
     let data_type = DataType::numbered(stated(rows, section, b"DataType")?);
     Some(Numbers {
         data_type,
-        greatest: greatest_of(data_type)?,
+        greatest: data_type.greatest()?,
         digits,
     })
 }

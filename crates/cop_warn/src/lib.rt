@@ -11,4 +11,5 @@ mod rows;
 mod warning;
 
 pub use finding::warnings_of;
+pub use numbers::{natural_at, word_at};
 pub use warning::Warning;

@@ -6,7 +6,7 @@ ghost use Rattle.cop_warn.specs.Warnings.{natural_at, word_at};
 use cop_dict::Dictionary;
 
 /// The number of an integer of at most 32 bits that is not negative.
-pub(crate) fn natural_at(dict: &Dictionary, index: u16, sub: u8) -> Option<u64>
+pub fn natural_at(dict: &Dictionary, index: u16, sub: u8) -> Option<u64>
     ensures value { result ≡ natural_at dict.now index sub }
     ensures most { IfSome result (λ n. n ≤ 4294967295) }
 {
@@ -24,7 +24,7 @@ pub(crate) fn natural_at(dict: &Dictionary, index: u16, sub: u8) -> Option<u64>
 }
 
 /// The number of an UNSIGNED32.
-pub(crate) fn word_at(dict: &Dictionary, index: u16, sub: u8) -> Option<u64>
+pub fn word_at(dict: &Dictionary, index: u16, sub: u8) -> Option<u64>
     ensures value { result ≡ word_at dict.now index sub }
     ensures most { IfSome result (λ n. n < 2 ^ 32) }
 {

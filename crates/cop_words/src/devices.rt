@@ -1,10 +1,11 @@
 //! The devices of a network, as their EDS files describe them.
 
+use crate::hazards::line_of;
 use crate::networks::Network;
 use crate::places::line_at;
 use crate::words::push_place;
 use cop_dict::{Dictionary, build};
-use cop_eds::{Eds, EdsFault, parse};
+use cop_eds::{Eds, EdsFault, parse, value_of};
 use cop_net::{DeviceRow, NodeTable};
 use std::alloc::{AllocError, Global};
 
@@ -33,6 +34,20 @@ pub(crate) fn accepted<'a>(alloc: Global, text: &'a [u8]) -> Result<Option<Eds<'
         Ok(eds) => Ok(Some(eds)),
         Err(EdsFault::Refused(_)) => Ok(None),
         Err(EdsFault::Memory) => Err(AllocError),
+    }
+}
+
+/// The name of the product that a text is of, by its section DeviceInfo; nothing if it names none, or is refused.
+pub(crate) fn product_of<'a>(alloc: Global, text: &'a [u8]) -> Result<&'a [u8], AllocError> {
+    let Some(eds) = accepted(alloc, text)? else {
+        return Ok(b"");
+    };
+    let Some(section) = eds.section(b"DeviceInfo") else {
+        return Ok(b"");
+    };
+    match eds.key_line(section, b"ProductName") {
+        Some(line) => Ok(value_of(line_of(&eds, line))),
+        None => Ok(b""),
     }
 }
 

@@ -1,5 +1,6 @@
 //! What is worth a look before one relies on a plan, with its numbers and places.
 
+use crate::deadlines::short_finding;
 use crate::devices::row_of;
 use crate::hazards::push_texts;
 use crate::margins::error_words;
@@ -119,8 +120,8 @@ fn error_finding(
     })
 }
 
-/// All that is worth a look before one relies on a plan: what the EDS texts of a network leave implicit, its warnings, and the PDO that one
-/// error on the bus may make late, by rising number and record. `Err` is want of memory.
+/// All that is worth a look before one relies on a plan: what the EDS texts of a network leave implicit, its warnings, deadlines that are shorter
+/// than the frames themselves, and the PDO that one error on the bus may make late, by rising number and record. `Err` is want of memory.
 pub fn findings_of(
     alloc: Global,
     eds_files: &[(String, Vec<u8>)],
@@ -132,6 +133,9 @@ pub fn findings_of(
     let mut findings = findings_of_texts(alloc, eds_files, nodes)?;
     for warning in warnings {
         findings.push(finding_of(alloc, nodes, network, *warning)?)?;
+    }
+    if let Some(short) = short_finding(alloc, network)? {
+        findings.push(short)?;
     }
     if let Some(tight) = tight {
         findings.push(error_finding(alloc, network, tight)?)?;
@@ -153,7 +157,7 @@ fn push_finding(words: &mut Vec<u8>, alloc: Global, finding: &Finding) -> Result
     Ok(())
 }
 
-/// The lines of all that is worth a look before one relies on a plan: first of what EDS texts leave implicit, then of the warnings, with one
+/// The lines of all that is worth a look before one relies on a plan: first of deadlines that no rate can keep, then of what EDS texts leave implicit, then of the warnings, with one
 /// line for all nodes that lack a row of one kind, and of the PDO that one error on the bus may make late. `Err` is want of memory.
 pub fn finding_words(
     alloc: Global,
@@ -164,6 +168,9 @@ pub fn finding_words(
     tight: Option<&Tight>,
 ) -> Result<Vec<u8>, AllocError> {
     let mut words = Vec::new(alloc);
+    if let Some(short) = short_finding(alloc, network)? {
+        push_finding(&mut words, alloc, &short)?;
+    }
     for finding in findings_of_texts(alloc, eds_files, nodes)?.iter() {
         push_finding(&mut words, alloc, finding)?;
     }

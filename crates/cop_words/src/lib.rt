@@ -1,8 +1,12 @@
 //! What canplan says in words: which rule a record breaks and where it stands, why rates are refused, and what is warned of.
 #![tactic(auto)]
 
+mod consumers;
+mod deadlines;
 mod devices;
+mod fields;
 mod findings;
+mod further;
 mod hazards;
 mod left_outs;
 mod mappings;
@@ -23,6 +27,7 @@ mod warnings;
 mod words;
 
 pub use findings::{EdsLine, Finding, finding_words, findings_of};
+pub use further::further_words;
 pub use margins::{margin_words, others_words};
 pub use networks::{Network, network_words};
 pub use places::{Place, line_at, record_at};

@@ -1,6 +1,8 @@
 //! What is said of a network that is refused.
 
-use crate::devices::text_named;
+use crate::consumers::push_consumer_rule;
+use crate::devices::{product_of, text_named};
+use crate::fields::push_field;
 use crate::paces::{pace_words, sender};
 use crate::pdos::{RefusedRow, push_cob_id, push_receive, push_stray, push_transmit, push_type};
 use crate::places::{line_at, record_at};
@@ -65,7 +67,7 @@ fn field_words(alloc: Global, table: Table, nodes: &[u8]) -> Result<String, Allo
 }
 
 /// What a rule of records wants.
-fn row_words(
+pub(crate) fn row_words(
     alloc: Global,
     table: Table,
     nodes: &[u8],
@@ -93,7 +95,7 @@ fn row_words(
 }
 
 /// A table of a network.
-fn table_of(files: Network<'_>, table: Table) -> Source<'_> {
+pub(crate) fn table_of(files: Network<'_>, table: Table) -> Source<'_> {
     match table {
         Table::Nodes => files.nodes,
         Table::Pdos => files.pdos,
@@ -232,14 +234,38 @@ fn push_eds_line(
     }
 }
 
-/// Adds the name of a device and of its EDS file.
-fn push_device(words: &mut Vec<u8>, alloc: Global, device: &DeviceRow) -> Result<(), AllocError> {
+/// Adds the product that an EDS file is of, if it names one.
+fn push_product(
+    words: &mut Vec<u8>,
+    alloc: Global,
+    files: Network<'_>,
+    device: &DeviceRow,
+) -> Result<(), AllocError> {
+    let Some(text) = text_named(files.eds_files, device.eds.as_bytes()) else {
+        return Ok(());
+    };
+    let product = product_of(alloc, text)?;
+    if !product.is_empty() {
+        words.extend_from_slice(b" of the product ")?;
+        push_shown(words, product)?;
+    }
+    Ok(())
+}
+
+/// Adds the name of a device, of its EDS file and of its product.
+fn push_device(
+    words: &mut Vec<u8>,
+    alloc: Global,
+    files: Network<'_>,
+    device: &DeviceRow,
+) -> Result<(), AllocError> {
     let node = device.node;
     let begin = format!(in alloc; "node {node} is ")?;
     words.extend_from_slice(begin.as_bytes())?;
     push_shown(words, device.name.as_bytes())?;
     words.extend_from_slice(b", by the EDS file ")?;
     push_shown(words, device.eds.as_bytes())?;
+    push_product(words, alloc, files, device)?;
     words.push(b'\n')?;
     Ok(())
 }
@@ -273,7 +299,7 @@ fn push_devices(
         let own = refusal.table == Table::Nodes && device.place == refusal.place;
         let named = named_node(refusal.rule) == Some(device.node);
         if own || named || sender == Some(device.node) {
-            push_device(words, alloc, device)?;
+            push_device(words, alloc, files, device)?;
             if let Rule::Eds(Some(broken)) = refusal.rule {
                 push_eds_line(words, alloc, files, device, broken.line)?;
             }
@@ -287,6 +313,23 @@ fn push_file(words: &mut Vec<u8>, alloc: Global, name: &str) -> Result<(), Alloc
     let line = format!(in alloc; "{name}\n")?;
     words.extend_from_slice(line.as_bytes())?;
     Ok(())
+}
+
+/// Adds the lines on the rule: by column of a field, by cause of an RPDO, and by whether rates are listed.
+fn push_reason(
+    words: &mut Vec<u8>,
+    alloc: Global,
+    files: Network<'_>,
+    refusal: &Refusal,
+) -> Result<(), AllocError> {
+    match refusal.rule {
+        Rule::NoRate if is_list(files.wanted) => push_explanation(words, alloc, &NONE_LISTED),
+        Rule::Record(cop_rows::Rule::Value(column)) => {
+            push_field(words, alloc, refusal.table, column)
+        }
+        Rule::Receive(_, fault) => push_consumer_rule(words, alloc, fault),
+        rule => push_rule(words, alloc, rule.number()),
+    }
 }
 
 /// Why a network's files are refused, in words: the record as it stands in its table, the device, what is wanted, and the rule.
@@ -305,10 +348,6 @@ pub fn network_words(
     }
     push_devices(&mut words, alloc, files, refusal)?;
     push_more(&mut words, alloc, files, refusal)?;
-    if refusal.rule == Rule::NoRate && is_list(files.wanted) {
-        push_explanation(&mut words, alloc, &NONE_LISTED)?;
-    } else {
-        push_rule(&mut words, alloc, refusal.rule.number())?;
-    }
+    push_reason(&mut words, alloc, files, refusal)?;
     Ok(words)
 }

@@ -6,7 +6,7 @@ use crate::networks::Network;
 use crate::paces::sender;
 use crate::words::push_rule;
 use cop_dict::{Access, DataType, Description, Dictionary, Direction, MappingFault, Object};
-use cop_net::{Consumer, DevicePdo, NodeTable, ReceiveFault, read_pdos};
+use cop_net::{Consumer, DevicePdo, NodeTable, ReceiveFault, read_pdos, whole_of};
 use std::alloc::{AllocError, Global};
 
 /// The number of the rule that a mapping breaks.
@@ -162,14 +162,6 @@ pub(crate) fn push_stray(
     match device_of(alloc, files, nodes, node)? {
         Some(device) => push_cob_id_of(words, alloc, &device, pdo_at(node, index)),
         None => Ok(()),
-    }
-}
-
-/// The number of an entry of an integer type.
-fn whole_of(entry: &Object) -> Option<i128> {
-    match entry.description().data_type {
-        DataType::Boolean => None,
-        _ => entry.integer(),
     }
 }
 

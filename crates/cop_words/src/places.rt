@@ -2,6 +2,8 @@
 
 ghost use Rattle.std.specs.Prelude.{◌≤◌, length};
 
+use std::alloc::{AllocError, Global};
+
 /// A record or a line of a text.
 #[derive(Clone, Copy, Debug)]
 pub struct Place<'a> {
@@ -73,6 +75,38 @@ pub fn record_at(text: &[u8], number: u64) -> Option<Place<'_>> {
         rest = &rest[next..];
     }
     None
+}
+
+fn is_line_end(byte: u8) -> bool {
+    byte == b'\n' || byte == b'\r'
+}
+
+/// A CSV text without the record of a number. Line ends stay, so that all lines keep their numbers.
+pub(crate) fn without_record(
+    alloc: Global,
+    text: &[u8],
+    number: u64,
+) -> Result<Vec<u8>, AllocError> {
+    let mut rest = Vec::new(alloc);
+    let mut quote = Quote::Opens;
+    let mut ended: u64 = 0;
+    let mut is_record = false;
+    for byte in text {
+        let is_end = !matches!(quote, Quote::Closes) && is_line_end(*byte);
+        if !is_end {
+            quote = after(quote, *byte);
+            is_record = true;
+        } else {
+            quote = Quote::Opens;
+            // An empty line is no record.
+            ended = ended.saturating_add(u64::from(is_record));
+            is_record = false;
+        }
+        if is_line_end(*byte) || ended != number {
+            rest.push(*byte)?;
+        }
+    }
+    Ok(rest)
 }
 
 /// A line without the CR that may end it.

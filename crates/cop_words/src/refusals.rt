@@ -39,15 +39,23 @@ fn verdict_words(
     }
 }
 
-/// The member that is told of: the first that is late, or else the first.
-fn told(members: &[Failing]) -> Option<&Failing> {
-    match members
-        .iter()
-        .find(|member| matches!(member.verdict, Verdict::Late { .. }))
-    {
-        Some(member) => Some(member),
-        None => members.first(),
+/// By how much a member misses its deadline, in ticks.
+fn miss_of(member: &Failing) -> u64 {
+    match member.verdict {
+        Verdict::Late { response, .. } => response.saturating_sub(member.deadline.unwrap_or(0)),
+        _ => u64::MAX,
     }
+}
+
+/// The member that is told of: the first of those that miss their deadlines by least.
+fn told(members: &[Failing]) -> Option<&Failing> {
+    let mut nearest = members.first()?;
+    for member in members {
+        if miss_of(member) < miss_of(nearest) {
+            nearest = member;
+        }
+    }
+    Some(nearest)
 }
 
 /// What a PDO needs, by its name.

@@ -13,8 +13,18 @@ fn encoding_seen(text: &[u8]) -> Option<&'static str> {
     None
 }
 
+/// Whether a record has separators and blanks alone.
+fn is_empty_row(record: &[u8]) -> bool {
+    record
+        .iter()
+        .all(|byte| matches!(*byte, b',' | b';' | b'\t' | b' '))
+}
+
 /// What is seen of a record in place of commas between its fields, and of a quote that is not closed.
 fn separator_seen(record: &[u8]) -> Option<&'static str> {
+    if is_empty_row(record) {
+        return Some("the row is empty, as Excel leaves some below a table: delete its line\n");
+    }
     if quotes(record) % 2 == 1 {
         return Some(
             "a quote opens a field and does not close it: all that follows is this one record\n",

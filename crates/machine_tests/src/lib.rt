@@ -1,5 +1,5 @@
 //! Tests of what is done over a port: of listening, of questions, of the boot of a planned network and of one node alone, of what is read back, of
-//! devices that are verified, of scans, and of NMT commands. The port gives what a script has.
+//! devices that are verified, of scans, of values, and of NMT commands. The port gives what a script has.
 
 #![tactic(auto)]
 
@@ -21,5 +21,7 @@ mod readings;
 mod scanning;
 #[cfg(test)]
 mod scripts;
+#[cfg(test)]
+mod values;
 #[cfg(test)]
 mod verifying;

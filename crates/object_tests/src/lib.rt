@@ -15,3 +15,5 @@ mod eds;
 mod pdos;
 #[cfg(test)]
 mod settings;
+#[cfg(test)]
+mod values;

@@ -2,7 +2,7 @@
 
 use cop_cli_args::read_request;
 use cop_frame::Rate;
-use cop_orders::{Format, NetworkFiles, Order, Rates, WatchOrder};
+use cop_orders::{Format, NetworkFiles, Order, Rates, TransferOrder, WatchOrder};
 use cop_plan::Choice;
 use std::alloc::{AllocError, Global};
 use std::test::Fail;
@@ -127,6 +127,23 @@ fn write_made(text: &mut String, order: Order<'_>) -> Result<(), AllocError> {
     }
 }
 
+/// Adds an order on a value.
+fn write_transfer(text: &mut String, order: TransferOrder<'_>) -> Result<(), AllocError> {
+    let (port, kbits, node) = (order.port, order.rate.kbits(), order.node);
+    let (index, sub) = (order.index, order.sub);
+    write!(text, "value {port} {kbits} {node} {index} {sub}")?;
+    if let Some(data_type) = order.data_type {
+        write!(text, " {data_type:?}")?;
+    }
+    if let Some(eds) = order.eds {
+        write!(text, " eds {eds}")?;
+    }
+    match order.value {
+        Some(value) => write!(text, " is {value}"),
+        None => Ok(()),
+    }
+}
+
 /// Adds an order on devices at a port.
 fn write_at_port(text: &mut String, order: Order<'_>) -> Result<(), AllocError> {
     match order {
@@ -151,8 +168,13 @@ fn write_at_port(text: &mut String, order: Order<'_>) -> Result<(), AllocError> 
         Order::Scan(order) => {
             let (port, up_to, gently) = (order.port, order.up_to, order.gently);
             let kbits = order.rate.kbits();
-            write!(text, "scan {port} {kbits} {up_to} {gently}")
+            write!(text, "scan {port} {kbits} {up_to} {gently}")?;
+            match order.eds {
+                Some(folder) => write!(text, " eds {folder}"),
+                None => Ok(()),
+            }
         }
+        Order::Transfer(order) => write_transfer(text, order),
         Order::Init(order) => {
             let (folder, out) = (order.folder, order.out);
             write!(text, "init {folder} {out}")
@@ -259,6 +281,24 @@ const ASKED: &[(&str, &str)] = &[
         "nmt x 1000 ResetCommunication 0",
     ),
     ("scan --port x --rate 500", "scan x 500 127 0"),
+    ("scan --port x --rate 500 --eds f", "scan x 500 127 0 eds f"),
+    ("read --port x --rate 500 5 1008 0", "value x 500 5 1008 0"),
+    (
+        "read --port - --rate 20 --type INTEGER16 127 6064h 0A",
+        "value - 20 127 6064h 0A Integer16",
+    ),
+    (
+        "write --port x --rate 500 --eds u.eds 5 1017 0 1000",
+        "value x 500 5 1017 0 eds u.eds is 1000",
+    ),
+    (
+        "write --port x --rate 500 --type INTEGER8 5 3000 1 -3",
+        "value x 500 5 3000 1 Integer8 is -3",
+    ),
+    (
+        "write --port x --rate 500 --type VISIBLE_STRING 5 3000 1 pump",
+        "value x 500 5 3000 1 VisibleString is pump",
+    ),
     (
         "scan --rate 50 --port - --up-to 9 --gently 20 --json",
         "scan - 50 9 20 json",
@@ -337,6 +377,15 @@ const REFUSED: &[&str] = &[
     "scan --port x --rate 500 --up-to 0",
     "scan --port x --rate 500 --up-to 128",
     "scan --port x --rate 500 n p",
+    "read --port x --rate 500 5 1008",
+    "read --port x --rate 500 0 1008 0",
+    "read --port x --rate 500 128 1008 0",
+    "read --port x 5 1008 0",
+    "read --rate 500 5 1008 0",
+    "read --port x --rate 500 --type UNSIGNED24 5 1008 0",
+    "read --port x --rate 500 --type UNSIGNED8 --eds u.eds 5 1008 0",
+    "write --port x --rate 500 5 1017 0 1000",
+    "write --port x --rate 500 --type UNSIGNED16 5 1017 0",
     "init f",
     "init --json f out",
     "diff a",

@@ -1,11 +1,12 @@
 mod networks;
+mod pictures;
 mod ranges;
 mod timelines;
 
 use crate::reports::networks::{PDOS, STRICT, assert_says, report, valve_figures, valve_page};
 use cop_figures::{Failing, Load, Reason};
 use cop_frame::Rate;
-use cop_report::{Escaped, Identifier, Micros, Percent};
+use cop_report::{Escaped, Identifier, Left, Millis, Percent, VERSION};
 use cop_rta::Verdict;
 use std::test::Fail;
 
@@ -27,20 +28,21 @@ fn no_text_is_markup(rt: HostRuntime) -> Result<(), Fail> {
     Ok(())
 }
 
-/// Ticks of 250 ns, and the microseconds that they are.
-const TIMES: &[(u64, &str)] = &[
-    (0, "0"),
-    (1, "0.25"),
-    (2, "0.5"),
-    (2679, "669.75"),
-    (2680, "670"),
+/// Ticks of 250 ns, the milliseconds that they are as a time, and as what is left.
+const MILLIS: &[(u64, &str, &str)] = &[
+    (0, "0.000", "0.000"),
+    (1, "0.001", "0.000"),
+    (2680, "0.670", "0.670"),
+    (2681, "0.671", "0.670"),
+    (40000004, "10000.001", "10000.001"),
 ];
 
 #[test]
-fn ticks_are_microseconds(rt: HostRuntime) -> Result<(), Fail> {
-    for case in TIMES {
-        let (ticks, wanted) = *case;
-        assert!(rt; format!(in rt.alloc(); "{}", Micros(ticks))?.as_str() == wanted);
+fn times_are_rounded_up_and_what_is_left_down(rt: HostRuntime) -> Result<(), Fail> {
+    for case in MILLIS {
+        let (ticks, time, left) = *case;
+        assert!(rt; format!(in rt.alloc(); "{}", Millis(ticks))?.as_str() == time);
+        assert!(rt; format!(in rt.alloc(); "{}", Left(ticks))?.as_str() == left);
     }
     Ok(())
 }
@@ -122,13 +124,21 @@ fn the_loads_are_those_of_the_tables(rt: HostRuntime) -> Result<(), Fail> {
 /// What the page of the network says.
 const SAID: &[&str] = &[
     "500&nbsp;kbit/s",
-    "<b>0 µs, 0.0 %</b>of its deadline left at the tightest: TPDO 1 of Valve (node 5)",
+    "<b class=\"nothing\">0.000 ms, 0.0 %</b>of its deadline left at the tightest: TPDO 1 of Valve (node 5)",
     "<h3>250 kbit/s fails <small>at a load of 6.2 %</small></h3>",
-    "At 250 kbit/s TPDO 1 of Valve (node 5) needs 1340 µs, its deadline is 670 µs.",
+    "At 250 kbit/s TPDO 1 of Valve (node 5) needs 1.340 ms, its deadline is 0.670 ms.",
+    "a&lt;b&gt;&amp;&quot;c&quot;.csv: CANopen plan</title>",
+    "<dd>100 m at most",
+    "<dd>2 May &amp; 3</dd>",
+    "<td class=\"n\">117</td><td><code>abababab",
+    "Use <code>--margin</code>",
     "<li>TPDO 1 sends <a href=\"#pdo-181h\">181h</a></li>",
-    "<summary>670</summary>",
-    "<li>one from below <b>130</b></li><li>085h ×1 <b>270</b></li><li>its transfer <b>270</b></li>",
-    "<th scope=\"row\">085h</th><td>EMCY of Valve (node 5)</td><td class=\"n\">8</td><td class=\"n\">100000</td><td class=\"n\">0</td></tr>",
+    "<details><summary>Set &lt;value&gt;, 2001h sub 0</summary>",
+    "<li><code>2001h sub 0</code> 2001h sub 0 <small>32 bits, 32 to 63</small></li>",
+    "<p>TPDO 1 is 181h, COB-ID 40000181h, sent on events of the device profile (type 255).</p>",
+    "Response of <b>0.670</b>",
+    "<li>one from below <b>0.130</b></li><li>085h ×1 <b>0.270</b></li><li>its transfer <b>0.270</b></li>",
+    "<th scope=\"row\">085h</th><td>EMCY of Valve (node 5)</td><td class=\"n\">8</td><td class=\"n\">100.000</td><td class=\"n\">0.000</td></tr>",
     "<li>switched off: TPDO 2</li>",
     "<li>heartbeat every 100 ms</li>",
     "a&lt;b&gt;&amp;&quot;c&quot;.csv",
@@ -141,20 +151,29 @@ fn the_page_says_the_plan(rt: HostRuntime) -> Result<(), Fail> {
     let page = valve_page(rt.alloc(), PDOS, None)?;
     assert_says(&rt, &page, SAID);
     assert!(rt; !page.contains("a<b>"));
-    assert!(rt; page.matches("<script").count() == 1);
+    assert!(rt; page.matches("<script").count() == 2);
+    let program = format!(in rt.alloc(); "<dd>canplan {VERSION}</dd>")?;
+    assert!(rt; page.contains(&program));
     Ok(())
 }
+
+/// What the page says if no rate passes. At 500 kbit/s the PDO needs 670 us of 400.
+const REFUSED: &[&str] = &[
+    "<span class=\"bad\">no rate passes</span>",
+    "<b class=\"missed\">0.270 ms late</b>the nearest miss at 500 kbit/s: TPDO 1 of Valve (node 5)",
+    "<h2>Why no rate passes</h2>",
+    "At 500 kbit/s TPDO 1 of Valve (node 5) needs 0.670 ms, its deadline is 0.400 ms.",
+    "<tr><th scope=\"row\">TPDO 1 of Valve (node 5)</th><td class=\"n\">8</td><td class=\"n\">10.000</td><td class=\"n\">0.000</td>\
+<td class=\"n\">0.400</td><td class=\"n\">0.670</td>",
+    "<td class=\"n missed\">0.270</td></tr>",
+];
 
 #[test]
 fn the_page_says_that_no_rate_passes(rt: HostRuntime) -> Result<(), Fail> {
     let (figures, page) = report(rt.alloc(), STRICT, None)?;
     assert!(rt; figures.rate.is_none() && figures.pdos.is_empty());
     assert!(rt; figures.refused.len() == 2);
-    assert!(rt; page.contains("no rate passes"));
-    assert!(rt;
-        page.contains(
-            "At 500 kbit/s TPDO 1 of Valve (node 5) needs 670 µs, its deadline is 400 µs."
-        )
-    );
+    assert_says(&rt, &page, REFUSED);
+    assert!(rt; page.find("<h3>500 kbit/s fails") < page.find("<h3>250 kbit/s fails"));
     Ok(())
 }

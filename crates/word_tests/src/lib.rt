@@ -3,6 +3,8 @@
 #![tactic(auto)]
 
 #[cfg(test)]
+mod further;
+#[cfg(test)]
 mod records;
 #[cfg(test)]
 mod refusals;

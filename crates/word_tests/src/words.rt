@@ -241,6 +241,16 @@ const NODE_MISTAKES: &[(&str, &str, &str)] = &[
         "the same row and node",
     ),
     (
+        ",,,,,",
+        "nodes.csv, line 2: ,,,,,",
+        "the row is empty, as Excel leaves some",
+    ),
+    (
+        "device,5,Valve,long/unit.eds,0,0",
+        "nodes.csv, line 2: ",
+        "right: rename the file",
+    ),
+    (
         "\n\nemcy,7,,,x,0",
         "nodes.csv, line 4: emcy,7",
         "in column period: ",
@@ -287,6 +297,11 @@ const PDO_MISTAKES: &[(&str, &str, &str)] = &[
         "5,1,10 ms,0,670,",
         "pdos.csv, line 2: ",
         "in column period: ",
+    ),
+    (
+        "5,1800,10000,0,670,",
+        "pdos.csv, line 2: ",
+        "right: 1 for the TPDO at 1800h",
     ),
     (
         "5,1,10000,-1,670,",
@@ -348,7 +363,11 @@ const PDO_MISTAKES: &[(&str, &str, &str)] = &[
         "pdos.csv, line 2: ",
         "rule 48: the RPDO has no payload",
     ),
-    ("5,1,10000,0,670,5.1 5.1", "pdos.csv, line 2: ", "rule 48: "),
+    (
+        "5,1,10000,0,670,5.1 5.1",
+        "pdos.csv, line 2: ",
+        "right: another RPDO of the consumer",
+    ),
     (
         "5,2,10000,0,670,",
         "pdos.csv, line 2: ",

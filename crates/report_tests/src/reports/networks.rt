@@ -14,16 +14,18 @@ use std::alloc::{AllocError, Global};
 use std::process::Abort;
 use std::test::Fail;
 
-/// A device that sends one PDO of 64 bits and has another that no row uses.
+/// A device that sends one PDO of 64 bits, has another that no row uses, and can take one.
 const UNIT: &str = "[DeviceInfo]
 BaudRate_250=1
 BaudRate_500=1
 [OptionalObjects]
-SupportedObjects=4
+SupportedObjects=6
 1=0x1017
-2=0x1800
-3=0x1801
-4=0x1A00
+2=0x1400
+3=0x1600
+4=0x1800
+5=0x1801
+6=0x1A00
 [ManufacturerObjects]
 SupportedObjects=2
 1=0x2000
@@ -31,6 +33,26 @@ SupportedObjects=2
 [1017]
 DataType=0x0006
 AccessType=rw
+[1400]
+ObjectType=9
+[1400sub1]
+DataType=7
+AccessType=rw
+DefaultValue=$NODEID+0x80000200
+[1600]
+ObjectType=9
+[1600sub0]
+DataType=5
+AccessType=rw
+DefaultValue=2
+[1600sub1]
+DataType=7
+AccessType=rw
+DefaultValue=0x20000020
+[1600sub2]
+DataType=7
+AccessType=rw
+DefaultValue=0x20010020
 [1800]
 ObjectType=9
 [1800sub1]
@@ -62,6 +84,7 @@ DataType=7
 AccessType=rw
 DefaultValue=0x20010020
 [2000]
+ParameterName=Set <value>
 DataType=7
 AccessType=rw
 PDOMapping=1
@@ -130,6 +153,7 @@ fn timeline(
 const INPUTS: &[Input<'static>] = &[Input {
     name: "a<b>&\"c\".csv",
     size: 117,
+    digest: [171; 32],
 }];
 
 /// The parts of the response of each PDO, where there is a plan.
@@ -168,12 +192,15 @@ fn page<'a>(
     breakdowns: &'a [Breakdown],
     unsorted: &'a [Unsorted],
     timeline: Option<&'a Timeline>,
+    eds_files: &'a [(String, Vec<u8>)],
 ) -> Result<String, AllocError>
     requires { IsOutcome network.now.equipment.rates network.now.set (length network.now.rows) outcome.now }
 {
     page_of(
         alloc,
         Report {
+            title: None,
+            date: Some("2 May & 3"),
             network,
             outcome,
             figures,
@@ -185,6 +212,7 @@ fn page<'a>(
             are_rates_listed: false,
             warnings: "",
             inputs: INPUTS,
+            eds_files,
         },
     )
 }
@@ -196,6 +224,7 @@ fn page_with(
     outcome: &Outcome,
     figures: &Figures,
     trace: Option<&str>,
+    eds_files: &[(String, Vec<u8>)],
 ) -> Result<String, Fail>
     requires planned { IsOutcome network.now.equipment.rates network.now.set (length network.now.rows) outcome.now }
     requires counted { AreFigures network.now outcome.now figures.now }
@@ -211,6 +240,7 @@ fn page_with(
         &breakdowns,
         &unsorted,
         timeline.as_ref(),
+        eds_files,
     )?)
 }
 
@@ -220,11 +250,12 @@ fn told(
     network: &Network<'_>,
     outcome: &Outcome,
     trace: Option<&str>,
+    eds_files: &[(String, Vec<u8>)],
 ) -> Result<(Figures, String), Fail>
     requires { IsOutcome network.now.equipment.rates network.now.set (length network.now.rows) outcome.now }
 {
     let figures = figures_of(alloc, network, outcome)?;
-    let page = page_with(alloc, network, outcome, &figures, trace)?;
+    let page = page_with(alloc, network, outcome, &figures, trace, eds_files)?;
     Ok((figures, page))
 }
 
@@ -238,7 +269,7 @@ pub fn report_of(
     let files = eds_files(alloc, tables.transmission)?;
     let network = network(alloc, &all_rates(), &nodes, &pdos, &files)?;
     let outcome = plan(alloc, &network, Choice::Order)?;
-    told(alloc, &network, &outcome, trace)
+    told(alloc, &network, &outcome, trace, &files)
 }
 
 /// The network of one valve.

@@ -31,6 +31,12 @@ const TOO_LATE: Tables<'static> = Tables {
     ..BELOW
 };
 
+/// The same where it passes at no rate: at 500 kbit/s one frame from below and it itself take 540 us.
+const HOPELESS: Tables<'static> = Tables {
+    nodes: "row,node,name,eds,period,jitter,deadline\ndevice,5,Valve,unit.eds,0,0,\ndevice,6,Pump,unit.eds,0,0,\nsdo_response,5,,,100000,0,200\n",
+    ..BELOW
+};
+
 /// The same where the first PDO cannot wait, and with another SDO response. Each frame takes 2,160 ticks at 250 kbit/s: of the first
 /// SDO response the PDO, one frame from below and it itself go before its end, and with all PDOs above it four frames.
 const ONE_ABOVE: Tables<'static> = Tables {
@@ -67,16 +73,16 @@ const SAID: &[(Tables<'static>, &[&str])] = &[
         UNSORTED,
         &[
             "<summary>If a controller does not send its waiting frames by identifier, 1 of 2 PDOs may miss their deadlines</summary>",
-            "<li><a href=\"#pdo-181h\">TPDO 1 of Valve (node 5)</a> needs 940 µs, its deadline is 900 µs</li>",
+            "<li><a href=\"#pdo-181h\">TPDO 1 of Valve (node 5)</a> needs 0.940 ms, its deadline is 0.900 ms</li>",
         ],
     ),
     (
         SYNCHRONOUS,
         &[
-            "10000 <small>each SYNC</small>",
-            "<summary>1620</summary>",
-            "</details> <small>SYNC 760</small>",
-            "is sent each 10000 µs; its transfer ends 760 µs after its event at the latest",
+            "10.000 <small>each SYNC</small>",
+            "Response of <b>1.620</b>",
+            "1.620 <small>SYNC 0.760</small>",
+            "is sent each 10.000 ms; its transfer ends 0.760 ms after its event at the latest",
         ],
     ),
     (
@@ -86,9 +92,9 @@ const SAID: &[(Tables<'static>, &[&str])] = &[
     (
         NEARLY_FULL,
         &[
-            "<summary>1890</summary><ul><li>jitter <b>0</b></li><li>one from below <b>0</b></li>",
-            "×3 <b>1620</b></li>",
-            "<li>itself ×1 <b>540</b></li><li>periods ×1 <b>−1890</b></li><li>its transfer <b>540</b></li>",
+            "Response of <b>1.890</b>:</p><ul class=\"parts\"><li>jitter <b>0.000</b></li><li>one from below <b>0.000</b></li>",
+            "×3 <b>1.620</b></li>",
+            "<li>itself ×1 <b>0.540</b></li><li>periods ×1 <b>−1.890</b></li><li>its transfer <b>0.540</b></li>",
         ],
     ),
     (
@@ -103,11 +109,11 @@ const SAID: &[(Tables<'static>, &[&str])] = &[
         BELOW,
         &[
             "<p>2 PDOs can wait and stand below all SDO frames, from 680h on. With all PDOs above it 585h, SDO response of Valve \
-(node 5), needs 1620 µs, its deadline is 1080 µs.</p>",
+(node 5), needs 1.620 ms, its deadline is 1.080 ms.</p>",
             "680h <small>below SDO</small>",
-            "<th scope=\"row\">585h</th><td>SDO response of Valve (node 5)</td><td class=\"n\">8</td><td class=\"n\">100000</td>\
-<td class=\"n\">0</td><td class=\"n\">1080</td><td class=\"n\">1080</td>",
-            "<td class=\"n\">0</td><td class=\"n\">0.0 %</td></tr>",
+            "<th scope=\"row\">585h</th><td>SDO response of Valve (node 5)</td><td class=\"n\">8</td><td class=\"n\">100.000</td>\
+<td class=\"n\">0.000</td><td class=\"n\">1.080</td><td class=\"n\">1.080</td>",
+            "<td class=\"n nothing\">0.000</td><td class=\"n nothing\">0.0 %</td></tr>",
         ],
     ),
     (
@@ -121,7 +127,14 @@ const SAID: &[(Tables<'static>, &[&str])] = &[
         TOO_LATE,
         &[
             "At 250 kbit/s the frame 585h, SDO response of Valve (node 5), misses its deadline",
-            "it needs 1080 µs, its deadline is 1079 µs.</p>\n<p>That is so even with all PDOs below it.",
+            "it needs 1.080 ms, its deadline is 1.079 ms.</p>\n<p>That is so even with all PDOs below it.",
+        ],
+    ),
+    (
+        HOPELESS,
+        &[
+            "<b class=\"missed\">0.340 ms late</b>the nearest miss at 500 kbit/s: SDO response of Valve (node 5)</div>",
+            "<h2>The nearest miss</h2>\n<p>At 500 kbit/s the frame 585h, SDO response of Valve (node 5), misses its deadline",
         ],
     ),
 ];

@@ -96,16 +96,16 @@ fn traces_are_refused(rt: HostRuntime) -> Result<(), Fail> {
 
 /// What the page says of the trace. Its lanes begin at the first moment, which is 250 us.
 const SAID: &[&str] = &[
-    "The trace goes up to 1000 µs. In it 2 transfers came to an end. Each PDO is on time.",
+    "The trace goes up to 1.000 ms. In it 2 transfers came to an end. Each PDO is on time.",
     "<b>085h</b> EMCY of Valve (node 5)",
     "aria-label=\"181h, TPDO 1 of Valve (node 5): 1 transfer\"",
     "<rect class=\"waits\" x=\"200\" y=\"8\" width=\"728\" height=\"4\"/>",
     "<rect class=\"sends\" x=\"928\" y=\"3\" width=\"1048\" height=\"14\"/>",
     "data-begin=\"1000\" data-span=\"3000\" style=\"--span:3000;--first:200;--step:400\">",
-    "<span style=\"--at:200\">300</span><span style=\"--at:600\">400</span>",
-    "<span style=\"--at:2600\">900</span><span style=\"--at:3000\">1000</span></div>",
-    "</svg><div class=\"n\">444</div>",
-    "</svg><div class=\"n\">232 / 670</div>",
+    "<span style=\"--at:200\">0.3</span><span style=\"--at:600\">0.4</span>",
+    "<span style=\"--at:2600\">0.9</span><span style=\"--at:3000\">1</span></div>",
+    "</svg><div class=\"n\">0.444</div>",
+    "</svg><div class=\"n\">0.232 / 0.670</div>",
     "<script>",
 ];
 

@@ -1,0 +1,5 @@
+pub mod ExchangeLemmas
+pub mod ClientLemmas
+pub mod CarryLemmas
+pub mod NodeLemmas
+pub mod TransferLemmas

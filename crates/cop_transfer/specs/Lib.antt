@@ -1,0 +1,4 @@
+pub mod Exchanging
+pub mod Carrying
+pub mod Transferring
+pub mod Laws
