@@ -553,21 +553,31 @@ def verified(name, folder):
     return faults + ([f"standard error: {it.stderr}"] if faults else [])
 
 
-def commanded(name, folder):
-    """What is wrong with a case in which an NMT command is sent."""
-    words, options, commands, said, status = COMMANDED[name]
-    port, report = f"{folder}/port", f"{folder}/report.json"
-    call = [PROGRAM, "nmt", "--port", port, "--rate", "500", *options]
-    if commands is None:
-        it = subprocess.run(call, capture_output=True, text=True, timeout=120)
-        return [] if it.returncode == status and not it.stdout and said in it.stderr else [f"status {it.returncode}, says {it.stdout!r} {it.stderr!r}"]
-    rig = subprocess.Popen([sys.executable, RIG, f"{HERE}/examples/valve/nodes.csv", port, "--log", f"{folder}/log", "--report", report, *words.split()],
+def rate_of(example):
+    """The rate of an example's plan, in kbit/s."""
+    return "250" if example == "conveyor" else "500"
+
+
+def at_rig(example, words, call, folder):
+    """Runs a call at the port of a rig with some words: how the call ended, and what the rig saw."""
+    report = f"{folder}/report.json"
+    rig = subprocess.Popen([sys.executable, RIG, f"{HERE}/examples/{example}/nodes.csv", f"{folder}/port", "--log", f"{folder}/log", "--report", report, *words.split()],
                            stdout=subprocess.PIPE, text=True)
     rig.stdout.readline()
     it = subprocess.run(call, capture_output=True, text=True, timeout=120)
     rig.wait(timeout=60)
     with open(report) as file:
-        seen = json.load(file)
+        return it, json.load(file)
+
+
+def commanded(name, folder):
+    """What is wrong with a case in which an NMT command is sent."""
+    words, options, commands, said, status = COMMANDED[name]
+    call = [PROGRAM, "nmt", "--port", f"{folder}/port", "--rate", "500", *options]
+    if commands is None:
+        it = subprocess.run(call, capture_output=True, text=True, timeout=120)
+        return [] if it.returncode == status and not it.stdout and said in it.stderr else [f"status {it.returncode}, says {it.stdout!r} {it.stderr!r}"]
+    it, seen = at_rig("valve", words, call, folder)
     faults = []
     is_as_wanted = it.stdout == said if status == 0 else not it.stdout and f"canplan: {said}" in it.stderr
     if it.returncode != status or not is_as_wanted:
@@ -600,21 +610,14 @@ def scanned_text(example, nodes, ends, options):
 def scanned(name, folder):
     """What is wrong with a case in which the nodes are asked what their devices are."""
     example, words, options, ends, status = SCANNED[name]
-    port, report, log = f"{folder}/port", f"{folder}/report.json", f"{folder}/log"
-    rig = subprocess.Popen([sys.executable, RIG, f"{HERE}/examples/{example}/nodes.csv", port, "--log", log, "--report", report, *words.split()],
-                           stdout=subprocess.PIPE, text=True)
-    rig.stdout.readline()
-    it = subprocess.run([PROGRAM, "scan", "--port", port, "--rate", "250" if example == "conveyor" else "500", *options], capture_output=True, text=True, timeout=120)
-    rig.wait(timeout=60)
-    with open(report) as file:
-        seen = json.load(file)
+    it, seen = at_rig(example, words, [PROGRAM, "scan", "--port", f"{folder}/port", "--rate", rate_of(example), *options], folder)
     if isinstance(ends, str):
         is_as_wanted = not it.stdout and f"canplan: {ends}" in it.stderr and not seen["frames_from_manager"]
         faults = []
     else:
         wanted = scanned_text(example, sorted(int(node) for node in seen["devices"]), ends, options)
         is_as_wanted = (json.loads(it.stdout) if "--json" in options else it.stdout) == wanted and ("no node answered" in it.stderr) == (status == 3)
-        faults = asking_faults(requests_in(log), range(1, int(options[1]) + 1), options)
+        faults = asking_faults(requests_in(f"{folder}/log"), range(1, int(options[1]) + 1), options)
     if it.returncode != status or not is_as_wanted:
         faults.append(f"status {it.returncode}, says {it.stdout!r}")
     if seen["commands"] or any(device["writes"] or device["resets"] for device in seen["devices"].values()):
@@ -635,24 +638,17 @@ def transfer_faults(requests, node, seen):
 def transferred(name, folder):
     """What is wrong with a case in which a value of one node is read or written."""
     example, words, options, said, status, changed = TRANSFERRED[name]
-    port, report, log = f"{folder}/port", f"{folder}/report.json", f"{folder}/log"
-    call = [PROGRAM, options[0], "--port", port, "--rate", "250" if example == "conveyor" else "500", "--explain", *options[1:]]
+    call = [PROGRAM, options[0], "--port", f"{folder}/port", "--rate", rate_of(example), "--explain", *options[1:]]
     call = [it.replace("EXAMPLE", f"{HERE}/examples/{example}") for it in call]
     if words is None:
         it = subprocess.run(call, capture_output=True, text=True, timeout=120)
         return [] if it.returncode == status and not it.stdout and said in it.stderr else [f"status {it.returncode}, says {it.stdout!r} {it.stderr!r}"]
-    rig = subprocess.Popen([sys.executable, RIG, f"{HERE}/examples/{example}/nodes.csv", port, "--log", log, "--report", report, *words.split()],
-                           stdout=subprocess.PIPE, text=True)
-    rig.stdout.readline()
-    it = subprocess.run(call, capture_output=True, text=True, timeout=120)
-    rig.wait(timeout=60)
-    with open(report) as file:
-        seen = json.load(file)
+    it, seen = at_rig(example, words, call, folder)
     is_refused = said.startswith("refused")
     is_as_wanted = f"canplan: {said}" in it.stderr and not it.stdout and not seen["frames_from_manager"] if is_refused else it.stdout == said
     faults = [] if it.returncode == status and is_as_wanted else [f"status {it.returncode}, says {it.stdout!r}"]
     node = int(next(word for word in options[1:] if word.isdigit()))
-    faults += transfer_faults(requests_in(log), node, seen)
+    faults += transfer_faults(requests_in(f"{folder}/log"), node, seen)
     if seen["commands"] or any(device["resets"] for device in seen["devices"].values()):
         faults.append("a device is reset")
     if seen["devices"][str(node)]["changed"] != changed:
