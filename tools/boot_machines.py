@@ -5,7 +5,9 @@
 
 The adapter and the slaves stand in tools/machine/, and share nothing with canplan: they read the EDS and DCF files by themselves.
 Of each case it is seen what the program says and its status, which NMT commands were on the bus, and, where all nodes are
-ready, that each device has what its DCF file says. Where devices are asked whether they are as planned, or what they are, of frames requests of uploads alone come. An NMT command is the only frame that is sent. A case whose name holds one of the words given is run, or each.
+ready, that each device has what its DCF file says. Where devices are asked whether they are as planned, or what they are, of frames requests of uploads alone come.
+An NMT command is the only frame that is sent. The documents of scans and of single values meet docs/schema.json (Debian's python3-jsonschema).
+A case whose name holds one of the words given is run, or each.
 """
 import csv
 import json
@@ -16,7 +18,9 @@ import subprocess
 import sys
 import tempfile
 
-from files import network_in
+import jsonschema
+
+from files import bytes_of, network_in
 
 sys.path.append(f"{os.path.dirname(os.path.realpath(__file__))}/machine")
 from eds import dictionary  # noqa: E402
@@ -24,6 +28,7 @@ from eds import dictionary  # noqa: E402
 HERE = os.path.dirname(os.path.dirname(os.path.realpath(__file__)))
 PROGRAM = os.environ.get("CANPLAN", f"{HERE}/bin/canplan")
 RIG = f"{HERE}/tools/machine/rig.py"
+SCHEMA = json.loads(bytes_of(f"{HERE}/docs/schema.json"))
 
 # A case: the example, the words of the rig, how the nodes end that are not ready, and what else is expected: the status, where it is not 0 or 3,
 # and the words of the program.
@@ -235,8 +240,14 @@ SCANNED = {
     "scan: the rate is refused": ("valve", "--refuse S", [], "refused 104 0", 3),
 }
 
-# Values of one node that are read or written: the example, the words of the rig (none where nothing is opened), those of the program, what it says, the
-# status, and what the device has then that its EDS file has not.
+# Values of one node that are read or written: the example, the words of the rig (none where nothing is opened), those of the program, what it says (as a
+# document if --json is among them), the status, and what the device has then that its EDS file has not.
+def moved(command, node, index, sub, **told):
+    """The document of a value that was read or written, or of an end without it."""
+    nothing = dict.fromkeys(("bytes", "value", "code", "words"))
+    return {"command": command, "node": node, "index": index, "sub": sub, "end": "done", **nothing, **told}
+
+
 def held(count):
     """The bytes that a rig puts into an object of so many, in hexadecimal digits."""
     return bytes(7 * i % 251 for i in range(count)).hex().upper()
@@ -280,6 +291,43 @@ TRANSFERRED = {
     "write: slow to store": ("valve", "--slow 5:3", ["write", "--type", "UNSIGNED16", "5", "1017", "0", "250"], "node 5 took 1017 00 250\n", 0, {"1017:00": "FA"}),
     "write: no value of the type": ("valve", None, ["write", "--type", "UNSIGNED8", "5", "1017", "0", "256"], "VALUE is no value of its type", 2, {}),
     "write: no type": ("valve", None, ["write", "5", "1017", "0", "256"], "--type", 2, {}),
+    "read: a number, as a document": (
+        "valve", "", ["read", "--json", "--type", "UNSIGNED32", "5", "1800", "1"], moved("read", 5, 0x1800, 1, bytes="85010040", value=0x40000185), 0, {}),
+    "read: a number of 64 bits, as a document": (
+        "valve", "--holds 5:3000:0:8", ["read", "--json", "--type", "UNSIGNED64", "5", "3000", "0"], moved("read", 5, 0x3000, 0, bytes=held(8), value=0x312A231C150E0700), 0, {}),
+    "read: a text, as a document": (
+        "conveyor", "", ["read", "--eds", "EXAMPLE/io.eds", "12", "1008", "0", "--json"], moved("read", 12, 0x1008, 0, bytes=b"IO-3216".hex().upper(), value="IO-3216"), 0, {}),
+    "read: a text that cannot be printed, as a document": (
+        "valve", "--holds 5:3000:0:7", ["read", "--json", "--type", "VISIBLE_STRING", "5", "3000", "0"], moved("read", 5, 0x3000, 0, bytes=held(7)), 0, {}),
+    "read: a number of another width, as a document": (
+        "valve", "--holds 5:3000:0:3", ["read", "--json", "--type", "UNSIGNED32", "5", "3000", "0"], moved("read", 5, 0x3000, 0, bytes=held(3)), 0, {}),
+    "read: bytes, as a document": ("valve", "--holds 5:3000:0:889", ["read", "--json", "5", "3000", "0"], moved("read", 5, 0x3000, 0, bytes=held(889)), 0, {}),
+    "read: nothing, as a document": ("valve", "--holds 5:3000:0:0", ["read", "--json", "5", "3000", "0"], moved("read", 5, 0x3000, 0, bytes=""), 0, {}),
+    "read: no such sub, as a document": (
+        "valve", "", ["read", "--json", "5", "1800", "7F"], moved("read", 5, 0x1800, 0x7F, end="refused", code=0x06090011, words="the object has no such sub: look whether the EDS file is that of this device"), 3, {}),
+    "read: the toggle bit does not alternate, as a document": (
+        "valve", "--holds 5:3000:0:889 --bad-toggle 5:3", ["read", "--json", "5", "3000", "0"],
+        moved("read", 5, 0x3000, 0, end="given up", code=0x05030000, words="the toggle bit did not alternate"), 3, {}),
+    "read: a node that is silent, as a document": ("valve", "--silent 5", ["read", "--json", "5", "1000", "0"], moved("read", 5, 0x1000, 0, end="silent"), 3, {}),
+    "read: errors on the bus, as a document": ("valve", "--flags 80", ["read", "--json", "5", "1000", "0"], "refused 102 0", 3, {}),
+    "read: no index, as a document": ("valve", None, ["read", "--json", "5", "10000", "0"], "INDEX and SUB are hexadecimal digits", 2, {}),
+    "write: a number, as a document": (
+        "valve", "", ["write", "--json", "--type", "UNSIGNED16", "5", "1017", "0", "250"], moved("write", 5, 0x1017, 0, bytes="FA00", value=250), 0, {"1017:00": "FA"}),
+    "write: the least number, as a document": (
+        "valve", "--holds 5:3000:0:1", ["write", "--json", "--type", "INTEGER64", "5", "3000", "0", "-9223372036854775808"],
+        moved("write", 5, 0x3000, 0, bytes="0000000000000080", value=-2**63), 0, {"3000:00": "0000000000000080"}),
+    "write: the greatest number, as a document": (
+        "valve", "--holds 5:3000:0:1", ["write", "--type", "UNSIGNED64", "5", "3000", "0", "18446744073709551615", "--json"],
+        moved("write", 5, 0x3000, 0, bytes=8 * "FF", value=2**64 - 1), 0, {"3000:00": 8 * "FF"}),
+    "write: a real, as a document": (
+        "valve", "--holds 5:3000:0:1", ["write", "--json", "--type", "REAL32", "5", "3000", "0", "0000803F"], moved("write", 5, 0x3000, 0, bytes="0000803F"), 0, {"3000:00": "0000803F"}),
+    "write: read only, as a document": (
+        "valve", "", ["write", "--json", "--type", "UNSIGNED32", "5", "1000", "0", "1"],
+        moved("write", 5, 0x1000, 0, end="refused", code=0x06010002, words="the object is read only"), 3, {}),
+    "write: confirms another sub, as a document": (
+        "valve", "--wrong 5:1017:0", ["write", "--json", "--type", "UNSIGNED16", "5", "1017", "0", "250"],
+        moved("write", 5, 0x1017, 0, end="given up", code=0x05040001, words="the command is not known, or the answer was to another setting"), 3, {"1017:00": "FA"}),
+    "write: no value of the type, as a document": ("valve", None, ["write", "--json", "--type", "UNSIGNED8", "5", "1017", "0", "256"], "VALUE is no value of its type", 2, {}),
 }
 
 # The page of a boot: the example, the words of the rig, the program's status, and what has to stand on the page.
@@ -337,6 +385,13 @@ def wanted_text(example, ends):
         if number in ends:
             nodes[at] = f"node {number} {ends[number]}"
     return "\n".join(nodes + ["not started" if ends else "started"]) + "\n"
+
+
+def document_of(text):
+    """A document in JSON that meets the schema."""
+    value = json.loads(text)
+    jsonschema.validate(value, SCHEMA)
+    return value
 
 
 def lines_of(document):
@@ -616,7 +671,7 @@ def scanned(name, folder):
         faults = []
     else:
         wanted = scanned_text(example, sorted(int(node) for node in seen["devices"]), ends, options)
-        is_as_wanted = (json.loads(it.stdout) if "--json" in options else it.stdout) == wanted and ("no node answered" in it.stderr) == (status == 3)
+        is_as_wanted = (document_of(it.stdout) if "--json" in options else it.stdout) == wanted and ("no node answered" in it.stderr) == (status == 3)
         faults = asking_faults(requests_in(f"{folder}/log"), range(1, int(options[1]) + 1), options)
     if it.returncode != status or not is_as_wanted:
         faults.append(f"status {it.returncode}, says {it.stdout!r}")
@@ -635,6 +690,16 @@ def transfer_faults(requests, node, seen):
     return faults + ([f"the nodes {others} were asked"] if others else [])
 
 
+def is_said(it, options, said, is_fault):
+    """Whether an answer is what is to be said, or a fault has it."""
+    if "--json" not in options:
+        return not it.stdout and said in it.stderr if is_fault else it.stdout == said
+    value = document_of(it.stdout)
+    if is_fault:
+        return said in "\n".join([value["error"]["line"], *value["error"]["words"]]) and not it.stderr
+    return value == said and not it.stderr
+
+
 def transferred(name, folder):
     """What is wrong with a case in which a value of one node is read or written."""
     example, words, options, said, status, changed = TRANSFERRED[name]
@@ -642,10 +707,10 @@ def transferred(name, folder):
     call = [it.replace("EXAMPLE", f"{HERE}/examples/{example}") for it in call]
     if words is None:
         it = subprocess.run(call, capture_output=True, text=True, timeout=120)
-        return [] if it.returncode == status and not it.stdout and said in it.stderr else [f"status {it.returncode}, says {it.stdout!r} {it.stderr!r}"]
+        return [] if it.returncode == status and is_said(it, options, said, True) else [f"status {it.returncode}, says {it.stdout!r} {it.stderr!r}"]
     it, seen = at_rig(example, words, call, folder)
-    is_refused = said.startswith("refused")
-    is_as_wanted = f"canplan: {said}" in it.stderr and not it.stdout and not seen["frames_from_manager"] if is_refused else it.stdout == said
+    is_refused = isinstance(said, str) and said.startswith("refused")
+    is_as_wanted = is_said(it, options, f"canplan: {said}" if is_refused else said, is_refused) and not (is_refused and seen["frames_from_manager"])
     faults = [] if it.returncode == status and is_as_wanted else [f"status {it.returncode}, says {it.stdout!r}"]
     node = int(next(word for word in options[1:] if word.isdigit()))
     faults += transfer_faults(requests_in(f"{folder}/log"), node, seen)
@@ -680,7 +745,10 @@ def faults_of(name, folder):
     """What is wrong with a case."""
     for cases, tried in ((CASES, run), (LEFT_ALONE, left_alone), (TOLD, told), (REACHES, reach), (TWICE, twice), (VERIFIED, verified), (COMMANDED, commanded), (SCANNED, scanned), (TRANSFERRED, transferred), (SHEETS, sheet)):
         if name in cases:
-            return tried(name, folder)
+            try:
+                return tried(name, folder)
+            except jsonschema.ValidationError as fault:
+                return [f"the document is not of the schema: {fault.message}"]
     return []
 
 

@@ -46,7 +46,7 @@ def gate():
     """A kit whose gate keeps what it passed has a flag for a run from nothing; of another kit each run is."""
     asked = subprocess.run(["rt", "--help"], stdout=subprocess.PIPE, stderr=subprocess.STDOUT, text=True, check=False)
     told = asked.stdout
-    return ["rt", "ci", "--anew"] if "--anew" in told else ["rt", "ci"]
+    return ["rt", "ci", "--anew"] if "--anew" in told else ["sh", ".ci/run"]
 
 
 def seconds(pid):

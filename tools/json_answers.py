@@ -138,6 +138,9 @@ def faults():
             (["watch", *tables, f"{out}/empty"], (94, 0, "log", None, f"{out}/empty", None)),
             (["watch", *tables, f"{out}/none.log"], (None,) * 6),
             (["plan", f"{out}/none.csv", tables[1], out], (None,) * 6),
+            (["read", "--port", f"{out}/none", "--rate", "500", "5", "1017", "0"], (None,) * 6),
+            (["read", "--port", f"{out}/none", "--rate", "500", "5", "10000", "0"], (None,) * 6),
+            (["write", "--port", f"{out}/none", "--rate", "500", "--type", "UNSIGNED8", "5", "1017", "0", "256"], (None,) * 6),
         ]
         for words, places in wanted:
             _, said, value = answers(*words)

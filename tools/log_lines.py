@@ -1,4 +1,4 @@
-"""Lines of a log as `candump -L` writes them, of a run's trace; and the lines that a document of `watch --json` stands for."""
+"""Lines of a log as `candump -L` writes them, of a run's trace; and the lines, and the table of `--csv`, that a document of `watch --json` stands for."""
 
 MOST_TOLD = 20
 
@@ -36,6 +36,18 @@ def stream_line(it):
         return f"{begin} {table}"
     least, mean, greatest = (it["distance"][key]["us"] for key in ("least", "mean", "greatest"))
     return f"{begin} distance {least} {mean} {greatest} {table} load {share(it['load'])}"
+
+
+def table_row(it):
+    distances = [it["distance"][key]["us"] for key in ("least", "mean", "greatest")] if it["distance"] else [""] * 3
+    return ",".join(map(str, (f"{it['id']:03X}h", it["frames"], int(it["period"]["us"]), *distances, it["load"])))
+
+
+def table_of_document(it):
+    """The table of `--csv` that a document stands for; it is empty where no rate passes."""
+    if not it["planned"]:
+        return ""
+    return "".join(f"{row}\n" for row in ("id,frames,period,least,mean,greatest,load", *map(table_row, it["streams"])))
 
 
 def unknown_line(it):

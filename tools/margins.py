@@ -41,9 +41,9 @@ def least(equation, start):
 
 
 def response(streams, order, place, rate):
-    """The greatest response of the stream at a place of an order, in ticks; None where its busy period is too long."""
+    """The greatest response of the stream at a place of an order, in ticks; None where its busy period is too long. A stream may say its bits."""
     ticks = TICKS[rate]
-    cost = [(55 + 10 * stream["bytes"]) * ticks for stream in streams]
+    cost = [stream.get("bits", 55 + 10 * stream["bytes"]) * ticks for stream in streams]
     above, own = order[:place], order[place]
     blocking = max((cost[k] for k in order[place + 1:]), default=0)
 

@@ -8,7 +8,8 @@ on the command line, make a log as `candump -L` writes it: no breach may be foun
 line is lost, nor where a second channel stands between. The page of `report --log` has to have as many distances in the histogram of each
 identifier as the lines have frames but one. Then one breach of each kind is put in: it has to be found at its line. Then frames that are
 worth a word, also more of them than are told. Last a log that is refused has to be refused by the number and at the place that it should.
-Of each of these logs the document of --json has to stand for the same lines, and to end with their status.
+Of each of these logs the document of --json has to stand for the same lines, and to end with their status. It has to stand for the
+table that --csv writes beside it, too; of a log that is refused there is none.
 
 By more seeds the log is written in each other form (log_forms.py): nothing may be found in it, and what is said of the streams has to be the
 same in each form that keeps the microseconds; then a breach of some kind is put in, which has to be found at its line.
@@ -21,8 +22,9 @@ import subprocess
 import sys
 import tempfile
 
+from files import bytes_of
 from log_forms import FORMS, Frame
-from log_lines import ends_of, line_of, lines_of_document, stamped
+from log_lines import ends_of, line_of, lines_of_document, stamped, table_of_document
 
 HERE = os.path.dirname(os.path.dirname(os.path.realpath(__file__)))
 EXAMPLES = f"{HERE}/examples"
@@ -135,10 +137,21 @@ def watched(tables, lines, words=SAID):
     return run("watch", *words, *tables, "-", text="".join(line + "\n" for line in lines).encode())
 
 
-def document_faults(tables, lines, answer):
-    """What is wrong with the document of a log, beside the answer in lines."""
+def taken(file):
+    """The text of a file, which is removed. It is empty where there is no file."""
+    if not os.path.exists(file):
+        return ""
+    text = bytes_of(file).decode()
+    os.remove(file)
+    return text
+
+
+def document_faults(tables, lines, answer, folder):
+    """What is wrong with the document of a log, and with the table beside it, beside the answer in lines."""
     status, out, err = answer
-    other, document, said = watched(tables, lines, ("--json", *SAID))
+    table = f"{folder}/table.csv"
+    other, document, said = watched(tables, lines, ("--json", "--csv", table, *SAID))
+    found = taken(table)
     if other != status or said or document.count("\n") != 1:
         yield f"a document with status {other}, and not {status}: {said}"
         return
@@ -149,6 +162,8 @@ def document_faults(tables, lines, answer):
             yield f"a document that says {error}"
     elif lines_of_document(value) != out.splitlines():
         yield f"a document that says {[pair for pair in zip(lines_of_document(value), out.splitlines()) if pair[0] != pair[1]][:2]}"
+    if found != ("" if "error" in value else table_of_document(value)):
+        yield f"a table that says {found!r}"
 
 
 def page_faults(tables, lines, folder):
@@ -230,7 +245,7 @@ def faults_of(name, seed, folder):
     log = log_of(ends_of(trace), chance)
     for kind, lines in good_logs(log, chance):
         status, out, err = answer = watched(tables, lines)
-        for fault in document_faults(tables, lines, answer):
+        for fault in document_faults(tables, lines, answer, folder):
             yield f"{name} {seed} {kind}: {fault}"
         if status != 0 or not out.endswith("keeps to the tables\n"):
             yield f"{name} {seed} {kind}: status {status} {err} {[it for it in out.splitlines() if 'breaks' in it][:2]}"
@@ -238,20 +253,20 @@ def faults_of(name, seed, folder):
         yield f"{name} {seed} page: {fault}"
     for kind, lines, place, word in bad_logs(log, chance):
         status, out, err = answer = watched(tables, lines)
-        for fault in document_faults(tables, lines, answer):
+        for fault in document_faults(tables, lines, answer, folder):
             yield f"{name} {seed} {kind}: {fault}"
         found = [it for it in out.splitlines() if word in it and (place is None or it.startswith(f"line {place}:"))]
         if status != 3 or not found:
             yield f"{name} {seed} {kind} at {place}: status {status} {err} {[it for it in out.splitlines() if 'breaks' in it][:2]}"
     for lines, words in told_logs(log, chance):
         status, out, err = answer = watched(tables, lines)
-        for fault in document_faults(tables, lines, answer):
+        for fault in document_faults(tables, lines, answer, folder):
             yield f"{name} {seed} told: {fault}"
         if status not in (0, 3) or not [it for it in out.splitlines() if it.startswith(words)]:
             yield f"{name} {seed} does not tell {words}: status {status} {err}"
     for number, place, lines in refused_logs(log):
         status, out, err = answer = watched(tables, lines)
-        for fault in document_faults(tables, lines, answer):
+        for fault in document_faults(tables, lines, answer, folder):
             yield f"{name} {seed} refused {number}: {fault}"
         if status != 3 or err.splitlines()[:1] != [f"canplan: refused {number} {place}"]:
             yield f"{name} {seed} refused {number} {place}: status {status} {err}"

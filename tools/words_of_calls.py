@@ -1,9 +1,10 @@
 #!/usr/bin/env python3
 """Tries words of the command line that no test of the gate reaches: rates that are listed, strict calls, formats, words that exclude one another,
-and the numbers that `explain` knows, which it tells where it is asked for another.
+the table of `watch --csv`, and the numbers that `explain` knows, which it tells where it is asked for another.
 
     python3 tools/words_of_calls.py
 """
+import json
 import os
 import pty
 import re
@@ -12,10 +13,12 @@ import sys
 import tempfile
 
 from files import bytes_of, status_of, write
+from log_lines import table_of_document
 
 HERE = os.path.dirname(os.path.dirname(os.path.realpath(__file__)))
 PROGRAM = os.environ.get("CANPLAN", f"{HERE}/bin/canplan")
 CRANE, SDO, RANGES = ((f"{HERE}/examples/{it}/nodes.csv", f"{HERE}/examples/{it}/pdos.csv") for it in ("crane", "sdo-refusal", "second-range"))
+LOG = f"{HERE}/examples/crane/crane.log"
 VALVE, UNIT = f"{HERE}/examples/valve/pdos.csv", bytes_of(f"{HERE}/examples/valve/unit.eds").decode()
 NO_REFUSAL = b"rate,pdo,what,value\n0,0,version,1\n"
 
@@ -56,6 +59,8 @@ CALLS = (
     (("explain", "97"), 2, "", "60 to 96"),
     (("explain", "100"), 0, "--take-over", ""),
     (("watch", "--json", *CRANE, "OUT/none.csv"), 3, '"number":90', ""),
+    (("watch", "--explain", "--csv", "OUT/none/table.csv", *CRANE, LOG), 5, "", "/none/table.csv\nit cannot be written: "),
+    (("report", "--log", LOG, "--csv", "OUT/table.csv", *CRANE, "OUT/page.html"), 2, "", "--csv"),
     (("diff", "OUT/none", "OUT"), 5, "", "/none/plan.txt\n"),
     (("diff", f"{HERE}/examples/crane", f"{HERE}/examples/valve"), 3, "node 5: new\n", ""),
     (("init", "OUT/none", "OUT"), 5, "", "/none\n"),
@@ -102,6 +107,31 @@ def faults_of_page():
             yield "docs/RULES.md is not what explain --all prints"
 
 
+def watched(*words):
+    """The status of a watch, what it prints, and what it says on standard error."""
+    done = subprocess.run([PROGRAM, "watch", *words], capture_output=True, text=True, stdin=subprocess.DEVNULL, timeout=60)
+    return done.returncode, done.stdout, done.stderr
+
+
+def faults_of_tables(folder):
+    """What is wrong with the table of a log, which the document of the log stands for, and with the answer beside it."""
+    new, old, absent, late = (f"{folder}/{name}.csv" for name in ("new", "old", "none/absent", "late"))
+    write(old, b"old")
+    answer = watched(*CRANE, LOG)
+    wanted = table_of_document(json.loads(watched("--json", *CRANE, LOG)[1]))
+    for table in (new, old):
+        if watched("--csv", table, *CRANE, LOG) != answer or bytes_of(table).decode() != wanted:
+            yield f"watch --csv {table}"
+    if watched("--csv", absent, *CRANE, LOG) != (5, "", f"canplan: file {absent}\n"):
+        yield "a table that cannot be written"
+    os.remove(new)
+    if watched("--csv", new, *CRANE, f"{folder}/none.csv") != (3, "", "canplan: refused 90 1\n") or os.path.exists(new):
+        yield "a table of a log that is refused"
+    write(late, bytes_of(VALVE).replace(b",670,", b",1,"))
+    if watched("--csv", new, f"{HERE}/examples/valve/nodes.csv", late, LOG) != (4, "no rate passes\n", "") or os.path.exists(new):
+        yield "a table where no rate passes"
+
+
 def faults_of_no_words():
     """What is wrong with a call with no words at a terminal, which is help."""
     ours, its = pty.openpty()
@@ -129,6 +159,7 @@ def main():
         faults = [fault for fault in (fault_of(*call, folder) for call in CALLS) if fault]
         if os.path.exists(f"{folder}/node-099.cdcf") or bytes_of(f"{folder}/node-099.txt") != b"mine":
             faults.append("files of an earlier plan, and they alone, are to be removed")
+        faults += faults_of_tables(folder)
     faults += faults_of_numbers()
     faults += faults_of_page()
     faults += faults_of_no_words()

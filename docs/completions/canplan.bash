@@ -37,7 +37,7 @@ _canplan() {
         _canplan_words "10 20 50 125 250 500 800 1000"
         return
         ;;
-    "plan --setup" | "room --setup" | "check --setup" | "boot --setup" | "boot --port" | "boot --report" | "verify --setup" | "verify --port" | "nmt --port" | "scan --port" | "read --port" | "read --eds" | "write --port" | "write --eds" | "run --setup" | "judge --setup" | "report --setup" | "report --trace" | "report --log" | "export --setup" | "watch --setup")
+    "plan --setup" | "room --setup" | "check --setup" | "boot --setup" | "boot --port" | "boot --report" | "verify --setup" | "verify --port" | "nmt --port" | "scan --port" | "read --port" | "read --eds" | "write --port" | "write --eds" | "run --setup" | "judge --setup" | "report --setup" | "report --trace" | "report --log" | "export --setup" | "watch --setup" | "watch --csv")
         _canplan_files -f
         return
         ;;
@@ -76,8 +76,8 @@ _canplan() {
         verify) _canplan_words "--setup --rates --margin --explain --json --port --only --gently --limit --help" ;;
         nmt) _canplan_words "--all --port --rate --limit --explain --help" ;;
         scan) _canplan_words "--port --rate --up-to --gently --eds --limit --explain --json --help" ;;
-        read) _canplan_words "--port --rate --type --eds --limit --explain --help" ;;
-        write) _canplan_words "--port --rate --type --eds --limit --explain --help" ;;
+        read) _canplan_words "--port --rate --type --eds --limit --explain --json --help" ;;
+        write) _canplan_words "--port --rate --type --eds --limit --explain --json --help" ;;
         run) _canplan_words "--setup --rates --margin --explain --seed --until --help" ;;
         judge) _canplan_words "--setup --rates --margin --explain --json --help" ;;
         report) _canplan_words "--setup --rates --margin --explain --trace --log --title --date --error --drift --channel --delta --help" ;;
@@ -85,7 +85,7 @@ _canplan() {
         tidy) _canplan_words "--check --explain --octal --decimal --access --unlisted --rates --help" ;;
         init) _canplan_words "--explain --help" ;;
         diff) _canplan_words "--explain --json --help" ;;
-        watch) _canplan_words "--setup --rates --margin --explain --json --error --drift --channel --delta --help" ;;
+        watch) _canplan_words "--setup --rates --margin --explain --json --error --drift --channel --delta --csv --help" ;;
         explain) _canplan_words "--all --help" ;;
         esac
         return
@@ -94,7 +94,7 @@ _canplan() {
     for ((at = 2; at < COMP_CWORD; at++)); do
         it="${COMP_WORDS[at]}"
         case "$sub $it" in
-        "test --rate" | "plan --setup" | "plan --rates" | "room --setup" | "room --rates" | "check --setup" | "check --rates" | "boot --setup" | "boot --rates" | "boot --seed" | "boot --port" | "boot --only" | "boot --boot-limit" | "boot --watch" | "boot --limit" | "boot --report" | "verify --setup" | "verify --rates" | "verify --port" | "verify --only" | "verify --gently" | "verify --limit" | "nmt --port" | "nmt --rate" | "nmt --limit" | "scan --port" | "scan --rate" | "scan --up-to" | "scan --gently" | "scan --eds" | "scan --limit" | "read --port" | "read --rate" | "read --type" | "read --eds" | "read --limit" | "write --port" | "write --rate" | "write --type" | "write --eds" | "write --limit" | "run --setup" | "run --rates" | "run --seed" | "run --until" | "judge --setup" | "judge --rates" | "report --setup" | "report --rates" | "report --trace" | "report --log" | "report --title" | "report --date" | "report --error" | "report --drift" | "report --channel" | "export --manager" | "export --setup" | "export --rates" | "tidy --access" | "tidy --unlisted" | "tidy --rates" | "watch --setup" | "watch --rates" | "watch --error" | "watch --drift" | "watch --channel") [[ ${COMP_WORDS[at + 1]} == "=" ]] && ((at++)); ((at++)) ;;
+        "test --rate" | "plan --setup" | "plan --rates" | "room --setup" | "room --rates" | "check --setup" | "check --rates" | "boot --setup" | "boot --rates" | "boot --seed" | "boot --port" | "boot --only" | "boot --boot-limit" | "boot --watch" | "boot --limit" | "boot --report" | "verify --setup" | "verify --rates" | "verify --port" | "verify --only" | "verify --gently" | "verify --limit" | "nmt --port" | "nmt --rate" | "nmt --limit" | "scan --port" | "scan --rate" | "scan --up-to" | "scan --gently" | "scan --eds" | "scan --limit" | "read --port" | "read --rate" | "read --type" | "read --eds" | "read --limit" | "write --port" | "write --rate" | "write --type" | "write --eds" | "write --limit" | "run --setup" | "run --rates" | "run --seed" | "run --until" | "judge --setup" | "judge --rates" | "report --setup" | "report --rates" | "report --trace" | "report --log" | "report --title" | "report --date" | "report --error" | "report --drift" | "report --channel" | "export --manager" | "export --setup" | "export --rates" | "tidy --access" | "tidy --unlisted" | "tidy --rates" | "watch --setup" | "watch --rates" | "watch --error" | "watch --drift" | "watch --channel" | "watch --csv") [[ ${COMP_WORDS[at + 1]} == "=" ]] && ((at++)); ((at++)) ;;
         *" -"?*) ;;
         *) ((place++)) ;;
         esac

@@ -149,6 +149,7 @@ _canplan() {
             '--eds=[The device'\''s EDS file, which names the type of the value]:FILE:_files' \
             '--limit=[The seconds after which the port is given up]:limit: ' \
             '--explain[Says of a fault in words where it stands, what is wanted and what is usually behind it]' \
+            '--json[Answers by one document in JSON on standard output, also of a fault]' \
             '(-h --help)'{-h,--help}'[Print help]' \
             '1:NODE: ' \
             '2:INDEX: ' \
@@ -162,6 +163,7 @@ _canplan() {
             '--eds=[The device'\''s EDS file, which names the type of the value]:FILE:_files' \
             '--limit=[The seconds after which the port is given up]:limit: ' \
             '--explain[Says of a fault in words where it stands, what is wanted and what is usually behind it]' \
+            '--json[Answers by one document in JSON on standard output, also of a fault]' \
             '(-h --help)'{-h,--help}'[Print help]' \
             '1:NODE: ' \
             '2:INDEX: ' \
@@ -264,6 +266,7 @@ _canplan() {
             '--drift=[By how many parts in a million its clock is wrong at most; 200 where it is left out]:PPM: ' \
             '--channel=[The channel whose frames are taken; that of the first frame where it is left out]:NAME: ' \
             '--delta[Each stamp of a log in columns is the distance from the line before, as candump -td writes it]' \
+            '--csv=[Writes a table of what was seen of each stream\: id,frames,period,least,mean,greatest,load]:FILE:_files' \
             '(-h --help)'{-h,--help}'[Print help]' \
             '1:NODES:_files' \
             '2:PDOS:_files' \

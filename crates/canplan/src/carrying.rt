@@ -91,7 +91,7 @@ pub fn carry_out(
         Order::Tidy(order) => carry_tidy(rt, order, form, inputs),
         Order::Init(order) => start_tables(rt, order),
         Order::Diff(order) => compare_plans(rt, order, form),
-        Order::Watch(order) => watch_bus(rt, order, form, inputs),
+        Order::Watch { log, csv } => watch_bus(rt, log, csv, form, inputs),
         Order::Explain { number } => explain(rt, number),
     }
 }

@@ -24,6 +24,7 @@ fn out_of<'a>(order: Order<'a>) -> Option<&'a str> {
         Order::Report { out, .. } | Order::Export { out, .. } => Some(out),
         Order::Init(InitOrder { out, .. }) => Some(out),
         Order::Tidy(TidyOrder { out, .. }) => out,
+        Order::Watch { csv, .. } => csv,
         _ => None,
     }
 }
@@ -129,7 +130,7 @@ pub fn file_hint(rt: &HostRuntime, order: Order<'_>, name: &str) -> Result<Strin
 /// The log that an order watches.
 fn log_of<'a>(order: Order<'a>) -> Option<&'a str> {
     let watched: Option<WatchOrder<'a>> = match order {
-        Order::Watch(watched) => Some(watched),
+        Order::Watch { log, .. } => Some(log),
         Order::Report {
             shown: Shown { log, .. },
             ..

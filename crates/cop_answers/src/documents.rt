@@ -1,17 +1,37 @@
 //! Answers and faults as documents in JSON.
 
+ghost use Rattle.cop_figures.specs.Figures.{AreFigures};
+
+use crate::pages::breakdowns;
 use crate::rooms::fastest_miss;
 use crate::spots::{Spot, spot_in_network, spot_of_refusal};
 use crate::texts::Inputs;
 use crate::warnings::all_warned;
-use cop_documents::{Told, fault_document, plan_document};
+use cop_documents::{PlanNumbers, Told, fault_document, plan_document};
 use cop_engine::{Fault, PlannedNetwork, message};
-use cop_figures::Figures;
-use cop_net::{Rule, Table};
+use cop_figures::{Breakdown, Figures};
+use cop_net::{Network, Rule, Table};
 use cop_orders::Order;
+use cop_plan::Outcome;
 use cop_rules::name_of;
 use cop_words::Finding;
 use std::alloc::{AllocError, Global};
+
+/// What the responses of the PDOs are made of, if the network counts disturbed transfers; else none.
+fn disturbed(
+    alloc: Global,
+    network: &Network<'_>,
+    outcome: &Outcome,
+    figures: &Figures,
+) -> Result<Vec<Breakdown>, AllocError>
+    requires { AreFigures network.now outcome.now figures.now }
+{
+    if network.set().errors().is_some() {
+        breakdowns(alloc, network, outcome, figures)
+    } else {
+        Ok(Vec::new(alloc))
+    }
+}
 
 /// The document of a plan, with its numbers and what is worth a look before one relies on it.
 pub fn plan_text(
@@ -19,11 +39,18 @@ pub fn plan_text(
     planned: &PlannedNetwork<'_>,
     figures: &Figures,
     findings: &[Finding],
-) -> Result<String, AllocError> {
+) -> Result<String, AllocError>
+    requires { AreFigures planned.now.net planned.now.outcome figures.now }
+{
     let (network, outcome) = planned.parts();
+    let disturbed = disturbed(alloc, network, outcome, figures)?;
     let warnings = all_warned(alloc, findings)?;
     let misses = fastest_miss(alloc, network, outcome)?;
-    plan_document(alloc, network, outcome, figures, &warnings, &misses)
+    let numbers = PlanNumbers {
+        figures,
+        disturbed: &disturbed,
+    };
+    plan_document(alloc, network, outcome, numbers, &warnings, &misses)
 }
 
 /// The name of a table of a network.

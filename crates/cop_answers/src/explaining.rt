@@ -29,7 +29,7 @@ pub(crate) fn network_of<'a>(order: Order<'a>) -> Option<NetworkFiles<'a>> {
         Order::Run { network, .. } => Some(network),
         Order::Room(network) => Some(network),
         Order::Report { network, .. } | Order::Export { network, .. } => Some(network),
-        Order::Watch(order) => Some(order.network),
+        Order::Watch { log, .. } => Some(log.network),
         Order::Machine(order) => Some(order.network),
         Order::Verify(order) => Some(order.network),
         Order::Test { .. }
@@ -58,7 +58,7 @@ pub(crate) fn file_of<'a>(order: Order<'a>, number: u8) -> Option<&'a str> {
 /// Whether a rule is about the log that is watched, whose line the failure has in words.
 fn is_of_log(order: Order<'_>, number: u8) -> bool {
     let has_log = match order {
-        Order::Watch(_) => true,
+        Order::Watch { .. } => true,
         Order::Report { shown, .. } => shown.log.is_some(),
         _ => false,
     };

@@ -3,6 +3,7 @@
 #![tactic(auto)]
 
 mod booting;
+mod bus_plans;
 mod checking;
 mod documents;
 mod explaining;
@@ -22,6 +23,7 @@ mod warning_rules;
 mod warnings;
 
 pub use booting::{ABSENT, ERRONEOUS, GARBLED, RUNNING, UNOPENED, boot_notes};
+pub use bus_plans::{BusPlan, bus_plan_of};
 pub use checking::status_after_check;
 pub use documents::{fault_text, plan_text};
 pub use explaining::{EdsText, refused_eds, words_on_file, words_on_network, words_on_refusal};

@@ -13,7 +13,7 @@ use cop_figures::{
 use cop_logbook::Logbook;
 use cop_net::{Network, NodeTable};
 use cop_orders::{NetworkFiles, Shown};
-use cop_plan::Outcome;
+use cop_plan::{Outcome, Plan};
 use cop_report::{Input, Report, page_of};
 use sha2::{Digest, Sha256};
 use std::alloc::{AllocError, Global};
@@ -70,13 +70,13 @@ fn inputs<'a>(
     Ok(inputs)
 }
 
-/// What the trace tells of the bus. Where no rate passes it is not looked at.
+/// What the trace tells of the bus, by the plan on the bus alone. Where no rate passes it is not looked at.
 pub fn timeline(
     alloc: Global,
     sources: Sources<'_>,
-    outcome: &Outcome,
+    plan: Option<&Plan>,
 ) -> Result<Option<Timeline>, Fault> {
-    let Outcome::Planned(plan) = outcome else {
+    let Some(plan) = plan else {
         return Ok(None);
     };
     if sources.shown.trace.is_none() {
@@ -87,7 +87,7 @@ pub fn timeline(
 }
 
 /// What the responses of the PDOs are made of, where a rate passes.
-fn breakdowns(
+pub(crate) fn breakdowns(
     alloc: Global,
     network: &Network<'_>,
     outcome: &Outcome,

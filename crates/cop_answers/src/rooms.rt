@@ -140,7 +140,7 @@ pub(crate) fn miss_words(
             if let Some(stream) = network.set().streams().get(*index) {
                 let kbits = miss.rate.kbits();
                 write!(text, "at {kbits} kbit/s a plan passes")?;
-                push_spare(&mut text, stream)?;
+                push_spare(&mut text, network, stream)?;
                 text.push_str(" alone\n")?;
             }
         }
@@ -148,12 +148,13 @@ pub(crate) fn miss_words(
     Ok(text)
 }
 
-/// Adds the name of a fixed frame that could be left out.
-fn push_spare(text: &mut String, stream: &Stream) -> Result<(), AllocError> {
-    match stream.id {
-        0 => text.push_str(" without NMT"),
-        SYNC => text.push_str(" without SYNC"),
-        id => write!(text, " without EMCY {}", id & 0x7F),
+/// Adds the name of what could be left out. Where the network counts disturbed transfers, these have 000h and NMT has 001h.
+fn push_spare(text: &mut String, network: &Network<'_>, stream: &Stream) -> Result<(), AllocError> {
+    match (network.set().errors().is_some(), stream.id) {
+        (true, 0) => text.push_str(" without errors"),
+        (true, 1) | (false, 0) => text.push_str(" without NMT"),
+        (_, SYNC) => text.push_str(" without SYNC"),
+        (_, id) => write!(text, " without EMCY {}", id & 0x7F),
     }
 }
 
@@ -173,7 +174,7 @@ fn push_miss(text: &mut String, network: &Network<'_>, miss: &Miss) -> Result<()
     }
     for index in &miss.spare {
         if let Some(stream) = network.set().streams().get(*index) {
-            push_spare(text, stream)?;
+            push_spare(text, network, stream)?;
         }
     }
     text.push_str("\n")

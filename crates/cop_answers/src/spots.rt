@@ -78,7 +78,7 @@ pub fn spot_of_refusal(
 ) -> Result<Spot, AllocError> {
     match order {
         Order::Tidy(order) => line_spot(alloc, order.input, place),
-        Order::Watch(order) if number >= 90 => line_spot(alloc, order.log, place),
+        Order::Watch { log, .. } if number >= 90 => line_spot(alloc, log.log, place),
         order => match file_of(order, number) {
             Some(name) => record_spot(alloc, name, &inputs.other, place),
             None => Ok(Spot::nowhere()),

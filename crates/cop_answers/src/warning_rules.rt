@@ -22,7 +22,7 @@ pub fn warning_rule_words(number: u8) -> &'static str {
             "warning 111: ParameterValue of an EDS file is not DefaultValue: the plan counts on it, and does not send it\nusually: a DCF file in place of the maker's EDS file\nright: the maker's EDS file, or devices into which this file was loaded\n"
         }
         116 => {
-            "warning 116: a PDO has less time left than one error on the bus takes, at most 166 bits: with an error it may be late\nusually: identifiers in canonical order, which leave some PDOs no time\nright: --margin, a longer deadline, or a bus on which no frame is disturbed\n"
+            "warning 116: a PDO has less time left than one error on the bus takes, at most 166 bits: with an error it may be late\nusually: a table of nodes that does not say how rare disturbed transfers are\nright: errors,0,,,1000000,0 in that table, which counts one error each second; else --margin, or a longer deadline\n"
         }
         117 => {
             "warning 117: the file of a device is the DCF of another node, by NodeID of its section DeviceComissioning\nusually: a file that was copied from another node\nright: the maker's EDS file, or the DCF of this node\n"

@@ -3,11 +3,19 @@
 use crate::texts::Texts;
 use cop_documents::Warned;
 use cop_engine::plan_status;
-use cop_figures::{Figures, tightest};
+use cop_figures::{Figures, Tight, tightest};
 use cop_net::{Network, NodeTable};
 use cop_warn::warnings_of;
 use cop_words::{Finding, finding_words, findings_of};
 use std::alloc::{AllocError, Global};
+
+/// The PDO that one error on the bus may make late, if the network counts no errors.
+fn tight_of(network: &Network<'_>, figures: &Figures) -> Option<Tight> {
+    match network.set().errors() {
+        Some(_) => None,
+        None => tightest(figures),
+    }
+}
 
 /// All that is worth a look before one relies on the plan of a network, which has these numbers.
 pub fn findings(
@@ -18,7 +26,7 @@ pub fn findings(
     figures: &Figures,
 ) -> Result<Vec<Finding>, AllocError> {
     let warnings = warnings_of(alloc, nodes, network)?;
-    let tight = tightest(figures);
+    let tight = tight_of(network, figures);
     findings_of(
         alloc,
         &texts.eds_files,
@@ -38,7 +46,7 @@ pub fn finding_lines(
     figures: &Figures,
 ) -> Result<Vec<u8>, AllocError> {
     let warnings = warnings_of(alloc, nodes, network)?;
-    let tight = tightest(figures);
+    let tight = tight_of(network, figures);
     finding_words(
         alloc,
         &texts.eds_files,

@@ -8,6 +8,7 @@ use Rattle.std.proofs.lemmas.List.Elements.{recursion_from_All, All-from_recursi
 use Rattle.std.proofs.lemmas.Option.{slice_get_within, get_or_from_slice_get}
 use Rattle.cop_frame.specs.declared.rates.Rate.{Rate}
 use Rattle.cop_frame.specs.Rate.{ticks_of}
+use Rattle.cop_frame.proofs.LengthLemmas.{least_bits-least}
 use Rattle.cop_rta.proofs.QueueLemmas.{ticks_pos}
 use Rattle.cop_rta.specs.declared.streams.Stream.{Stream}
 use Rattle.cop_bus.proofs.Test.{longest, load, blocking, busy_value, queue_value, Meets}
@@ -24,7 +25,7 @@ takes-time tau streams y tick w =
     let j = w.some_stream in
     let i : HasLengthOf j.1 y = All-contains (λ j. j.id ≡ y.id → HasLengthOf j y) streams j.1 w.length (j.0, j.2, j.3) j.4 in
     let a = i.not_shorter in
-    let b : 1 ≤ y.bits = omega arith in
+    let b : 1 ≤ y.bits = omega (arith, a, least_bits-least j.1.bytes) in
     let c : 1 * 1 ≤ y.bits * tau = mul-le-mul b tick in
     omega arith
 

@@ -4,6 +4,7 @@ use Rattle.std.specs.Prelude.{filter, nat_lt, slice_get, Option, Some}
 use Rattle.std.specs.Option.{ForSome, option_map_or}
 use Rattle.std.specs.Int.{div_ceil}
 use Rattle.std.proofs.lemmas.Bool.Decides.{nat_tests}
+use Rattle.cop_frame.specs.Lengths.{worst_bits}
 use Rattle.cop_frame.specs.declared.rates.Rate.{Rate}
 use Rattle.cop_frame.specs.Rate.{ticks_of}
 use Rattle.cop_rta.specs.declared.streams.Stream.{Stream}
@@ -15,7 +16,7 @@ use Rattle.cop_bus.proofs.Totals.{total}
 
 -- the longest transfer of a stream, at tau ticks a bit
 abbrev pub longest : ℕ → Stream → ℕ
-longest tau k = (55 + 10 * k.bytes) * tau
+longest tau k = worst_bits k.bytes * tau
 
 -- the greatest of the longest transfers, 0 if there is none
 abbrev pub blocking : ℕ → List Stream → ℕ

@@ -2,6 +2,7 @@
 -- instance, and is queued from the end of SYNC's transfer on.
 use Rattle.std.specs.Prelude.{◌≡◌, ℕ, ◌+◌, ◌*◌, ◌≤◌, ◌<◌, List, Option, None, Some, Bool, true, All, AllPairs, Any, nat_le, slice_get, filter, ◌==◌, ◌&&◌, count_by, if◌then◌else◌, IsSome}
 use Rattle.std.specs.Option.{ForSome}
+pub use Rattle.cop_frame.specs.Lengths.{least_bits, worst_bits}
 use Rattle.cop_frame.specs.declared.rates.Rate.{Rate}
 use Rattle.cop_frame.specs.Rate.{ticks_of}
 use Rattle.cop_rta.specs.declared.streams.Stream.{Stream}
@@ -25,13 +26,6 @@ Runs tau y x = (s : ℕ) × (y.start ≡ Some s) × (s ≤ x) × (x < s + y.bits
 -- it is queued by x and has not started before x
 abbrev pub Waits : Instance → ℕ → Type 0
 Waits y x = (y.queued ≤ x) × ForSome y.start (λ s. x ≤ s)
-
--- the least and the greatest number of bits of a frame of so many bytes, with no stuff bit and with the most
-abbrev pub least_bits : ℕ → ℕ
-least_bits bytes = 47 + 8 * bytes
-
-abbrev pub worst_bits : ℕ → ℕ
-worst_bits bytes = 55 + 10 * bytes
 
 -- its length is one that a frame of the stream can have
 pub record HasLengthOf (k : Stream) (y : Instance) : Type 0 where

@@ -3,7 +3,7 @@
 ghost use Rattle.std.specs.Prelude.{length};
 ghost use Rattle.cop_plan.specs.Plans.{IsPlan};
 
-use cop_answers::{ABSENT, Inputs, NamedFile, concise_files, sync_maker};
+use cop_answers::{ABSENT, BusPlan, Inputs, NamedFile, concise_files, sync_maker};
 use cop_dbc::dbc;
 use cop_engine::{Fault, PlannedNetwork, none_passes, plan_status};
 use cop_files::{Failure, NodeFiles, print, read_network, remove_earlier, write_file};
@@ -27,7 +27,8 @@ fn write_dbc(
     plan: &Plan,
     out: &str,
 ) -> Result<(), Failure> {
-    let text = dbc(rt.alloc(), network, plan, &inputs.network.eds_files)?;
+    let bus = BusPlan::of(rt.alloc(), plan)?;
+    let text = dbc(rt.alloc(), network, bus.plan(), &inputs.network.eds_files)?;
     write_file(rt, out, &text)
 }
 

@@ -3,6 +3,7 @@
 
 mod boots;
 mod checking;
+mod distances;
 mod exporting;
 mod judging;
 mod plans;

@@ -1,23 +1,31 @@
 //! The page that shows the plan of a network, and what a trace and a log tell of it.
 
 use crate::watching::watched;
-use cop_answers::{Inputs, Sources, page_text, timeline};
+use cop_answers::{BusPlan, Inputs, Sources, bus_plan_of, page_text, timeline};
 use cop_engine::{PlannedNetwork, plan_status};
 use cop_files::{Failure, read_eds_files, read_file, read_tables, write_file};
 use cop_logbook::Logbook;
 use cop_net::NodeTable;
 use cop_orders::{NetworkFiles, Shown};
-use cop_plan::Outcome;
+use cop_plan::Plan;
 
-/// What a log shows. Where no rate passes it is not looked at.
+/// What a log shows, by the plan on the bus alone. Where no rate passes it is not looked at.
 fn log_book<'p>(
     rt: &HostRuntime,
     sources: Sources<'_>,
-    outcome: &'p Outcome,
+    plan: Option<&'p Plan>,
 ) -> Result<Option<Logbook<'p>>, Failure> {
-    match (sources.shown.log, outcome) {
-        (Some(order), Outcome::Planned(plan)) => Ok(Some(watched(rt, order, plan)?)),
+    match (sources.shown.log, plan) {
+        (Some(order), Some(plan)) => Ok(Some(watched(rt, order, plan)?)),
         _ => Ok(None),
+    }
+}
+
+/// The plan on the bus, if a rate passes.
+fn plan_in<'p>(bus: Option<&'p BusPlan<'_>>) -> Option<&'p Plan> {
+    match bus {
+        Some(bus) => Some(bus.plan()),
+        None => None,
     }
 }
 
@@ -29,8 +37,10 @@ fn page(
     planned: &PlannedNetwork<'_>,
 ) -> Result<String, Failure> {
     let (_network, outcome) = planned.parts();
-    let timeline = timeline(rt.alloc(), sources, outcome)?;
-    let book = log_book(rt, sources, outcome)?;
+    let bus = bus_plan_of(rt.alloc(), outcome)?;
+    let plan = plan_in(bus.as_ref());
+    let timeline = timeline(rt.alloc(), sources, plan)?;
+    let book = log_book(rt, sources, plan)?;
     Ok(page_text(
         rt.alloc(),
         sources,

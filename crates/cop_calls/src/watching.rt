@@ -1,9 +1,12 @@
 //! A log of a real bus, watched by the plan of its network.
 
-use cop_answers::Inputs;
+use crate::distances::distances_table;
+use cop_answers::{BusPlan, Inputs};
 use cop_documents::watch_document;
 use cop_engine::none_passes;
-use cop_files::{Failure, Form, Use, file_failure, open_file, print, print_document, read_network};
+use cop_files::{
+    Failure, Form, Use, file_failure, open_file, print, print_document, read_network, write_file,
+};
 use cop_log::Clock;
 use cop_logbook::{Logbook, WatchFault};
 use cop_orders::WatchOrder;
@@ -42,6 +45,15 @@ pub(crate) fn watched<'p>(
     }
 }
 
+/// Writes a table of what a log shows of each stream into a file, if one is wanted.
+fn write_table(rt: &HostRuntime, csv: Option<&str>, book: &Logbook<'_>) -> Result<(), Failure> {
+    let Some(out) = csv else {
+        return Ok(());
+    };
+    let table = distances_table(rt.alloc(), book)?;
+    write_file(rt, out, table.as_bytes())
+}
+
 /// Says what a log shows in a form, and gives the status.
 fn tell_book(rt: &HostRuntime, form: Form, book: &Logbook<'_>) -> Result<u8, Failure> {
     if form == Form::Document {
@@ -52,14 +64,18 @@ fn tell_book(rt: &HostRuntime, form: Form, book: &Logbook<'_>) -> Result<u8, Fai
     Ok(if book.breaches() == 0 { 0 } else { 3 })
 }
 
-/// Watches the log of an order by a plan, says what it shows, and gives the status.
+/// Watches the log of an order by a plan, writes its table if one is wanted, says what it shows, and gives the status. Where the plan counts disturbed
+/// transfers, its frames are held to the responses that they have without these, and each error frame is told.
 fn watch_by(
     rt: &HostRuntime,
     order: WatchOrder<'_>,
+    csv: Option<&str>,
     form: Form,
     plan: &Plan,
 ) -> Result<u8, Failure> {
-    let book = watched(rt, order, plan)?;
+    let bus = BusPlan::of(rt.alloc(), plan)?;
+    let book = watched(rt, order, bus.plan())?;
+    write_table(rt, csv, &book)?;
     tell_book(rt, form, &book)
 }
 
@@ -73,11 +89,13 @@ fn tell_no_plan(rt: &HostRuntime, form: Form) -> Result<u8, Failure> {
     Ok(4)
 }
 
-/// Watches a log by the plan of a network, and says what it shows. Memory does not grow with the log.
+/// Watches a log by the plan of a network, writes a table of its streams if a file for it is named, and then says what it shows. Where no
+/// rate passes, that is said, and nothing is written. Memory does not grow with the log.
 #[inline(never)]
 pub fn watch_bus(
     rt: &HostRuntime,
     order: WatchOrder<'_>,
+    csv: Option<&str>,
     form: Form,
     inputs: &mut Inputs,
 ) -> Result<u8, Failure> {
@@ -85,7 +103,7 @@ pub fn watch_bus(
     let planned = inputs.network.planned(rt.alloc(), &tables)?;
     let (_network, outcome) = planned.parts();
     match outcome {
-        Outcome::Planned(plan) => watch_by(rt, order, form, plan),
+        Outcome::Planned(plan) => watch_by(rt, order, csv, form, plan),
         Outcome::Refused(_) => tell_no_plan(rt, form),
     }
 }

@@ -7,6 +7,8 @@ use Rattle.std.proofs.lemmas.Bool.{cases_lt}
 use Rattle.cop_frame.specs.declared.rates.Rate.{Rate}
 use Rattle.cop_frame.specs.Rate.{ticks_of}
 use Rattle.cop_frame.proofs.RateLemmas.{ticks_least}
+use Rattle.cop_frame.specs.Lengths.{worst_bits}
+use Rattle.cop_frame.proofs.LengthLemmas.{worst_bits-least}
 use Rattle.cop_rta.specs.declared.streams.Stream.{Stream}
 use Rattle.cop_rta.specs.CeilLemmas.{div_ceil-mono, div_ceil_above}
 use Rattle.cop_rta.specs.Sums.{sum_where}
@@ -33,8 +35,8 @@ gap_add a b c d h k = record {
       (cases_lt a b);
 }
 
-long_enough : (bytes ticks : ℕ) → 4 ≤ ticks → 220 ≤ (55 + 10 * bytes) * ticks
-long_enough bytes ticks h = let more : 55 * ticks ≤ (55 + 10 * bytes) * ticks = mul-le-mul_right ticks (omega arith) in omega (arith, more, h)
+long_enough : (bytes ticks : ℕ) → 4 ≤ ticks → 220 ≤ worst_bits bytes * ticks
+long_enough bytes ticks h = let more : 55 * ticks ≤ worst_bits bytes * ticks = mul-le-mul_right ticks (worst_bits-least bytes) in omega (arith, more, h)
 
 cost_220 : (rate : Rate) (s : Stream) → 220 ≤ cost_of rate s
 cost_220 rate s = long_enough s.bytes (ticks_of rate) (ticks_least rate)

@@ -217,9 +217,11 @@ pub(crate) static SCAN: [Word; 8] = [
     JSON,
 ];
 
-pub(crate) static READ: [Word; 9] = [PORT, BUS_RATE, TYPE, EDS, LIMIT, NODE, INDEX, SUB, EXPLAIN];
+pub(crate) static READ: [Word; 10] = [
+    PORT, BUS_RATE, TYPE, EDS, LIMIT, NODE, INDEX, SUB, EXPLAIN, JSON,
+];
 
-pub(crate) static WRITE: [Word; 10] = [
+pub(crate) static WRITE: [Word; 11] = [
     PORT,
     BUS_RATE,
     Word {
@@ -238,4 +240,5 @@ pub(crate) static WRITE: [Word; 10] = [
         help: "The value: a number as an EDS file writes it, a text, or the bytes of an OCTET_STRING or DOMAIN in hexadecimal digits",
     },
     EXPLAIN,
+    JSON,
 ];

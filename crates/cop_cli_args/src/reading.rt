@@ -312,7 +312,10 @@ fn watch_of<'a>(matches: &ArgMatches<'a>, log: &'a str) -> WatchOrder<'a> {
 }
 
 fn watch_order<'a>(matches: &ArgMatches<'a>) -> Order<'a> {
-    Order::Watch(watch_of(matches, matches.get_str("LOG").unwrap_or("-")))
+    Order::Watch {
+        log: watch_of(matches, matches.get_str("LOG").unwrap_or("-")),
+        csv: matches.get_str("csv"),
+    }
 }
 
 fn explain_order<'a>(matches: &ArgMatches<'a>) -> Order<'a> {
@@ -353,7 +356,18 @@ fn order_of<'a>(name: &str, matches: &ArgMatches<'a>) -> Order<'a> {
 fn has_document(name: &str) -> bool {
     matches!(
         name,
-        "plan" | "room" | "check" | "test" | "judge" | "boot" | "verify" | "scan" | "diff" | "watch"
+        "plan"
+            | "room"
+            | "check"
+            | "test"
+            | "judge"
+            | "boot"
+            | "verify"
+            | "scan"
+            | "read"
+            | "write"
+            | "diff"
+            | "watch"
     )
 }
 

@@ -287,7 +287,7 @@ static DIFF: [Word; 4] = [
     JSON,
 ];
 
-static WATCH: [Word; 12] = [
+static WATCH: [Word; 13] = [
     NODES,
     PDOS,
     SETUP,
@@ -305,6 +305,12 @@ static WATCH: [Word; 12] = [
     DRIFT,
     CHANNEL,
     DELTA,
+    Word {
+        name: "csv",
+        kind: Kind::Text("FILE"),
+        need: Need::Optional,
+        help: "Writes a table of what was seen of each stream: id,frames,period,least,mean,greatest,load",
+    },
 ];
 
 static EXPLAIN_RULE: [Word; 2] = [

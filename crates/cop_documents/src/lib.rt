@@ -7,6 +7,7 @@ mod logs;
 mod objects;
 mod plans;
 mod rooms;
+mod transfers;
 mod values;
 mod warnings;
 
@@ -16,6 +17,7 @@ pub use answers::{
 pub use faults::{Told, fault_document};
 pub use logs::watch_document;
 pub use objects::{Object, text_of};
-pub use plans::plan_document;
+pub use plans::{PlanNumbers, plan_document};
 pub use rooms::{no_room_document, room_document};
+pub use transfers::{Meaning, Transfer, TransferEnd, transfer_document};
 pub use warnings::Warned;

@@ -4,7 +4,7 @@ use crate::objects::Object;
 use crate::rooms::misses_of;
 use crate::values::{time, time_if};
 use crate::warnings::{Warned, warnings_of};
-use cop_figures::{Figures, FrameTimes, Load, PdoTimes, Reason, RefusedRate, SyncTimes};
+use cop_figures::{Breakdown, Figures, FrameTimes, Load, PdoTimes, Reason, RefusedRate, SyncTimes};
 use cop_net::{Network, PdoRow};
 use cop_plan::Outcome;
 use cop_room::Miss;
@@ -36,13 +36,46 @@ pub(crate) fn pdo_name(alloc: Global, row: Option<&PdoRow>) -> Result<Value, All
     }
 }
 
-fn pdos_of(alloc: Global, network: &Network<'_>, times: &[PdoTimes]) -> Result<Value, AllocError> {
+/// What disturbed transfers put in front of a PDO that has its greatest response: they have the identifier 0 in the tested set.
+fn errors_of(alloc: Global, parts: &Breakdown) -> Result<Value, AllocError> {
+    let (mut transfers, mut ticks) = (0, 0);
+    for delay in &parts.delays {
+        if delay.id == 0 {
+            transfers = delay.transfers;
+            ticks = delay.ticks;
+        }
+    }
+    Object::new(alloc)
+        .plain("transfers", transfers)
+        .with("time", time(alloc, ticks))
+        .end()
+}
+
+/// A PDO under a plan, with what disturbed transfers cost it, if they are counted.
+fn pdo_of(
+    alloc: Global,
+    network: &Network<'_>,
+    times: &PdoTimes,
+    parts: Option<&Breakdown>,
+) -> Result<Value, AllocError> {
+    let pdo = Object::new(alloc)
+        .with("pdo", pdo_name(alloc, network.rows().get(times.pdo)))
+        .with("stream", stream_of(alloc, &times.stream, times.response));
+    match parts {
+        Some(parts) => pdo.with("errors", errors_of(alloc, parts)).end(),
+        None => pdo.end(),
+    }
+}
+
+fn pdos_of(
+    alloc: Global,
+    network: &Network<'_>,
+    times: &[PdoTimes],
+    disturbed: &[Breakdown],
+) -> Result<Value, AllocError> {
     let mut pdos = Vec::new(alloc);
-    for time in times {
-        let pdo = Object::new(alloc)
-            .with("pdo", pdo_name(alloc, network.rows().get(time.pdo)))
-            .with("stream", stream_of(alloc, &time.stream, time.response))
-            .end()?;
+    for place in 0..times.len() {
+        let pdo = pdo_of(alloc, network, &times[place], disturbed.get(place))?;
         pdos.push(pdo)?;
     }
     Ok(Value::Array(pdos))
@@ -110,6 +143,14 @@ fn refused_of(
     Ok(Value::Array(values))
 }
 
+/// The numbers of a plan that its document has.
+#[derive(Clone, Copy)]
+pub struct PlanNumbers<'a> {
+    pub figures: &'a Figures,
+    /// What the responses of the PDOs are made of, in their order, if the network counts disturbed transfers; else none.
+    pub disturbed: &'a [Breakdown],
+}
+
 /// What the planner answers for a network, with its numbers, as its report has them, what is worth a look before one relies on it, and what
 /// rates miss a plan by, if none passes.
 /// `Err` is want of memory.
@@ -117,10 +158,11 @@ pub fn plan_document(
     alloc: Global,
     network: &Network<'_>,
     outcome: &Outcome,
-    figures: &Figures,
+    numbers: PlanNumbers<'_>,
     warnings: &[Warned<'_>],
     misses: &[Miss],
 ) -> Result<String, AllocError> {
+    let PlanNumbers { figures, disturbed } = numbers;
     let rate = match figures.rate {
         Some(rate) => Value::from(rate.kbits()),
         None => Value::Null,
@@ -132,7 +174,7 @@ pub fn plan_document(
     let told = Object::new(alloc)
         .text("command", "plan")
         .plain("rate", rate)
-        .with("pdos", pdos_of(alloc, network, &figures.pdos))
+        .with("pdos", pdos_of(alloc, network, &figures.pdos, disturbed))
         .with("sync", sync_of(alloc, figures.sync))
         .with("sdo_frames", frames_of(alloc, &figures.frames))
         .with("margin", time_if(alloc, margin))

@@ -114,16 +114,17 @@ pub fn room_document(
     document.to_string(alloc)
 }
 
-/// The row of a fixed frame above all PDOs, by its identifier.
-fn frame_of(alloc: Global, id: u16) -> Result<Value, AllocError> {
-    let row = match id {
-        0 => "nmt",
-        SYNC => "sync",
-        _ => "emcy",
+/// The row of a stream above all PDOs, by its identifier. Where the network counts disturbed transfers, these have 000h and NMT has 001h.
+fn frame_of(alloc: Global, network: &Network<'_>, id: u16) -> Result<Value, AllocError> {
+    let (row, node) = match (network.set().errors().is_some(), id) {
+        (true, 0) => ("errors", 0),
+        (true, 1) | (false, 0) => ("nmt", 0),
+        (_, SYNC) => ("sync", 0),
+        (_, id) => ("emcy", id & 0x7F),
     };
     Object::new(alloc)
         .text("row", row)
-        .plain("node", id & 0x7F)
+        .plain("node", node)
         .end()
 }
 
@@ -132,7 +133,7 @@ fn frames_of(alloc: Global, network: &Network<'_>, miss: &Miss) -> Result<Value,
     let mut frames = Vec::new(alloc);
     for index in &miss.spare {
         if let Some(stream) = streams.get(*index) {
-            frames.push(frame_of(alloc, stream.id)?)?;
+            frames.push(frame_of(alloc, network, stream.id)?)?;
         }
     }
     Ok(Value::Array(frames))

@@ -1,5 +1,5 @@
 -- A plan's guarantee for the rows of both tables.
-use Rattle.std.proofs.Common.{◌≡◌, ◌≢◌, ℕ, ◌+◌, ◌-◌, ◌<◌, ◌≤◌, arith, inl, inr, List, length, get_or, slice_get, option_map, Option, Some, None, IfSome, All, Contains, refl, sym, ap, ◌∙◌, subst}
+use Rattle.std.proofs.Common.{◌≡◌, ◌≢◌, true, false, if◌then◌else◌, ℕ, ◌+◌, ◌-◌, ◌<◌, ◌≤◌, arith, inl, inr, List, length, get_or, slice_get, option_map, Option, Some, None, IfSome, All, Contains, refl, sym, ap, ◌∙◌, subst}
 use Rattle.std.specs.Option.{option_and_then}
 use Rattle.std.proofs.lemmas.Bool.{cases_lt}
 use Rattle.std.proofs.lemmas.Option.{slice_get_within}
@@ -8,6 +8,9 @@ use Rattle.cop_frame.specs.Rate.{ticks_of}
 use Rattle.cop_rta.specs.declared.streams.Stream.{Stream}
 use Rattle.cop_rta.specs.declared.verdicts.Verdict.{Verdict}
 use Rattle.cop_rta.specs.declared.verdicts.Verdict.TheVariants.{Pass, Late, Long}
+use Rattle.cop_rta.specs.Streams.{AreDistinct}
+use Rattle.cop_rta.specs.UpLemmas.{up_id-other}
+use Rattle.cop_rta.specs.Errors.{errors_of}
 use Rattle.cop_rta.specs.Test.{StreamPlace, deadline_at, place_by_id, Passes}
 use Rattle.cop_rta.specs.Verdict.{PassesBy, IsJudged, response_of}
 use Rattle.cop_rta.proofs.GreatestLemmas.{same_response}
@@ -15,8 +18,11 @@ use Rattle.cop_rta.proofs.VerdictLemmas.{pass_iff}
 use Rattle.cop_bus.specs.Run.{Instance, IsOnTime}
 use Rattle.cop_rows.specs.declared.pdo_table.PdoRow.{PdoRow}
 use Rattle.cop_rows.specs.declared.node_table.FrameRow.{FrameRow}
-use Rattle.cop_rows.specs.Nodes.{IsFrame, IsFrameDeadline}
+use Rattle.cop_rows.specs.declared.node_table.FrameKind.{FrameKind}
+use Rattle.cop_rows.specs.declared.node_table.FrameKind.TheVariants as kinds
+use Rattle.cop_rows.specs.Nodes.{IsFrame, IsFrameDeadline, may_have_deadline}
 use Rattle.cop_net.specs.Fixed.{base_of, ticks}
+use Rattle.cop_net.specs.Signals.{errors_in}
 use Rattle.cop_net.specs.Network.{Net, IsNetwork}
 use Rattle.cop_cert.specs.Assignments.{IsTested}
 use Rattle.cop_plan.specs.Margins.{AreLowered}
@@ -24,15 +30,20 @@ use Rattle.cop_plan.specs.Values.{PlanValue, id_of, margin_of, AreOnTime}
 use Rattle.cop_plan.specs.Plans.{IsPlan, IsOutcome}
 use Rattle.cop_plan.specs.declared.assigning.Outcome.{Outcome}
 use Rattle.cop_plan.specs.declared.assigning.Outcome.TheVariants.{Planned, Refused}
+use Rattle.cop_errors.specs.Errors.{Disturbance}
+use Rattle.cop_errors.specs.Extended.{IsRunThrough, extended_by}
+use Rattle.cop_errors.proofs.SetRuns.{of_set, kept as kept_on_bus}
+use Rattle.cop_plan.proofs.RenameLemmas.{none_lower, distinct_renamed, same_count}
 use Rattle.cop_plan.proofs.MarginLemmas.{tested_after}
 use Rattle.cop_plan.proofs.MarginKept.{lowered_plan, kept_with_margin}
 use Rattle.cop_sim.specs.Guarantee.{IsRunOf, IsKept}
 use Rattle.cop_sim.proofs.GuaranteeLemmas.{kept}
-use Rattle.cop_engine.specs.Guarantee.{IsFrameOf, AreOnTimeIn, IsGuaranteed, ArePrinted}
+use Rattle.cop_engine.specs.Guarantee.{IsFrameOf, is_errors, tested_id, frame_id, AreOnTimeIn, AreOnTimeThrough, IsGuaranteed, ArePrinted}
 use Rattle.cop_engine.specs.Plans.{ArePlanVerdicts}
 use Rattle.cop_engine.specs.Tests.{AreVerdicts}
 use Rattle.cop_engine.proofs.MarginRuns.{legal_lowered, obeying_lowered, lowered_here}
-use Rattle.cop_engine.proofs.PlanStreams.{fine, synced, have_deadlines, provisional, pdo_of, frame_at, tested_at, no_other}
+use Rattle.cop_engine.proofs.OnePlan.{has_pdos}
+use Rattle.cop_engine.proofs.PlanStreams.{fine, synced, have_deadlines, provisional, pdo_of, frame_at, tested_at, no_other, errors_counted}
 
 sent_row : (row : FrameRow) (d : ℕ) → row.deadline ≡ Some d → IfSome row.deadline (IsFrameDeadline row.kind row.period) → row.period ≢ 0
 sent_row row d dated h =
@@ -51,6 +62,36 @@ within_deadline place response d by dated =
     let each = by.on_time last.0 last.1 in
     let same : each.0 ≡ response = same_response place last.0 each.0 response each.1 last.2 in
     omega (arith, same, each.2 d dated)
+
+-- a frame with a deadline keeps its identifier
+dated_kind : (row : FrameRow) (d : ℕ) → row.deadline ≡ Some d → IfSome row.deadline (IsFrameDeadline row.kind row.period) → may_have_deadline row.kind ≡ true
+dated_kind row d dated h =
+    let its : IfSome (Some d) (IsFrameDeadline row.kind row.period) = subst (λ (o : Option ℕ). IfSome o (IsFrameDeadline row.kind row.period)) dated h in its.allowed
+
+high_base : (kind : FrameKind) → may_have_deadline kind ≡ true → (2 ≤ base_of kind) × (is_errors kind ≡ false)
+high_base kinds.Nmt h = absurd (cc)
+high_base kinds.Sync h = absurd (cc)
+high_base kinds.Emcy h = absurd (cc)
+high_base kinds.SdoResponse h = (omega arith, refl)
+high_base kinds.SdoRequest h = (omega arith, refl)
+high_base kinds.Heartbeat h = absurd (cc)
+high_base kinds.Errors h = absurd (cc)
+
+dated_id : (o : Option FrameRow) (row : FrameRow) → may_have_deadline row.kind ≡ true → frame_id o row ≡ base_of row.kind + row.node
+dated_id o row may =
+    let high = high_base row.kind may in
+    ap (λ b. if b then 0 else tested_id o (base_of row.kind + row.node)) high.1 ∙ by_row o
+  where
+    by_row : (o : Option FrameRow) → tested_id o (base_of row.kind + row.node) ≡ base_of row.kind + row.node
+    by_row None = refl
+    by_row (Some r) = up_id-other (base_of row.kind + row.node) (let high = high_base row.kind may in omega (arith, high.0))
+
+-- what is on time in each run of the plan's streams is so through errors
+through : (plan : PlanValue) → AreDistinct plan.streams → (id deadline : ℕ) → 2 ≤ id → AreOnTimeIn plan id deadline → AreOnTimeThrough plan id deadline
+through plan distinct id deadline high on_time until run hits events r =
+    let whole = of_set plan.rate until run hits events plan.streams distinct r in
+    kept_on_bus (errors_of plan.streams) (ticks_of plan.rate) until run hits events id (Some deadline) high
+    (on_time until (extended_by (errors_of plan.streams) run hits events) (record { legal = whole.legal; obeying = whole.obeying }))
 
 module _ (net : Net) (is : IsNetwork net) where
   module _ (plan : PlanValue) (planned : IsPlan net.equipment.rates net.set (length net.rows) plan) where
@@ -122,14 +163,32 @@ module _ (net : Net) (is : IsNetwork net) where
     pdos_on_time p row there =
         let k = pdo_of net is plan planned p row there in on_time p k.0 (id_of plan.ids p) (ticks row.deadline) k.1.here k.1.id k.1.deadline
 
-    frame_of : (row : FrameRow) → Contains net.nodes.frames row → row.period ≢ 0 → (k : Stream) × IsFrameOf plan row k
+    frame_of : (row : FrameRow) → Contains net.nodes.frames row → row.period ≢ 0 → (k : Stream) × IsFrameOf net.nodes.frames plan row k
     frame_of row at some = let k = frame_at net is plan planned row at some in (k.2, k.4)
 
     frames_on_time : (row : FrameRow) (d : ℕ) → Contains net.nodes.frames row → row.deadline ≡ Some d → AreOnTimeIn plan (base_of row.kind + row.node) (ticks d - margin_of plan)
     frames_on_time row d at dated =
         let its = All-contains (IsFrame net.nodes.devices) net.nodes.frames row is.nodes.frames at in
         let k = frame_at net is plan planned row at (sent_row row d dated its.deadline) in
-        on_time k.0 k.2 (base_of row.kind + row.node) (ticks d) k.3 k.4.id (k.4.deadline ∙ ap (option_map ticks) dated)
+        on_time k.0 k.2 (base_of row.kind + row.node) (ticks d) k.3 (k.4.id ∙ dated_id (errors_in net.nodes.frames) row (dated_kind row d dated its.deadline)) (k.4.deadline ∙ ap (option_map ticks) dated)
+
+    pub plan_distinct : AreDistinct plan.streams
+    plan_distinct = distinct_renamed net.set plan.streams (length net.rows) (id_of plan.ids) planned.passing.0 (has_pdos net is) planned.renamed
+
+    pub ids_within : length plan.ids ≤ length plan.streams
+    ids_within = let count = same_count plan.rate net.set plan.streams (length net.rows) (id_of plan.ids) planned.renamed in omega (arith, count, planned.count, is.streams.count)
+
+    pdo_high : (p : ℕ) → p < length net.rows → 2 ≤ id_of plan.ids p
+    pdo_high p low = let least = none_lower (length net.rows) (id_of plan.ids) planned.passing.0 p low in omega (arith, least)
+
+    pdos_through : (p : ℕ) (row : PdoRow) → slice_get net.rows p ≡ Some row → AreOnTimeThrough plan (id_of plan.ids p) (ticks row.deadline - margin_of plan)
+    pdos_through p row there = through plan plan_distinct (id_of plan.ids p) (ticks row.deadline - margin_of plan) (pdo_high p (slice_get_within net.rows p row there)) (pdos_on_time p row there)
+
+    frames_through : (row : FrameRow) (d : ℕ) → Contains net.nodes.frames row → row.deadline ≡ Some d → AreOnTimeThrough plan (base_of row.kind + row.node) (ticks d - margin_of plan)
+    frames_through row d at dated =
+        let its = All-contains (IsFrame net.nodes.devices) net.nodes.frames row is.nodes.frames at in
+        let high = high_base row.kind (dated_kind row d dated its.deadline) in
+        through plan plan_distinct (base_of row.kind + row.node) (ticks d - margin_of plan) (omega (arith, high.0)) (frames_on_time row d at dated)
 
     -- each transfer of a stream that passes takes at most its greatest response
     responses : (p response : ℕ) (k : Stream) → slice_get plan.streams p ≡ Some k → PassesBy (place_by_id plan.streams p plan.rate) response → AreOnTimeIn plan k.id response
@@ -141,11 +200,14 @@ module _ (net : Net) (is : IsNetwork net) where
         let k = pdo_of net is plan planned p row there in
         let by : PassesBy (place_by_id plan.streams p plan.rate) (response_of (get_or verdicts p Long)) =
         passing_by (place_by_id plan.streams p plan.rate) (get_or verdicts p Long) (judged.1 p low) ((fine net is plan planned).pass p (omega (arith, low, planned.count))) in
+        let bounds : AreOnTimeIn plan (id_of plan.ids p) (response_of (get_or verdicts p Long)) =
+        λ until run legal. All-weaker (λ y. y.id ≡ k.0.id → IsOnTime (ticks_of plan.rate) until (Some (response_of (get_or verdicts p Long))) y) (λ y. y.id ≡ id_of plan.ids p → IsOnTime (ticks_of plan.rate) until (Some (response_of (get_or verdicts p Long))) y)
+        (λ y h same. h (same ∙ sym k.1.id)) run (responses p (response_of (get_or verdicts p Long)) k.0 k.1.here by until run legal) in
         record {
           greatest = by;
           within = within_deadline (place_by_id plan.streams p plan.rate) (response_of (get_or verdicts p Long)) (ticks row.deadline) by (ap (option_and_then (λ (s : Stream). s.deadline)) k.1.here ∙ k.1.deadline);
-          bounds = λ until run legal. All-weaker (λ y. y.id ≡ k.0.id → IsOnTime (ticks_of plan.rate) until (Some (response_of (get_or verdicts p Long))) y) (λ y. y.id ≡ id_of plan.ids p → IsOnTime (ticks_of plan.rate) until (Some (response_of (get_or verdicts p Long))) y)
-              (λ y h same. h (same ∙ sym k.1.id)) run (responses p (response_of (get_or verdicts p Long)) k.0 k.1.here by until run legal);
+          bounds = bounds;
+          through_errors = through plan plan_distinct (id_of plan.ids p) (response_of (get_or verdicts p Long)) (pdo_high p low) bounds;
         }
 
   pub are_printed : (outcome : Outcome) (verdicts : List Verdict) → IsOutcome net.equipment.rates net.set (length net.rows) outcome → ArePlanVerdicts outcome verdicts (length net.rows) → ArePrinted net outcome verdicts
@@ -162,6 +224,9 @@ module _ (net : Net) (is : IsNetwork net) where
       no_other = no_other net is plan h;
       frames_on_time = frames_on_time plan h;
       responses = responses plan h;
+      errors = errors_counted net is plan h;
+      through_errors = pdos_through plan h;
+      frames_through_errors = frames_through plan h;
     },
   )
   guaranteed (Refused refusals) h = h

@@ -1,10 +1,10 @@
 -- A run of streams is one of the same streams with other deadlines.
-use Rattle.std.proofs.Common.{◌≡◌, ℕ, ◌-◌, ◌<◌, List, length, get_or, slice_get, Some, option_map, All, refl, sym, ap, ◌∙◌, arith}
+use Rattle.std.proofs.Common.{◌≡◌, ℕ, ◌-◌, ◌<◌, ◌≤◌, subst, List, length, get_or, slice_get, Some, option_map, All, refl, sym, ap, ◌∙◌, arith}
 use Rattle.std.proofs.lemmas.Option.{slice_get_within, slice_get-get_or, get_or_from_slice_get}
 use Rattle.cop_rta.specs.declared.streams.Stream.{Stream}
 use Rattle.cop_rta.specs.Entries.{Entry, entry_of}
 use Rattle.cop_bus.specs.declared.anchors.Anchor.{Anchor}
-use Rattle.cop_bus.specs.Run.{Instance, HasLengthOf, IsKnown, IsLegal, IsAnchor, IsObeying, gap_of}
+use Rattle.cop_bus.specs.Run.{least_bits, worst_bits, Instance, HasLengthOf, IsKnown, IsLegal, IsAnchor, IsObeying, gap_of}
 use Rattle.cop_plan.specs.Margins.{lower, AreLowered}
 use Rattle.cop_plan.proofs.MarginLemmas.{lowered_length, lowered_entry}
 
@@ -19,8 +19,8 @@ record AreSame (k t : Stream) : Type 0 where
 module _ (tau until : ℕ) (run : List Instance) (k t : Stream) (same : AreSame k t) where
   length_same : (y : Instance) → HasLengthOf k y → HasLengthOf t y
   length_same y h = record {
-    not_shorter = omega (arith, h.not_shorter, same.bytes);
-    not_longer = omega (arith, h.not_longer, same.bytes);
+    not_shorter = subst (λ b. least_bits b ≤ y.bits) (sym same.bytes) h.not_shorter;
+    not_longer = subst (λ b. y.bits ≤ worst_bits b) (sym same.bytes) h.not_longer;
     same_bytes = h.same_bytes ∙ sym same.bytes;
   }
 

@@ -1,5 +1,5 @@
 -- The plan that a network has is the one by which it is judged, run and booted.
-use Rattle.std.proofs.Common.{◌≡◌, ℕ, List, [], length, None, Some, sym, ap, ◌∙◌, subst}
+use Rattle.std.proofs.Common.{◌≡◌, Bool, true, false, is_some, if◌then◌else◌, ℕ, List, [], length, None, Some, sym, ap, ◌∙◌, subst}
 use Rattle.cop_frame.specs.declared.rates.Rate.{Rate}
 use Rattle.cop_frame.specs.Rate.{ticks_of}
 use Rattle.cop_rta.specs.declared.streams.Stream.{Stream}
@@ -12,7 +12,9 @@ use Rattle.cop_net.specs.Devices.{File}
 use Rattle.cop_net.specs.Fixed.{ticks}
 use Rattle.cop_plan.specs.Orders.{HasPdos}
 use Rattle.cop_plan.specs.Plans.{IsOutcome, IsPlan}
-use Rattle.cop_plan.specs.Values.{PlanValue}
+use Rattle.cop_rta.specs.Errors.{errors_of, bus_of}
+use Rattle.cop_plan.specs.Values.{PlanValue, on_bus}
+use Rattle.cop_plan.proofs.BusPlans.{bus_distinct}
 use Rattle.cop_plan.specs.declared.assigning.Outcome.{Outcome}
 use Rattle.cop_plan.specs.declared.choices.Asked.{Asked}
 use Rattle.cop_plan.specs.declared.assigning.Outcome.TheVariants.{Planned, Refused}
@@ -21,7 +23,7 @@ use Rattle.cop_engine.specs.declared.plans.Files.{Files}
 use Rattle.cop_engine.specs.Networks.{IsPlannedNetwork}
 use Rattle.cop_engine.specs.Plans.{AreFilesOf}
 use Rattle.cop_engine.specs.Judgements.{IsJudgement, IsJudgedBy, judged_text, transfers_in}
-use Rattle.cop_engine.specs.Runs.{seeded, IsRun, IsRunBy, IsNetworkRun}
+use Rattle.cop_engine.specs.Runs.{seeded, IsRun, plan_on_bus, IsRunBy, IsNetworkRun}
 use Rattle.cop_engine.specs.Boots.{IsBootOf}
 use Rattle.cop_engine.proofs.OnePlan.{OneOutcome, has_pdos, ok_once, outcome_once}
 use Rattle.cop_engine.proofs.RunLemmas.{seeded_streams}
@@ -37,7 +39,7 @@ module _ (one : OneOutcome) (asked : Asked) (nodes pdos : List ℕ) (eds : List 
   judged_once : (outcome : Outcome) (trace text other : List ℕ) → IsJudgedBy outcome trace text → IsJudgedBy outcome trace other → text ≡ other
   judged_once (Planned plan) trace text other x y =
       let told : x.told ≡ y.told = ok_once (trace_of trace) x.told y.told x.read y.read in
-      x.text_is ∙ ap (λ (t : Told). judged_text (transfers_in t.steps) (first_late (ticks_of plan.rate) plan.streams t.until t.steps)) told ∙ sym y.text_is
+      x.text_is ∙ ap (λ (t : Told). judged_text (transfers_in t.steps) (first_late (ticks_of plan.rate) (bus_of plan.streams) t.until t.steps)) told ∙ sym y.text_is
   judged_once (Refused refusals) trace text other x y = x ∙ sym y
 
   pub one_judgement : (trace text other : List ℕ) → IsJudgement asked nodes pdos eds trace text → IsJudgement asked nodes pdos eds trace other → text ≡ other
@@ -52,6 +54,14 @@ OnePlay = (rate : Rate) (actors : List Actor) (until : ℕ) (steps others : List
 abbrev AreApart : Type 0
 AreApart = (rates : List Rate) (streams : List Stream) (pdos : ℕ) (plan : PlanValue) → HasPdos streams pdos → IsPlan rates streams pdos plan → AreDistinct plan.streams
 
+-- so are the streams of a plan on the bus
+apart_on_bus : (plan : PlanValue) → AreDistinct plan.streams → AreDistinct (plan_on_bus plan).streams
+apart_on_bus plan distinct = go (is_some (errors_of plan.streams))
+  where
+    go : (b : Bool) → AreDistinct (if b then on_bus plan else plan).streams
+    go true = bus_distinct plan.streams distinct
+    go false = distinct
+
 module _ (play : OnePlay) where
   -- a plan has one run
   run_once : (plan : PlanValue) (seed until : ℕ) (text trace other another : List ℕ) → AreDistinct plan.streams
@@ -65,7 +75,7 @@ module _ (play : OnePlay) where
   run_by_once : (rates : List Rate) (streams : List Stream) (pdos : ℕ) (outcome : Outcome) (seed until : ℕ) (text trace other another : List ℕ) → AreApart → HasPdos streams pdos → IsOutcome rates streams pdos outcome
       → IsRunBy outcome seed until text trace → IsRunBy outcome seed until other another → (text ≡ other) × (trace ≡ another)
   run_by_once rates streams pdos (Planned plan) seed until text trace other another apart has planned x y =
-      run_once plan seed until text trace other another (apart rates streams pdos plan has planned) x y
+      run_once (plan_on_bus plan) seed until text trace other another (apart_on_bus plan (apart rates streams pdos plan has planned)) x y
   run_by_once rates streams pdos (Refused refusals) seed until text trace other another apart has planned x y = (x.0 ∙ sym y.0, x.1 ∙ sym y.1)
 
   pub one_run : OneOutcome → AreApart → (asked : Asked) (nodes pdos : List ℕ) (eds : List File) (seed until : ℕ) (text trace other another : List ℕ)

@@ -27,9 +27,11 @@ use Rattle.cop_net.specs.Rates.{is_some_rate}
 use Rattle.cop_net.specs.Settings.{is_usable}
 use Rattle.cop_net.specs.Fixed.{ticks, fixed_streams}
 use Rattle.cop_net.specs.Pdos.{Traffic, tpdo_of, unsent, laid_out, unless, or_rule, every_at, sync_fault, pace_fault, unless_fault, period_of, transmitted_by, consumer_added, sent_by, pdo_stream, pdo_added, no_traffic, pdos_of}
-use Rattle.cop_net.specs.Signals.{ranges_of, signals_of}
+use Rattle.cop_net.specs.Signals.{ranges_of, signals_of, errors_in}
 use Rattle.cop_net.specs.Steps.{folded}
-use Rattle.cop_net.specs.Network.{Accepted, Net, IsNetwork, accepted, all_settable, with_rate, streams_of, network_of}
+use Rattle.cop_net.specs.Network.{Accepted, Net, IsNetwork, accepted, all_settable, with_rate, through, streams_of, network_of}
+use Rattle.cop_net.proofs.ApartLemmas.{pdos_high}
+use Rattle.cop_net.proofs.ThroughLemmas.{behind, through_behind}
 use Rattle.cop_net.proofs.PdoLemmas.{one_more, pdos_found}
 use Rattle.cop_engine.specs.Guarantee.{HasType, HasBytes}
 
@@ -39,7 +41,7 @@ still_there [] ys k x h = absurd (cc)
 still_there (z ∷ xs) ys zero x h = h
 still_there (z ∷ xs) ys (suc k) x h = still_there xs ys k x h
 
-last_there : {A : Type 0} (xs : List A) (x : A) → slice_get (xs ++ x ∷ []) (length xs) ≡ Some x
+pub last_there : {A : Type 0} (xs : List A) (x : A) → slice_get (xs ++ x ∷ []) (length xs) ≡ Some x
 last_there [] x = refl
 last_there (z ∷ xs) x = last_there xs x
 
@@ -166,11 +168,11 @@ module _ (devices : List (Option Device)) (signals : Signals) where
   unfolding pdos_of
   of_row rows found h k row there = from_row rows no_traffic found h k row there k (omega arith)
 
--- the streams of a network are those of its rows and then those of the fixed identifiers
+-- the streams of a network are those of its rows, and then those of the fixed identifiers as they are tested, and disturbed transfers
 pub record AreStreamsOf (frames : List FrameRow) (rows : List PdoRow) (equipment : Equipment) (streams : List Entry) : Type 0 where
   pub pdos : List Entry
   pub count : length pdos ≡ length rows
-  pub parts : streams ≡ pdos ++ fixed_streams frames
+  pub parts : streams ≡ pdos ++ behind frames
   pub each : (k : ℕ) (row : PdoRow) → slice_get rows k ≡ Some row → IsRowStream (signals_of frames (length rows)) equipment.devices k row pdos
 
 streams_are : (frames : List FrameRow) (rows : List PdoRow) (equipment : Equipment) (streams : List Entry) → streams_of frames rows equipment ≡ Ok streams → AreStreamsOf frames rows equipment streams
@@ -180,12 +182,13 @@ streams_are frames rows equipment streams ok =
     let p = bind_ok (pdos_of equipment.devices signals rows) _ streams ok in
     let q = bind_ok (all_settable frames p.0.used 0 equipment.devices) _ streams p.2 in
     let r = bind_ok (with_rate (is_some_rate equipment.rates)) _ streams q.2 in
-    let whole : ◌≡◌ {A = Result (List Entry) Refusal} (Ok (p.0.streams ++ fixed_streams frames)) (Ok streams) = r.2 in
-    let parts : streams ≡ p.0.streams ++ fixed_streams frames = cc in
+    let whole : ◌≡◌ {A = Result (List Entry) Refusal} (Ok (through (errors_in frames) (p.0.streams ++ fixed_streams frames))) (Ok streams) = r.2 in
+    let all : streams ≡ through (errors_in frames) (p.0.streams ++ fixed_streams frames) = cc in
+    let found = pdos_found equipment.devices signals rows p.0 p.1 in
     record {
       pdos = p.0.streams;
-      count = (pdos_found equipment.devices signals rows p.0 p.1).1;
-      parts = parts;
+      count = found.1;
+      parts = all ∙ through_behind (errors_in frames) p.0.streams (fixed_streams frames) (pdos_high p.0.streams found.0);
       each = of_row equipment.devices signals rows p.0 p.1;
     }
 
@@ -208,6 +211,6 @@ module _ (net : Net) (is : IsNetwork net) where
       let stream = pdo_stream (signals_of net.nodes.frames (length net.rows)) k s.sent row in
       record {
         sent = s.sent;
-        there = subst (λ (es : List Entry). slice_get es k ≡ Some stream) (sym network_streams.parts) (still_there network_streams.pdos (fixed_streams net.nodes.frames) k stream s.there);
+        there = subst (λ (es : List Entry). slice_get es k ≡ Some stream) (sym network_streams.parts) (still_there network_streams.pdos (behind net.nodes.frames) k stream s.there);
         as_sent = s.as_sent;
       }

@@ -1,5 +1,5 @@
 -- The seeded run of a plan, from what the simulator gives.
-use Rattle.std.proofs.Common.{◌≡◌, ℕ, ◌+◌, ◌-◌, ◌<◌, ◌^◌, inl, inr, min, List, [], ◌∷◌, length, map, slice_get, Option, None, Result, Ok, Err, MatchResult, Bool, cond, refl, sym, ap, ◌∙◌, subst, arith}
+use Rattle.std.proofs.Common.{◌≡◌, ℕ, ◌+◌, ◌-◌, ◌<◌, ◌^◌, inl, inr, true, false, is_some, not, if◌then◌else◌, min, List, [], ◌∷◌, length, map, slice_get, Option, None, Result, Ok, Err, MatchResult, Bool, cond, refl, sym, ap, ◌∙◌, subst, arith}
 use Rattle.std.proofs.lemmas.Option.{slice_get-map}
 use Rattle.cop_frame.specs.Rate.{ticks_of}
 use Rattle.cop_rta.specs.declared.streams.Stream.{Stream}
@@ -9,7 +9,8 @@ use Rattle.std.specs.Prelude.{codes, fold, sum_by}
 use Rattle.cop_bus.specs.Piecewise.{told, Begins}
 use Rattle.cop_bus.proofs.StepLemmas.{bool_cases}
 use Rattle.cop_net.specs.Fixed.{ticks}
-use Rattle.cop_plan.specs.Values.{PlanValue}
+use Rattle.cop_rta.specs.Errors.{errors_of}
+use Rattle.cop_plan.specs.Values.{PlanValue, on_bus}
 use Rattle.cop_sim.specs.declared.drawing.Seeded.{Seeded}
 use Rattle.cop_frame.specs.declared.rates.Rate.{Rate}
 use Rattle.cop_rta.specs.Streams.{AreDistinct}
@@ -25,7 +26,7 @@ use Rattle.cop_engine.specs.declared.seeded_runs.RunFault.{RunFault}
 use Rattle.cop_engine.specs.declared.seeded_runs.RunFault.TheVariants as runs
 use Rattle.cop_engine.specs.Judgements.{is_start, transfers_in, judged_text}
 use Rattle.cop_engine.specs.Recorders.{counted, Records, IsFinished}
-use Rattle.cop_engine.specs.Runs.{seeded, IsRun, ExplainsRun, run_fault, IsOfWriting}
+use Rattle.cop_engine.specs.Runs.{seeded, IsRun, ExplainsRun, plan_on_bus, run_fault, IsOfWriting}
 use Rattle.cop_engine.proofs.PlanStreams.{was_there}
 
 length_of_map : {X Y : Type 0} (f : X → Y) (xs : List X) → length (map f xs) ≡ length xs
@@ -106,3 +107,17 @@ module _ (plan : PlanValue) (seed until : ℕ) where
 pub each_arm : {X E : Type 0} (r : Result X E) (A A' : X → Type 0) (B B' : E → Type 0) → ((x : X) → A x → A' x) → ((e : E) → B e → B' e) → MatchResult r A B → MatchResult r A' B'
 each_arm (Ok x) A A' B B' f g h = f x h
 each_arm (Err e) A A' B B' f g h = g e h
+
+-- ---- the plan on the bus
+
+pub run_on_plain : (plan : PlanValue) → is_some (errors_of plan.streams) ≡ false → plan ≡ plan_on_bus plan
+run_on_plain plan none = sym (ap (λ b. if b then on_bus plan else plan) none)
+
+pub run_on_bus : (plan bus : PlanValue) → is_some (errors_of plan.streams) ≡ true → bus ≡ on_bus plan → bus ≡ plan_on_bus plan
+run_on_bus plan bus some its = its ∙ sym (ap (λ b. if b then on_bus plan else plan) some)
+
+pub none_told : {A : Type 0} (o : Option A) (b : Bool) → is_some o ≡ not b → b ≡ true → is_some o ≡ false
+none_told o b e h = e ∙ ap not h
+
+pub some_told : {A : Type 0} (o : Option A) (b : Bool) → is_some o ≡ not b → b ≡ false → is_some o ≡ true
+some_told o b e h = e ∙ ap not h

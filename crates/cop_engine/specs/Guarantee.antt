@@ -1,5 +1,5 @@
 -- What the plan of a network guarantees.
-use Rattle.std.specs.Prelude.{◌≡◌, ◌≢◌, ◌≤◌, ℕ, ◌+◌, ◌-◌, ◌*◌, List, Option, None, Some, Ok, option_map, length, get_or, slice_get, All, Contains}
+use Rattle.std.specs.Prelude.{◌≡◌, ◌≢◌, ◌≤◌, Bool, true, false, if◌then◌else◌, ℕ, ◌+◌, ◌-◌, ◌*◌, List, Option, None, Some, Ok, option_map, length, get_or, slice_get, All, Contains}
 use Rattle.cop_frame.specs.Rate.{ticks_of}
 use Rattle.cop_dict.specs.declared.mapping.Direction.TheVariants.{Transmit}
 use Rattle.cop_dict.specs.declared.mapping.Mapped.{Mapped}
@@ -12,12 +12,18 @@ use Rattle.cop_rta.specs.declared.verdicts.Verdict.TheVariants.{Long}
 use Rattle.cop_rta.specs.Test.{place_by_id}
 use Rattle.cop_rta.specs.Verdict.{PassesBy, response_of}
 use Rattle.cop_bus.specs.Run.{Instance, IsOnTime}
+use Rattle.cop_rta.specs.UpLemmas.{up_id}
+use Rattle.cop_rta.specs.Errors.{errors_of}
+use Rattle.cop_errors.specs.Errors.{Disturbance}
+use Rattle.cop_errors.specs.Extended.{IsRunThrough}
+use Rattle.cop_rows.specs.declared.node_table.FrameKind.{FrameKind}
+use Rattle.cop_rows.specs.declared.node_table.FrameKind.TheVariants as kinds
 use Rattle.cop_rows.specs.declared.pdo_table.PdoRow.{PdoRow}
 use Rattle.cop_rows.specs.declared.node_table.FrameRow.{FrameRow}
 use Rattle.cop_net.specs.declared.devices.Device.{Device}
 use Rattle.cop_net.specs.Fixed.{base_of, size_of, ticks}
 use Rattle.cop_net.specs.Pdos.{every_at, sent_by}
-use Rattle.cop_net.specs.Signals.{sync_of}
+use Rattle.cop_net.specs.Signals.{sync_of, errors_in}
 use Rattle.cop_plan.specs.Values.{PlanValue, id_of, margin_of}
 use Rattle.cop_plan.specs.Plans.{IsPlan, AreAllRefused}
 use Rattle.cop_plan.specs.declared.assigning.Outcome.{Outcome}
@@ -29,10 +35,30 @@ use Rattle.cop_net.specs.Network.{Net}
 use Rattle.cop_engine.specs.declared.plans.Files.{Files}
 use Rattle.cop_engine.specs.Plans.{AreFilesOf}
 
--- the stream of a frame of the table of nodes that is sent: its identifier and bytes are those of its kind and node, its times are the row's
-pub record IsFrameOf (plan : PlanValue) (row : FrameRow) (k : Stream) : Type 0 where
+-- whether a row says how rare disturbed transfers are
+abbrev pub is_errors : FrameKind → Bool
+is_errors kinds.Nmt = false
+is_errors kinds.Sync = false
+is_errors kinds.Emcy = false
+is_errors kinds.SdoResponse = false
+is_errors kinds.SdoRequest = false
+is_errors kinds.Heartbeat = false
+is_errors kinds.Errors = true
+
+-- an identifier as it is tested: where the table of nodes has a row of errors, NMT's counts as 001h
+abbrev pub tested_id : Option FrameRow → ℕ → ℕ
+tested_id None id = id
+tested_id (Some errors) id = up_id id
+
+-- the identifier of the stream of a row: disturbed transfers are above all
+abbrev pub frame_id : Option FrameRow → FrameRow → ℕ
+frame_id errors row = if is_errors row.kind then 0 else tested_id errors (base_of row.kind + row.node)
+
+-- The stream of a row of the table of nodes that is sent: its identifier and bytes are those of its kind and node, its times are the row's. A row
+-- of errors has one too, as disturbed transfers are tested.
+pub record IsFrameOf (frames : List FrameRow) (plan : PlanValue) (row : FrameRow) (k : Stream) : Type 0 where
   pub here : Contains plan.streams k
-  pub id : k.id ≡ base_of row.kind + row.node
+  pub id : k.id ≡ frame_id (errors_in frames) row
   pub bytes : k.bytes ≡ size_of row.kind
   pub period : k.period ≡ ticks row.period
   pub jitter : k.jitter ≡ ticks row.jitter
@@ -45,7 +71,7 @@ pub record IsBySync (frames : List FrameRow) (plan : PlanValue) (row : PdoRow) (
   pub no_period : row.period ≡ 0
   pub sync : FrameRow
   pub is_sync : sync_of frames ≡ Some sync
-  pub stream : (s : Stream) × IsFrameOf plan sync s
+  pub stream : (s : Stream) × IsFrameOf frames plan sync s
   pub period : k.period ≡ k.every * ticks sync.period
 
 -- a TPDO of a device has this transmission type: the number of the SYNCs after which it is sent, or 0 where events send it
@@ -80,22 +106,34 @@ abbrev pub AreOnTimeIn : PlanValue → ℕ → ℕ → Type 0
 AreOnTimeIn plan id deadline =
     (until : ℕ) (run : List Instance) → IsRunOf plan until run → All (λ y. y.id ≡ id → IsOnTime (ticks_of plan.rate) until (Some deadline) y) run
 
+-- The same in every run of the bus in which the plan's streams obey, and disturbed transfers are as rare as the plan counts them: it counts none
+-- where its table of nodes has no row of errors.
+abbrev pub AreOnTimeThrough : PlanValue → ℕ → ℕ → Type 0
+AreOnTimeThrough plan id deadline =
+    (until : ℕ) (run : List Instance) (hits : List Disturbance) (events : List ℕ) → IsRunThrough plan.rate plan.streams until run hits events
+    → All (λ y. y.id ≡ id → IsOnTime (ticks_of plan.rate) until (Some deadline) y) run
+
 -- Each row's PDO ends each of its transfers within the row's deadline, and by the plan's margin before it, in every legal run of the plan's
 -- streams at its rate in which all of them obey. So does each SDO frame for which the table of nodes has a deadline. Each stream that passes
--- ends each of its transfers there within its greatest response. The plan has no streams but those of the rows of both tables.
+-- ends each of its transfers there within its greatest response. The plan has no streams but those of the rows of both tables. PDOs and SDO
+-- frames keep their deadlines through errors too, which are as rare as the row of errors says, if there is one.
 pub record MeetsDeadlines (net : Net) (plan : PlanValue) : Type 0 where
   pub pdos : (p : ℕ) (row : PdoRow) → slice_get net.rows p ≡ Some row → (k : Stream) × IsPdoOf net plan p row k
   pub on_time : (p : ℕ) (row : PdoRow) → slice_get net.rows p ≡ Some row → AreOnTimeIn plan (id_of plan.ids p) (ticks row.deadline - margin_of plan)
-  pub frames : (row : FrameRow) → Contains net.nodes.frames row → row.period ≢ 0 → (k : Stream) × IsFrameOf plan row k
-  pub no_other : (f : ℕ) (k : Stream) → length net.rows ≤ f → slice_get plan.streams f ≡ Some k → (row : FrameRow) × Contains net.nodes.frames row × (row.period ≢ 0) × IsFrameOf plan row k
+  pub frames : (row : FrameRow) → Contains net.nodes.frames row → row.period ≢ 0 → (k : Stream) × IsFrameOf net.nodes.frames plan row k
+  pub no_other : (f : ℕ) (k : Stream) → length net.rows ≤ f → slice_get plan.streams f ≡ Some k → (row : FrameRow) × Contains net.nodes.frames row × (row.period ≢ 0) × IsFrameOf net.nodes.frames plan row k
   pub frames_on_time : (row : FrameRow) (d : ℕ) → Contains net.nodes.frames row → row.deadline ≡ Some d → AreOnTimeIn plan (base_of row.kind + row.node) (ticks d - margin_of plan)
   pub responses : (p response : ℕ) (k : Stream) → slice_get plan.streams p ≡ Some k → PassesBy (place_by_id plan.streams p plan.rate) response → AreOnTimeIn plan k.id response
+  pub errors : (row : FrameRow) → errors_in net.nodes.frames ≡ Some row → (s : Stream) × (errors_of plan.streams ≡ Some s) × (s.period ≡ ticks row.period) × (s.jitter ≡ ticks row.jitter)
+  pub through_errors : (p : ℕ) (row : PdoRow) → slice_get net.rows p ≡ Some row → AreOnTimeThrough plan (id_of plan.ids p) (ticks row.deadline - margin_of plan)
+  pub frames_through_errors : (row : FrameRow) (d : ℕ) → Contains net.nodes.frames row → row.deadline ≡ Some d → AreOnTimeThrough plan (base_of row.kind + row.node) (ticks d - margin_of plan)
 
 -- the greatest response that the test has for the PDO of a row is within the row's deadline, and bounds each of its transfers
 pub record TakesAtMost (plan : PlanValue) (p : ℕ) (row : PdoRow) (response : ℕ) : Type 0 where
   pub greatest : PassesBy (place_by_id plan.streams p plan.rate) response
   pub within : response ≤ ticks row.deadline
   pub bounds : AreOnTimeIn plan (id_of plan.ids p) response
+  pub through_errors : AreOnTimeThrough plan (id_of plan.ids p) response
 
 -- So is the response of each row's PDO that the plan's text has.
 abbrev pub ArePrinted : Net → Outcome → List Verdict → Type 0

@@ -3,6 +3,7 @@ use Rattle.std.specs.Prelude.{◌≡◌, ◌⊎◌, ℕ, List, ◌++◌, codes, 
 use Rattle.cop_frame.specs.declared.rates.Rate.{Rate}
 use Rattle.cop_frame.specs.Rate.{ticks_of}
 use Rattle.cop_rta.specs.declared.streams.Stream.{Stream}
+use Rattle.cop_rta.specs.Errors.{bus_of}
 use Rattle.cop_bus.specs.declared.steps.Step.{Step}
 use Rattle.cop_bus.specs.declared.steps.Step.TheVariants as steps
 use Rattle.cop_bus.specs.Trace.{IsLegalTrace}
@@ -69,9 +70,9 @@ ExplainsTrace rate streams trace (faults.File name) = ⊥
 ExplainsTrace rate streams trace faults.Usage = ⊥
 ExplainsTrace rate streams trace faults.Memory = Unit {0}
 
--- by a plan's rate and streams; where no rate passes the trace is not looked at
+-- by a plan's rate and its streams on the bus; where no rate passes the trace is not looked at
 abbrev pub IsJudgedBy : Outcome → List ℕ → List ℕ → Type 0
-IsJudgedBy (Planned plan) trace text = IsJudged plan.rate plan.streams trace text
+IsJudgedBy (Planned plan) trace text = IsJudged plan.rate (bus_of plan.streams) trace text
 IsJudgedBy (Refused refusals) trace text = text ≡ none_passes
 
 -- the judgement of a trace by the plan of the network that the files say
@@ -84,7 +85,7 @@ pub record IsJudgement (asked : Asked) (nodes pdos : List ℕ) (eds : List File)
 abbrev pub ExplainsJudgement : Asked → List ℕ → List ℕ → List File → List ℕ → Fault → Type 0
 ExplainsJudgement asked nodes pdos files trace (faults.Network r) = network_in asked.rates nodes pdos files ≡ Err r
 ExplainsJudgement asked nodes pdos files trace (faults.Refused number place) =
-    (plan : PlanValue) × IsPlannedNetwork asked nodes pdos files (Planned plan) × ExplainsTrace plan.rate plan.streams trace (faults.Refused number place)
+    (plan : PlanValue) × IsPlannedNetwork asked nodes pdos files (Planned plan) × ExplainsTrace plan.rate (bus_of plan.streams) trace (faults.Refused number place)
 ExplainsJudgement asked nodes pdos files trace faults.Simulation = ⊥
 ExplainsJudgement asked nodes pdos files trace (faults.File name) = ⊥
 ExplainsJudgement asked nodes pdos files trace faults.Usage = ⊥

@@ -1,5 +1,5 @@
 -- The seeded run of a plan.
-use Rattle.std.specs.Prelude.{◌≡◌, ℕ, List, [], map, Option, None, Some}
+use Rattle.std.specs.Prelude.{◌≡◌, ℕ, List, [], map, Option, None, Some, is_some, if◌then◌else◌}
 use Rattle.std.specs.Io.KnownBytes.{Appends}
 use Rattle.cop_frame.specs.Rate.{ticks_of}
 use Rattle.cop_rta.specs.declared.streams.Stream.{Stream}
@@ -7,7 +7,8 @@ use Rattle.cop_bus.specs.declared.steps.Step.{Step}
 use Rattle.cop_bus.specs.Format.{text_of}
 use Rattle.cop_net.specs.Devices.{File}
 use Rattle.cop_net.specs.Fixed.{ticks}
-use Rattle.cop_plan.specs.Values.{PlanValue}
+use Rattle.cop_rta.specs.Errors.{errors_of}
+use Rattle.cop_plan.specs.Values.{PlanValue, on_bus}
 use Rattle.cop_plan.specs.declared.assigning.Outcome.{Outcome}
 use Rattle.cop_plan.specs.declared.choices.Asked.{Asked}
 use Rattle.cop_plan.specs.declared.assigning.Outcome.TheVariants.{Planned, Refused}
@@ -45,9 +46,13 @@ ExplainsRun plan seed until runs.Simulation = IsBacklogged plan seed until
 ExplainsRun plan seed until runs.Trace = Unit {0}
 ExplainsRun plan seed until runs.Memory = Unit {0}
 
+-- the plan on the bus alone, whose streams a run has: a run has no errors
+abbrev pub plan_on_bus : PlanValue → PlanValue
+plan_on_bus plan = if is_some (errors_of plan.streams) then on_bus plan else plan
+
 -- by the plan of a network; where no rate passes there is no trace
 abbrev pub IsRunBy : Outcome → ℕ → ℕ → List ℕ → List ℕ → Type 0
-IsRunBy (Planned plan) seed until text trace = IsRun plan seed until text (Some []) (Some trace)
+IsRunBy (Planned plan) seed until text trace = IsRun (plan_on_bus plan) seed until text (Some []) (Some trace)
 IsRunBy (Refused refusals) seed until text trace = (text ≡ none_passes) × (trace ≡ [])
 
 -- the run of the network that the files say
@@ -60,7 +65,7 @@ pub record IsNetworkRun (asked : Asked) (nodes pdos : List ℕ) (eds : List File
 abbrev pub ExplainsNetworkRun : Asked → List ℕ → List ℕ → List File → ℕ → ℕ → Fault → Type 0
 ExplainsNetworkRun asked nodes pdos files seed until (faults.Network r) = ExplainsNetwork asked.rates nodes pdos files (faults.Network r)
 ExplainsNetworkRun asked nodes pdos files seed until (faults.Refused number place) = ⊥
-ExplainsNetworkRun asked nodes pdos files seed until faults.Simulation = (plan : PlanValue) × IsPlannedNetwork asked nodes pdos files (Planned plan) × IsBacklogged plan seed until
+ExplainsNetworkRun asked nodes pdos files seed until faults.Simulation = (plan : PlanValue) × IsPlannedNetwork asked nodes pdos files (Planned plan) × IsBacklogged (plan_on_bus plan) seed until
 ExplainsNetworkRun asked nodes pdos files seed until (faults.File name) = ⊥
 ExplainsNetworkRun asked nodes pdos files seed until faults.Usage = ⊥
 ExplainsNetworkRun asked nodes pdos files seed until faults.Memory = Unit {0}

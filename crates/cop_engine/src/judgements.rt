@@ -1,6 +1,7 @@
 //! The judgement of a trace by the plan of a network.
 
-ghost use Rattle.std.specs.Prelude.{◌≡◌, ℕ, List, None, IfOk, IfSome, MatchResult};
+ghost use Rattle.std.specs.Prelude.{◌≡◌, ℕ, List, None, IfOk, IfSome, MatchOption, MatchResult};
+ghost use Rattle.cop_rta.specs.Errors.{bus_of};
 ghost use Rattle.cop_net.specs.Devices.{File, handed_in};
 ghost use Rattle.cop_plan.specs.declared.choices.Asked.{Asked};
 ghost use Rattle.cop_table.specs.Pieces.{HoldsOfAll};
@@ -11,7 +12,9 @@ use crate::faults::Fault;
 use crate::reports::push_number;
 use crate::runs::outcome_of;
 use cop_bus::{Step, clean_is_legal, judge, read_trace};
+use cop_frame::Rate;
 use cop_plan::{Asked, Outcome, Plan};
+use cop_rta::StreamSet;
 use cop_watch::{Seen, seen_in_pieces};
 use std::alloc::{AllocError, Global};
 use std::io::Read;
@@ -68,16 +71,20 @@ pub fn none_passes(alloc: Global) -> Result<Vec<u8>, AllocError>
     Ok(text)
 }
 
-/// The judgement of the trace that a reader has left, by a plan, or the first step that breaks a rule, if that is seen while it is read.
-/// No instance of a trace that breaks none is late, which the plan guarantees, so none is looked for.
-fn seen<R: Read + Drop>(alloc: Global, plan: &Plan, reader: R) -> Option<Result<Judgement, Fault>>
-    ensures { IfSome result (λ judged. HoldsOfAll (R.remaining reader) (λ trace. MatchResult judged (λ judgement. IsCleared plan.now.rate plan.now.streams trace (said_of judgement))
-        (λ fault. ExplainsTrace plan.now.rate plan.now.streams trace fault))) }
+/// The judgement of the trace that a reader has left, by some streams at a rate, or the first step that breaks a rule, if that is seen while
+/// it is read. No instance of a plan's trace that breaks none is late, which the plan guarantees, so none is looked for.
+fn seen<R: Read + Drop>(
+    alloc: Global,
+    streams: &StreamSet,
+    rate: Rate,
+    reader: R,
+) -> Option<Result<Judgement, Fault>>
+    ensures { IfSome result (λ judged. HoldsOfAll (R.remaining reader) (λ trace. MatchResult judged (λ judgement. IsCleared rate streams.now trace (said_of judgement))
+        (λ fault. ExplainsTrace rate streams.now trace fault))) }
 {
-    let streams = plan.streams();
     let _distinct = streams.streams();
     clean_is_legal();
-    let found = seen_in_pieces(alloc, streams, plan.rate(), reader)?;
+    let found = seen_in_pieces(alloc, streams, rate, reader)?;
     match found {
         Seen::Lawful { sent } => Some(Ok(Judgement::OnTime { transfers: sent })),
         Seen::Broken { step, rule } => Some(Err(Fault::Refused {
@@ -87,18 +94,54 @@ fn seen<R: Read + Drop>(alloc: Global, plan: &Plan, reader: R) -> Option<Result<
     }
 }
 
-/// The judgement of a trace by a plan. Its steps are kept, and the first that breaks a rule is named.
-fn judged(alloc: Global, plan: &Plan, trace: &[u8]) -> Result<Judgement, Fault>
-    ensures { MatchResult result (λ judgement. IsCleared plan.now.rate plan.now.streams trace.now (said_of judgement)) (λ fault. ExplainsTrace plan.now.rate plan.now.streams trace.now fault) }
+/// The judgement of a trace by some streams at a rate. Its steps are kept, and the first that breaks a rule is named.
+fn judged(alloc: Global, streams: &StreamSet, rate: Rate, trace: &[u8]) -> Result<Judgement, Fault>
+    ensures { MatchResult result (λ judgement. IsCleared rate streams.now trace.now (said_of judgement)) (λ fault. ExplainsTrace rate streams.now trace.now fault) }
 {
-    let streams = plan.streams();
     let _distinct = streams.streams();
     clean_is_legal();
     let trace = read_trace(alloc, trace)?;
-    let run = judge(alloc, streams, plan.rate(), &trace)?;
+    let run = judge(alloc, streams, rate, &trace)?;
     Ok(Judgement::OnTime {
         transfers: transfers_in(&run.trace.steps) as u64,
     })
+}
+
+/// The streams of a plan on the bus, if its set counts disturbed transfers; else its set is that of the bus.
+fn bus_set(alloc: Global, plan: &Plan) -> Result<Option<StreamSet>, AllocError>
+    ensures { IfOk result (λ other. MatchOption other (plan.now.streams ≡ bus_of plan.now.streams) (λ set. set ≡ bus_of plan.now.streams)) }
+{
+    let streams = plan.streams();
+    if streams.errors().is_none() {
+        return Ok(None);
+    }
+    Ok(Some(streams.on_bus(alloc)?))
+}
+
+/// The judgement of the trace that a reader has left, by a plan.
+fn seen_by<R: Read + Drop>(
+    alloc: Global,
+    plan: &Plan,
+    reader: R,
+) -> Option<Result<Judgement, Fault>>
+    ensures { IfSome result (λ judged. HoldsOfAll (R.remaining reader) (λ trace. MatchResult judged (λ judgement. IsCleared plan.now.rate (bus_of plan.now.streams) trace (said_of judgement))
+        (λ fault. ExplainsTrace plan.now.rate (bus_of plan.now.streams) trace fault))) }
+{
+    match bus_set(alloc, plan) {
+        Ok(Some(set)) => seen(alloc, &set, plan.rate(), reader),
+        Ok(None) => seen(alloc, plan.streams(), plan.rate(), reader),
+        Err(_) => None,
+    }
+}
+
+/// The judgement of a trace by a plan.
+fn judged_by(alloc: Global, plan: &Plan, trace: &[u8]) -> Result<Judgement, Fault>
+    ensures { MatchResult result (λ judgement. IsCleared plan.now.rate (bus_of plan.now.streams) trace.now (said_of judgement)) (λ fault. ExplainsTrace plan.now.rate (bus_of plan.now.streams) trace.now fault) }
+{
+    match bus_set(alloc, plan)? {
+        Some(set) => judged(alloc, &set, plan.rate(), trace),
+        None => judged(alloc, plan.streams(), plan.rate(), trace),
+    }
 }
 
 /// The judgement of the trace that a reader has left, by what the planner answers for a network. Where the trace breaks a rule, it is the
@@ -114,7 +157,7 @@ pub fn judge_pieces<R: Read + Drop>(
         (λ fault. ExplainsJudgement asked nodes pdos eds trace fault))) }
 {
     match outcome {
-        Outcome::Planned(plan) => seen(alloc, plan, reader),
+        Outcome::Planned(plan) => seen_by(alloc, plan, reader),
         Outcome::Refused(_) => Some(Ok(Judgement::NonePasses)),
     }
 }
@@ -126,7 +169,7 @@ pub fn judge_outcome(alloc: Global, outcome: &Outcome, trace: &[u8]) -> Result<J
         → MatchResult result (λ judgement. IsJudgement asked nodes pdos eds trace.now (said_of judgement)) (λ fault. ExplainsJudgement asked nodes pdos eds trace.now fault) }
 {
     match outcome {
-        Outcome::Planned(plan) => judged(alloc, plan, trace),
+        Outcome::Planned(plan) => judged_by(alloc, plan, trace),
         Outcome::Refused(_) => Ok(Judgement::NonePasses),
     }
 }

@@ -3,7 +3,7 @@
 ghost use Rattle.std.specs.Prelude.{◌≡◌, ◌*◌, ◌≤◌, map, IfOk, MatchResult};
 ghost use Rattle.cop_sim.specs.Drawing.{fresh};
 ghost use Rattle.cop_engine.specs.Recorders.{counted, Records, IsFinished};
-ghost use Rattle.cop_engine.specs.Runs.{IsRun, ExplainsRun, run_fault, IsOfWriting};
+ghost use Rattle.cop_engine.specs.Runs.{IsRun, ExplainsRun, plan_on_bus, run_fault, IsOfWriting};
 ghost use Rattle.cop_engine.specs.declared.seeded_runs.RunFault.TheVariants.{Memory, Trace};
 
 use crate::judgements::on_time_text;
@@ -108,9 +108,8 @@ fn finish<W: Write + Drop>(
     }
 }
 
-/// Runs a plan's streams by a seed, up to so many microseconds, and writes the trace as it goes: what is said of the run,
-/// how many transfers start and that each PDO is on time, and the writer back.
-pub fn run_plan<W: Write + Drop>(
+// Runs a plan's streams by a seed, as `run_plan` does those of the bus.
+fn run_streams<W: Write + Drop>(
     alloc: Global,
     plan: &Plan,
     seed: u64,
@@ -137,4 +136,23 @@ pub fn run_plan<W: Write + Drop>(
             Err(fault_of(fault))
         }
     }
+}
+
+/// Runs a plan's streams by a seed, up to so many microseconds, and writes the trace as it goes: what is said of the run,
+/// how many transfers start and that each PDO is on time, and the writer back. The run has no disturbed transfers, even if the plan counts some.
+pub fn run_plan<W: Write + Drop>(
+    alloc: Global,
+    plan: &Plan,
+    seed: u64,
+    until: u64,
+    writer: W,
+) -> Result<(Vec<u8>, W), RunFault>
+    requires { until ≤ 1000000000 }
+    ensures { MatchResult result (λ r. IsRun (plan_on_bus plan.now) seed until r.0.items (W.contents writer) (W.contents r.1)) (λ fault. ExplainsRun (plan_on_bus plan.now) seed until fault) }
+{
+    if plan.streams().errors().is_none() {
+        return run_streams(alloc, plan, seed, until, writer);
+    }
+    let bus = plan.on_bus(alloc)?;
+    run_streams(alloc, &bus, seed, until, writer)
 }

@@ -48,7 +48,7 @@ pub struct Breakdown {
 /// The longest transfer of a stream.
 fn transfer_of(stream: &Stream, rate: Rate) -> u64
     ensures value { result ≡ cost_of rate stream.now }
-    ensures most { result ≤ 54000 }
+    ensures most { result ≤ 66400 }
 {
     let Stream { bytes, .. } = *stream;
     u64::from(worst_bits(bytes)) * u64::from(rate.ticks_per_bit())

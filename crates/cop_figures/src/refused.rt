@@ -76,7 +76,7 @@ fn last_of(numbers: &[u64]) -> u64
 /// The longest transfer of a stream, in ticks.
 fn cost_of(stream: &Stream, rate: Rate) -> u64
     ensures cost { result ≡ cost_of rate stream.now }
-    ensures most { result ≤ 54000 }
+    ensures most { result ≤ 66400 }
 {
     let Stream { bytes, .. } = *stream;
     u64::from(worst_bits(bytes)) * u64::from(rate.ticks_per_bit())

@@ -14,7 +14,7 @@ use crate::anchors::Pile;
 use crate::clocks::Clock;
 use crate::findings::Finding;
 use crate::measures::{most, slack};
-use cop_frame::Rate;
+use cop_frame::{DISTURBED, Rate};
 use cop_lines::Entry;
 
 // More ticks than a log of 2 to the 64 entries has.
@@ -27,12 +27,18 @@ pub(crate) struct Load {
     pub(crate) crowded: Option<Finding>,
 }
 
-// The least ticks that a transfer of so many bytes takes.
-fn least_ticks(rate: Rate, len: u8) -> u128
+/// The least ticks that a transfer of so many bytes takes.
+#[tactic(auto, unfolding(cop_frame::specs::Lengths::least_bits))]
+pub fn least_ticks(rate: Rate, len: u8) -> u128
     ensures value { result ≡ least_bits len * ticks_of rate }
     ensures few { result ≤ 2 ^ 20 }
 {
-    (47 + 8 * u128::from(len)) * u128::from(rate.ticks_per_bit())
+    let bits = if len == DISTURBED {
+        1
+    } else {
+        47 + 8 * u128::from(len)
+    };
+    bits * u128::from(rate.ticks_per_bit())
 }
 
 fn is_full(clock: Clock, from: u64, to: u64, ticks: u128) -> bool

@@ -25,6 +25,7 @@ pub use anchors::{Anchor, Pile, Top};
 pub use answers::watch;
 pub use bounds::bounds_of;
 pub use clocks::Clock;
+pub use crowding::least_ticks;
 pub use faults::LogFault;
 pub use findings::Finding;
 pub use laws::{evidence_convicts, kept_time_is_a_log};

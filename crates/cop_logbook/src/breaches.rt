@@ -17,7 +17,7 @@ ghost use Rattle.cop_logbook.specs.Told.{broken_by, breach_by, kind_of, kept_of,
 
 use cop_frame::{Rate, least_bits};
 use cop_lines::Entry;
-use cop_log::{Clock, Finding, Scene};
+use cop_log::{Clock, Finding, Scene, least_ticks};
 use cop_rta::Stream;
 use std::alloc::{AllocError, Global};
 
@@ -151,8 +151,7 @@ fn crowded(scene: &Scene) -> Broken
 {
     match scene.pile {
         Some(pile) => {
-            let own = (47 + 8 * u128::from(scene.entry.len))
-                * u128::from(scene.rate.ticks_per_bit());
+            let own = least_ticks(scene.rate, scene.entry.len);
             Broken::Crowded {
                 from: pile.entry.line,
                 since: scene.entry.at.saturating_sub(pile.entry.at),

@@ -9,15 +9,15 @@ use Rattle.cop_net.specs.Fixed.{IsTimed, key_of, sent, streams_from, KnowsFrames
 
 -- the search from a place's number on, where it is not before these rows, finds what it finds in them from this one on
 pub record KnowsFrom (places : List ℕ) (frames : List FrameRow) (i : ℕ) : Type 0 where
-  pub size : length places ≡ 768
-  pub each : (key : ℕ) → key < 768 → i ≤ get_or places key 0 → find (λ row. key_of row == key) (drop (get_or places key 0) frames) ≡ find (λ row. key_of row == key) (drop i frames)
+  pub size : length places ≡ 769
+  pub each : (key : ℕ) → key < 769 → i ≤ get_or places key 0 → find (λ row. key_of row == key) (drop (get_or places key 0) frames) ≡ find (λ row. key_of row == key) (drop i frames)
 
 -- behind all rows nothing is found
-pub knows_none : (frames : List FrameRow) → KnowsFrom (replicate 768 65535) frames (length frames)
+pub knows_none : (frames : List FrameRow) → KnowsFrom (replicate 769 65535) frames (length frames)
 knows_none frames = record {
   size = refl;
   each = λ key h le.
-      let last : ◌≡◌ {A = ℕ} (get_or (replicate 768 65535) key 0) 65535 = get_or-replicate 768 key 65535 0 h in
+      let last : ◌≡◌ {A = ℕ} (get_or (replicate 769 65535) key 0) 65535 = get_or-replicate 769 key 65535 0 h in
       rw last (ap (find (λ row. key_of row == key)) (drop_all 65535 frames (rw last at le) ∙ sym (drop_all (length frames) frames (omega arith))));
 }
 
@@ -27,7 +27,7 @@ passed : (frames : List FrameRow) (i key : ℕ) (d : FrameRow) → i < length fr
 passed frames i key d lt other = rw (drop_more frames i d lt, ne_eqb (key_of (get_or frames i d)) key other) refl
 
 -- of a place that stays as it was
-stays : (places : List ℕ) (frames : List FrameRow) (i key : ℕ) (d : FrameRow) → KnowsFrom places frames (i + 1) → i < length frames → key < 768
+stays : (places : List ℕ) (frames : List FrameRow) (i key : ℕ) (d : FrameRow) → KnowsFrom places frames (i + 1) → i < length frames → key < 769
     → key_of (get_or frames i d) ≢ key → i ≤ get_or places key 0
     → find (λ row. key_of row == key) (drop (get_or places key 0) frames) ≡ find (λ row. key_of row == key) (drop i frames)
 stays places frames i key d knows lt h other le = ⊎_elim
@@ -36,7 +36,7 @@ stays places frames i key d knows lt h other le = ⊎_elim
     (cases_eq i (get_or places key 0))
 
 -- one row more, from the last on: its place has its number, or a smaller one
-pub knows_more : (places new : List ℕ) (frames : List FrameRow) (i key n : ℕ) (d : FrameRow) → i < length frames → key ≡ key_of (get_or frames i d) → key < 768
+pub knows_more : (places new : List ℕ) (frames : List FrameRow) (i key n : ℕ) (d : FrameRow) → i < length frames → key ≡ key_of (get_or frames i d) → key < 769
     → n ≤ i → new ≡ set places key n → KnowsFrom places frames (i + 1) → KnowsFrom new frames i
 knows_more places new frames i key n d lt here inside low written knows = rw written record {
   size = length-set places key n ∙ knows.size;
@@ -99,7 +99,7 @@ found_at (f ∷ frames) key h = ⊎_elim
     (cases_eq (key_of f) key)
 
 -- what is found in the rows from a place's number on is what is found at the place
-pub found_from : (places : List ℕ) (frames : List FrameRow) (place before : ℕ) → KnowsFrames places frames → place < 768 → before ≡ min (get_or places place 0) (length frames)
+pub found_from : (places : List ℕ) (frames : List FrameRow) (place before : ℕ) → KnowsFrames places frames → place < 769 → before ≡ min (get_or places place 0) (length frames)
     → find (λ row. key_of row == place) (drop before frames) ≡ find (λ row. key_of row == place) frames
 found_from places frames place before knows h e = ap (find (λ row. key_of row == place)) (rw e (drop_least (get_or places place 0) frames)) ∙ knows.each place h
   where

@@ -1,4 +1,5 @@
 pub mod FixedLemmas
+pub mod ThroughLemmas
 pub mod DatedLemmas
 pub mod SyncLemmas
 pub mod RateLemmas

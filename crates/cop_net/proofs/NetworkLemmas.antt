@@ -24,13 +24,14 @@ use Rattle.cop_net.specs.Devices.{File, Equipment, devices_of}
 use Rattle.cop_net.specs.Pdos.{ArePdos, IsPaced, pdos_of}
 use Rattle.cop_rta.specs.Ranges as ranges
 use Rattle.cop_rta.specs.Greatest.{AreSynced}
-use Rattle.cop_net.specs.Signals.{signals_of, sync_of, has_sdo_deadline}
-use Rattle.cop_net.specs.Network.{all_settable, with_rate, streams_of, deadline_at, IsSdo, BeginsWith, Accepted, network_of, accepted}
+use Rattle.cop_net.specs.Signals.{signals_of, sync_of, errors_in, has_sdo_deadline}
+use Rattle.cop_net.specs.Network.{through, all_settable, with_rate, streams_of, deadline_at, IsSdo, BeginsWith, Accepted, network_of, accepted}
 use Rattle.cop_rows.proofs.RangeLemmas.{bind_ok}
 use Rattle.cop_net.proofs.PdoLemmas.{pdos_found}
-use Rattle.cop_net.proofs.ApartLemmas.{IsOutside, fixed_outside, fixed_outside_second, one_set_all}
+use Rattle.cop_net.proofs.ThroughLemmas.{through_behind, behind}
+use Rattle.cop_net.proofs.ApartLemmas.{IsOutside, behind_outside, behind_outside_second, pdos_high, one_set_behind}
 use Rattle.cop_net.proofs.SyncLemmas.{there, network_synced}
-use Rattle.cop_net.proofs.DatedLemmas.{fixed_dated, fixed_signalled}
+use Rattle.cop_net.proofs.DatedLemmas.{behind_dated, behind_signalled}
 
 -- a node with a device row
 node_of_device : (devices : List DeviceRow) (node : ℕ) → All (λ d. (1 ≤ d.node) × (d.node ≤ 127)) devices → HasDevice devices node → (1 ≤ node) × (node ≤ 127)
@@ -46,6 +47,7 @@ node_of_kind devices kinds.Emcy node all h = node_of_device devices node all h
 node_of_kind devices kinds.SdoResponse node all h = node_of_device devices node all h
 node_of_kind devices kinds.SdoRequest node all h = node_of_device devices node all h
 node_of_kind devices kinds.Heartbeat node all h = node_of_device devices node all h
+node_of_kind devices kinds.Errors node all h = (h, omega arith)
 
 -- the ranges of the rows of a table
 pub timed : (table : NodeLists) → IsNodeTable table → All IsTimed table.frames
@@ -116,17 +118,18 @@ with_rate_ok : (b : Bool) (u : Unit {0}) → with_rate b ≡ Ok u → b ≡ true
 with_rate_ok true u h = refl
 with_rate_ok false u h = cc
 
--- the streams of a network are those of its PDOs and then those of the fixed identifiers, and it has a rate
+-- the streams of a network are those of its PDOs and then those behind them, and it has a rate
 streams_are : (frames : List FrameRow) (rows : List PdoRow) (equipment : Equipment) (streams : List Entry) → streams_of frames rows equipment ≡ Ok streams
-    → (pdos : List Entry) × ArePdos pdos × (length pdos ≡ length rows) × (streams ≡ pdos ++ fixed_streams frames) × (is_some_rate equipment.rates ≡ true) × All (IsPaced (sync_of frames)) pdos
+    → (pdos : List Entry) × ArePdos pdos × (length pdos ≡ length rows) × (streams ≡ pdos ++ behind frames) × (is_some_rate equipment.rates ≡ true) × All (IsPaced (sync_of frames)) pdos
 unfolding streams_of
 streams_are frames rows equipment streams ok =
     let p = bind_ok (pdos_of equipment.devices (signals_of frames (length rows)) rows) _ streams ok in
     let q = bind_ok (all_settable frames p.0.used 0 equipment.devices) _ streams p.2 in
     let r = bind_ok (with_rate (is_some_rate equipment.rates)) _ streams q.2 in
-    let whole : ◌≡◌ {A = Result (List Entry) Refusal} (Ok (p.0.streams ++ fixed_streams frames)) (Ok streams) = r.2 in
-    let parts : streams ≡ p.0.streams ++ fixed_streams frames = cc in
+    let whole : ◌≡◌ {A = Result (List Entry) Refusal} (Ok (through (errors_in frames) (p.0.streams ++ fixed_streams frames))) (Ok streams) = r.2 in
+    let all : streams ≡ through (errors_in frames) (p.0.streams ++ fixed_streams frames) = cc in
     let s = pdos_found equipment.devices (signals_of frames (length rows)) rows p.0 p.1 in
+    let parts : streams ≡ p.0.streams ++ behind frames = all ∙ through_behind (errors_in frames) p.0.streams (fixed_streams frames) (pdos_high p.0.streams s.0) in
     (p.0.streams, s.0, s.1, parts, with_rate_ok (is_some_rate equipment.rates) r.0 r.1, s.2)
 
 -- what is accepted begins with its PDOs, a deadline of another stream is a row's, it has a rate, and SYNC where streams are sent by it
@@ -135,12 +138,12 @@ pub network_streams : (frames : List FrameRow) (rows : List PdoRow) (equipment :
     → BeginsWith (length rows) set × ((k : ℕ) → length rows ≤ k → k < length set → IsSome (deadline_at set k) → has_sdo_deadline frames ≡ true) × (is_some_rate equipment.rates ≡ true) × AreSynced set
 network_streams frames rows equipment set h le ok =
     let s = streams_are frames rows equipment (map entry_of set) ok in (
-      begins (length rows) set s.0 (fixed_streams frames) s.3 s.2 s.1 (fixed_outside frames h) (fixed_outside_second frames h) (fixed_dated frames h),
+      begins (length rows) set s.0 (behind frames) s.3 s.2 s.1 (behind_outside frames h) (behind_outside_second frames h) (behind_dated frames h),
       (λ k past lt some.
-          let t = later (λ f. IsSome f.deadline → has_sdo_deadline frames ≡ true) set s.0 (fixed_streams frames) s.3 (fixed_signalled frames) k (omega (arith, s.2)) lt in
+          let t = later (λ f. IsSome f.deadline → has_sdo_deadline frames ≡ true) set s.0 (behind frames) s.3 (behind_signalled frames) k (omega (arith, s.2)) lt in
           t.1 (rw (deadline_of_stream set k, t.2) at some)),
       s.4,
-      network_synced frames set s.0 h s.3 (one_set_all s.0 frames s.1 (omega (arith, s.2, le)) h) s.5,
+      network_synced frames set s.0 h s.3 (one_set_behind s.0 frames s.1 (omega (arith, s.2, le)) h) s.5,
     )
 
 -- what the devices and the streams make
@@ -153,7 +156,7 @@ made wanted nodes rows files equipment set devices streams = rw (devices, stream
 streams_one_set : (frames : List FrameRow) (rows : List PdoRow) (equipment : Equipment) (streams : List Entry) → All IsTimed frames → length rows ≤ 512
     → streams_of frames rows equipment ≡ Ok streams → AreOneSet streams
 streams_one_set frames rows equipment streams h le ok =
-    let s = streams_are frames rows equipment streams ok in subst AreOneSet (sym s.3) (one_set_all s.0 frames s.1 (omega (arith, s.2, le)) h)
+    let s = streams_are frames rows equipment streams ok in subst AreOneSet (sym s.3) (one_set_behind s.0 frames s.1 (omega (arith, s.2, le)) h)
 
 one_set_made : (wanted : List Rate) (nodes : NodeLists) (rows : List PdoRow) (files : List File) (made : Accepted) → IsNodeTable nodes → length rows ≤ 512 → network_of wanted nodes rows files ≡ Ok made → AreOneSet made.streams
 unfolding network_of

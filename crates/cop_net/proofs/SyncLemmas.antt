@@ -19,10 +19,10 @@ use Rattle.cop_rta.proofs.IdentifierLemmas.{place_has_id, no_place}
 use Rattle.cop_rta.proofs.SyncLemmas.{place_inside}
 use Rattle.cop_net.specs.Sets.{AreOneSet}
 use Rattle.cop_net.specs.Fixed.{IsOwner, IsTimed, base_of, rank_of, key_of, ticks, frame_stream, sent, streams_from, fixed_streams}
-use Rattle.cop_net.specs.Signals.{if_sent, sync_of}
+use Rattle.cop_net.specs.Signals.{if_sent, sync_of, errors_in}
 use Rattle.cop_net.specs.Pdos.{IsPaced}
 use Rattle.cop_net.proofs.FixedLemmas.{IsAt, found_at}
-use Rattle.cop_net.proofs.DatedLemmas.{fixed_all}
+use Rattle.cop_net.proofs.ThroughLemmas.{through_at, behind, behind_all}
 use Rattle.cop_net.proofs.SetLemmas.{AreApart}
 
 -- an element is the one that is read there
@@ -53,6 +53,7 @@ sync_kind kinds.Emcy node own h = absurd (omega arith)
 sync_kind kinds.SdoResponse node own h = absurd (omega arith)
 sync_kind kinds.SdoRequest node own h = absurd (omega arith)
 sync_kind kinds.Heartbeat node own h = absurd (omega arith)
+sync_kind kinds.Errors node own h = absurd (omega arith)
 
 was_sent : (o : Option FrameRow) (row : FrameRow) → if_sent o ≡ Some row → (o ≡ Some row) × (sent o ≡ frame_stream row ∷ [])
 was_sent None row h = cc
@@ -95,30 +96,39 @@ one_place es apart i j d inside there same = ⊎_elim (λ (e : i ≡ j). e)
     (λ (other : i ≢ j). ⊎_elim (λ (before : i < j). absurd (apart i j d before there same)) (λ (after : j ≤ i). absurd (apart j i d (omega arith) inside (sym same))) (cases_lt i j))
     (cases_eq i j)
 
+-- and among all behind the PDOs
+sync_behind : (frames : List FrameRow) (row : FrameRow) → All IsTimed frames → sync_of frames ≡ Some row
+    → (j : ℕ) × (j < length (behind frames)) × ((d : Entry) → get_or (behind frames) j d ≡ frame_stream row)
+sync_behind frames row timed h =
+    let t = sync_there frames row h in
+    let id = sync_id_of frames row timed h in
+    let at = through_at (errors_in frames) (fixed_streams frames) t.0 (frame_stream row) t.1 t.2 (omega (arith, id)) in
+    (t.0, at.0, at.1)
+
 -- where SYNC's stream stands, and its period
-sync_place : (frames : List FrameRow) (set : List Stream) (xs : List Entry) (row : FrameRow) → All IsTimed frames → map entry_of set ≡ xs ++ fixed_streams frames → AreOneSet (xs ++ fixed_streams frames)
+sync_place : (frames : List FrameRow) (set : List Stream) (xs : List Entry) (row : FrameRow) → All IsTimed frames → map entry_of set ≡ xs ++ behind frames → AreOneSet (xs ++ behind frames)
     → sync_of frames ≡ Some row → (i : ℕ) × (place_of_id set sync_id ≡ Some i) × (of_stream (λ s. s.period) set i ≡ ticks row.period)
 sync_place frames set xs row timed e one_set is = by_place (place_of_id set sync_id) refl
   where
     d : Entry
     d = frame_stream row
 
-    size : length set ≡ length xs + length (fixed_streams frames)
-    size = sym (length-map set entry_of) ∙ ap length e ∙ length-append xs (fixed_streams frames)
+    size : length set ≡ length xs + length (behind frames)
+    size = sym (length-map set entry_of) ∙ ap length e ∙ length-append xs (behind frames)
 
     j : ℕ
-    j = length xs + (sync_there frames row is).0
+    j = length xs + (sync_behind frames row timed is).0
 
     inside : j < length set
-    inside = let t = sync_there frames row is in omega (arith, size, t.1)
+    inside = let t = sync_behind frames row timed is in omega (arith, size, t.1)
 
     here : get_or (map entry_of set) j d ≡ frame_stream row
     here =
-        let t = sync_there frames row is in
+        let t = sync_behind frames row timed is in
         let back : length xs + t.0 - length xs ≡ t.0 = omega arith in
         ap (λ (es : List Entry). get_or es (length xs + t.0) d) e
-        ∙ get_or-append_right xs (fixed_streams frames) (length xs + t.0) d (omega arith)
-        ∙ ap (λ (n : ℕ). get_or (fixed_streams frames) n d) back
+        ∙ get_or-append_right xs (behind frames) (length xs + t.0) d (omega arith)
+        ∙ ap (λ (n : ℕ). get_or (behind frames) n d) back
         ∙ t.2 d
 
     id_here : of_stream (λ s. s.id) set j ≡ sync_id
@@ -138,16 +148,16 @@ sync_place frames set xs row timed e one_set is = by_place (place_of_id set sync
           ap (of_stream (λ s. s.period) set) same ∙ of_field (λ s. s.period) (λ f. f.period) (λ s. refl) set j d inside ∙ ap (λ (f : Entry). f.period) here,
         )
 
-fixed_steady : (sync : Option FrameRow) (frames : List FrameRow) → All (IsPaced sync) (fixed_streams frames)
-fixed_steady sync frames = fixed_all (IsPaced sync) frames (λ k d lt some. absurd (omega arith))
+behind_steady : (sync : Option FrameRow) (frames : List FrameRow) → All (IsPaced sync) (behind frames)
+behind_steady sync frames = behind_all (IsPaced sync) frames (λ e its. its) (λ k d lt some. absurd (omega arith))
 
 -- the streams that are sent by SYNC have as many times its period, and it is there
-pub network_synced : (frames : List FrameRow) (set : List Stream) (xs : List Entry) → All IsTimed frames → map entry_of set ≡ xs ++ fixed_streams frames → AreOneSet (xs ++ fixed_streams frames)
+pub network_synced : (frames : List FrameRow) (set : List Stream) (xs : List Entry) → All IsTimed frames → map entry_of set ≡ xs ++ behind frames → AreOneSet (xs ++ behind frames)
     → All (IsPaced (sync_of frames)) xs → AreSynced set
 network_synced frames set xs timed e one_set paced = record {
   each = λ k d lt some.
       let all : All (IsPaced (sync_of frames)) (map entry_of set) =
-      subst (All (IsPaced (sync_of frames))) (sym e) (All-append (IsPaced (sync_of frames)) xs (fixed_streams frames) paced (fixed_steady (sync_of frames) frames)) in
+      subst (All (IsPaced (sync_of frames))) (sym e) (All-append (IsPaced (sync_of frames)) xs (behind frames) paced (behind_steady (sync_of frames) frames)) in
       let s = get_or set k d in
       let own : IsPaced (sync_of frames) (entry_of s) =
       subst (IsPaced (sync_of frames)) (get_or-map entry_of set k d (entry_of d) lt) (all k (entry_of d) (omega (arith, length-map set entry_of))) in

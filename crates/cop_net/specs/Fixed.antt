@@ -1,4 +1,4 @@
--- The frames of fixed identifiers (CiA 301, "Pre-defined connection set").
+-- The frames of fixed identifiers (CiA 301, "Pre-defined connection set"), and disturbed transfers.
 use Rattle.std.specs.Prelude.{ℕ, zero, suc, ◌≡◌, ◌≤◌, ◌<◌, ◌⊎◌, ◌+◌, ◌*◌, drop, get_or, length, List, [], ◌∷◌, ◌++◌, find, ◌==◌, if◌then◌else◌, option_map, Option, Some, None, IfSome}
 use Rattle.cop_rows.specs.declared.node_table.FrameKind.{FrameKind}
 use Rattle.cop_rows.specs.declared.node_table.FrameKind.TheVariants as kinds
@@ -6,7 +6,7 @@ use Rattle.cop_rows.specs.declared.node_table.FrameRow.{FrameRow}
 use Rattle.cop_rows.specs.Nodes.{IsFrameDeadline}
 use Rattle.cop_rta.specs.Entries.{Entry}
 
--- the identifier of node 0's frame of a kind
+-- the identifier of node 0's frame of a kind; that of disturbed transfers is above all, where NMT counts as 001h
 abbrev pub base_of : FrameKind → ℕ
 base_of kinds.Nmt = 0x000
 base_of kinds.Sync = 0x080
@@ -14,8 +14,9 @@ base_of kinds.Emcy = 0x080
 base_of kinds.SdoResponse = 0x580
 base_of kinds.SdoRequest = 0x600
 base_of kinds.Heartbeat = 0x700
+base_of kinds.Errors = 0x000
 
--- how many data bytes it has
+-- how many data bytes it has; a disturbed transfer counts as a frame of 9, which takes 1 to 166 bits
 abbrev pub size_of : FrameKind → ℕ
 size_of kinds.Nmt = 2
 size_of kinds.Sync = 0
@@ -23,6 +24,7 @@ size_of kinds.Emcy = 8
 size_of kinds.SdoResponse = 8
 size_of kinds.SdoRequest = 8
 size_of kinds.Heartbeat = 1
+size_of kinds.Errors = 9
 
 -- a microsecond is 4 ticks
 abbrev pub ticks : ℕ → ℕ
@@ -38,7 +40,7 @@ frame_stream row = record {
   every = 0;
 }
 
--- the order of the kinds
+-- the order of the kinds; the row of disturbed transfers stands behind those of all frames
 abbrev pub rank_of : FrameKind → ℕ
 rank_of kinds.Nmt = 0
 rank_of kinds.Sync = 1
@@ -46,6 +48,7 @@ rank_of kinds.Emcy = 2
 rank_of kinds.SdoResponse = 3
 rank_of kinds.SdoRequest = 4
 rank_of kinds.Heartbeat = 5
+rank_of kinds.Errors = 768
 
 -- the frames stand by rising node, and those of a node by their kinds: first NMT and SYNC, which are node 0's
 abbrev pub key_of : FrameRow → ℕ
@@ -65,7 +68,7 @@ streams_from frames key (suc count) = sent (find (λ row. key_of row == key) fra
 unfoldable pub fixed_streams : List FrameRow → List Entry
 fixed_streams frames = streams_from frames 0 768
 
--- NMT and SYNC are nobody's, and each other frame is a node's
+-- NMT, SYNC and disturbed transfers are nobody's, and each other frame is a node's
 abbrev pub IsOwner : FrameKind → ℕ → Type 0
 IsOwner kinds.Nmt node = node ≡ 0
 IsOwner kinds.Sync node = node ≡ 0
@@ -73,6 +76,7 @@ IsOwner kinds.Emcy node = 1 ≤ node
 IsOwner kinds.SdoResponse node = 1 ≤ node
 IsOwner kinds.SdoRequest node = 1 ≤ node
 IsOwner kinds.Heartbeat node = 1 ≤ node
+IsOwner kinds.Errors node = node ≡ 0
 
 -- the ranges of a row's node and times, in microseconds
 pub record IsTimed (row : FrameRow) : Type 0 where
@@ -82,7 +86,16 @@ pub record IsTimed (row : FrameRow) : Type 0 where
   pub jitter : row.jitter ≤ 60000000
   pub deadline : IfSome row.deadline (IsFrameDeadline row.kind row.period)
 
+-- a row that says how rare disturbed transfers are, where there are any
+pub record IsErrors (row : FrameRow) : Type 0 where
+  pub kind : row.kind ≡ kinds.Errors
+  pub node : row.node ≡ 0
+  pub least : 100 ≤ row.period
+  pub most : row.period ≤ 60000000
+  pub jitter : row.jitter ≤ 60000000
+  pub deadline : row.deadline ≡ None
+
 -- where the search for the row of a place may begin: it finds what it finds from the front
 pub record KnowsFrames (places : List ℕ) (frames : List FrameRow) : Type 0 where
-  pub size : length places ≡ 768
-  pub each : (key : ℕ) → key < 768 → find (λ row. key_of row == key) (drop (get_or places key 0) frames) ≡ find (λ row. key_of row == key) frames
+  pub size : length places ≡ 769
+  pub each : (key : ℕ) → key < 769 → find (λ row. key_of row == key) (drop (get_or places key 0) frames) ≡ find (λ row. key_of row == key) frames

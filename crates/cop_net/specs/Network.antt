@@ -12,6 +12,7 @@ use Rattle.cop_rows.specs.Pdos.{IsPdoTable}
 use Rattle.cop_rta.specs.declared.streams.Stream.{Stream}
 use Rattle.cop_rta.specs.Entries.{Entry, entry_of}
 use Rattle.cop_rta.specs.Test.{of_stream}
+use Rattle.cop_rta.specs.UpLemmas.{up_id}
 use Rattle.cop_table.specs.Reading.{◌>>=◌}
 use Rattle.cop_net.specs.declared.faults.Refusal.{Refusal}
 use Rattle.cop_net.specs.declared.faults.Rule.TheVariants as rules
@@ -21,8 +22,8 @@ use Rattle.cop_net.specs.Faults.{at_node}
 use Rattle.cop_net.specs.Rates.{is_some_rate}
 use Rattle.cop_rta.specs.Ranges.{second_range, IsOutside}
 use Rattle.cop_rta.specs.Greatest.{AreSynced}
-use Rattle.cop_net.specs.Fixed.{fixed_streams}
-use Rattle.cop_net.specs.Signals.{signals_of, has_sdo_deadline}
+use Rattle.cop_net.specs.Fixed.{frame_stream, fixed_streams}
+use Rattle.cop_net.specs.Signals.{signals_of, errors_in, has_sdo_deadline}
 use Rattle.cop_net.specs.Heartbeats.{heartbeat_of}
 use Rattle.cop_net.specs.Settings.{beats, stays_on}
 use Rattle.cop_net.specs.Devices.{File, Equipment, devices_of}
@@ -55,13 +56,22 @@ abbrev pub with_rate : Bool → Result (Unit {0}) Refusal
 with_rate false = at_node rules.NoRate 0
 with_rate true = Ok tt
 
+-- a stream of the bus where transfers may be disturbed: NMT counts as 001h
+abbrev pub up_entry : Entry → Entry
+up_entry e = record e { id = up_id e.id }
+
+-- the streams of the bus as they are tested: where transfers may be disturbed, these transfers are one more stream, above all others
+abbrev pub through : Option FrameRow → List Entry → List Entry
+through None streams = streams
+through (Some row) streams = map up_entry streams ++ frame_stream row ∷ []
+
 -- the streams of a network, or the first rule that its PDOs and devices break
 unfoldable pub streams_of : List FrameRow → List PdoRow → Equipment → Result (List Entry) Refusal
 streams_of frames rows equipment = do
   traffic ← pdos_of equipment.devices (signals_of frames (length rows)) rows
   _ ← all_settable frames traffic.used 0 equipment.devices
   _ ← with_rate (is_some_rate equipment.rates)
-  Ok (traffic.streams ++ fixed_streams frames)
+  Ok (through (errors_in frames) (traffic.streams ++ fixed_streams frames))
 
 -- what is accepted: the devices by their nodes and the candidates, and the streams
 pub record Accepted : Type 0 where

@@ -1,8 +1,8 @@
--- What the table of nodes says for PDOs.
+-- What the table of nodes says for PDOs, and of disturbed transfers.
 use Rattle.std.specs.Prelude.{ℕ, Bool, true, false, ◌&&◌, ◌⊎◌, ◌==◌, nat_le, is_some, find, if◌then◌else◌, Option, Some, None, List, [], ◌∷◌}
 use Rattle.std.specs.List.{list_any}
 use Rattle.cop_rows.specs.declared.node_table.FrameRow.{FrameRow}
-use Rattle.cop_rows.specs.declared.node_table.FrameKind.TheVariants.{Sync}
+use Rattle.cop_rows.specs.declared.node_table.FrameKind.TheVariants.{Sync, Errors}
 use Rattle.cop_rta.specs.declared.ranges.IdRange.{IdRange}
 use Rattle.cop_rta.specs.Ranges.{first_range, second_range, IsIn}
 use Rattle.cop_net.specs.declared.signals.Signals.{Signals}
@@ -16,6 +16,10 @@ if_sent (Some row) = if row.period == 0 then None else Some row
 -- the row of SYNC, where it is sent
 abbrev pub sync_of : List FrameRow → Option FrameRow
 sync_of frames = if_sent (find (λ row. key_of row == rank_of Sync) frames)
+
+-- the row of disturbed transfers, where there are any
+abbrev pub errors_in : List FrameRow → Option FrameRow
+errors_in frames = if_sent (find (λ row. key_of row == rank_of Errors) frames)
 
 -- some SDO frame has a deadline
 abbrev pub has_sdo_deadline : List FrameRow → Bool

@@ -2,9 +2,9 @@
 
 ghost use Rattle.std.specs.Prelude.{◌≡◌, ◌<◌, ◌≤◌, ◌==◌, All, IfSome, find};
 ghost use Rattle.cop_rows.specs.declared.node_table.FrameRow.{FrameRow};
-ghost use Rattle.cop_net.specs.Fixed.{rank_of, key_of, IsTimed, KnowsFrames};
+ghost use Rattle.cop_net.specs.Fixed.{rank_of, key_of, IsOwner, IsTimed, IsErrors, KnowsFrames};
 ghost use Rattle.cop_net.specs.Heartbeats.{time_in, heartbeat_of};
-ghost use Rattle.cop_net.specs.Signals.{sync_of, has_sdo_deadline};
+ghost use Rattle.cop_net.specs.Signals.{sync_of, errors_in, has_sdo_deadline};
 ghost use Rattle.cop_net.specs.Pdos.{IsSync};
 
 use cop_rows::{FrameKind, FrameRow};
@@ -13,10 +13,16 @@ use std::marker::Model;
 /// How many places the frames of all nodes have in their order.
 pub const PLACES: usize = 768;
 
+/// The place of the row of disturbed transfers, which is the last.
+const ERRORS: usize = 768;
+
+/// How many places there are with that one.
+const ALL_PLACES: usize = 769;
+
 /// The place of a kind in the order of the frames of one node.
 fn rank(kind: FrameKind) -> usize
     ensures value { result ≡ rank_of kind }
-    ensures most { result < 6 }
+    ensures most { result ≤ 768 }
 {
     match kind {
         FrameKind::Nmt => 0,
@@ -25,23 +31,24 @@ fn rank(kind: FrameKind) -> usize
         FrameKind::SdoResponse => 3,
         FrameKind::SdoRequest => 4,
         FrameKind::Heartbeat => 5,
+        FrameKind::Errors => ERRORS,
     }
 }
 
-/// The place of a row in the order of the frames: by rising node, and of one node by kind.
+/// The place of a row in the order of the frames: by rising node, and of one node by kind; disturbed transfers stand last.
 fn key(row: FrameRow) -> usize
     ensures value { result ≡ key_of row }
-    ensures most { row.node ≤ 127 → result < 768 }
+    ensures most { row.node ≤ 127 → IsOwner row.kind row.node → result < 769 }
 {
     6 * usize::from(row.node) + rank(row.kind)
 }
 
 /// The number of the first row at each place in the order of the frames.
-fn by_place(frames: &[FrameRow]) -> [u16; PLACES]
+fn by_place(frames: &[FrameRow]) -> [u16; ALL_PLACES]
     requires { All IsTimed frames.now }
     ensures { KnowsFrames result frames.now }
 {
-    let mut places = [u16::MAX; PLACES];
+    let mut places = [u16::MAX; ALL_PLACES];
     for number in (0..frames.len()).rev() {
         places[key(frames[number])] = u16::try_from(number).unwrap_or(u16::MAX);
     }
@@ -76,7 +83,7 @@ fn time_in(row: Option<FrameRow>) -> u16
 pub struct Frames<'a> {
     rows: &'a [FrameRow],
     // No row before the one of this number is at the place; behind all where none is.
-    places: [u16; PLACES],
+    places: [u16; ALL_PLACES],
 }
 
 impl<'a> Model for Frames<'a> {
@@ -108,7 +115,7 @@ impl<'a> Frames<'a> {
         ensures row { result ≡ find (λ row. key_of row == place) self.now }
         ensures timed { IfSome result IsTimed }
     {
-        if place < PLACES {
+        if place < ALL_PLACES {
             let before = usize::from(self.places[place]).min(self.rows.len());
             first_at(&self.rows[before..], place)
         } else {
@@ -132,6 +139,15 @@ impl<'a> Frames<'a> {
             Some(row) if row.period != 0 => Some(row),
             _ => None,
         }
+    }
+
+    /// The row of disturbed transfers, where there are any.
+    pub fn errors(&self) -> Option<FrameRow>
+        ensures row { result ≡ errors_in self.now }
+        ensures times { IfSome result IsErrors }
+    {
+        let row = self.at(ERRORS)?;
+        if row.period == 0 { None } else { Some(row) }
     }
 
     /// Whether some SDO frame has a deadline.

@@ -15,7 +15,7 @@ use crate::devices::Devices;
 use crate::eds_files::EdsFiles;
 use crate::equipping::{equip, supply};
 use crate::faults::{PlanFault, Rule};
-use crate::fixed::put_fixed;
+use crate::fixed::{put_fixed, through};
 use crate::frames::Frames;
 use crate::networks::Network;
 use crate::pdos::find_pdos;
@@ -44,7 +44,7 @@ fn frame_rows(nodes: &NodeTable) -> &[FrameRow]
 }
 
 #[tactic(auto, unfolding(crate::specs::Network::streams_of))]
-/// The streams of the frames and the PDOs of the tables.
+/// The streams of the frames and the PDOs of the tables, and of disturbed transfers where a row counts them.
 fn streams_of(
     alloc: Global,
     frames: &Frames<'_>,
@@ -64,7 +64,7 @@ fn streams_of(
     }
     let mut set = found.set;
     put_fixed(&mut set, frames)?;
-    Ok(set)
+    through(alloc, frames.errors(), set)
 }
 
 /// The network of the tables, by the rows that are in them, and of their devices.

@@ -54,7 +54,9 @@ impl<'a> Network<'a> {
         self.pdos.rows()
     }
 
-    /// The streams: the PDOs, with the provisional identifiers 181h, 182h, .., and then the frames of fixed identifiers.
+    /// The streams that are tested: the PDOs, with the provisional identifiers 181h, 182h, .., and then the frames of fixed identifiers.
+    /// If a row of the table of nodes says how rare disturbed transfers are, NMT counts as 001h. The last stream is then that of disturbed
+    /// transfers, with the identifier 000h, 9 bytes and no deadline.
     pub fn set(&self) -> &StreamSet
         ensures set { result.now ≡ self.now.set }
         ensures network { IsNetwork self.now }

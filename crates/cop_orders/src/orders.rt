@@ -294,7 +294,11 @@ pub enum Order<'a> {
     /// What changes in the devices between two plans.
     Diff(DiffOrder<'a>),
     /// A log of a real bus, watched by the plan of a network.
-    Watch(WatchOrder<'a>),
+    Watch {
+        log: WatchOrder<'a>,
+        /// The file that a table of what was seen of each stream is written to, if one is wanted.
+        csv: Option<&'a str>,
+    },
     /// What the rule of a number says, or what all say.
     Explain {
         number: Option<u8>,

@@ -33,3 +33,4 @@ pub mod RangeUniqueLemmas
 pub mod RangeOrderLemmas
 pub mod FoundLemmas
 pub mod FrameLemmas
+pub mod BusPlans

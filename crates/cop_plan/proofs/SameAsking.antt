@@ -6,6 +6,7 @@ use Rattle.std.proofs.lemmas.List.{length-map}
 use Rattle.std.proofs.lemmas.Option.{slice_get-map}
 use Rattle.cop_frame.specs.declared.rates.Rate.{Rate}
 use Rattle.cop_frame.specs.Rate.{ticks_of}
+use Rattle.cop_frame.specs.Lengths.{worst_bits}
 use Rattle.cop_rta.specs.declared.streams.Stream.{Stream}
 use Rattle.cop_rta.specs.Solutions.{IsLeastSolution}
 use Rattle.cop_rta.specs.Sums.{sum_where, max_where}
@@ -41,10 +42,10 @@ module _ (one other : List Stream) (e : map asking_of one ≡ map asking_of othe
 
   module _ (above : ℕ → Bool) (index : ℕ) (rate : Rate) (ahead : ℕ) where
     same_cost : (k : ℕ) → of_stream (cost_of rate) one k ≡ of_stream (cost_of rate) other k
-    same_cost k = same_number (λ (t : Asking). (55 + 10 * t.bytes) * ticks_of rate) k
+    same_cost k = same_number (λ (t : Asking). worst_bits t.bytes * ticks_of rate) k
 
     same_load : (time k : ℕ) → of_stream (load_of rate ahead time) one k ≡ of_stream (load_of rate ahead time) other k
-    same_load time k = same_number (λ (t : Asking). div_ceil (time + (if t.every == 0 then t.jitter else ahead + t.jitter)) t.period * ((55 + 10 * t.bytes) * ticks_of rate)) k
+    same_load time k = same_number (λ (t : Asking). div_ceil (time + (if t.every == 0 then t.jitter else ahead + t.jitter)) t.period * (worst_bits t.bytes * ticks_of rate)) k
 
     same_most : max_where (is_below (place_at one above index rate ahead)) (of_stream (cost_of rate) one) (length one) ≡ max_where (is_below (place_at other above index rate ahead)) (of_stream (cost_of rate) other) (length other)
     same_most =

@@ -1,8 +1,9 @@
 -- What a plan says, and the streams under its identifiers.
-use Rattle.std.specs.Prelude.{◌≡◌, ℕ, ◌<◌, ◌≤◌, List, length, map, get_or, slice_get, Option, None, Some, nat_lt, if◌then◌else◌}
+use Rattle.std.specs.Prelude.{◌≡◌, ℕ, ◌<◌, ◌≤◌, List, length, map, get_or, slice_get, Option, None, Some, [], nat_lt, if◌then◌else◌}
 use Rattle.std.specs.Option.{option_map_or, option_and_then}
 use Rattle.cop_frame.specs.declared.rates.Rate.{Rate}
 use Rattle.cop_rta.specs.declared.streams.Stream.{Stream}
+use Rattle.cop_rta.specs.Errors.{bus_of}
 use Rattle.cop_rta.specs.Test.{Passes, of_stream, place_by_id}
 use Rattle.cop_cert.specs.declared.refusals.Refusal.{Refusal}
 use Rattle.cop_plan.specs.declared.choices.Kept.{Kept}
@@ -17,6 +18,10 @@ pub record PlanValue : Type 0 where
   pub margin : Option Kept
   pub refusals : List Refusal
   pub streams : List Stream
+
+-- the same on the bus alone: without disturbed transfers, NMT under its own identifier, and without the refusals
+abbrev pub on_bus : PlanValue → PlanValue
+on_bus plan = record { rate = plan.rate; order = plan.order; ids = plan.ids; margin = plan.margin; refusals = []; streams = bus_of plan.streams }
 
 -- by how many ticks each deadline can be lowered
 abbrev pub margin_of : PlanValue → ℕ

@@ -1,6 +1,6 @@
 //! Plans: a rate, and identifiers for the PDOs.
 
-ghost use Rattle.std.specs.Prelude.{◌≡◌, ◌≢◌, Some, option_map, ℕ, ◌+◌, ◌<◌, ◌≤◌, ◌∷◌, [], ◌++◌, false, length, reverse, get_or, IfOk, OnOk, All, AllPairs};
+ghost use Rattle.std.specs.Prelude.{◌≡◌, ◌≢◌, Some, option_map, ℕ, ◌+◌, ◌<◌, ◌≤◌, ◌∷◌, [], ◌++◌, false, length, reverse, get_or, IsSome, IfOk, OnOk, All, AllPairs};
 ghost use Rattle.cop_rta.specs.declared.streams.Stream.{Stream};
 ghost use Rattle.cop_rta.specs.Streams.{has_id};
 ghost use Rattle.cop_cert.specs.Assignments.{least_id, id_under, IsPassing};
@@ -9,7 +9,8 @@ ghost use Rattle.cop_plan.specs.Margins.{IsOrderTo, others_of};
 ghost use Rattle.cop_plan.specs.Orders.{IsByPriority, id_at_place};
 ghost use Rattle.cop_plan.specs.Planned.{IsPlanned};
 ghost use Rattle.cop_plan.specs.Plans.{CanAssign};
-ghost use Rattle.cop_plan.specs.Values.{id_of, others_beyond, timing_of, HaveIds, AreOnTime, HasTested};
+ghost use Rattle.cop_rta.specs.Errors.{errors_of};
+ghost use Rattle.cop_plan.specs.Values.{id_of, on_bus, others_beyond, timing_of, HaveIds, AreOnTime, HasTested};
 
 use crate::choices::Kept;
 use cop_cert::{Items, Refusal};
@@ -101,6 +102,24 @@ impl Plan {
         &self.streams
     }
 
+    /// The same plan on the bus alone, if its streams count disturbed transfers: without these, and with NMT under its own identifier. What
+    /// passes with them passes without them. It has no refusals. `Err` is want of memory.
+    pub fn on_bus(&self, alloc: Global) -> Result<Plan, AllocError>
+        requires { IsSome (errors_of self.now.streams) }
+        ensures { IfOk result (λ plan. plan ≡ on_bus self.now) }
+    {
+        let streams = self.streams();
+        let _distinct = streams.streams();
+        Ok(Plan {
+            rate: self.rate,
+            order: copied(alloc, self.order.as_slice())?,
+            ids: copied(alloc, self.ids.as_slice())?,
+            margin: self.margin,
+            refusals: Items::new(alloc),
+            streams: streams.on_bus(alloc)?,
+        })
+    }
+
     /// The same plan, whose identifiers are also those of a margin.
     pub(crate) fn keeping(self, kept: Kept) -> Plan
         ensures margin { result.margin ≡ Some kept }
@@ -134,6 +153,15 @@ impl Plan {
     {
         self.refusals
     }
+}
+
+/// A copy of some values.
+fn copied<T: Copy>(alloc: Global, values: &[T]) -> Result<Items<T>, AllocError>
+    ensures { IfOk result (λ items. items ≡ values.now) }
+{
+    let mut copy = Vec::new(alloc);
+    copy.extend_from_slice(values)?;
+    Ok(copy.into())
 }
 
 /// The identifier at a place from the top, of which so many are of the first range.

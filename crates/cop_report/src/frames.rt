@@ -1,9 +1,10 @@
 //! What a page says of the frames with fixed identifiers, and of the PDOs that are below the SDO frames.
 
 use crate::bars::ResponseBar;
+use crate::errors::push_errors;
 use crate::pdos::push_margin;
 use crate::rates::push_verdict;
-use crate::senders::fixed_sender;
+use crate::senders::{bus_id, fixed_sender};
 use crate::units::{Count, Identifier, Millis};
 use cop_figures::{Figures, FrameTimes, PdoTimes};
 use cop_net::Network;
@@ -62,12 +63,12 @@ pub(crate) fn push_lower(
 const DEADLINE_HEADS: &str =
     "<th class=\"n\">Deadline</th><th class=\"n\">Response</th><th></th><th class=\"n\">Margin</th><th class=\"n\">Left</th>";
 
-/// Whether a network has fixed frames.
+/// Whether a network has fixed frames, or counts disturbed transfers.
 pub(crate) fn has_fixed(network: &Network<'_>) -> bool {
     network.pdos() < network.set().len()
 }
 
-/// The fixed frames by rising identifier: the streams of a network behind its PDOs.
+/// The streams of a network behind its PDOs by rising identifier: the fixed frames, and disturbed transfers if they are counted.
 fn fixed_frames(alloc: Global, network: &Network<'_>) -> Result<Vec<Stream>, AllocError> {
     let streams = network.set().streams();
     let mut frames = Vec::new(alloc);
@@ -95,16 +96,18 @@ fn push_times(page: &mut String, frame: &FrameTimes) -> Result<(), AllocError> {
     push_margin(page, bar)
 }
 
-/// Adds the line of a frame.
+/// Adds the line of a frame, if the stream is one.
 fn push_frame(
     page: &mut String,
     network: &Network<'_>,
     figures: &Figures,
     stream: &Stream,
 ) -> Result<(), AllocError> {
-    let (id, bytes) = (Identifier(stream.id), stream.bytes);
+    let Some(id) = bus_id(network, stream.id) else {
+        return Ok(());
+    };
+    let (sender, id, bytes) = (fixed_sender(network, id), Identifier(id), stream.bytes);
     let (period, jitter) = (Millis(stream.period), Millis(stream.jitter));
-    let sender = fixed_sender(network, stream.id);
     write!(
         page,
         "<tr><th scope=\"row\">{id}</th><td>{sender}</td><td class=\"n\">{bytes}</td><td class=\"n\">{period}</td><td class=\"n\">{jitter}</td>"
@@ -115,7 +118,7 @@ fn push_frame(
     page.push_str("</tr>\n")
 }
 
-/// Adds the fixed frames, where there are some.
+/// Adds the fixed frames, and how disturbed transfers are counted, where there are some.
 pub(crate) fn push_frames(
     page: &mut String,
     alloc: Global,
@@ -139,5 +142,7 @@ have a deadline, and those that have one pass the same test as the PDOs.</p>\n\
     for stream in frames.iter() {
         push_frame(page, network, figures, stream)?;
     }
-    page.push_str("</tbody></table></div>\n</section>\n")
+    page.push_str("</tbody></table></div>\n")?;
+    push_errors(page, network)?;
+    page.push_str("</section>\n")
 }

@@ -5,6 +5,7 @@ mod bars;
 mod bus;
 mod cable;
 mod devices;
+mod errors;
 mod frames;
 mod log;
 mod mappings;

@@ -3,7 +3,7 @@
 use crate::devices::sent_by;
 use crate::nearest::push_fastest;
 use crate::page::Report;
-use crate::senders::fixed_sender;
+use crate::senders::sender_in_set;
 use cop_net::Network;
 use cop_room::Miss;
 use std::alloc::{AllocError, Global};
@@ -31,12 +31,12 @@ fn push_stretch(page: &mut String, network: &Network<'_>, miss: &Miss) -> Result
     page.push_str("</li>\n")
 }
 
-/// Adds each frame without which, alone, a rate has a plan.
+/// Adds each frame without which, alone, a rate has a plan; or the same of disturbed transfers.
 fn push_spares(page: &mut String, network: &Network<'_>, miss: &Miss) -> Result<(), AllocError> {
     let kbits = miss.rate.kbits();
     for index in &miss.spare {
         if let Some(stream) = network.set().streams().get(*index) {
-            let sender = fixed_sender(network, stream.id);
+            let sender = sender_in_set(network, stream);
             write!(page, "<li>at {kbits} kbit/s: no {sender}</li>\n")?;
         }
     }

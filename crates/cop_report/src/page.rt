@@ -320,7 +320,7 @@ fn push_plan(page: &mut String, alloc: Global, report: Report<'_, '_>) -> Result
             push_log(page, report.network, log)?;
         }
         push_nodes(page, report.network, &settings)?;
-        push_premises(page)?;
+        push_premises(page, report.network)?;
     }
     Ok(())
 }
@@ -349,7 +349,7 @@ fn push_page(page: &mut String, alloc: Global, report: Report<'_, '_>) -> Result
         report.figures,
         report.are_rates_listed,
     )?;
-    push_loads(page, report.figures)?;
+    push_loads(page, report.network, report.figures)?;
     push_plan(page, alloc, report)?;
     write!(
         page,

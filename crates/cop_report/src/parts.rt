@@ -1,19 +1,52 @@
 //! What the response of a PDO is made of.
 
+use crate::senders::bus_id;
 use crate::units::{Count, Identifier, Millis};
 use cop_figures::{Breakdown, Delay};
+use cop_net::Network;
 use std::alloc::{AllocError, Global};
 use std::cmp::Reverse;
 
 /// How many streams that go before are told one by one; the others are told together.
 const MOST: usize = 8;
 
-/// The delays, that which takes longest first.
-fn by_time(alloc: Global, delays: &[Delay]) -> Result<Vec<Delay>, AllocError> {
+/// The delays by frames, that which takes longest first.
+fn by_time(
+    alloc: Global,
+    network: &Network<'_>,
+    delays: &[Delay],
+) -> Result<Vec<Delay>, AllocError> {
     let mut sorted = Vec::new(alloc);
-    sorted.extend_from_slice(delays)?;
+    for delay in delays {
+        if let Some(id) = bus_id(network, delay.id) {
+            let (transfers, ticks) = (delay.transfers, delay.ticks);
+            sorted.push(Delay {
+                id,
+                transfers,
+                ticks,
+            })?;
+        }
+    }
     sorted.sort_unstable_by_key(|delay| Reverse(delay.ticks));
     Ok(sorted)
+}
+
+/// Adds the disturbed transfers that go before, where they are counted.
+fn push_errors(
+    page: &mut String,
+    network: &Network<'_>,
+    delays: &[Delay],
+) -> Result<(), AllocError> {
+    for delay in delays {
+        if bus_id(network, delay.id).is_none() {
+            let (transfers, time) = (delay.transfers, Millis(delay.ticks));
+            write!(
+                page,
+                "<li>disturbed transfers ×{transfers} <b>{time}</b></li>"
+            )?;
+        }
+    }
+    Ok(())
 }
 
 /// How long some delays take together, in ticks.
@@ -63,6 +96,7 @@ fn push_instances(page: &mut String, parts: &Breakdown, period: u64) -> Result<(
 pub(crate) fn push_parts(
     page: &mut String,
     alloc: Global,
+    network: &Network<'_>,
     parts: &Breakdown,
     period: u64,
 ) -> Result<(), AllocError> {
@@ -73,7 +107,8 @@ pub(crate) fn push_parts(
         "<p class=\"parts\">Response of <b>{response}</b>:</p><ul class=\"parts\"><li>jitter <b>{jitter}</b></li>\
 <li>one from below <b>{blocking}</b></li>"
     )?;
-    push_delays(page, &by_time(alloc, &parts.delays)?)?;
+    push_errors(page, network, &parts.delays)?;
+    push_delays(page, &by_time(alloc, network, &parts.delays)?)?;
     push_instances(page, parts, period)?;
     write!(page, "<li>its transfer <b>{transfer}</b></li></ul>")
 }

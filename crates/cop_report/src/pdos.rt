@@ -177,7 +177,8 @@ fn push_folded(
     push_objects(page, &objects)?;
     let id = shown.times.stream.id;
     push_sending(page, source.network, source.settings, shown.row, id)?;
-    push_parts(page, alloc, shown.parts, shown.times.stream.period)?;
+    let period = shown.times.stream.period;
+    push_parts(page, alloc, source.network, shown.parts, period)?;
     page.push_str("</details></td></tr></tbody>\n")
 }
 

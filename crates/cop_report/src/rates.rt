@@ -2,6 +2,7 @@
 
 use crate::bars::LoadBar;
 use crate::devices::sent_by;
+use crate::errors::in_load;
 use crate::page::why_words;
 use crate::senders::fixed_sender;
 use crate::units::{Count, Identifier, Millis, Percent};
@@ -271,12 +272,20 @@ fn push_load(page: &mut String, load: &Load, planned: Option<Rate>) -> Result<()
 }
 
 /// Adds the load at each candidate rate.
-pub(crate) fn push_loads(page: &mut String, figures: &Figures) -> Result<(), AllocError> {
-    page.push_str(
+pub(crate) fn push_loads(
+    page: &mut String,
+    network: &Network<'_>,
+    figures: &Figures,
+) -> Result<(), AllocError> {
+    let fixed = in_load(network);
+    write!(
+        page,
         "<section id=\"load\">\n<h2>Load of the bus</h2>\n\
 <p>The longest frame of each stream over its period. The line is a full bus; a bar ends at 150&nbsp;%. \
-<span class=\"key pdo\"></span> PDOs <span class=\"key fixed\"></span> fixed frames</p>\n\
-<div class=\"scroll\"><table>\n<thead><tr><th>Rate</th><th></th><th class=\"n\">Load</th><th class=\"n\">PDOs</th><th class=\"n\">Fixed</th></tr></thead>\n<tbody>\n",
+<span class=\"key pdo\"></span> PDOs <span class=\"key fixed\"></span> {fixed}</p>\n"
+    )?;
+    page.push_str(
+        "<div class=\"scroll\"><table>\n<thead><tr><th>Rate</th><th></th><th class=\"n\">Load</th><th class=\"n\">PDOs</th><th class=\"n\">Fixed</th></tr></thead>\n<tbody>\n",
     )?;
     for load in figures.loads.iter() {
         push_load(page, load, figures.rate)?;

@@ -3,6 +3,7 @@
 use crate::devices::{Device, Pdo, device_of, sent_by};
 use cop_net::Network;
 use cop_plan::Plan;
+use cop_rta::Stream;
 use std::fmt;
 
 /// Who sends an identifier, and what.
@@ -11,7 +12,7 @@ pub(crate) enum Sender<'a> {
     Pdo(Pdo<'a>),
     /// A frame of a device, whose identifier is fixed: what it is to the device.
     Device { frame: &'a str, device: Device<'a> },
-    /// A frame of the whole network.
+    /// A frame of the whole network, or disturbed transfers.
     Network(&'a str),
 }
 
@@ -43,7 +44,28 @@ pub(crate) fn fixed_sender<'a>(network: &'a Network<'_>, id: u16) -> Sender<'a> 
     }
 }
 
-/// Who sends an identifier under a plan. The PDOs are its first streams, and no fixed frame has an identifier of theirs.
+/// The identifier on the bus of a stream of a network's set, by its identifier there. Where the network counts disturbed transfers, these have
+/// 000h there and none on the bus, and NMT has 001h.
+pub(crate) fn bus_id(network: &Network<'_>, id: u16) -> Option<u16> {
+    if network.set().errors().is_none() {
+        return Some(id);
+    }
+    match id {
+        0 => None,
+        1 => Some(0),
+        id => Some(id),
+    }
+}
+
+/// What a stream of a network's set is that is no PDO: a frame with a fixed identifier, or disturbed transfers.
+pub(crate) fn sender_in_set<'a>(network: &'a Network<'_>, stream: &Stream) -> Sender<'a> {
+    match bus_id(network, stream.id) {
+        Some(id) => fixed_sender(network, id),
+        None => Sender::Network("disturbed transfers"),
+    }
+}
+
+/// Who sends an identifier of the bus under a plan. The PDOs are its first streams, and no fixed frame has an identifier of theirs.
 pub(crate) fn sender_of<'a>(network: &'a Network<'_>, plan: &Plan, id: u16) -> Sender<'a> {
     if let Some(place) = plan.streams().place_of(id) {
         if let Some(row) = network.rows().get(place) {

@@ -1,17 +1,32 @@
 -- What one stream that asks no less has of each number.
-use Rattle.std.proofs.Common.{◌≡◌, ℕ, ◌+◌, ◌*◌, ◌<◌, ◌≤◌, ◌==◌, Bool, true, false, if◌then◌else◌, arith, sym, subst, le_trans, mul-le-mul_right, mul-le-mul_left}
+use Rattle.std.proofs.Common.{◌≡◌, ℕ, ◌+◌, ◌*◌, ◌<◌, ◌≤◌, ◌==◌, Bool, true, false, if◌then◌else◌, ⊎_elim, arith, sym, subst, le_trans, mul-le-mul_right, mul-le-mul_left}
 use Rattle.std.specs.Int.{div_ceil}
-use Rattle.std.proofs.lemmas.Bool.{eq-eqb}
+use Rattle.std.proofs.lemmas.Bool.{eq-eqb, cases_lt}
 use Rattle.cop_frame.specs.declared.rates.Rate.{Rate}
+use Rattle.cop_frame.specs.Lengths.{worst_bits}
 use Rattle.cop_frame.specs.Rate.{ticks_of}
+use Rattle.cop_frame.proofs.LengthLemmas.{worst_bits-frame, worst_bits-most}
 use Rattle.cop_rta.specs.declared.streams.Stream.{Stream}
 use Rattle.cop_rta.specs.Entries.{entry_of}
 use Rattle.cop_rta.specs.CeilLemmas.{div_ceil-reaches, div_ceil-least}
 use Rattle.cop_rta.specs.Test.{cost_of, jitter_of, load_of}
 use Rattle.cop_room.specs.Harder.{IsHarder}
 
+-- more bytes are no shorter, and a disturbed transfer is the longest
+bits_harder : (m n : ℕ) → m ≤ n → n ≤ 9 → worst_bits m ≤ worst_bits n
+unfolding worst_bits
+bits_harder m n more most = ⊎_elim
+    (λ (short : n < 9).
+    let a : worst_bits m ≡ 55 + 10 * m = worst_bits-frame m (omega (arith, more, short)) in
+    let b : worst_bits n ≡ 55 + 10 * n = worst_bits-frame n (omega (arith, short)) in
+    omega (arith, a, b, more))
+    (λ (long : 9 ≤ n).
+    let nine : 9 ≡ n = omega (arith, long, most) in
+    subst (λ k. worst_bits m ≤ worst_bits k) nine (worst_bits-most m (omega (arith, more, most))))
+    (cases_lt n 9)
+
 pub cost_harder : (rate : Rate) (s t : Stream) → IsHarder (entry_of s) (entry_of t) → cost_of rate s ≤ cost_of rate t
-cost_harder rate s t h = mul-le-mul_right (ticks_of rate) (omega (arith, h.bytes))
+cost_harder rate s t h = mul-le-mul_right (ticks_of rate) (bits_harder s.bytes t.bytes h.bytes t.bytes_in_range)
 
 -- in a longer time there are no fewer of shorter periods
 pub instances_harder : (x y p r : ℕ) → 0 < r → r ≤ p → x ≤ y → div_ceil x p ≤ div_ceil y r

@@ -1,5 +1,5 @@
 -- Streams of tables are in whole microseconds, and so are those of their plans.
-use Rattle.std.proofs.Common.{◌≡◌, ◌∙◌, ℕ, zero, suc, ◌+◌, ◌==◌, Bool, true, false, if◌then◌else◌, List, [], ◌∷◌, ◌++◌, map, length, slice_get, get_or, find, Option, Some, None, option_map, Result, Ok, Err, All, refl, sym, ap, subst, arith}
+use Rattle.std.proofs.Common.{◌≡◌, ◌∙◌, ℕ, ◌+◌, List, [], ◌∷◌, ◌++◌, map, length, slice_get, get_or, Option, Some, None, IfSome, option_map, Result, Ok, Err, All, refl, sym, ap, subst, arith}
 use Rattle.std.specs.Option.{ForSome}
 use Rattle.std.proofs.lemmas.List.Elements.{All-append, All-nil, All-cons}
 use Rattle.std.proofs.lemmas.Option.{slice_get-map, slice_get_within, get_or_from_slice_get}
@@ -13,12 +13,13 @@ use Rattle.cop_net.specs.declared.devices.Device.{Device}
 use Rattle.cop_net.specs.declared.faults.Refusal.{Refusal}
 use Rattle.cop_net.specs.declared.signals.Signals.{Signals}
 use Rattle.cop_net.specs.Devices.{Equipment, devices_of}
-use Rattle.cop_net.specs.Fixed.{ticks, frame_stream, sent, streams_from, fixed_streams, key_of}
-use Rattle.cop_net.specs.Network.{Net, Accepted, accepted, network_of, streams_of, all_settable, with_rate, IsNetwork}
+use Rattle.cop_net.specs.Fixed.{ticks, frame_stream, fixed_streams}
+use Rattle.cop_net.specs.Network.{Net, Accepted, accepted, through, network_of, streams_of, all_settable, with_rate, IsNetwork}
 use Rattle.cop_net.specs.Pdos.{Traffic, pdo_stream, pdo_added, pdos_of, no_traffic, transmitted_by, consumer_added, sent_by}
 use Rattle.cop_net.specs.Rates.{is_some_rate}
-use Rattle.cop_net.specs.Signals.{signals_of}
+use Rattle.cop_net.specs.Signals.{signals_of, errors_in}
 use Rattle.cop_net.specs.Steps.{folded}
+use Rattle.cop_net.proofs.ThroughLemmas.{through_all, fixed_all}
 use Rattle.cop_plan.specs.Plans.{IsPlan}
 use Rattle.cop_plan.specs.Values.{PlanValue, Timing, timing_of}
 use Rattle.cop_room.specs.Whole.{IsWhole, IsInMicroseconds, AreInMicroseconds}
@@ -37,25 +38,20 @@ if_whole : (o : Option ℕ) → ForSome (option_map ticks o) IsWhole
 if_whole None d is = absurd (cc)
 if_whole (Some n) d is = some_whole n d is
 
--- ---- fixed frames
+-- ---- fixed frames, and disturbed transfers
 
-sent_whole : (o : Option FrameRow) → All IsInMicroseconds (sent o)
-sent_whole None = All-nil IsInMicroseconds
-sent_whole (Some row) = go (row.period == 0)
-  where
-    go : (b : Bool) → All IsInMicroseconds (if b then [] else frame_stream row ∷ [])
-    go true = All-nil IsInMicroseconds
-    go false = All-cons IsInMicroseconds (frame_stream row) [] (record { period = ticks_whole row.period; jitter = ticks_whole row.jitter; deadline = if_whole row.deadline }) (All-nil IsInMicroseconds)
-
-from_whole : (frames : List FrameRow) (key count : ℕ) → All IsInMicroseconds (streams_from frames key count)
-unfolding streams_from
-from_whole frames key zero = All-nil IsInMicroseconds
-from_whole frames key (suc count) =
-    All-append IsInMicroseconds (sent (find (λ row. key_of row == key) frames)) (streams_from frames (key + 1) count) (sent_whole (find (λ row. key_of row == key) frames)) (from_whole frames (key + 1) count)
+row_whole : (row : FrameRow) → IsInMicroseconds (frame_stream row)
+row_whole row = record { period = ticks_whole row.period; jitter = ticks_whole row.jitter; deadline = if_whole row.deadline }
 
 fixed_whole : (frames : List FrameRow) → All IsInMicroseconds (fixed_streams frames)
-unfolding fixed_streams
-fixed_whole frames = from_whole frames 0 768
+fixed_whole frames = fixed_all IsInMicroseconds frames (λ k d lt. row_whole (get_or frames k d))
+
+any_whole : (o : Option FrameRow) → IfSome o (λ row. IsInMicroseconds (frame_stream row))
+any_whole None = tt
+any_whole (Some row) = row_whole row
+
+through_whole : (o : Option FrameRow) (streams : List Entry) → All IsInMicroseconds streams → All IsInMicroseconds (through o streams)
+through_whole o streams h = through_all IsInMicroseconds o streams (λ e its. record { period = its.period; jitter = its.jitter; deadline = its.deadline }) (any_whole o) h
 
 -- ---- PDOs
 
@@ -91,10 +87,11 @@ streams_whole frames rows equipment streams h =
     let p = bind_ok (pdos_of equipment.devices (signals_of frames (length rows)) rows) _ streams h in
     let q = bind_ok (all_settable frames p.0.used 0 equipment.devices) _ streams p.2 in
     let r = bind_ok (with_rate (is_some_rate equipment.rates)) _ streams q.2 in
-    let made : ◌≡◌ {A = Result (List Entry) Refusal} (Ok (p.0.streams ++ fixed_streams frames)) (Ok streams) = r.2 in
-    let same : p.0.streams ++ fixed_streams frames ≡ streams = cc in
+    let made : ◌≡◌ {A = Result (List Entry) Refusal} (Ok (through (errors_in frames) (p.0.streams ++ fixed_streams frames))) (Ok streams) = r.2 in
+    let same : through (errors_in frames) (p.0.streams ++ fixed_streams frames) ≡ streams = cc in
     subst (All IsInMicroseconds) same
-    (All-append IsInMicroseconds p.0.streams (fixed_streams frames) (pdos_whole equipment.devices (signals_of frames (length rows)) rows p.0 p.1) (fixed_whole frames))
+    (through_whole (errors_in frames) (p.0.streams ++ fixed_streams frames)
+    (All-append IsInMicroseconds p.0.streams (fixed_streams frames) (pdos_whole equipment.devices (signals_of frames (length rows)) rows p.0 p.1) (fixed_whole frames)))
 
 -- ---- networks and plans
 

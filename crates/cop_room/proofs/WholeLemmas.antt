@@ -1,9 +1,11 @@
 -- A plan in whole microseconds passes with its own numbers.
-use Rattle.std.proofs.Common.{◌≡◌, ◌∙◌, ℕ, ◌*◌, ◌/◌, ◌≤◌, ◌==◌, max, Bool, true, false, if◌then◌else◌, List, length, slice_get, get_or, Option, Some, None, MatchOption, option_map, unwrap_or, Result, Ok, Err, IfOk, refl, sym, ap, subst, arith, ⊎_elim}
+use Rattle.std.proofs.Common.{◌≡◌, ◌∙◌, ℕ, ◌*◌, ◌/◌, ◌≤◌, ◌==◌, max, min, Bool, true, false, if◌then◌else◌, List, length, slice_get, get_or, set, Option, Some, None, MatchOption, option_map, unwrap_or, Result, Ok, Err, IfOk, refl, sym, ap, subst, arith, ⊎_elim}
 use Rattle.std.specs.Int.{div_ceil}
 use Rattle.std.specs.Option.{ForSome, option_map_or, option_and_then}
 use Rattle.std.proofs.Math.Nat.{mul-div_cancel_left}
 use Rattle.std.proofs.lemmas.Bool.{eqb-true, eqb-false}
+use Rattle.std.proofs.lemmas.Grind.{get_or-set_at}
+use Rattle.std.proofs.lemmas.List.{get_or-set_other, length-set}
 use Rattle.std.proofs.lemmas.Option.{slice_get_cases, slice_get_within, get_or_from_slice_get}
 use Rattle.cop_frame.specs.declared.rates.Rate.{Rate}
 use Rattle.cop_rta.specs.declared.streams.Stream.{Stream}
@@ -17,10 +19,12 @@ use Rattle.cop_cert.specs.Causes.{HasSynchronous}
 use Rattle.cop_plan.specs.Values.{HaveDeadlines, AreOnTime}
 use Rattle.cop_room.specs.declared.rows.RowRoom.{RowRoom}
 use Rattle.cop_room.specs.declared.rooms.Room.{Room}
-use Rattle.cop_room.specs.Changes.{at_row, with_period, with_deadline, with_jitter, with_bytes, with_sync_period, with_periods, with_times, scaled, scaled_period}
+use Rattle.cop_room.specs.Changes.{AreChanged, at_row, with_period, with_deadline, with_jitter, with_bytes, with_sync_period, with_periods, with_times, scaled, scaled_period}
 use Rattle.cop_room.specs.Keeping.{AllStillPass, Holds, IsLeastLimit}
-use Rattle.cop_room.specs.Room.{CanFall, period_now, jitter_now, deadline_now, IsRowRoom, IsSyncRoom, IsRoom}
+use Rattle.cop_room.specs.Room.{CanFall, period_now, jitter_now, deadline_now, bytes_now, IsRowRoom, IsSyncRoom, IsRoom}
 use Rattle.cop_room.specs.Whole.{IsWhole, AreInMicroseconds, AreRowLimits, IsSyncLimit, AreLimits}
+use Rattle.cop_room.proofs.Assigned.{plan_passes}
+use Rattle.cop_room.proofs.ChangeLemmas.{bytes_more, changed_harder}
 
 -- ---- a whole time in a thousand thousandths is itself
 
@@ -35,6 +39,33 @@ as_it_is least q time enough whole = omega (arith, enough, whole)
 
 whole_scaled : (least time : ℕ) → least ≤ time → IsWhole time → scaled least 1000 time ≡ time
 whole_scaled least time enough whole = ap (λ q. max least (4 * q)) (thousand (time / 4)) ∙ as_it_is least (time / 4) time enough whole
+
+-- ---- a row has 8 bytes at most
+
+few : (n : ℕ) → min 8 n ≤ 9
+few n = omega arith
+
+-- a stream with its bytes, 8 at most
+abbrev with_fewer : Stream → Stream
+with_fewer s = record {
+  id = s.id;
+  bytes = min 8 s.bytes;
+  period = s.period;
+  jitter = s.jitter;
+  deadline = s.deadline;
+  every = s.every;
+  id_in_range = s.id_in_range;
+  bytes_in_range = few s.bytes;
+  period_least = s.period_least;
+  period_most = s.period_most;
+  jitter_in_range = s.jitter_in_range;
+  deadline_least = s.deadline_least;
+  deadline_most = s.deadline_most;
+  every_most = s.every_most;
+  synchronous_id = s.synchronous_id;
+}
+
+-- ---- what changes nothing
 
 module _ (rate : Rate) (streams : List Stream) (pdos : ℕ) (all : AllStillPass rate pdos streams) (whole : AreInMicroseconds streams) where
   -- what changes no stream leaves all that pass
@@ -75,11 +106,42 @@ module _ (rate : Rate) (streams : List Stream) (pdos : ℕ) (all : AllStillPass 
     jitter_stays : Holds (AllStillPass rate pdos) (at_row row (with_jitter (4 * jitter_now streams row))) streams
     jitter_stays = row_stays (with_jitter (4 * jitter_now streams row)) row s here (ap (λ x. with_jitter x (entry_of s)) jitter_is)
 
-    bytes_is : of_stream (λ x. x.bytes) streams row ≡ s.bytes
-    bytes_is = ap (λ (o : Option Stream). option_map_or (λ x. x.bytes) o 0) here
+    bytes_is : bytes_now streams row ≡ min 8 s.bytes
+    bytes_is = ap (λ (o : Option Stream). min 8 (option_map_or (λ x. x.bytes) o 0)) here
 
-    bytes_stay : Holds (AllStillPass rate pdos) (at_row row (with_bytes (of_stream (λ x. x.bytes) streams row))) streams
-    bytes_stay = row_stays (with_bytes (of_stream (λ x. x.bytes) streams row)) row s here (ap (λ x. with_bytes x (entry_of s)) bytes_is)
+    -- the same streams, where a row of more than 8 bytes has 8
+    abbrev lighter : List Stream
+    lighter = set streams row (with_fewer s)
+
+    lighter_is : (k : ℕ) (a b : Stream) → slice_get streams k ≡ Some a → slice_get lighter k ≡ Some b → entry_of b ≡ at_row row (with_bytes (bytes_now streams row)) k (entry_of a)
+    lighter_is k a b at there = go (k == row) (λ e. eqb-true k row e) (λ f. eqb-false k row f)
+      where
+        is : get_or lighter k a ≡ b
+        is = get_or_from_slice_get lighter k b a there
+
+        go : (c : Bool) → (c ≡ true → k ≡ row) → (c ≡ false → k ≡ row → ⊥) → entry_of b ≡ (if c then with_bytes (bytes_now streams row) (entry_of a) else entry_of a)
+        go true e f =
+            let both : Some s ≡ Some a = sym here ∙ sym (ap (slice_get streams) (e refl)) ∙ at in
+            let one : s ≡ a = cc in
+            let mine : get_or lighter k a ≡ with_fewer s = get_or-set_at streams row k (with_fewer s) a (e refl) (slice_get_within streams row s here) in
+            ap entry_of (sym is ∙ mine) ∙ ap (λ n. with_bytes n (entry_of s)) (sym bytes_is) ∙ ap (λ (x : Stream). with_bytes (bytes_now streams row) (entry_of x)) one
+        go false e f = ap entry_of (sym is ∙ get_or-set_other streams row k (with_fewer s) a (f refl) ∙ get_or_from_slice_get streams k a a at)
+
+    are_lighter : AreChanged (at_row row (with_bytes (bytes_now streams row))) streams lighter
+    are_lighter = record { as_many = sym (length-set streams row (with_fewer s)); each = lighter_is }
+
+    bytes_stay : pdos ≤ length streams → Holds (AllStillPass rate pdos) (at_row row (with_bytes (bytes_now streams row))) streams
+    bytes_stay count =
+        let as_it_is = row_stays (with_bytes s.bytes) row s here refl in
+        let fewer : bytes_now streams row ≤ s.bytes = omega (arith, bytes_is) in
+        let harder = changed_harder (at_row row (with_bytes (bytes_now streams row))) (at_row row (with_bytes s.bytes)) streams lighter as_it_is.changed
+        (bytes_more row (bytes_now streams row) s.bytes fewer) are_lighter as_it_is.are_changed in
+        let size = length-set streams row (with_fewer s) in
+        record {
+          changed = lighter;
+          are_changed = are_lighter;
+          holds = plan_passes lighter as_it_is.changed rate pdos harder (omega (arith, count, size)) as_it_is.holds;
+        }
 
     module _ (d : ℕ) (dated : option_and_then (λ (x : Stream). x.deadline) (slice_get streams row) ≡ Some d) where
       own_deadline : s.deadline ≡ Some d
@@ -101,8 +163,8 @@ module _ (rate : Rate) (streams : List Stream) (pdos : ℕ) (all : AllStillPass 
     jitter_counts : jitter_now streams row ≤ 60000000
     jitter_counts = omega (arith, jitter_is, s.jitter_in_range)
 
-    bytes_count : of_stream (λ x. x.bytes) streams row ≤ 8
-    bytes_count = omega (arith, bytes_is, s.bytes_in_range)
+    bytes_count : bytes_now streams row ≤ 8
+    bytes_count = omega (arith, bytes_is)
 
   period_limit : (row : ℕ) (s : Stream) → slice_get streams row ≡ Some s → (o : Option ℕ)
       → MatchOption o (1 ≤ of_stream (λ x. x.every) streams row)
@@ -111,13 +173,13 @@ module _ (rate : Rate) (streams : List Stream) (pdos : ℕ) (all : AllStillPass 
   period_limit row s here None h = h
   period_limit row s here (Some x) h = h.1 (period_counts row s here) (period_stays row s here)
 
-  row_limits : (row : ℕ) (s : Stream) (d : ℕ) (r : RowRoom) → slice_get streams row ≡ Some s → option_and_then (λ (x : Stream). x.deadline) (slice_get streams row) ≡ Some d
+  row_limits : (row : ℕ) (s : Stream) (d : ℕ) (r : RowRoom) → pdos ≤ length streams → slice_get streams row ≡ Some s → option_and_then (λ (x : Stream). x.deadline) (slice_get streams row) ≡ Some d
       → IsRowRoom rate streams pdos row r → AreRowLimits rate streams pdos row r
-  row_limits row s d r here dated room = record {
+  row_limits row s d r count here dated room = record {
     period = period_limit row s here r.period room.period;
     jitter = room.jitter (jitter_counts row s here) (jitter_stays row s here);
     deadline = room.deadline (deadline_counts row s here d dated) (deadline_stays row s here d dated);
-    bytes = room.bytes (bytes_count row s here) (bytes_stay row s here);
+    bytes = room.bytes (bytes_count row s here) (bytes_stay row s here count);
   }
 
   -- ---- all at once
@@ -235,7 +297,7 @@ module _ (rate : Rate) (streams : List Stream) (pdos : ℕ) (all : AllStillPass 
           let mine = room.rows p low in
           let d = dated p low in
           ⊎_elim
-          (λ o. (mine.0, mine.1, row_limits p o.0 d.0 mine.0 o.2 d.1 mine.2))
+          (λ o. (mine.0, mine.1, row_limits p o.0 d.0 mine.0 count o.2 d.1 mine.2))
           (λ past. absurd (let n = past.0 in omega (arith, n, low, count)))
           (slice_get_cases streams p).1;
       sync = sync_limit distinct r.sync count room.sync;

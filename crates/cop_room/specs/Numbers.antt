@@ -26,9 +26,9 @@ change_of Periods x = with_periods x
 change_of Times x = with_times x
 change_of Deadlines x = with_deadlines x
 
--- the numbers that a stream may have
+-- the numbers that a stream may have: a disturbed transfer counts as 9 bytes
 pub record IsInRange (e : Entry) : Type 0 where
-  pub bytes : e.bytes ≤ 8
+  pub bytes : e.bytes ≤ 9
   pub period_least : 400 ≤ e.period
   pub period_most : e.period ≤ 240000000
   pub jitter : e.jitter ≤ 240000000

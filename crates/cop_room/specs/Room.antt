@@ -1,5 +1,5 @@
 -- How far each number of a plan can go, in the units of tables: microseconds and bytes.
-use Rattle.std.specs.Prelude.{ℕ, ◌≡◌, ◌+◌, ◌*◌, ◌/◌, ◌-◌, ◌<◌, ◌≤◌, max, true, false, List, ◌∷◌, length, slice_get, Some, unwrap_or, MatchOption}
+use Rattle.std.specs.Prelude.{ℕ, ◌≡◌, ◌+◌, ◌*◌, ◌/◌, ◌-◌, ◌<◌, ◌≤◌, max, min, true, false, List, ◌∷◌, length, slice_get, Some, unwrap_or, MatchOption}
 use Rattle.std.specs.Option.{option_and_then}
 use Rattle.cop_frame.specs.declared.rates.Rate.{Rate}
 use Rattle.cop_rta.specs.declared.streams.Stream.{Stream}
@@ -34,6 +34,10 @@ jitter_now streams row = of_stream (λ s. s.jitter) streams row / 4
 abbrev pub deadline_now : List Stream → ℕ → ℕ
 deadline_now streams row = unwrap_or (option_and_then (λ s. s.deadline) (slice_get streams row)) 0 / 4
 
+-- its bytes, of which a frame has 8 at most
+abbrev pub bytes_now : List Stream → ℕ → ℕ
+bytes_now streams row = min 8 (of_stream (λ s. s.bytes) streams row)
+
 -- how far the numbers of a row go alone, all else as it is. The period of a synchronous row is SYNC's
 pub record IsRowRoom (rate : Rate) (streams : List Stream) (pdos row : ℕ) (r : RowRoom) : Type 0 where
   pub period : MatchOption r.period (1 ≤ of_stream (λ s. s.every) streams row)
@@ -41,7 +45,7 @@ pub record IsRowRoom (rate : Rate) (streams : List Stream) (pdos row : ℕ) (r :
       × CanFall (AllStillPass rate pdos) (λ y. at_row row (with_period (4 * y))) streams 100 (period_now streams row) x)
   pub jitter : CanRise (AllStillPass rate pdos) (λ y. at_row row (with_jitter (4 * y))) streams 60000000 (jitter_now streams row) r.jitter
   pub deadline : CanFall (AllStillPass rate pdos) (λ y. at_row row (with_deadline (4 * y))) streams 1 (deadline_now streams row) r.deadline
-  pub bytes : CanRise (AllStillPass rate pdos) (λ y. at_row row (with_bytes y)) streams 8 (of_stream (λ s. s.bytes) streams row) r.bytes
+  pub bytes : CanRise (AllStillPass rate pdos) (λ y. at_row row (with_bytes y)) streams 8 (bytes_now streams row) r.bytes
 
 -- SYNC's period with all synchronous rows
 pub record IsSyncRoom (rate : Rate) (streams : List Stream) (pdos x : ℕ) : Type 0 where

@@ -5,7 +5,7 @@ ghost use Rattle.std.specs.Bool.{OnTrue, OnFalse};
 ghost use Rattle.cop_rta.specs.Test.{of_stream};
 ghost use Rattle.cop_room.specs.Changes.{at_row, with_period, with_jitter, with_bytes, with_deadline};
 ghost use Rattle.cop_room.specs.Keeping.{AllStillPass};
-ghost use Rattle.cop_room.specs.Room.{CanFall, CanRise, IsRowRoom, period_now, jitter_now, deadline_now};
+ghost use Rattle.cop_room.specs.Room.{CanFall, CanRise, IsRowRoom, period_now, jitter_now, deadline_now, bytes_now};
 
 use crate::limits::{Start, least_or_now, start_from};
 use crate::numbers::{LONGEST_JITTER, MOST_BYTES, Number};
@@ -76,14 +76,14 @@ fn deadline_of(streams: &[Stream], row: usize) -> u64
     streams[row].deadline.unwrap_or(0) / 4
 }
 
-/// The bytes of a stream.
+/// The bytes of a stream, 8 at most.
 #[tactic(auto, using(cop_rta::specs::SumsLemmas::of_stream_read))]
 fn bytes_of(streams: &[Stream], row: usize) -> u64
     requires { row < length streams.now }
-    ensures value { result ≡ of_stream (λ s. s.bytes) streams.now row }
+    ensures value { result ≡ bytes_now streams.now row }
     ensures most { result ≤ 8 }
 {
-    u64::from(streams[row].bytes)
+    u64::from(streams[row].bytes).min(MOST_BYTES)
 }
 
 /// The least period of a row; none where it is synchronous.
@@ -173,7 +173,7 @@ fn most_bytes(
 ) -> Result<u8, AllocError>
     requires count { pdos ≤ length set.now }
     requires row { row < pdos }
-    ensures { IfOk result (CanRise (AllStillPass rate pdos) (λ y. at_row row (with_bytes y)) set.now 8 (of_stream (λ s. s.bytes) set.now row)) }
+    ensures { IfOk result (CanRise (AllStillPass rate pdos) (λ y. at_row row (with_bytes y)) set.now 8 (bytes_now set.now row)) }
 {
     let now = bytes_of(set.streams(), row);
     let below = MOST_BYTES - now;

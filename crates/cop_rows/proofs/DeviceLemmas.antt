@@ -6,7 +6,7 @@ use Rattle.std.proofs.lemmas.List.Folds.{Any-from_list_any}
 use Rattle.cop_rows.specs.declared.node_table.DeviceRow.{DeviceRow}
 use Rattle.cop_rows.specs.declared.node_table.FrameRow.{FrameRow}
 use Rattle.cop_rows.specs.declared.node_table.FrameKind.{FrameKind}
-use Rattle.cop_rows.specs.declared.node_table.FrameKind.TheVariants.{Nmt, Sync, Emcy, SdoResponse, SdoRequest, Heartbeat}
+use Rattle.cop_rows.specs.declared.node_table.FrameKind.TheVariants.{Nmt, Sync, Emcy, SdoResponse, SdoRequest, Heartbeat, Errors}
 use Rattle.cop_rows.specs.Nodes.{NodeLists, IsNodeTable, IsNodeOf, HasDevice}
 use Rattle.cop_rows.specs.NodeReading.{has_node, has_device, first_lacking, lacks_device}
 use Rattle.cop_rows.specs.NodeRows.{IsNodeRows}
@@ -24,6 +24,7 @@ node_kept devices Emcy node nobodys h = device_found devices node (has_device de
 node_kept devices SdoResponse node nobodys h = device_found devices node (has_device devices node) refl h
 node_kept devices SdoRequest node nobodys h = device_found devices node (has_device devices node) refl h
 node_kept devices Heartbeat node nobodys h = device_found devices node (has_device devices node) refl h
+node_kept devices Errors node nobodys h = nobodys refl
 
 lacks_none_by : (t : Bool) (devices : List DeviceRow) (place : ℕ) (rest : Option ℕ) → (if t then Some place else rest) ≡ None → (t ≡ false) × (rest ≡ None)
 lacks_none_by true devices place rest h = cc

@@ -9,7 +9,7 @@ use Rattle.std.proofs.lemmas.List.Quantifiers.{all_pairs_push}
 use Rattle.cop_rows.specs.declared.node_table.DeviceRow.{DeviceRow}
 use Rattle.cop_rows.specs.declared.node_table.FrameRow.{FrameRow}
 use Rattle.cop_rows.specs.declared.node_table.FrameKind.{FrameKind}
-use Rattle.cop_rows.specs.declared.node_table.FrameKind.TheVariants.{Nmt, Sync, Emcy, SdoResponse, SdoRequest, Heartbeat}
+use Rattle.cop_rows.specs.declared.node_table.FrameKind.TheVariants.{Nmt, Sync, Emcy, SdoResponse, SdoRequest, Heartbeat, Errors}
 use Rattle.cop_rows.specs.Nodes.{NodeLists}
 use Rattle.cop_rows.specs.NodeReading.{has_device, has_frame, number_of_kind}
 use Rattle.cop_rows.specs.NodeRows.{IsNodeRows, IsDeviceRow, IsFrameRow, KnowsRows, flag_of}
@@ -36,8 +36,9 @@ number_least Emcy = omega arith
 number_least SdoResponse = omega arith
 number_least SdoRequest = omega arith
 number_least Heartbeat = omega arith
+number_least Errors = omega arith
 
-number_most : (kind : FrameKind) → number_of_kind kind ≤ 6
+number_most : (kind : FrameKind) → number_of_kind kind ≤ 7
 unfolding number_of_kind
 number_most Nmt = omega arith
 number_most Sync = omega arith
@@ -45,6 +46,7 @@ number_most Emcy = omega arith
 number_most SdoResponse = omega arith
 number_most SdoRequest = omega arith
 number_most Heartbeat = omega arith
+number_most Errors = omega arith
 
 -- a device row with a new node, put at the end
 pub kept_device : (flags : List Bool) (lists : NodeLists) (d : DeviceRow) (devices : List DeviceRow) → devices ≡ lists.devices ++ d ∷ []
@@ -117,7 +119,7 @@ kept_frame flags lists f frames e h knows is free =
       },
     )
 
-none_known : (n : ℕ) (flags : List Bool) → n ≡ 896 → flags ≡ replicate n false → KnowsRows flags (record { devices = []; frames = [] })
+none_known : (n : ℕ) (flags : List Bool) → n ≡ 1024 → flags ≡ replicate n false → KnowsRows flags (record { devices = []; frames = [] })
 none_known n flags count all = record {
   size = rw all (length-replicate n false) ∙ count;
   devices = λ node high. rw all (get_or-replicate n node false false (omega arith));
@@ -125,7 +127,7 @@ none_known n flags count all = record {
 }
 
 -- no row, and no flag
-pub none_kept : (n : ℕ) (flags : List Bool) (devices : List DeviceRow) (frames : List FrameRow) → devices ≡ [] → frames ≡ [] → n ≡ 896 → flags ≡ replicate n false
+pub none_kept : (n : ℕ) (flags : List Bool) (devices : List DeviceRow) (frames : List FrameRow) → devices ≡ [] → frames ≡ [] → n ≡ 1024 → flags ≡ replicate n false
     → IsNodeRows (record { devices = devices; frames = frames }) × KnowsRows flags (record { devices = devices; frames = frames })
 none_kept n flags devices frames d f count all = rw (d, f) (
   record {

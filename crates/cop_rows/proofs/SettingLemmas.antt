@@ -1,20 +1,18 @@
 -- The rows of a table of settings.
-use Rattle.std.proofs.Common.{◌≡◌, ◌≢◌, ℕ, ◌<◌, ◌==◌, ◌||◌, Bool, true, false, cond, List, [], ◌∷◌, ◌++◌, length, get_or, set, refl, sym, ap, ◌∙◌, arith, true≢false, All, Option, Some, None, Result, Ok, Err, ⊎_elim}
-use Rattle.std.specs.List.{list_any, Any}
+use Rattle.std.proofs.Common.{◌≡◌, ◌≢◌, ℕ, ◌<◌, ◌==◌, ◌||◌, Bool, true, false, cond, List, [], ◌∷◌, ◌++◌, length, get_or, set, refl, sym, ap, ◌∙◌, arith, true≢false, Err, ⊎_elim}
 use Rattle.std.specs.BTreeSet.{BTreeSet, contains}
 use Rattle.std.specs.Ordering.{nat_cmp}
-use Rattle.std.proofs.lemmas.Bool.{cases_eq, eq-eqb, ne_eqb}
+use Rattle.std.proofs.lemmas.Bool.{cases_eq, eq-eqb}
 use Rattle.std.proofs.lemmas.List.{length-set, get_or-set_same, get_or-set_other}
 use Rattle.std.proofs.lemmas.List.Elements.{All-nil, All-push, All-set}
 use Rattle.std.proofs.lemmas.List.Folds.{list_any_at, list_any-append}
 use Rattle.std.proofs.lemmas.List.Quantifiers.{all_pairs_push}
 use Rattle.cop_eds.proofs.ListLemmas.{get_or_same}
 use Rattle.cop_rows.specs.declared.node_table.DeviceRow.{DeviceRow}
-use Rattle.cop_rows.specs.declared.node_table.FrameRow.{FrameRow}
 use Rattle.cop_rows.specs.declared.node_table.FrameKind.{FrameKind}
-use Rattle.cop_rows.specs.declared.node_table.FrameKind.TheVariants.{Nmt, Sync, Emcy, SdoResponse, SdoRequest, Heartbeat}
+use Rattle.cop_rows.specs.declared.node_table.FrameKind.TheVariants.{Nmt, Sync, Emcy, SdoResponse, SdoRequest, Heartbeat, Errors}
 use Rattle.cop_rows.specs.declared.setting_rows.SettingRow.{SettingRow}
-use Rattle.cop_rows.specs.Nodes.{NodeLists, IsNodeTable, IsNodeOf, IsFrame, HasDevice}
+use Rattle.cop_rows.specs.Nodes.{NodeLists, IsNodeTable, IsNodeOf, HasDevice}
 use Rattle.cop_rows.specs.declared.refusals.Column.TheVariants as columns
 use Rattle.cop_rows.specs.declared.refusals.Rule.TheVariants as rules
 use Rattle.cop_rows.specs.Fields.{parts}
@@ -77,6 +75,7 @@ frame_node devices place d rows Emcy node inside h = node_there devices place d 
 frame_node devices place d rows SdoResponse node inside h = node_there devices place d rows node inside h
 frame_node devices place d rows SdoRequest node inside h = node_there devices place d rows node inside h
 frame_node devices place d rows Heartbeat node inside h = node_there devices place d rows node inside h
+frame_node devices place d rows Errors node inside h = h
 
 -- a table whose devices have other settings is a table
 pub table_kept : (lists : NodeLists) (place : ℕ) (d : DeviceRow) (rows : List SettingRow) → place < length lists.devices → IsNodeTable lists → AreSettingRows rows

@@ -13,7 +13,7 @@ use Rattle.cop_rows.specs.declared.refusals.Refusal.{Refusal}
 use Rattle.cop_rows.specs.declared.node_table.DeviceRow.{DeviceRow}
 use Rattle.cop_rows.specs.declared.node_table.FrameRow.{FrameRow}
 use Rattle.cop_rows.specs.declared.node_table.FrameKind.{FrameKind}
-use Rattle.cop_rows.specs.declared.node_table.FrameKind.TheVariants.{Nmt, Sync, Emcy, SdoResponse, SdoRequest, Heartbeat}
+use Rattle.cop_rows.specs.declared.node_table.FrameKind.TheVariants.{Nmt, Sync, Emcy, SdoResponse, SdoRequest, Heartbeat, Errors}
 use Rattle.cop_rows.specs.declared.node_rows.Row.{Row}
 use Rattle.cop_rows.specs.declared.node_rows.Row.TheVariants as variants
 use Rattle.cop_rows.specs.Fields.{number_within, is_within, name_of, rows_under_one_of}
@@ -29,12 +29,13 @@ kind_of word =
     else if bytes_eq word (codes "sdo_response") then Some SdoResponse
     else if bytes_eq word (codes "sdo_request") then Some SdoRequest
     else if bytes_eq word (codes "heartbeat") then Some Heartbeat
+    else if bytes_eq word (codes "errors") then Some Errors
     else None
 
 abbrev pub is_device : List ℕ → Bool
 is_device word = bytes_eq word (codes "device")
 
--- NMT and SYNC are no node's
+-- NMT, SYNC and disturbed transfers are no node's
 abbrev pub has_node : FrameKind → Bool
 has_node Nmt = false
 has_node Sync = false
@@ -42,6 +43,7 @@ has_node Emcy = true
 has_node SdoResponse = true
 has_node SdoRequest = true
 has_node Heartbeat = true
+has_node Errors = false
 
 abbrev pub is_heartbeat : FrameKind → Bool
 is_heartbeat Nmt = false
@@ -50,6 +52,7 @@ is_heartbeat Emcy = false
 is_heartbeat SdoResponse = false
 is_heartbeat SdoRequest = false
 is_heartbeat Heartbeat = true
+is_heartbeat Errors = false
 
 -- node 0, or 1 to 127
 abbrev pub node_in : FrameKind → List ℕ → Result ℕ Rule
@@ -128,6 +131,7 @@ number_of_kind Emcy = 3
 number_of_kind SdoResponse = 4
 number_of_kind SdoRequest = 5
 number_of_kind Heartbeat = 6
+number_of_kind Errors = 7
 
 -- whether a row is of this kind and node
 abbrev pub has_frame : List FrameRow → FrameKind → ℕ → Bool

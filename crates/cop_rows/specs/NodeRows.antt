@@ -42,6 +42,6 @@ flag_of kind node = number_of_kind kind * 128 + node
 
 -- flags that tell which rows are there
 pub record KnowsRows (flags : List Bool) (lists : NodeLists) : Type 0 where
-  pub size : length flags ≡ 896
+  pub size : length flags ≡ 1024
   pub devices : (node : ℕ) → node ≤ 127 → get_or flags node false ≡ has_device lists.devices node
   pub frames : (kind : FrameKind) (node : ℕ) → node ≤ 127 → get_or flags (flag_of kind node) false ≡ has_frame lists.frames kind node

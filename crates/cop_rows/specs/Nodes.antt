@@ -5,7 +5,7 @@ use Rattle.cop_rows.specs.declared.node_table.DeviceRow.{DeviceRow}
 use Rattle.cop_rows.specs.declared.node_table.FrameRow.{FrameRow}
 use Rattle.cop_rows.specs.declared.node_table.FrameKind.{FrameKind}
 use Rattle.cop_rows.specs.SettingRows.{AreSettingRows}
-use Rattle.cop_rows.specs.declared.node_table.FrameKind.TheVariants.{Nmt, Sync, Emcy, SdoResponse, SdoRequest, Heartbeat}
+use Rattle.cop_rows.specs.declared.node_table.FrameKind.TheVariants.{Nmt, Sync, Emcy, SdoResponse, SdoRequest, Heartbeat, Errors}
 
 -- the device rows and the other rows, each in the order of their records
 pub record NodeLists : Type 0 where
@@ -16,7 +16,7 @@ pub record NodeLists : Type 0 where
 abbrev pub HasDevice : List DeviceRow → ℕ → Type 0
 HasDevice devices node = Any (λ d. d.node ≡ node) devices
 
--- the node that a row of a kind may have: NMT and SYNC are nobody's
+-- the node that a row of a kind may have: NMT, SYNC and disturbed transfers are nobody's
 abbrev pub IsNodeOf : List DeviceRow → FrameKind → ℕ → Type 0
 IsNodeOf devices Nmt node = node ≡ 0
 IsNodeOf devices Sync node = node ≡ 0
@@ -24,6 +24,7 @@ IsNodeOf devices Emcy node = HasDevice devices node
 IsNodeOf devices SdoResponse node = HasDevice devices node
 IsNodeOf devices SdoRequest node = HasDevice devices node
 IsNodeOf devices Heartbeat node = HasDevice devices node
+IsNodeOf devices Errors node = node ≡ 0
 
 -- only SDO frames may have deadlines
 abbrev pub may_have_deadline : FrameKind → Bool
@@ -33,6 +34,7 @@ may_have_deadline Emcy = false
 may_have_deadline SdoResponse = true
 may_have_deadline SdoRequest = true
 may_have_deadline Heartbeat = false
+may_have_deadline Errors = false
 
 -- a deadline is an SDO frame's that is sent: its time is in microseconds
 pub record IsFrameDeadline (kind : FrameKind) (period deadline : ℕ) : Type 0 where
@@ -41,7 +43,7 @@ pub record IsFrameDeadline (kind : FrameKind) (period deadline : ℕ) : Type 0 w
   pub sent : period ≢ 0
   pub allowed : may_have_deadline kind ≡ true
 
--- what the table says of one frame: its times are in microseconds, and period 0 is a frame that is never sent
+-- what the table says of one frame, or of disturbed transfers: times are in microseconds, and period 0 is a frame that is never sent, or no disturbed transfer
 pub record IsFrame (devices : List DeviceRow) (f : FrameRow) : Type 0 where
   pub node : IsNodeOf devices f.kind f.node
   pub period : (f.period ≡ 0) ⊎ ((100 ≤ f.period) × (f.period ≤ 60000000))

@@ -1,5 +1,5 @@
 -- Reading the table of settings.
-use Rattle.std.specs.Prelude.{ℕ, not, ◌||◌, List, [], ◌∷◌, length, codes, ◌==◌, nat_lt, nat_le, if◌then◌else◌, slice_set, get_or, Option, Some, None, Result, Ok, Err}
+use Rattle.std.specs.Prelude.{ℕ, not, ◌||◌, List, [], ◌∷◌, length, codes, ◌==◌, nat_lt, if◌then◌else◌, slice_set, get_or, Option, Some, None, Result, Ok, Err}
 use Rattle.std.specs.List.{position}
 use Rattle.std.specs.Str.{bytes_eq}
 use Rattle.cop_table.specs.Reading.{◌>>=◌}

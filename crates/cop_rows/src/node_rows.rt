@@ -26,7 +26,7 @@ pub(crate) struct NodeRows {
     devices: Vec<DeviceRow>,
     frames: Vec<FrameRow>,
     // Which rows are there: the devices by node, then the frames by kind and node.
-    flags: [bool; 896],
+    flags: [bool; 1024],
 }
 
 impl Model for NodeRows {
@@ -45,14 +45,14 @@ impl Model for NodeRows {
 pub(crate) fn has_node(kind: FrameKind) -> bool
     ensures { result ≡ has_node kind }
 {
-    !matches!(kind, FrameKind::Nmt | FrameKind::Sync)
+    !matches!(kind, FrameKind::Nmt | FrameKind::Sync | FrameKind::Errors)
 }
 
 #[tactic(auto, unfolding(crate::specs::NodeReading::number_of_kind))]
 /// The number of a kind, from 1 on.
 fn number_of_kind(kind: FrameKind) -> usize
     ensures number { result ≡ number_of_kind kind }
-    ensures most { result ≤ 6 }
+    ensures most { result ≤ 7 }
 {
     match kind {
         FrameKind::Nmt => 1,
@@ -61,6 +61,7 @@ fn number_of_kind(kind: FrameKind) -> usize
         FrameKind::SdoResponse => 4,
         FrameKind::SdoRequest => 5,
         FrameKind::Heartbeat => 6,
+        FrameKind::Errors => 7,
     }
 }
 
@@ -68,7 +69,7 @@ fn number_of_kind(kind: FrameKind) -> usize
 fn flag_of(kind: FrameKind, node: u8) -> usize
     requires { node ≤ 127 }
     ensures place { result ≡ flag_of kind node }
-    ensures within { result < 896 }
+    ensures within { result < 1024 }
 {
     number_of_kind(kind) * 128 + usize::from(node)
 }
@@ -81,7 +82,7 @@ impl NodeRows {
         NodeRows {
             devices: Vec::new(alloc),
             frames: Vec::new(alloc),
-            flags: [false; 896],
+            flags: [false; 1024],
         }
     }
 

@@ -24,7 +24,7 @@ pub struct DeviceRow {
     pub settings: SettingRows,
 }
 
-/// What a frame of fixed identifier is.
+/// What a frame of fixed identifier is, or that a row says how rare disturbed transfers are.
 #[derive(Clone, Copy, PartialEq, Eq, Debug)]
 pub enum FrameKind {
     Nmt,
@@ -33,10 +33,13 @@ pub enum FrameKind {
     SdoResponse,
     SdoRequest,
     Heartbeat,
+    /// No frame that any device sends: how rare disturbed transfers are.
+    Errors,
 }
 
 /// The row of a frame: its times are in microseconds, and one with period 0 is never sent. `place` is its record, from
-/// 1 on. The node of NMT and of SYNC is 0. Only an SDO frame that is sent may have a deadline.
+/// 1 on. The node of NMT, of SYNC and of disturbed transfers is 0. Only an SDO frame that is sent may have a deadline.
+/// Disturbed transfers are a period apart at least, and each begins within the jitter after its event; period 0 means none.
 #[derive(Clone, Copy, PartialEq, Eq, Debug)]
 pub struct FrameRow {
     pub place: u64,

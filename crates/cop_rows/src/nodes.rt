@@ -58,12 +58,14 @@ fn kind_of(word: &[u8]) -> Option<FrameKind>
         Some(FrameKind::SdoRequest)
     } else if word == b"heartbeat".as_slice() {
         Some(FrameKind::Heartbeat)
+    } else if word == b"errors".as_slice() {
+        Some(FrameKind::Errors)
     } else {
         None
     }
 }
 
-/// The node of a frame's row: 0 for NMT and SYNC.
+/// The node of a frame's row: 0 for NMT, SYNC and disturbed transfers.
 fn node_in(kind: FrameKind, field: &[u8]) -> Result<u64, Rule>
     ensures value { result ≡ node_in kind field.now }
     ensures nobodys { IfOk result (λ node. has_node kind ≡ false → node ≡ 0) }
@@ -76,7 +78,7 @@ fn node_in(kind: FrameKind, field: &[u8]) -> Result<u64, Rule>
     }
 }
 
-/// Whether a number is a period of a frame in microseconds: 0 for one that is never sent.
+/// Whether a number is a period of a frame in microseconds: 0 for one that is never sent, and for no disturbed transfers.
 fn is_period(kind: FrameKind, period: u64) -> bool
     ensures { result ≡ is_period kind period }
 {

@@ -17,9 +17,9 @@ max_where-within p f k (suc n) within = ⊎_elim
     (cases_lt k (suc n))
 
 pub found_early : (p : ℕ → Bool) (rate : Rate) (streams : List Stream) (k n found : ℕ) → k < n → found ≡ max_where p (of_stream (cost_of rate) streams) (k + 1)
-    → 135 * ticks_of rate ≤ found → found ≡ max_where p (of_stream (cost_of rate) streams) n
+    → 166 * ticks_of rate ≤ found → found ≡ max_where p (of_stream (cost_of rate) streams) n
 found_early p rate streams k n found inside is long =
     let f = of_stream (cost_of rate) streams in
     let within : max_where p f (k + 1) ≤ max_where p f n = max_where-within p f (k + 1) n (omega (arith, inside)) in
-    let most : max_where p f n ≤ 135 * ticks_of rate = max_most p f (135 * ticks_of rate) n (λ j. of_stream_most (cost_of rate) streams j (135 * ticks_of rate) (cost_within rate)) in
+    let most : max_where p f n ≤ 166 * ticks_of rate = max_most p f (166 * ticks_of rate) n (λ j. of_stream_most (cost_of rate) streams j (166 * ticks_of rate) (cost_within rate)) in
     omega (arith, is, within, most, long)

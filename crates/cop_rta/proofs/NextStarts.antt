@@ -113,7 +113,7 @@ module _ (v : Flags) (size : length v.flags ≡ length v.streams) (own : ℕ) (i
   abbrev then : Flags
   then = record v { flags = set v.flags own true }
 
-  pub bounds : (o : Option Last) → IfSome o (IsLast v) → IfSome o (λ last. (last.cost ≤ 54000) × (last.wait ≤ horizon))
+  pub bounds : (o : Option Last) → IfSome o (IsLast v) → IfSome o (λ last. (last.cost ≤ 66400) × (last.wait ≤ horizon))
   bounds None is = tt
   bounds (Some last) is = (is.cost_most, is.within)
 

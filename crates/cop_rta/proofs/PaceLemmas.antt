@@ -4,6 +4,7 @@ use Rattle.std.proofs.lemmas.Bool.{cases_eq}
 use Rattle.std.proofs.lemmas.List.{get_or_append_left}
 use Rattle.std.proofs.Math.Seq.{get_or-append_seam}
 use Rattle.std.proofs.lemmas.Option.{slice_get_cases, slice_get_read, slice_get-get_or, slice_get_within, get_or_from_slice_get}
+use Rattle.cop_frame.specs.Lengths.{worst_bits}
 use Rattle.cop_frame.specs.declared.rates.Rate.{Rate}
 use Rattle.cop_frame.specs.Rate.{ticks_of}
 use Rattle.cop_rta.specs.declared.streams.Stream.{Stream}
@@ -42,7 +43,7 @@ exact time jitter period ahead inverse early pos short few is_ahead is_inverse =
     high_product (2 ^ 64) period inverse (time + ahead) pos (lit< tt) (inverse_reaches period inverse pos is_inverse) (inverse_close period inverse is_inverse) (omega (arith, small))
     ∙ rounded_up (time + jitter) period (time + ahead) pos n
 
-pub pace_made : (s : Stream) (pace : Pace) → pace.bits ≡ 55 + 10 * s.bytes → pace.is_synchronous ≡ not (s.every == 0) → pace.ahead ≡ s.jitter + (s.period - 1) → pace.inverse ≡ (2 ^ 64 - 1) / s.period + 1 → IsPaceOf s pace
+pub pace_made : (s : Stream) (pace : Pace) → pace.bits ≡ worst_bits s.bytes → pace.is_synchronous ≡ not (s.every == 0) → pace.ahead ≡ s.jitter + (s.period - 1) → pace.inverse ≡ (2 ^ 64 - 1) / s.period + 1 → IsPaceOf s pace
 pace_made s pace bits synchronous ahead inverse = record {
   bits = bits;
   instances = λ more time small early.

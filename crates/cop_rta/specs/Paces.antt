@@ -3,6 +3,7 @@ use Rattle.std.specs.Prelude.{ℕ, ◌≡◌, ◌+◌, ◌*◌, ◌/◌, ◌^◌
 use Rattle.std.specs.Int.{div_ceil}
 use Rattle.cop_rta.specs.declared.streams.Stream.{Stream}
 use Rattle.cop_rta.specs.declared.paces.Pace.{Pace}
+use Rattle.cop_frame.specs.Lengths.{worst_bits}
 use Rattle.cop_frame.specs.declared.rates.Rate.{Rate}
 use Rattle.cop_frame.specs.Rate.{ticks_of}
 use Rattle.cop_rta.specs.Sums.{sum_where}
@@ -30,13 +31,13 @@ bits_in time pace = counted_in time pace * pace.bits
 
 -- the pace of a stream, whose latency alone it has
 pub record IsPaceOf (s : Stream) (pace : Pace) : Type 0 where
-  pub bits : pace.bits ≡ 55 + 10 * s.bytes
+  pub bits : pace.bits ≡ worst_bits s.bytes
   pub instances : (more time : ℕ) → more ≤ most_ahead → time ≤ last_time → (time + ahead_at more pace) * pace.inverse / 2 ^ 64 ≡ div_ceil (time + jitter_of more s) s.period
   pub small : pace.ahead ≤ 480000000
 
 -- such a pace with what synchronous streams have ahead
 pub record IsPaceWith (ahead : ℕ) (s : Stream) (pace : Pace) : Type 0 where
-  pub bits : pace.bits ≡ 55 + 10 * s.bytes
+  pub bits : pace.bits ≡ worst_bits s.bytes
   pub instances : (time : ℕ) → time ≤ last_time → counted_in time pace ≡ div_ceil (time + jitter_of ahead s) s.period
 
 -- a pace that has so much ahead where it is a synchronous stream's

@@ -49,9 +49,9 @@ HasOneAbove flags = (k : ℕ) × (k < length flags) × (is_flagged flags k ≡ t
 pub record IsPlaced (v : Flags) (from_below costs : ℕ) (row : List Pace) (time : Option ℕ) : Type 0 where
   pub size : length v.flags ≡ length v.streams
   pub blocking : from_below ≡ longest_of v
-  pub most : from_below ≤ 54000
+  pub most : from_below ≤ 66400
   pub costs_are : costs ≡ once_each v
-  pub costs_most : costs ≤ 59400000
+  pub costs_most : costs ≤ 73040000
   pub is_row : IsRow v.streams (ahead_of v.streams v.rate) v.flags row
   pub shared : IsSharedTime v time
 
@@ -61,7 +61,7 @@ pub record IsLast (v : Flags) (last : Last) : Type 0 where
   pub inside : index < length v.streams
   pub flagged : is_flagged v.flags index ≡ true
   pub cost : last.cost ≡ cost_at (place_in v index)
-  pub cost_most : last.cost ≤ 54000
+  pub cost_most : last.cost ≤ 66400
   pub longest : last.from_below ≡ longest_of v
   pub shared : IsSharedTime v last.busy
   pub wait : IsBelowWait (place_in v index) 0 last.wait

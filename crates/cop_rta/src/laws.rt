@@ -1,9 +1,14 @@
 //! What holds of the test, whatever the streams are.
 
-ghost use Rattle.std.specs.Prelude.{◌≡◌, ◌↔◌, ℕ, ◌+◌, ◌<◌, ◌≤◌, Bool, length};
+ghost use Rattle.std.specs.Prelude.{◌≡◌, ◌↔◌, ℕ, ◌+◌, ◌<◌, ◌≤◌, Bool, List, length, slice_get, Some};
+ghost use Rattle.cop_frame.specs.declared.rates.Rate.{Rate};
+ghost use Rattle.cop_rta.specs.declared.streams.Stream.{Stream};
+ghost use Rattle.cop_rta.specs.declared.errors.Errors.{Errors};
 ghost use Rattle.cop_rta.specs.declared.verdicts.Verdict.{Verdict};
 ghost use Rattle.cop_rta.specs.Solutions.{IsLeastSolution};
-ghost use Rattle.cop_rta.specs.Test.{StreamPlace, Passes, IsResponse, jitter_of, busy_at, queueing_at, cost_at, IsBusyTime, IsQueuedWithin};
+ghost use Rattle.cop_rta.specs.Test.{StreamPlace, Passes, IsResponse, jitter_of, busy_at, queueing_at, cost_at, IsBusyTime, IsQueuedWithin, place_by_id};
+ghost use Rattle.cop_rta.specs.Streams.{AreDistinct};
+ghost use Rattle.cop_rta.specs.Errors.{HasNoOne, tested, errors_of, rarity, bus_of};
 ghost use Rattle.cop_rta.specs.Verdict.{IsJudged};
 ghost use Rattle.cop_rta.specs.Jittered.{PassesWith, IsResponseBy, busy_by, queueing_by};
 ghost use Rattle.cop_rta.specs.Witnesses.{HasWitnesses, HasMoreAbove, under};
@@ -47,4 +52,16 @@ pub fn passes_with()
 /// The test says one thing of each place.
 pub fn one_verdict()
     ensures { (p : StreamPlace) (v w : Verdict) → IsJudged p v → IsJudged p w → v ≡ w }
+{}
+
+/// What passes with disturbed transfers above it passes without them.
+pub fn passes_without_errors()
+    ensures { (rate : Rate) (e : Errors) (streams : List Stream) (index : ℕ) (m : Stream) → slice_get streams index ≡ Some m → HasNoOne streams
+        → Passes (place_by_id (tested (Some e) streams) index rate) → Passes (place_by_id streams index rate) }
+{}
+
+/// A set that counts disturbed transfers is the tested set of the streams of the bus in it, and NMT's identifier there is free on the bus.
+pub fn tested_again()
+    ensures again { (streams : List Stream) (s : Stream) → AreDistinct streams → errors_of streams ≡ Some s → streams ≡ tested (Some (rarity s)) (bus_of streams) }
+    ensures free { (streams : List Stream) (s : Stream) → AreDistinct streams → errors_of streams ≡ Some s → HasNoOne (bus_of streams) }
 {}

@@ -17,7 +17,7 @@ pub(crate) struct Pace {
     bits: u16,
     // Whether the stream is synchronous: its jitter is a latency, before which SYNC's response stands.
     is_synchronous: bool,
-    ghost bits_most: { bits ≤ 135 },
+    ghost bits_most: { bits ≤ 166 },
     ghost ahead_most: { ahead ≤ 760000000 },
     ghost inverse_most: { inverse ≤ 2 ^ 56 },
 }

@@ -39,7 +39,7 @@ fn first_above(above: &Above<'_>, count: usize) -> usize
 fn costs_above(set: &StreamSet, above: &Above<'_>, rate: Rate) -> u64
     requires { length above.now ≡ length set.now }
     ensures value { result ≡ sum_where (is_flagged above.now) (of_stream (cost_of rate) set.now) (length set.now) }
-    ensures most { result ≤ 59400000 }
+    ensures most { result ≤ 73040000 }
 {
     let streams = set.streams();
     let mut total = 0;
@@ -63,9 +63,9 @@ fn shared_time(
     requires size { length below.now ≡ length at.now.streams }
     requires some { HasOneAbove (flags_above true below.now) }
     requires blocking { from_below ≡ longest_of (record { streams = at.now.streams; flags = flags_above true below.now; rate = at.now.rate }) }
-    requires most { from_below ≤ 54000 }
+    requires most { from_below ≤ 66400 }
     requires costs { costs ≡ once_each (record { streams = at.now.streams; flags = flags_above true below.now; rate = at.now.rate }) }
-    requires costs_most { costs ≤ 59400000 }
+    requires costs_most { costs ≤ 73040000 }
     requires few { length row.now ≤ 2048 }
     requires row { IsRow at.now.streams (ahead_of at.now.streams at.now.rate) (flags_above true below.now) row.now }
     ensures { IsSharedTime (record { streams = at.now.streams; flags = flags_above true below.now; rate = at.now.rate }) result }

@@ -38,8 +38,8 @@ struct Swept {
 // Where the search may begin for the wait of the first instance of a stream: it has one transfer more above it than the
 // last one, and less below it at most.
 fn wait_after(last: Option<Last>, from_below: u64) -> u64
-    requires last { IfSome last (λ last. (last.cost ≤ 54000) × (last.wait ≤ horizon)) }
-    requires below { from_below ≤ 54000 }
+    requires last { IfSome last (λ last. (last.cost ≤ 66400) × (last.wait ≤ horizon)) }
+    requires below { from_below ≤ 66400 }
     ensures room { IfSome last (λ last. last.from_below ≤ from_below + last.cost → result + last.from_below ≡ last.wait + (from_below + last.cost)) }
     ensures none { IfSome last (λ last. from_below + last.cost < last.from_below → result ≡ 0) }
     ensures first { IfNone last (result ≡ 0) }

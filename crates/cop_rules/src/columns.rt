@@ -43,8 +43,8 @@ pub fn name_of(column: Column) -> &'static str {
 
 fn wanted_of_nodes(column: Column) -> &'static str {
     match column {
-        Column::Row => "device, nmt, sync, emcy, sdo_request, sdo_response or heartbeat",
-        Column::Node => "1 to 127, and 0 of nmt and sync",
+        Column::Row => "device, nmt, sync, emcy, sdo_request, sdo_response, heartbeat or errors",
+        Column::Node => "1 to 127, and 0 of nmt, sync and errors",
         Column::Name => {
             "1 to 40 letters, digits, blanks or _ - . of a device, and nothing of a frame"
         }

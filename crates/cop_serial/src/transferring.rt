@@ -7,6 +7,7 @@ ghost use Rattle.cop_serial.specs.Transferring.{status_of, refused_as};
 use crate::serial::{Serial, limit_of, open_serial};
 use crate::telling::{answer, line_failure, reason_refusal, say, tell_adapter, tell_heard};
 use cop_dict::DataType;
+use cop_documents::{Meaning, Transfer, TransferEnd, transfer_document};
 use cop_eds::{Eds, parse};
 use cop_engine::Fault;
 use cop_files::{Failure, Form, Use, eds_failure, file_failure, read_file};
@@ -101,49 +102,120 @@ fn push_bytes(text: &mut String, bytes: &[u8]) -> Result<(), AllocError> {
     Ok(())
 }
 
+/// What the bytes of a value mean in its type: a number, the text of a VISIBLE_STRING that can be printed, or else the bytes alone.
+fn meaning_of<'a>(data_type: Option<DataType>, bytes: &'a [u8]) -> Meaning<'a> {
+    let Some(data_type) = data_type else {
+        return Meaning::Bytes;
+    };
+    if let Some(number) = number_in(data_type, bytes) {
+        return Meaning::Number(number);
+    }
+    if data_type == DataType::VisibleString
+        && bytes.iter().all(|byte| matches!(*byte, 0x20..=0x7E))
+    {
+        return Meaning::Text(str::from_utf8(bytes).unwrap_or(""));
+    }
+    Meaning::Bytes
+}
+
 /// A value: of a type with numbers in decimal digits, of a VISIBLE_STRING its text, and of all others its bytes.
 fn push_value(
     text: &mut String,
     data_type: Option<DataType>,
     bytes: &[u8],
 ) -> Result<(), AllocError> {
-    let Some(data_type) = data_type else {
-        return push_bytes(text, bytes);
-    };
-    if let Some(number) = number_in(data_type, bytes) {
-        return write!(text, "{number}");
+    match meaning_of(data_type, bytes) {
+        Meaning::Number(number) => write!(text, "{number}"),
+        Meaning::Text(shown) => text.push_str(shown),
+        Meaning::Bytes => push_bytes(text, bytes),
     }
-    if data_type == DataType::VisibleString
-        && bytes.iter().all(|byte| matches!(*byte, 0x20..=0x7E))
-    {
-        return text.push_str(str::from_utf8(bytes).unwrap_or(""));
-    }
-    push_bytes(text, bytes)
 }
 
 /// The line of a value that a node has, or has taken.
-fn value_line(
-    alloc: Global,
-    target: Target<'_>,
-    done: &str,
-    bytes: &[u8],
-) -> Result<String, AllocError> {
+fn value_line(alloc: Global, target: Target<'_>, bytes: &[u8]) -> Result<String, AllocError> {
     let (node, index, sub) = (target.order.node, target.at.index, target.at.sub);
+    let done = if target.order.value.is_some() {
+        "took"
+    } else {
+        "has"
+    };
     let mut text = format!(in alloc; "node {node} {done} {index:04X} {sub:02X} ")?;
     push_value(&mut text, target.data_type, bytes)?;
     text.push_str("\n")?;
     Ok(text)
 }
 
-/// The line of a transfer that ended without its value.
-fn end_line(alloc: Global, target: Target<'_>, end: End) -> Result<String, AllocError> {
+/// The line of a transfer.
+fn end_line(
+    alloc: Global,
+    target: Target<'_>,
+    end: End,
+    bytes: &[u8],
+) -> Result<String, AllocError> {
     let (node, index, sub) = (target.order.node, target.at.index, target.at.sub);
     match end {
+        End::Done => value_line(alloc, target, bytes),
         End::Refused { code } | End::GivenUp { code } => {
             format!(in alloc; "node {node} aborted {index:04X} {sub:02X} {code:08X}\n")
         }
-        End::Silent | End::Done => format!(in alloc; "node {node} silent\n"),
+        End::Silent => format!(in alloc; "node {node} silent\n"),
     }
+}
+
+/// How a transfer ended, with what its bytes are and mean where they came.
+fn told_end<'a>(end: End, digits: &'a str, meaning: Meaning<'a>) -> TransferEnd<'a> {
+    match end {
+        End::Done => TransferEnd::Done { digits, meaning },
+        End::Refused { code } => TransferEnd::Refused { code },
+        End::GivenUp { code } => TransferEnd::GivenUp { code },
+        End::Silent => TransferEnd::Silent,
+    }
+}
+
+/// The word of the subcommand that an order is of.
+fn command_of(order: TransferOrder<'_>) -> &'static str {
+    if order.value.is_some() {
+        "write"
+    } else {
+        "read"
+    }
+}
+
+/// The document of a transfer.
+fn end_document(
+    alloc: Global,
+    target: Target<'_>,
+    end: End,
+    bytes: &[u8],
+) -> Result<String, AllocError> {
+    let mut digits = String::new(alloc);
+    push_bytes(&mut digits, bytes)?;
+    let transfer = Transfer {
+        command: command_of(target.order),
+        node: target.order.node,
+        index: target.at.index,
+        sub: target.at.sub,
+        end: told_end(end, digits.as_str(), meaning_of(target.data_type, bytes)),
+    };
+    let document = transfer_document(alloc, transfer)?;
+    format!(in alloc; "{document}\n")
+}
+
+/// Gives the answer in a form.
+fn answer_in(
+    rt: &HostRuntime,
+    target: Target<'_>,
+    form: Form,
+    end: End,
+    bytes: &[u8],
+) -> Result<(), Failure> {
+    let alloc = rt.alloc();
+    let text = if form == Form::Document {
+        end_document(alloc, target, end, bytes)?
+    } else {
+        end_line(alloc, target, end, bytes)?
+    };
+    answer(rt, target.order.port, text.as_bytes())
 }
 
 /// What is said of it in words.
@@ -179,19 +251,16 @@ fn tell_transferred(
     ensures ends { IfOk result (λ status. status_of came ≡ Some status) }
     ensures fails { IfErr result (λ failure. FailsBy (refused_as came) failure.fault) }
 {
-    let alloc = rt.alloc();
     let order = target.order;
     match came {
         Transferred::Ended { end: End::Done } => {
-            let done = if order.value.is_some() { "took" } else { "has" };
-            let line = value_line(alloc, target, done, bytes)?;
-            answer(rt, order.port, line.as_bytes())?;
+            answer_in(rt, target, form, End::Done, bytes)?;
             Ok(0)
         }
         Transferred::Ended { end } => {
-            answer(rt, order.port, end_line(alloc, target, end)?.as_bytes())?;
+            answer_in(rt, target, form, end, bytes)?;
             if form == Form::Told {
-                say(rt, end_words(alloc, end)?.as_bytes());
+                say(rt, end_words(rt.alloc(), end)?.as_bytes());
             }
             Ok(3)
         }

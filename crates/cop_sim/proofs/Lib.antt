@@ -31,3 +31,4 @@ pub mod DrawingLemmas
 pub mod Written
 pub mod Obeying
 pub mod Unique
+pub mod ThroughErrors

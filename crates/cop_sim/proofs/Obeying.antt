@@ -7,6 +7,7 @@ use Rattle.std.proofs.lemmas.List.Elements.{All-contains}
 use Rattle.rand_pcg.specs.Lcg.{Lcg}
 use Rattle.cop_frame.specs.declared.rates.Rate.{Rate}
 use Rattle.cop_frame.specs.Rate.{ticks_of}
+use Rattle.cop_frame.proofs.LengthLemmas.{least_bits-least, least_bits-most}
 use Rattle.cop_rta.specs.declared.streams.Stream.{Stream}
 use Rattle.cop_rta.specs.Streams.{AreDistinct}
 use Rattle.cop_rta.specs.Test.{sync_id}
@@ -48,7 +49,7 @@ remainder-length w least most l = let r = remainder w (most - least) in omega (a
 framed : (k : Stream) (w id at event : ℕ) (body : List ℕ) → is_of_length (Some k) (queue_step id (record { event = event; delay = at; frame = record { bits = least_bits k.bytes + w % (worst_bits k.bytes - least_bits k.bytes + 1); body = body; len = k.bytes } })) ≡ true
 framed k w id at event body =
     let bits = least_bits k.bytes + w % (worst_bits k.bytes - least_bits k.bytes + 1) in
-    let r = remainder-length w (least_bits k.bytes) (worst_bits k.bytes) (omega arith) in
+    let r = remainder-length w (least_bits k.bytes) (worst_bits k.bytes) (least_bits-most k.bytes) in
     and-true (nat_le (least_bits k.bytes) bits && nat_le bits (worst_bits k.bytes)) (k.bytes == k.bytes)
     (and-true (nat_le (least_bits k.bytes) bits) (nat_le bits (worst_bits k.bytes)) (le-true (least_bits k.bytes) bits (omega arith)) (le-true bits (worst_bits k.bytes) r))
     (eq-true k.bytes k.bytes refl)
@@ -169,7 +170,7 @@ module _ (rate : Rate) (actors : List Actor) (distinct : AreDistinct (streams_of
       let event = is.event_is in
       let ends = is.ends in
       let bits = its-length.not_shorter in
-      let long = takes is.sync.bits tau (omega (arith, bits)) in
+      let long = takes is.sync.bits tau (omega (arith, bits, least_bits-least s.1.bytes)) in
       omega (arith, own, after, event, ends, joined, long)
     where
       takes : (bits tau : ℕ) → 1 ≤ bits → tau ≤ bits * tau

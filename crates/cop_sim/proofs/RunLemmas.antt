@@ -7,6 +7,7 @@ use Rattle.std.proofs.lemmas.List.{get_or_default}
 use Rattle.std.proofs.lemmas.List.Elements.{All-nil, All-cons, All-contains}
 use Rattle.cop_frame.specs.declared.rates.Rate.{Rate}
 use Rattle.cop_frame.specs.Rate.{ticks_of}
+use Rattle.cop_frame.proofs.LengthLemmas.{worst_bits-least, least_bits-most}
 use Rattle.cop_rta.specs.declared.streams.Stream.{Stream}
 use Rattle.cop_rta.specs.Greatest.{AreSynced}
 use Rattle.cop_rta.specs.Streams.{AreDistinct, place_of_id}
@@ -60,7 +61,7 @@ module _ (rate : Rate) (streams : List Stream) (distinct : AreDistinct streams) 
 
   cost_some : (k : Stream) → 0 < cost k
   unfolding cost
-  cost_some k = mul-pos (omega arith) (ticks_pos rate)
+  cost_some k = mul-pos (let least = worst_bits-least k.bytes in omega (arith, least)) (ticks_pos rate)
 
   -- the stream with an identifier is one
   the_one : (k : Stream) → Contains streams k → All (λ j. j.id ≡ k.id → j ≡ k) streams
@@ -71,7 +72,7 @@ module _ (rate : Rate) (streams : List Stream) (distinct : AreDistinct streams) 
       ap (λ n. get_or streams n d) (one_place streams distinct j at.0 low at.1 ids) ∙ own
 
   has_length : (k : Stream) (event queued start : ℕ) → HasLengthOf k (sent k event queued start)
-  has_length k event queued start = record { not_shorter = omega arith; not_longer = omega arith; same_bytes = refl }
+  has_length k event queued start = record { not_shorter = least_bits-most k.bytes; not_longer = omega arith; same_bytes = refl }
 
   is_known : (k : Stream) → Contains streams k → (event queued start : ℕ) → IsKnown streams (sent k event queued start)
   is_known k at event queued start = record {

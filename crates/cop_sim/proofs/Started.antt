@@ -4,6 +4,7 @@ use Rattle.std.specs.Prelude.{None, Some, is_some, All, Contains, ◌==◌}
 use Rattle.std.proofs.lemmas.Bool.{cases_lt}
 use Rattle.std.proofs.lemmas.List.Elements.{recursion_from_All}
 use Rattle.std.specs.List.{AllByRecursion as Each}
+use Rattle.cop_frame.proofs.LengthLemmas.{least_bits-least}
 use Rattle.cop_rta.specs.declared.streams.Stream.{Stream}
 use Rattle.cop_bus.specs.declared.steps.Step.{Step}
 use Rattle.cop_bus.specs.declared.steps.Content.{Content}
@@ -56,7 +57,7 @@ takes-a-bit (suc n) tau l = omega arith
 pub has-bits : (k : Stream) (at id event : ℕ) (frame : Content) → is_of_length (Some k) (Queue id at event frame) ≡ true → 1 ≤ frame.bits
 has-bits k at id event frame h =
     let l = true-le (least_bits k.bytes) frame.bits (and-left (nat_le (least_bits k.bytes) frame.bits) (nat_le frame.bits (worst_bits k.bytes)) (and-left (nat_le (least_bits k.bytes) frame.bits && nat_le frame.bits (worst_bits k.bytes)) (frame.len == k.bytes) h)) in
-    omega arith
+    omega (arith, l, least_bits-least k.bytes)
 
 module _ (tau : ℕ) (pos : 1 ≤ tau) (actors : List Actor) (until : ℕ) (there : (a : Actor) → Contains actors a → stream_of (streams_of actors) a.stream.id ≡ Some a.stream)
     (steps : List Step) (goes : Goes tau actors until steps []) (z : ℕ) (now : now_of steps ≡ z) (early : z < until) (idle : running tau (steps ++ []) (length steps) ≡ None)

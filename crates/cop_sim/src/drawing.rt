@@ -37,7 +37,8 @@ fn words_of(seed: u64, stream: &Stream) -> Lcg64Xsh32
 }
 
 fn event_after(stream: &Stream, before: Option<Offer>, word: u32) -> u128
-    ensures { result ≡ event_after stream.now before word }
+    ensures value { result ≡ event_after stream.now before word }
+    ensures most { result < 2 ^ 66 }
 {
     let word = u64::from(word);
     match before {

@@ -23,7 +23,7 @@ mod turns;
 pub use behaviours::{Behaviour, Offer};
 pub use drawing::{Seeded, seeded_obeys};
 pub use faults::SimFault;
-pub use guarantee::{plan_guarantee, plans_keep, plans_run};
+pub use guarantee::{plan_guarantee, plans_keep, plans_keep_through_errors, plans_run};
 pub use laws::{play_is_one, plays_are_kept};
 pub use scripts::Scripted;
 pub use simulating::{simulate, simulate_into, simulate_over};

@@ -3,6 +3,7 @@ use Rattle.std.proofs.Common.{◌≡◌, ◌≢◌, ℕ, ◌+◌, ◌-◌, ◌*�
 use Rattle.std.specs.Prelude.{Option, None, Some, is_some, slice_index, slice_set}
 use Rattle.std.specs.BTreeSet.{BTreeSet, contains}
 use Rattle.std.specs.Ordering.{nat_cmp}
+use Rattle.cop_frame.proofs.LengthLemmas.{least_bits-least}
 use Rattle.cop_rta.specs.declared.streams.Stream.{Stream}
 use Rattle.cop_bus.specs.declared.steps.Step.{Step}
 use Rattle.cop_bus.specs.declared.steps.Content.{Content}
@@ -199,7 +200,7 @@ module _ (tau : ℕ) (streams : List Stream) (steps : List Step) (bus : Bus) (no
         ]
 
     some-bits : 1 ≤ frame.bits
-    some-bits = elim obeying [ inl o ↦ (let l = o.length.least in omega (arith, l)) | inr o ↦ (let l = o.length.least in omega (arith, l)) ]
+    some-bits = let n = least_bits-least k.bytes in elim obeying [ inl o ↦ (let l = o.length.least in omega (arith, l, n)) | inr o ↦ (let l = o.length.least in omega (arith, l, n)) ]
 
     last-now : (m : ℕ) → last_event m (steps ++ x ∷ []) (length (steps ++ x ∷ [])) ≡ event_or m x (last_event m steps (length steps))
     last-now m = ap (last_event m (steps ++ x ∷ [])) (length-one steps x) ∙ last_event-here m steps x []

@@ -26,7 +26,7 @@ fn advice_of_nodes(column: Column) -> Advice {
         },
         Column::Node => Advice {
             cause: "a hexadecimal number, a name in place of the number, or 0 in a row of one device",
-            right: "32 for node 20h; 0 in the rows nmt and sync alone",
+            right: "32 for node 20h; 0 in the rows nmt, sync and errors alone",
         },
         Column::Name => Advice {
             cause: "a letter that ASCII does not have, a sign such as / or (, more than 40 characters, or a name in a row of a frame",

@@ -62,7 +62,7 @@ pub(crate) fn error_words(
     };
     let name = pdo_name(alloc, pdo)?;
     format!(in alloc;
-        "no error is counted: one error on the bus takes up to {cost} us, and {name} has {left} us left. Plan with --margin, or give it a longer deadline\n"
+        "no error is counted: one error on the bus takes up to {cost} us, and {name} has {left} us left. Count errors by a row errors, plan with --margin, or give it a longer deadline\n"
     )
 }
 

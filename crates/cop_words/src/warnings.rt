@@ -74,6 +74,7 @@ fn row_word(kind: FrameKind) -> &'static str {
         FrameKind::SdoRequest => "sdo_request",
         FrameKind::SdoResponse => "sdo_response",
         FrameKind::Heartbeat => "heartbeat",
+        FrameKind::Errors => "errors",
     }
 }
 
@@ -91,7 +92,7 @@ fn described(kind: FrameKind) -> &'static str {
         FrameKind::Heartbeat => {
             "it begins with a heartbeat (1017h), which the plan switches off: add the row to keep it"
         }
-        FrameKind::Nmt | FrameKind::Sync => "it sends them",
+        FrameKind::Nmt | FrameKind::Sync | FrameKind::Errors => "it sends them",
     }
 }
 

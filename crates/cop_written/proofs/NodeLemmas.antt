@@ -13,7 +13,7 @@ use Rattle.cop_rows.specs.declared.refusals.Refusal.{Refusal}
 use Rattle.cop_rows.specs.declared.node_table.DeviceRow.{DeviceRow}
 use Rattle.cop_rows.specs.declared.node_table.FrameRow.{FrameRow}
 use Rattle.cop_rows.specs.declared.node_table.FrameKind.{FrameKind}
-use Rattle.cop_rows.specs.declared.node_table.FrameKind.TheVariants.{Nmt, Sync, Emcy, SdoResponse, SdoRequest, Heartbeat}
+use Rattle.cop_rows.specs.declared.node_table.FrameKind.TheVariants.{Nmt, Sync, Emcy, SdoResponse, SdoRequest, Heartbeat, Errors}
 use Rattle.cop_rows.specs.Nodes.{NodeLists}
 use Rattle.cop_rows.specs.NodeReading.{kind_of, is_device, has_node, is_heartbeat, is_period, device_in, frame_in, row_in, has_device, number_of_kind, has_frame, pushed, added, lacks_device, first_lacking, unless_lacking, with_devices, node_rows_of, nodes_of, no_rows, period_in, if_period, node_in}
 use Rattle.cop_written.specs.declared.nodes.Device.{Device}
@@ -109,6 +109,7 @@ word_known Emcy = refl
 word_known SdoResponse = refl
 word_known SdoRequest = refl
 word_known Heartbeat = refl
+word_known Errors = refl
 
 no_device_word : (kind : FrameKind) → is_device (word_of kind) ≡ false
 no_device_word Nmt = refl
@@ -117,6 +118,7 @@ no_device_word Emcy = refl
 no_device_word SdoResponse = refl
 no_device_word SdoRequest = refl
 no_device_word Heartbeat = refl
+no_device_word Errors = refl
 
 milliseconds_kept : (kind : FrameKind) (period : ℕ) → (kind ≡ Heartbeat → period % 1000 ≡ 0) → (not (is_heartbeat kind) || (period % 1000 == 0)) ≡ true
 milliseconds_kept Nmt period h = refl
@@ -125,6 +127,7 @@ milliseconds_kept Emcy period h = refl
 milliseconds_kept SdoResponse period h = refl
 milliseconds_kept SdoRequest period h = refl
 milliseconds_kept Heartbeat period h = rw (h refl) refl
+milliseconds_kept Errors period h = refl
 
 node_known : (devices : List Device) (behind node : ℕ) → AreDevices behind devices → HasNode devices node → (behind < node) × (node ≤ 127)
 node_known [] behind node h has = absurd has

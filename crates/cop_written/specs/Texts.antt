@@ -3,7 +3,7 @@ use Rattle.std.specs.Prelude.{ℕ, List, [], ◌∷◌, ◌++◌, codes, decimal
 use Rattle.csv.specs.Writing.{row_text, default_writer}
 use Rattle.cop_rows.specs.declared.pdo_table.Consumer.{Consumer}
 use Rattle.cop_rows.specs.declared.node_table.FrameKind.{FrameKind}
-use Rattle.cop_rows.specs.declared.node_table.FrameKind.TheVariants.{Nmt, Sync, Emcy, SdoResponse, SdoRequest, Heartbeat}
+use Rattle.cop_rows.specs.declared.node_table.FrameKind.TheVariants.{Nmt, Sync, Emcy, SdoResponse, SdoRequest, Heartbeat, Errors}
 use Rattle.cop_written.specs.declared.nodes.Device.{Device}
 use Rattle.cop_written.specs.declared.nodes.Frame.{Frame}
 use Rattle.cop_written.specs.declared.pdos.Row.{Row}
@@ -26,6 +26,7 @@ word_of Emcy = codes "emcy"
 word_of SdoResponse = codes "sdo_response"
 word_of SdoRequest = codes "sdo_request"
 word_of Heartbeat = codes "heartbeat"
+word_of Errors = codes "errors"
 
 abbrev pub frame_fields : Frame → List (List ℕ)
 frame_fields f = word_of f.kind ∷ decimal f.node ∷ [] ∷ [] ∷ decimal f.period ∷ codes "0" ∷ []

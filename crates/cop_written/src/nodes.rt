@@ -46,7 +46,7 @@ pub struct Device {
     pub eds: Text,
 }
 
-/// A row of a frame with jitter 0: its period is in microseconds. The node of NMT and of SYNC is 0.
+/// A row of a frame with jitter 0: its period is in microseconds. The node of NMT, of SYNC and of disturbed transfers is 0.
 #[derive(Clone, Copy, PartialEq, Eq, Debug)]
 pub struct Frame {
     pub kind: FrameKind,
@@ -85,6 +85,7 @@ fn word_of(kind: FrameKind) -> &'static [u8]
         FrameKind::SdoResponse => b"sdo_response",
         FrameKind::SdoRequest => b"sdo_request",
         FrameKind::Heartbeat => b"heartbeat",
+        FrameKind::Errors => b"errors",
     }
 }
 

@@ -5,6 +5,8 @@
 #[cfg(test)]
 mod dcf;
 #[cfg(test)]
+mod disturbed;
+#[cfg(test)]
 mod networks;
 #[cfg(test)]
 mod settings;

@@ -15,7 +15,7 @@ pub(crate) type Refused = (u8, Table, u64);
 
 /// What differs between the EDS files of the tests: keys of an object, or of DeviceInfo.
 #[derive(Clone, Copy)]
-struct Parts<'a> {
+pub(crate) struct Parts<'a> {
     rates: &'a str,
     heartbeat: &'a str,
     cob_id: &'a str,
@@ -23,7 +23,7 @@ struct Parts<'a> {
     second_bits: &'a str,
 }
 
-const USUAL: Parts<'static> = Parts {
+pub(crate) const USUAL: Parts<'static> = Parts {
     rates: "BaudRate_250=1\nBaudRate_500=1\nBaudRate_1000=1\n",
     heartbeat: "DataType=0x0006\nAccessType=rw\n",
     cob_id: "DataType=0x0007\nAccessType=rw\nDefaultValue=$NODEID+0x40000180\n",
@@ -176,7 +176,7 @@ fn refused_of(
     told(network(alloc, &all_rates(), &nodes, &pdos, files))
 }
 
-const VALVE_PDO: &str = "5,1,10000,0,670,\n";
+pub(crate) const VALVE_PDO: &str = "5,1,10000,0,670,\n";
 
 const VALVE: &str = "device,5,Valve,unit.eds,0,0\nemcy,5,,,100000,0\nheartbeat,5,,,100000,0\n";
 
@@ -222,7 +222,7 @@ fn streams_with(
 }
 
 /// The streams of a network of the device of these parts.
-fn streams_of(
+pub(crate) fn streams_of(
     alloc: Global,
     nodes: &NodeTable,
     pdos: &str,

@@ -53,6 +53,20 @@ fn write_log(text: &mut String, order: WatchOrder<'_>) -> Result<(), AllocError>
     write!(text, " log {log} {error} {drift} {channel}")
 }
 
+/// Adds a log that is watched, and the file of its table if one is named.
+fn write_watch(
+    text: &mut String,
+    order: WatchOrder<'_>,
+    csv: Option<&str>,
+) -> Result<(), AllocError> {
+    text.push_str("watch")?;
+    write_log(text, order)?;
+    if let Some(csv) = csv {
+        write!(text, " csv {csv}")?;
+    }
+    write_network(text, order.network)
+}
+
 /// Adds an order on a network.
 fn write_planned(text: &mut String, order: Order<'_>) -> Result<(), AllocError> {
     match order {
@@ -118,11 +132,7 @@ fn write_made(text: &mut String, order: Order<'_>) -> Result<(), AllocError> {
             text.push_str("room")?;
             write_network(text, network)
         }
-        Order::Watch(order) => {
-            text.push_str("watch")?;
-            write_log(text, order)?;
-            write_network(text, order.network)
-        }
+        Order::Watch { log, csv } => write_watch(text, log, csv),
         _ => write_planned(text, order),
     }
 }
@@ -300,6 +310,14 @@ const ASKED: &[(&str, &str)] = &[
         "value x 500 5 3000 1 VisibleString is pump",
     ),
     (
+        "read --json --port x --rate 500 5 1008 0",
+        "value x 500 5 1008 0 json",
+    ),
+    (
+        "write --port x --rate 500 --type UNSIGNED8 5 3000 1 7 --json",
+        "value x 500 5 3000 1 Unsigned8 is 7 json",
+    ),
+    (
         "scan --rate 50 --port - --up-to 9 --gently 20 --json",
         "scan - 50 9 20 json",
     ),
@@ -329,6 +347,10 @@ const ASKED: &[(&str, &str)] = &[
     (
         "watch --json --drift 9 --channel can1 n p -",
         "watch log - 1000 9 can1 n p json",
+    ),
+    (
+        "watch --csv d.csv n p l",
+        "watch log l 1000 200 first csv d.csv n p",
     ),
     ("explain 41", "explain 41"),
 ];
@@ -398,6 +420,8 @@ const REFUSED: &[&str] = &[
     "tidy in",
     "tidy --octal --decimal in out",
     "watch --error 1000001 n p l",
+    "watch --csv n p l",
+    "report --log l --csv d.csv n p out",
     "explain 0",
     "explain 256",
 ];

@@ -1,3 +1,4 @@
+mod errors;
 mod networks;
 mod pictures;
 mod ranges;
@@ -142,7 +143,7 @@ const SAID: &[&str] = &[
     "<li>switched off: TPDO 2</li>",
     "<li>heartbeat every 100 ms</li>",
     "a&lt;b&gt;&amp;&quot;c&quot;.csv",
-    "there are no error frames",
+    "no frame is disturbed",
     "by identifier, its PDOs pass this test, too</summary>",
 ];
 

@@ -291,6 +291,26 @@ fn frames_in_any_order(rt: HostRuntime) -> Result<(), Fail> {
     Ok(())
 }
 
+/// Rows of disturbed transfers, their period and their jitter.
+const RARE: &[(&str, u32, u32)] = &[
+    ("errors,0,,,100,0\n", 100, 0),
+    ("errors,0,,,250500,100\n", 250_500, 100),
+    ("errors,000,,,60000000,60000000\n", 60_000_000, 60_000_000),
+    ("errors,0,,,0,7\n", 0, 7),
+];
+
+#[test]
+fn how_rare_disturbed_transfers_are(rt: HostRuntime) -> Result<(), Fail> {
+    for case in RARE {
+        let (row, period, jitter) = *case;
+        let rows = format!(in rt.alloc(); "{row}device,5,Valve,unit.eds,0,0\n")?;
+        let table = nodes_of(rt.alloc(), &rows)?;
+        let wanted = [frame(1, FrameKind::Errors, 0, period, jitter)];
+        assert!(rt; table.frames() == wanted.as_slice(), "{row}");
+    }
+    Ok(())
+}
+
 #[test]
 fn devices_in_any_order(rt: HostRuntime) -> Result<(), Fail> {
     let table = nodes_of(rt.alloc(), ROWS_IN_ANY_ORDER)?;
@@ -333,6 +353,14 @@ const BROKEN_NODES: &[(&str, u8, u64)] = &[
     ("nmt,5,,,100000,0\n", 41, 1),
     ("sync,1,,,100000,0\n", 41, 1),
     ("nmt,0,,,100,0\nnmt,0,,,200,0\n", 42, 2),
+    ("errors,5,,,100000,0\n", 41, 1),
+    ("errors,0,Noise,,100000,0\n", 41, 1),
+    ("errors,0,,unit.eds,100000,0\n", 41, 1),
+    ("errors,0,,,50,0\n", 41, 1),
+    ("errors,0,,,60000001,0\n", 41, 1),
+    ("errors,0,,,100000,60000001\n", 41, 1),
+    ("errors,0,,,100,0\nerrors,0,,,200,0\n", 42, 2),
+    ("errors,0,,,0,0\nsync,0,,,0,0\nerrors,0,,,0,0\n", 42, 3),
     ("device,5,A,a,0,0\nemcy,5,,,0,0\ndevice,5,B,b,0,0\n", 42, 3),
     ("device,5,A,a,0,0\nemcy,5,,,0,0\nemcy,5,,,0,0\n", 42, 3),
     (
@@ -342,6 +370,7 @@ const BROKEN_NODES: &[(&str, u8, u64)] = &[
     ),
     ("", 42, 0),
     ("nmt,0,,,0,0\nsync,0,,,0,0\n", 42, 0),
+    ("errors,0,,,100000,0\n", 42, 0),
     ("emcy,5,,,0,0\n", 42, 1),
     // Rows that want their device are looked for after all others.
     ("emcy,5,,,0,0\nnmt,0,,,0,0\nnmt,0,,,0,0\n", 42, 3),
@@ -389,6 +418,7 @@ const BROKEN_DEADLINES: &[(&str, u8, u64)] = &[
     ("emcy,5,,,100000,0,1080\n", 41, 1),
     ("heartbeat,5,,,100000,0,1080\n", 41, 1),
     ("sync,0,,,100000,0,1080\n", 41, 1),
+    ("errors,0,,,100000,0,1080\n", 41, 1),
     ("sdo_request,5,,,0,0,1080\n", 41, 1),
     ("sdo_request,5,,,100000,0,0\n", 41, 1),
     ("sdo_response,5,,,100000,0,60000001\n", 41, 1),

@@ -1,18 +1,21 @@
-use Rattle.std.proofs.Common.{◌∙◌, sym, ap, map, refl, subst, List}
-use Rattle.cop_rta.specs.Streams.{AreDistinct}
+use Rattle.std.proofs.Common.{◌≡◌, ◌∙◌, ap, sym, subst, MatchResult, List, is_some}
 use Rattle.cop_rta.specs.declared.streams.Stream.{Stream}
-use Rattle.cop_sim.specs.Drawing.{fresh}
-use Rattle.cop_engine.proofs.RunLemmas.{cause_explains, writing_explains, run_is, each_arm}
+use Rattle.cop_rta.specs.Errors.{errors_of}
+use Rattle.cop_plan.specs.Values.{PlanValue}
+use Rattle.cop_engine.specs.Runs.{IsRun, ExplainsRun}
+use Rattle.cop_engine.proofs.RunLemmas.{run_on_plain, run_on_bus, none_told, some_told}
 use Rattle.cop_engine.proofs.seeded_runs.run_plan.Goals as goal
 
-pub returns-in-Err : goal.returns-in-Err
-returns-in-Err g c =
-    let made = c.in_ok-behaviours.ensures ∙ ap (λ (xs : List Stream). map (fresh c.args.seed) xs) (c.streams-2.ensures.items ∙ c.streams.ensures.items) in
-    rw c.fault_of.ensures (cause_explains c.args.plan.now c.args.seed c.args.until c.seeded_obeys.ensures (subst AreDistinct (c.streams-2.ensures.items ∙ c.streams.ensures.items) c.streams-2.ensures.distinct) c.in_ok-behaviours.behaviours.items _ c.in-Err.fault made c.in-Err.ensures.cause)
+pub returns-then-is_none : goal.returns-then-is_none
+returns-then-is_none g c =
+    let errors = c.errors.ensures ∙ ap errors_of c.streams.ensures.items in
+    let none = sym (ap is_some errors) ∙ none_told c.errors.result c.is_none.result c.is_none.ensures c.if-is_none.true in
+    subst (λ (p : PlanValue). MatchResult c.run_streams.result (λ r. IsRun p c.args.seed c.args.until r.0.items (g.W.Write.contents c.args.writer) (g.W.Write.contents r.1)) (λ fault. ExplainsRun p c.args.seed c.args.until fault))
+    (run_on_plain c.args.plan.now none) c.run_streams.ensures
 
-pub returns-in-Ok : goal.returns-in-Ok
-returns-in-Ok g c =
-    let made = c.in_ok-behaviours.ensures ∙ ap (λ (xs : List Stream). map (fresh c.args.seed) xs) (c.streams-2.ensures.items ∙ c.streams.ensures.items) in
-    each_arm c.finish.result _ _ _ _
-    (λ r f. run_is c.args.plan.now c.args.seed c.args.until g.W.Write.contents c.in_ok-behaviours.behaviours.items c.args.writer r.1 _ _ r.0.items made (c.new.ensures (sym c.failed.ensures ∙ c.if-failed.false)) refl c.in-Ok.ensures.play f)
-    (writing_explains c.args.plan.now c.args.seed c.args.until) c.finish.ensures
+pub returns : goal.returns
+returns g c =
+    let errors = c.errors.ensures ∙ ap errors_of c.streams.ensures.items in
+    let some = sym (ap is_some errors) ∙ some_told c.errors.result c.is_none.result c.is_none.ensures c.if-is_none.false in
+    subst (λ (p : PlanValue). MatchResult c.run_streams-2.result (λ r. IsRun p c.args.seed c.args.until r.0.items (g.W.Write.contents c.args.writer) (g.W.Write.contents r.1)) (λ fault. ExplainsRun p c.args.seed c.args.until fault))
+    (run_on_bus c.args.plan.now c.in_ok-bus.bus some c.in_ok-bus.ensures) c.run_streams-2.ensures

@@ -1,8 +1,7 @@
 use Rattle.std.proofs.Common.{◌≡◌, ◌-◌, subst}
-use Rattle.cop_rta.specs.Test.{of_stream}
 use Rattle.cop_room.specs.Changes.{at_row, with_bytes}
 use Rattle.cop_room.specs.Keeping.{AllStillPass}
-use Rattle.cop_room.specs.Room.{CanFall}
+use Rattle.cop_room.specs.Room.{CanFall, bytes_now}
 use Rattle.cop_room.proofs.RoomLemmas.{rises}
 use Rattle.cop_room.proofs.rows.most_bytes.Goals as goal
 
@@ -10,6 +9,6 @@ pub returns : goal.returns
 returns c =
     let streams = c.args.set.now in
     let row = c.args.row in
-    let value : c.bytes_of-now.result ≡ of_stream (λ s. s.bytes) streams row = rw c.streams.ensures.items at c.bytes_of-now.ensures.value in
-    rises (AllStillPass c.args.rate c.args.pdos) (λ y. at_row row (with_bytes y)) streams 8 (of_stream (λ s. s.bytes) streams row) c.in_ok-left.left
+    let value : c.bytes_of-now.result ≡ bytes_now streams row = rw c.streams.ensures.items at c.bytes_of-now.ensures.value in
+    rises (AllStillPass c.args.rate c.args.pdos) (λ y. at_row row (with_bytes y)) streams 8 (bytes_now streams row) c.in_ok-left.left
     (subst (λ now. CanFall (AllStillPass c.args.rate c.args.pdos) (λ y. at_row row (with_bytes (8 - y))) streams 0 (8 - now) c.in_ok-left.left) value c.in_ok-left.ensures.exact)

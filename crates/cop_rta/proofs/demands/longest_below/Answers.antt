@@ -16,5 +16,5 @@ returns-then-longest-most-clause-value c =
     let read : f c.loop-k.k ≡ c.cost.result = of_stream_read (cost_of c.args.rate) c.args.streams.now c.loop-k.k c.index-streams-k.result c.loop-k-test.true c.index-streams-k.is ∙ sym c.cost.ensures.value in
     let before : c.loop-k.longest ≡ max_where p f c.loop-k.k = c.loop-k.invariant.0 in
     let here : c.max-longest.result ≡ max_where p f (c.loop-k.k + 1) = omega (arith, next, max_where-more_yes p f c.loop-k.k passes, read, before) in
-    let long : 135 * ticks_of c.args.rate ≤ c.max-longest.result = omega (arith, c.if-longest-most.true, c.from-most.ensures, c.ticks_per_bit.ensures.ticks) in
+    let long : 166 * ticks_of c.args.rate ≤ c.max-longest.result = omega (arith, c.if-longest-most.true, c.from-most.ensures, c.ticks_per_bit.ensures.ticks) in
     found_early p c.args.rate c.args.streams.now c.loop-k.k (length c.args.streams.now) c.max-longest.result c.loop-k-test.true here long

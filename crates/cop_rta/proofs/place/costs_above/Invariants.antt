@@ -6,5 +6,5 @@ use Rattle.cop_rta.proofs.place.costs_above.Given as goal
 abbrev pub invariant-loop-k : goal.invariant-loop-k
 invariant-loop-k l = record {
   sum : l.total ≡ sum_where (is_flagged l.above) (of_stream (cost_of l.fn.rate) l.set) l.k;
-  most : l.total ≤ l.k * 54000;
+  most : l.total ≤ l.k * 66400;
 }

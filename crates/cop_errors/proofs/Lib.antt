@@ -1,0 +1,10 @@
+pub mod Lists
+pub mod Up
+pub mod Legal
+pub mod Extended
+pub mod Rare
+pub mod Through
+pub mod Windows
+pub mod ExampleRun
+pub mod ExamplePasses
+pub mod SetRuns

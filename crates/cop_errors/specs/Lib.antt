@@ -1,0 +1,4 @@
+pub mod Errors
+pub mod Extended
+pub mod ExampleLemmas
+pub mod Example
