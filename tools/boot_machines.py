@@ -9,7 +9,6 @@ ready, that each device has what its DCF file says. Where devices are asked whet
 An NMT command is the only frame that is sent. The documents of scans and of single values meet docs/schema.json (Debian's python3-jsonschema).
 A case whose name holds one of the words given is run, or each.
 """
-import csv
 import json
 import os
 import re
@@ -23,7 +22,7 @@ import jsonschema
 from files import bytes_of, network_in
 
 sys.path.append(f"{os.path.dirname(os.path.realpath(__file__))}/machine")
-from eds import dictionary  # noqa: E402
+from telling import NAME, answering, naming_faults, scanned_text  # noqa: E402
 
 HERE = os.path.dirname(os.path.dirname(os.path.realpath(__file__)))
 PROGRAM = os.environ.get("CANPLAN", f"{HERE}/bin/canplan")
@@ -235,6 +234,18 @@ SCANNED = {
     "scan: silent ones": ("conveyor", "--silent 11 --mute 13", ["--up-to", "14"], {11: None, 13: None}, 0),
     "scan: nobody": ("valve", "--silent 5", ["--up-to", "6"], {5: None}, 3),
     "scan: nobody, as a document": ("valve", "--silent 5", ["--up-to", "5", "--json"], {5: None}, 3),
+    "scan: names whole and in segments": (
+        "conveyor", f"--name 1:A 11:FOUR 12:FIVES 13:{'N' * 40}", ["--up-to", "13"], {1: {NAME: b"A"}, 11: {NAME: b"FOUR"}, 12: {NAME: b"FIVES"}, 13: {NAME: b"N" * 40}}, 0),
+    "scan: names, as a document": ("conveyor", "--name 11:FOUR 12:FIVES", ["--up-to", "12", "--json"], {11: {NAME: b"FOUR"}, 12: {NAME: b"FIVES"}}, 0),
+    "scan: names that are not shown whole": (
+        "conveyor", f"--name 1:a\"b\\c\u00e9~ 12:{'L' * 200} --holds 11:1008:0:40 --chunk 7", ["--up-to", "12", "--gently", "5"],
+        {1: {NAME: b"a\"b\\c\xe9~"}, 11: {NAME: bytes(7 * i % 251 for i in range(40))}, 12: {NAME: b"L" * 200}}, 0),
+    "scan: one that tells no name": ("conveyor", "--unread 11:1008:0:06020000", ["--up-to", "12"], {11: {NAME: None}}, 0),
+    "scan: one that falls silent amid its name": ("conveyor", f"--name 11:{'N' * 40} --hushed 11:3", ["--up-to", "12"], {11: {NAME: None}}, 0),
+    "scan: one that falls silent amid its name, as a document": (
+        "conveyor", f"--name 11:{'N' * 40} --hushed 11:3", ["--up-to", "12", "--json"], {11: {NAME: None}}, 0),
+    "scan: pulled out as names are read": ("conveyor", "--gone 6", ["--up-to", "1"], {1: {NAME: None}}, 5),
+    "scan: pulled out as names are read, as a document": ("conveyor", "--gone 6", ["--up-to", "1", "--json"], {1: {NAME: None}}, 5),
     "scan: lines that are no frames": ("valve", "--running 5 --garbled", ["--up-to", "5"], "refused 103 ", 3),
     "scan: errors on the bus": ("valve", "--flags 80", ["--up-to", "5"], "refused 102 0", 3),
     "scan: the rate is refused": ("valve", "--refuse S", [], "refused 104 0", 3),
@@ -545,11 +556,11 @@ def twice(name, folder):
     return faults
 
 
-def requests_in(log):
-    """The frames that were sent since the adapter was opened the last time, each with its moment."""
+def requests_in(log, from_first=False):
+    """The frames that were sent since the adapter was opened the last time, or the first, each with its moment."""
     with open(log) as file:
         lines = [line.split() for line in file]
-    opened = [at for at, line in enumerate(lines) if line[1:4] == ["adapter:", "open", "at"]]
+    opened = [0] if from_first else [at for at, line in enumerate(lines) if line[1:4] == ["adapter:", "open", "at"]]
     return [(float(line[0]), line[2], line[3:]) for line in lines[opened[-1] if opened else 0:] if line[1] == "->"]
 
 
@@ -644,40 +655,28 @@ def commanded(name, folder):
     return faults + ([f"standard error: {it.stderr}"] if faults else [])
 
 
-def told_by(example, node, ends):
-    """What a node of an example tells of its device: of each object its value, or None."""
-    with open(f"{HERE}/examples/{example}/nodes.csv", newline="") as file:
-        eds = next(row["eds"] for row in csv.DictReader(file) if row["row"] == "device" and row["node"] == str(node))
-    entries = dictionary(f"{HERE}/examples/{example}/{eds}", node)
-    told = {key: entries[key].value if key in entries else None for key in ((0x1000, 0), (0x1018, 1), (0x1018, 2), (0x1018, 3))}
-    return {**told, **ends.get(node, {})}
-
-
-def scanned_text(example, nodes, ends, options):
-    """What is to be said of the nodes of an example that answer."""
-    told = {node: list(told_by(example, node, ends).values()) for node in nodes if node <= int(options[1]) and ends.get(node, {}) is not None}
-    if "--json" in options:
-        return {"command": "scan", "nodes": [dict(zip(("node", "device_type", "vendor", "product", "revision"), (node, *values))) for node, values in told.items()]}
-    names = ("type", "vendor", "product", "revision")
-    return "".join(f"node {node} " + " ".join(f"{name} {'-' if value is None else f'{value:08X}'}" for name, value in zip(names, values)) + "\n" for node, values in told.items())
-
-
 def scanned(name, folder):
     """What is wrong with a case in which the nodes are asked what their devices are."""
     example, words, options, ends, status = SCANNED[name]
-    it, seen = at_rig(example, words, [PROGRAM, "scan", "--port", f"{folder}/port", "--rate", rate_of(example), *options], folder)
+    sessions = "" if isinstance(ends, str) or status == 3 else " --sessions 2"
+    it, seen = at_rig(example, words + sessions, [PROGRAM, "scan", "--port", f"{folder}/port", "--rate", rate_of(example), *options], folder)
     if isinstance(ends, str):
         is_as_wanted = not it.stdout and f"canplan: {ends}" in it.stderr and not seen["frames_from_manager"]
         faults = []
     else:
-        wanted = scanned_text(example, sorted(int(node) for node in seen["devices"]), ends, options)
-        is_as_wanted = (document_of(it.stdout) if "--json" in options else it.stdout) == wanted and ("no node answered" in it.stderr) == (status == 3)
-        faults = asking_faults(requests_in(f"{folder}/log"), range(1, int(options[1]) + 1), options)
+        nodes = sorted(int(node) for node in seen["devices"])
+        is_document = "--json" in options and status != 5
+        said = it.stdout if "--json" not in options else document_of(it.stdout) if is_document else lines_of(it.stdout)
+        is_as_wanted = said == scanned_text(f"{HERE}/examples/{example}", answering(nodes, ends, options), ends, is_document) and ("no node answered" in it.stderr) == (status == 3)
+        requests = requests_in(f"{folder}/log", True)
+        faults = asking_faults([it for it in requests if it[2][0] == "40"], range(1, int(options[1]) + 1), options)
+        faults += naming_faults(requests, answering(nodes, ends, options)) if status != 5 else []
+        faults += [] if ("--hushed" in words) == any(data[0] == "80" for _, _, data in requests) else ["a transfer is aborted, or not"]
     if it.returncode != status or not is_as_wanted:
         faults.append(f"status {it.returncode}, says {it.stdout!r}")
     if seen["commands"] or any(device["writes"] or device["resets"] for device in seen["devices"].values()):
         faults.append("a device is written to, or reset")
-    if seen["given"][-1:] and seen["given"][-1][1] != "C":
+    if seen["given"][-1:] and seen["given"][-1][1] != "C" and status != 5:
         faults.append(f"the adapter is left open: {seen['given']}")
     return faults + ([f"standard error: {it.stderr}"] if faults else [])
 

@@ -67,7 +67,7 @@ def notice_line(it):
     if it["kind"] == "boot-up":
         return f"{begin}node {it['node']} boots up"
     if it["kind"] == "emergency":
-        return f"{begin}EMCY of node {it['node']}, code {it['code']:04X}h"
+        return f"{begin}EMCY of node {it['node']}, code {it['code']:04X}h: {it['words']}"
     return f"{begin}SDO abort by the {it['by']} at node {it['node']}, {it['index']:04X}h sub {it['sub']}, {it['code']:08X}h: {it['words']}"
 
 

@@ -128,6 +128,7 @@ CASES = (
      ("canplan: refused 41 1\n", "also refused 44 5\n", "also refused 48 2\npdos.csv, line 3: 12,1,", "also refused 45 4\npdos.csv, line 5: 14,9,")),
     ("several faults of nodes", "valve", {"nodes.csv": text("row,node,name,eds,period,jitter\ndevice,5,K\u00fchlung,unit.eds,0,0\nemcy,5,,,100,000,0\nheartbeat,5,,,1500,0\n")}, PLAN, 3,
      ("canplan: refused 41 1\n", "also refused 40 2\nnodes.csv, line 3: ", "also refused 41 3\nnodes.csv, line 4: heartbeat", "!also refused 42")),
+    ("two EDS files", "conveyor", {"controller.eds": text("[FileInfo\n"), "io.eds": text("\n\nno key\n")}, PLAN, 3, ("canplan: refused 43 ", "also refused 43 6\nio.eds, line 3: no key\n", "!also refused 43 9")),
     ("thirty faults", "valve", {"pdos.csv": pdos(*["5,1,x,0,670,"] * 30)}, PLAN, 3, ("also refused 41 21\n", "there may be more\n", "!also refused 41 22\n")),
 )
 

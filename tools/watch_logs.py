@@ -107,7 +107,7 @@ def told_logs(log, chance):
     at = log[n][0]
     frames = (
         (0x000, "0105", "NMT start, node 5"), (0x000, "8200", "NMT reset communication, all nodes"), (0x000, "0705", "NMT an unknown command, node 5"),
-        (0x705, "00", "node 5 boots up"), (0x085, "3081000000000000", "EMCY of node 5, code 8130h"),
+        (0x705, "00", "node 5 boots up"), (0x085, "3081000000000000", "EMCY of node 5, code 8130h: a heartbeat or a life guarding stayed away"),
         (0x585, "8000180130000906", "SDO abort by the server at node 5, 1800h sub 1, 06090030h: the object does not take the value now"),
         (0x605, "8017100000000405", "SDO abort by the client at node 5, 1017h sub 0, 05040000h: no answer in time"),
     )

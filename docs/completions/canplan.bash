@@ -33,11 +33,11 @@ _canplan() {
     fi
     # The value of an option.
     case "$sub $before" in
-    "test --rate" | "nmt --rate" | "scan --rate" | "read --rate" | "write --rate")
+    "test --rate" | "nmt --rate" | "scan --rate" | "read --rate" | "write --rate" | "init --rate")
         _canplan_words "10 20 50 125 250 500 800 1000"
         return
         ;;
-    "plan --setup" | "room --setup" | "check --setup" | "boot --setup" | "boot --port" | "boot --report" | "verify --setup" | "verify --port" | "nmt --port" | "scan --port" | "read --port" | "read --eds" | "write --port" | "write --eds" | "run --setup" | "judge --setup" | "report --setup" | "report --trace" | "report --log" | "export --setup" | "watch --setup" | "watch --csv")
+    "plan --setup" | "room --setup" | "check --setup" | "boot --setup" | "boot --port" | "boot --report" | "verify --setup" | "verify --port" | "nmt --port" | "scan --port" | "read --port" | "read --eds" | "write --port" | "write --eds" | "run --setup" | "judge --setup" | "report --setup" | "report --trace" | "report --log" | "export --setup" | "init --port" | "watch --setup" | "watch --port" | "watch --csv")
         _canplan_files -f
         return
         ;;
@@ -45,7 +45,7 @@ _canplan() {
         _canplan_list "10 20 50 125 250 500 800 1000"
         return
         ;;
-    "boot --seed" | "boot --only" | "boot --boot-limit" | "boot --watch" | "boot --limit" | "verify --only" | "verify --gently" | "verify --limit" | "nmt --limit" | "scan --up-to" | "scan --gently" | "scan --limit" | "read --limit" | "write --limit" | "run --seed" | "run --until" | "report --title" | "report --date" | "report --error" | "report --drift" | "report --channel" | "export --manager" | "watch --error" | "watch --drift" | "watch --channel")
+    "boot --seed" | "boot --only" | "boot --boot-limit" | "boot --watch" | "boot --limit" | "verify --only" | "verify --gently" | "verify --limit" | "nmt --limit" | "scan --up-to" | "scan --gently" | "scan --limit" | "read --limit" | "write --limit" | "run --seed" | "run --until" | "report --title" | "report --date" | "report --error" | "report --drift" | "report --channel" | "export --manager" | "init --up-to" | "init --gently" | "init --limit" | "watch --for" | "watch --error" | "watch --drift" | "watch --channel")
         :
         return
         ;;
@@ -83,9 +83,9 @@ _canplan() {
         report) _canplan_words "--setup --rates --margin --explain --trace --log --title --date --error --drift --channel --delta --help" ;;
         export) _canplan_words "--manager --margin --setup --rates --explain --help" ;;
         tidy) _canplan_words "--check --explain --octal --decimal --access --unlisted --rates --help" ;;
-        init) _canplan_words "--explain --help" ;;
+        init) _canplan_words "--port --rate --up-to --gently --limit --explain --help" ;;
         diff) _canplan_words "--explain --json --help" ;;
-        watch) _canplan_words "--setup --rates --margin --explain --json --error --drift --channel --delta --csv --help" ;;
+        watch) _canplan_words "--setup --rates --margin --explain --json --port --for --error --drift --channel --delta --csv --help" ;;
         explain) _canplan_words "--all --help" ;;
         esac
         return
@@ -94,7 +94,7 @@ _canplan() {
     for ((at = 2; at < COMP_CWORD; at++)); do
         it="${COMP_WORDS[at]}"
         case "$sub $it" in
-        "test --rate" | "plan --setup" | "plan --rates" | "room --setup" | "room --rates" | "check --setup" | "check --rates" | "boot --setup" | "boot --rates" | "boot --seed" | "boot --port" | "boot --only" | "boot --boot-limit" | "boot --watch" | "boot --limit" | "boot --report" | "verify --setup" | "verify --rates" | "verify --port" | "verify --only" | "verify --gently" | "verify --limit" | "nmt --port" | "nmt --rate" | "nmt --limit" | "scan --port" | "scan --rate" | "scan --up-to" | "scan --gently" | "scan --eds" | "scan --limit" | "read --port" | "read --rate" | "read --type" | "read --eds" | "read --limit" | "write --port" | "write --rate" | "write --type" | "write --eds" | "write --limit" | "run --setup" | "run --rates" | "run --seed" | "run --until" | "judge --setup" | "judge --rates" | "report --setup" | "report --rates" | "report --trace" | "report --log" | "report --title" | "report --date" | "report --error" | "report --drift" | "report --channel" | "export --manager" | "export --setup" | "export --rates" | "tidy --access" | "tidy --unlisted" | "tidy --rates" | "watch --setup" | "watch --rates" | "watch --error" | "watch --drift" | "watch --channel" | "watch --csv") [[ ${COMP_WORDS[at + 1]} == "=" ]] && ((at++)); ((at++)) ;;
+        "test --rate" | "plan --setup" | "plan --rates" | "room --setup" | "room --rates" | "check --setup" | "check --rates" | "boot --setup" | "boot --rates" | "boot --seed" | "boot --port" | "boot --only" | "boot --boot-limit" | "boot --watch" | "boot --limit" | "boot --report" | "verify --setup" | "verify --rates" | "verify --port" | "verify --only" | "verify --gently" | "verify --limit" | "nmt --port" | "nmt --rate" | "nmt --limit" | "scan --port" | "scan --rate" | "scan --up-to" | "scan --gently" | "scan --eds" | "scan --limit" | "read --port" | "read --rate" | "read --type" | "read --eds" | "read --limit" | "write --port" | "write --rate" | "write --type" | "write --eds" | "write --limit" | "run --setup" | "run --rates" | "run --seed" | "run --until" | "judge --setup" | "judge --rates" | "report --setup" | "report --rates" | "report --trace" | "report --log" | "report --title" | "report --date" | "report --error" | "report --drift" | "report --channel" | "export --manager" | "export --setup" | "export --rates" | "tidy --access" | "tidy --unlisted" | "tidy --rates" | "init --port" | "init --rate" | "init --up-to" | "init --gently" | "init --limit" | "watch --setup" | "watch --rates" | "watch --port" | "watch --for" | "watch --error" | "watch --drift" | "watch --channel" | "watch --csv") [[ ${COMP_WORDS[at + 1]} == "=" ]] && ((at++)); ((at++)) ;;
         *" -"?*) ;;
         *) ((place++)) ;;
         esac

@@ -21,9 +21,9 @@ _canplan() {
             'report:Writes a page that shows the plan\: why no slower rate, the load, the PDOs and the settings'
             'export:Gives the plan of a network to other tools'
             'tidy:Makes of an EDS file as makers ship it one that plan reads, and tells each change'
-            'init:Makes tables to start from of the EDS files of a folder, and tells each guess'
+            'init:Makes tables to start from of the EDS files of a folder, for each file or for each node on a bus, and tells each guess'
             'diff:Says which devices of a machine have to be set again for another plan, and to which values'
-            'watch:Reads a log of a real bus, and says whether it keeps to the tables'
+            'watch:Reads a log of a real bus, or listens to one, and says whether it keeps to the tables'
             'explain:Says what the rule of a refusal is, what is usually behind it, and what is right'
             'help:Print this message or the help of the given subcommand(s)'
         )
@@ -242,6 +242,11 @@ _canplan() {
         ;;
     init)
         _arguments -S \
+            '--port=[The serial device of a CAN adapter that speaks slcan\: the devices are the nodes that answer there; - is standard input and output]:PORT:_files' \
+            '--rate=[The bus'\''s rate in kbit/s]:rate:(10 20 50 125 250 500 800 1000)' \
+            '--up-to=[The greatest node that is asked; 127 if it is left out]:up-to: ' \
+            '--gently=[The milliseconds in which nothing is sent before each question; 0 if it is left out]:gently: ' \
+            '--limit=[The seconds after which the port is given up]:limit: ' \
             '--explain[Says of a fault in words where it stands, what is wanted and what is usually behind it]' \
             '(-h --help)'{-h,--help}'[Print help]' \
             '1:FOLDER:_files -/' \
@@ -262,7 +267,9 @@ _canplan() {
             '--margin[Takes, at the same rate, the identifiers with the greatest least margin of all deadlines]' \
             '--explain[Says of a fault in words where it stands, what is wanted and what is usually behind it]' \
             '--json[Answers by one document in JSON on standard output, also of a fault]' \
-            '--error=[By how much distances of two stamps of the log are wrong at most; 1000 where it is left out]:US: ' \
+            '--port=[The serial device of a CAN adapter that speaks slcan\: its bus is watched as frames come, and none is sent; - is standard input and output]:PORT:_files' \
+            '--for=[The seconds after which no more is read, by this computer'\''s clock; the log or the port is read to its end where it is left out]:for: ' \
+            '--error=[By how much distances of two stamps of the log are wrong at most; 1000 where it is left out, and 2000 at a port]:US: ' \
             '--drift=[By how many parts in a million its clock is wrong at most; 200 where it is left out]:PPM: ' \
             '--channel=[The channel whose frames are taken; that of the first frame where it is left out]:NAME: ' \
             '--delta[Each stamp of a log in columns is the distance from the line before, as candump -td writes it]' \
@@ -270,7 +277,7 @@ _canplan() {
             '(-h --help)'{-h,--help}'[Print help]' \
             '1:NODES:_files' \
             '2:PDOS:_files' \
-            '3:LOG:_files'
+            '3::LOG:_files'
         ;;
     explain)
         _arguments -S \

@@ -128,6 +128,7 @@ class Rig:
         self.random = random.Random(args.seed + 1)
         self.devices = self.load()
         self.commands, self.next_other, self.next_sent, self.is_gone = [], self.begin, self.begin, False
+        self.every = [[self.begin, float(seconds), int(ident, 16), int(count)] for ident, seconds, count in (text.split(":") for text in args.every)]
 
     def log(self, text):
         line = f"{time.monotonic() - self.begin:9.4f} {text}\n"
@@ -159,6 +160,9 @@ class Rig:
             node, index, sub, count = text.split(":")
             entry = eds.Entry(int(index, 16), int(sub, 16), 0x0F, "rw", bytes(7 * i % 251 for i in range(int(count))))
             found[int(node)].entries[entry.index, entry.sub] = entry
+        for text in self.args.name:
+            node, name = text.split(":", 1)
+            found[int(node)].entries[0x1008, 0] = eds.Entry(0x1008, 0, 0x09, "const", name.encode("latin-1"))
         return found
 
     def faults(self):
@@ -245,6 +249,14 @@ class Rig:
             for ident in self.args.sends:
                 self.adapter.frame(int(ident, 16), b"" if ident == "080" else bytes(4))
 
+    def periodic(self, now):
+        """Frames that are sent by themselves. Two of an identifier are never nearer than its time."""
+        for each in self.every:
+            due, seconds, ident, count = each
+            if now >= due:
+                each[0] = now + seconds
+                self.adapter.frame(ident, bytes(count))
+
     def write_some(self):
         while self.outgoing:
             n = self.random.randint(1, self.args.chunk) if self.args.chunk else len(self.outgoing)
@@ -279,6 +291,7 @@ class Rig:
                 device.poll(now)
             self.other(now)
             self.machine(now)
+            self.periodic(now)
             self.write_some()
         return self.report()
 
@@ -350,6 +363,7 @@ def words():
     p.add_argument("--line-feeds", action="store_true", help="the lines of frames end with CR LF")
     p.add_argument("--garbled", action="store_true", help="lines that are no frames come in place of frames")
     p.add_argument("--sends", nargs="*", default=[], metavar="ID", help="a frame of this identifier (hexadecimal) is on the bus each 10 ms")
+    p.add_argument("--every", nargs="*", default=[], metavar="ID:S:BYTES", help="a frame of this identifier (hexadecimal) and so many bytes is on the bus each so many seconds")
     p.add_argument("--flags", default="00", help="the adapter's status flags, two digits")
     p.add_argument("--refuse", default="", metavar="LETTERS", help="the adapter refuses the commands of these letters")
     p.add_argument("--lower", action="store_true", help="hexadecimal digits in lower case")
@@ -359,6 +373,7 @@ def words():
     p.add_argument("--sessions", type=int, default=1, help="end once the adapter was closed so many times after it was open to send")
     p.add_argument("--has", nargs="*", default=[], metavar="NODE:INDEX:SUB:VALUE", help="has stored another value there than its EDS file says")
     p.add_argument("--holds", nargs="*", default=[], metavar="NODE:INDEX:SUB:COUNT", help="has a DOMAIN of so many bytes there, which can be written")
+    p.add_argument("--name", nargs="*", default=[], metavar="NODE:TEXT", help="has this name at 1008h")
     p.add_argument("--bad-toggle", nargs="*", default=[], metavar="NODE:K", help="does not alternate the toggle bit in its K-th answer to a segment")
     p.add_argument("--hushed", nargs="*", default=[], metavar="NODE:K", help="does not answer the K-th segment")
     p.add_argument("--stay", action="store_true", help="go on after C")

@@ -7,10 +7,12 @@ use cop_calls::{
 };
 use cop_engine::{Fault, status, test_status};
 use cop_files::{Failure, Form, print};
-use cop_folders::{compare_plans, start_tables};
+use cop_folders::{check_free_out, compare_plans, start_at_bus, start_tables};
 use cop_makers::carry_tidy;
-use cop_orders::{Order, Request};
-use cop_serial::{boot_machine, carry_transfer, command_nodes, scan_bus, verify_machine};
+use cop_orders::{InitOrder, Order, Request};
+use cop_serial::{
+    boot_machine, carry_transfer, command_nodes, find_nodes, scan_bus, verify_machine, watch_port,
+};
 use std::io::Write;
 
 /// Says that a number has no rule, which is a usage fault, and which have one.
@@ -44,6 +46,16 @@ fn test_form(request: Request<'_>, form: Form) -> Form {
     } else {
         Form::Lines
     }
+}
+
+/// Makes tables to start from: for each file of a folder, or for each node on a bus.
+fn init(rt: &HostRuntime, order: InitOrder<'_>, form: Form) -> Result<u8, Failure> {
+    let Some(scan) = order.scan else {
+        return start_tables(rt, order);
+    };
+    check_free_out(rt, order)?;
+    let nodes = find_nodes(rt, scan, form)?;
+    start_at_bus(rt, order, &nodes)
 }
 
 /// Carries a request out in a form, and gives its status. What it reads is kept.
@@ -89,9 +101,10 @@ pub fn carry_out(
             out,
         } => export(rt, format, network, out, inputs),
         Order::Tidy(order) => carry_tidy(rt, order, form, inputs),
-        Order::Init(order) => start_tables(rt, order),
+        Order::Init(order) => init(rt, order, form),
         Order::Diff(order) => compare_plans(rt, order, form),
         Order::Watch { log, csv } => watch_bus(rt, log, csv, form, inputs),
+        Order::Listen(order) => watch_port(rt, order, form, inputs),
         Order::Explain { number } => explain(rt, number),
     }
 }

@@ -25,6 +25,7 @@ fn out_of<'a>(order: Order<'a>) -> Option<&'a str> {
         Order::Init(InitOrder { out, .. }) => Some(out),
         Order::Tidy(TidyOrder { out, .. }) => out,
         Order::Watch { csv, .. } => csv,
+        Order::Listen(order) => order.csv,
         _ => None,
     }
 }

@@ -30,6 +30,7 @@ pub(crate) fn network_of<'a>(order: Order<'a>) -> Option<NetworkFiles<'a>> {
         Order::Room(network) => Some(network),
         Order::Report { network, .. } | Order::Export { network, .. } => Some(network),
         Order::Watch { log, .. } => Some(log.network),
+        Order::Listen(order) => Some(order.network),
         Order::Machine(order) => Some(order.network),
         Order::Verify(order) => Some(order.network),
         Order::Test { .. }
@@ -59,6 +60,7 @@ pub(crate) fn file_of<'a>(order: Order<'a>, number: u8) -> Option<&'a str> {
 fn is_of_log(order: Order<'_>, number: u8) -> bool {
     let has_log = match order {
         Order::Watch { .. } => true,
+        Order::Listen(_) => !is_machine_rule(number),
         Order::Report { shown, .. } => shown.log.is_some(),
         _ => false,
     };

@@ -5,6 +5,7 @@
 mod booting;
 mod bus_plans;
 mod checking;
+mod distances;
 mod documents;
 mod explaining;
 mod identities;
@@ -25,6 +26,7 @@ mod warnings;
 pub use booting::{ABSENT, ERRONEOUS, GARBLED, RUNNING, UNOPENED, boot_notes};
 pub use bus_plans::{BusPlan, bus_plan_of};
 pub use checking::status_after_check;
+pub use distances::distances_table;
 pub use documents::{fault_text, plan_text};
 pub use explaining::{EdsText, refused_eds, words_on_file, words_on_network, words_on_refusal};
 pub use identities::identity_notes;

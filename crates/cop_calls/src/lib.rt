@@ -3,7 +3,6 @@
 
 mod boots;
 mod checking;
-mod distances;
 mod exporting;
 mod judging;
 mod plans;

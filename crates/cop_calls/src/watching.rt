@@ -1,47 +1,121 @@
 //! A log of a real bus, watched by the plan of its network.
 
-use crate::distances::distances_table;
-use cop_answers::{BusPlan, Inputs};
+use cop_answers::{BusPlan, Inputs, distances_table};
 use cop_documents::watch_document;
 use cop_engine::none_passes;
 use cop_files::{
-    Failure, Form, Use, file_failure, open_file, print, print_document, read_network, write_file,
+    Failure, Form, Use, file_failure, open_file, print, print_document, read_network, tell,
+    write_file,
 };
 use cop_log::Clock;
-use cop_logbook::{Logbook, WatchFault};
+use cop_logbook::{Logbook, Nobody, Onlooker, WatchFault};
 use cop_orders::WatchOrder;
 use cop_plan::{Outcome, Plan};
-use std::io::Read;
+use std::io::{self, Read};
+use std::time::{Duration, Instant};
+
+/// Tells breaches on standard error as they come.
+#[derive(Clone, Copy)]
+struct Teller<'r> {
+    rt: &'r HostRuntime,
+    told: usize,
+}
+
+impl Onlooker for Teller<'_> {
+    fn look(&mut self, book: &Logbook<'_>) {
+        let Some(new) = book.told().get(self.told..) else {
+            return;
+        };
+        if !new.is_empty() {
+            self.told = book.told().len();
+            tell(self.rt, book.lines_of(new).map(String::into_bytes));
+        }
+    }
+}
 
 /// The log that a reader has, watched by a plan as an order says.
-fn watched_in<'p, R: Read + Drop>(
+fn watched_in<'p, R: Read + Drop, L: Onlooker>(
     rt: &HostRuntime,
     order: WatchOrder<'_>,
     plan: &'p Plan,
     reader: R,
+    onlooker: &mut L,
 ) -> Result<Logbook<'p>, Failure> {
     let clock = Clock {
         error: order.error,
         drift: order.drift,
     };
-    let (channel, are_distances) = (order.channel, order.are_distances);
-    match cop_logbook::watched(rt.alloc(), plan, clock, channel, are_distances, reader) {
+    let (alloc, channel) = (rt.alloc(), order.channel);
+    match cop_logbook::watched(
+        alloc,
+        plan,
+        clock,
+        channel,
+        order.are_distances,
+        reader,
+        onlooker,
+    ) {
         Ok(book) => Ok(book),
         Err(WatchFault::Book(fault)) => Err(Failure::from(fault)),
         Err(WatchFault::Read(error)) => Err(file_failure(rt, order.log, Use::Read, &error)),
     }
 }
 
-/// The log of an order, watched by a plan. One in which no frame is of the channel is refused.
+/// A reader that ends once a time has passed.
+#[derive(Drop)]
+struct Until<'r, R: Drop> {
+    rt: &'r HostRuntime,
+    reader: R,
+    began: Instant,
+    limit: Duration,
+}
+
+impl<R: Read + Drop> Read for Until<'_, R> {
+    fn read(&mut self, buf: &mut [u8]) -> io::Result<usize> {
+        if self.began.elapsed(self.rt)? >= self.limit {
+            return Ok(0);
+        }
+        self.reader.read(buf)
+    }
+}
+
+/// The log that a reader has, watched by a plan for as long as an order says.
+fn watched_for<'p, R: Read + Drop, L: Onlooker>(
+    rt: &HostRuntime,
+    order: WatchOrder<'_>,
+    plan: &'p Plan,
+    reader: R,
+    onlooker: &mut L,
+) -> Result<Logbook<'p>, Failure> {
+    let Some(seconds) = order.limit else {
+        return watched_in(rt, order, plan, reader, onlooker);
+    };
+    match Instant::now(rt) {
+        Ok(began) => {
+            let limit = Duration::from_secs(seconds);
+            let reader = Until {
+                rt,
+                reader,
+                began,
+                limit,
+            };
+            watched_in(rt, order, plan, reader, onlooker)
+        }
+        Err(error) => Err(file_failure(rt, order.log, Use::Read, &error)),
+    }
+}
+
+/// The log of an order, watched by a plan. One in which no frame is of the channel is refused. Of standard input, which may come as the
+/// bus goes, each breach is told at once.
 pub(crate) fn watched<'p>(
     rt: &HostRuntime,
     order: WatchOrder<'_>,
     plan: &'p Plan,
 ) -> Result<Logbook<'p>, Failure> {
     if order.log == "-" {
-        watched_in(rt, order, plan, rt.stdin())
+        watched_for(rt, order, plan, rt.stdin(), &mut Teller { rt, told: 0 })
     } else {
-        watched_in(rt, order, plan, open_file(rt, order.log)?)
+        watched_for(rt, order, plan, open_file(rt, order.log)?, &mut Nobody)
     }
 }
 

@@ -68,6 +68,7 @@ fn arg_of<'a>(alloc: Global, word: &Word) -> Result<Arg<'a>, AllocError> {
         Need::Optional => Ok(arg),
         Need::Unless(name) => arg.required_unless_present(name),
         Need::Against(name) => arg.conflicts_with(name),
+        Need::With(name) => arg.requires_arg(name),
     }
 }
 

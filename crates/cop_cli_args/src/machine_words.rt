@@ -22,6 +22,29 @@ const LIMIT: Word = Word {
     help: "The seconds after which the port is given up",
 };
 
+/// How long a bus, or a log that grows, is watched.
+pub(crate) const FOR: Word = Word {
+    name: "for",
+    kind: Kind::Positive(MOST_SECONDS),
+    need: Need::Optional,
+    help: "The seconds after which no more is read, by this computer's clock; the log or the port is read to its end where it is left out",
+};
+
+/// The nodes that are asked, and how gently.
+const UP_TO: Word = Word {
+    name: "up-to",
+    kind: Kind::Positive(MOST_NODE),
+    need: Need::Optional,
+    help: "The greatest node that is asked; 127 if it is left out",
+};
+
+const GENTLY: Word = Word {
+    name: "gently",
+    kind: Kind::Number(MOST_PAUSE),
+    need: Need::Optional,
+    help: "The milliseconds in which nothing is sent before each question; 0 if it is left out",
+};
+
 /// A node whose object is read or written.
 const NODE: Word = Word {
     name: "NODE",
@@ -194,18 +217,8 @@ pub(crate) static NMT: [Word; 7] = [
 pub(crate) static SCAN: [Word; 8] = [
     PORT,
     BUS_RATE,
-    Word {
-        name: "up-to",
-        kind: Kind::Positive(MOST_NODE),
-        need: Need::Optional,
-        help: "The greatest node that is asked; 127 if it is left out",
-    },
-    Word {
-        name: "gently",
-        kind: Kind::Number(MOST_PAUSE),
-        need: Need::Optional,
-        help: "The milliseconds in which nothing is sent before each question; 0 if it is left out",
-    },
+    UP_TO,
+    GENTLY,
     Word {
         name: "eds",
         kind: Kind::Text("FOLDER"),
@@ -215,6 +228,44 @@ pub(crate) static SCAN: [Word; 8] = [
     LIMIT,
     EXPLAIN,
     JSON,
+];
+
+pub(crate) static INIT: [Word; 8] = [
+    Word {
+        name: "port",
+        kind: Kind::Text("PORT"),
+        need: Need::With("rate"),
+        help: "The serial device of a CAN adapter that speaks slcan: the devices are the nodes that answer there; - is standard input and output",
+    },
+    Word {
+        need: Need::With("port"),
+        ..BUS_RATE
+    },
+    Word {
+        need: Need::With("port"),
+        ..UP_TO
+    },
+    Word {
+        need: Need::With("port"),
+        ..GENTLY
+    },
+    Word {
+        need: Need::With("port"),
+        ..LIMIT
+    },
+    Word {
+        name: "FOLDER",
+        kind: Kind::Place,
+        need: Need::Required,
+        help: "A folder with the EDS files of the devices",
+    },
+    Word {
+        name: "OUT",
+        kind: Kind::Place,
+        need: Need::Required,
+        help: "A folder, which has to be there, for nodes.csv, pdos.csv and network.toml; nothing that is there is replaced",
+    },
+    EXPLAIN,
 ];
 
 pub(crate) static READ: [Word; 10] = [

@@ -9,8 +9,9 @@ use cop_eds::Access;
 use cop_engine::rate_of;
 use cop_frame::Rate;
 use cop_orders::{
-    DiffOrder, Format, InitOrder, MachineOrder, NetworkFiles, NmtOrder, Order, PlanOrder, Rates,
-    Request, ScanOrder, Shown, TidyChoices, TidyOrder, TransferOrder, VerifyOrder, WatchOrder,
+    DiffOrder, Format, InitOrder, ListenOrder, MachineOrder, NetworkFiles, NmtOrder, Order,
+    PlanOrder, Rates, Request, ScanOrder, Shown, TidyChoices, TidyOrder, TransferOrder,
+    VerifyOrder, WatchOrder,
 };
 use cop_plan::Choice;
 use cop_tidy_lines::{Digits, Unlisted};
@@ -18,6 +19,15 @@ use std::alloc::Global;
 
 /// A boot-up is awaited for so many seconds where nothing else is said.
 const BOOT_SECONDS: u64 = 5;
+
+/// The stamps of a log are wrong by so many microseconds at most where nothing else is said.
+const LOG_ERROR: u64 = 1000;
+
+/// And so are the moments at which frames are read at a port, since an adapter and its line keep frames back.
+const PORT_ERROR: u64 = 2000;
+
+/// A clock is wrong by so many parts in a million at most where nothing else is said.
+const DRIFT: u64 = 200;
 
 fn network_of<'a>(matches: &ArgMatches<'a>) -> NetworkFiles<'a> {
     NetworkFiles {
@@ -129,14 +139,22 @@ fn nmt_order<'a>(matches: &ArgMatches<'a>) -> Order<'a> {
     })
 }
 
-fn scan_order<'a>(matches: &ArgMatches<'a>) -> Order<'a> {
-    Order::Scan(ScanOrder {
-        port: matches.get_str("port").unwrap_or("-"),
+/// The question who is on the bus behind a port.
+fn scan_at<'a>(matches: &ArgMatches<'a>, port: &'a str) -> ScanOrder<'a> {
+    ScanOrder {
+        port,
         rate: rate_in(matches),
         up_to: node_of(matches, "up-to").unwrap_or(127),
         gently: matches.get_one("gently").unwrap_or(0),
-        eds: matches.get_str("eds"),
+        eds: None,
         limit: matches.get_one("limit"),
+    }
+}
+
+fn scan_order<'a>(matches: &ArgMatches<'a>) -> Order<'a> {
+    Order::Scan(ScanOrder {
+        eds: matches.get_str("eds"),
+        ..scan_at(matches, matches.get_str("port").unwrap_or("-"))
     })
 }
 
@@ -283,8 +301,17 @@ fn tidy_order<'a>(matches: &ArgMatches<'a>) -> Order<'a> {
     })
 }
 
+/// The scan of the bus whose nodes get tables, if a port is named.
+fn scan_for<'a>(matches: &ArgMatches<'a>) -> Option<ScanOrder<'a>> {
+    match matches.get_str("port") {
+        Some(port) => Some(scan_at(matches, port)),
+        None => None,
+    }
+}
+
 fn init_order<'a>(matches: &ArgMatches<'a>) -> Order<'a> {
     Order::Init(InitOrder {
+        scan: scan_for(matches),
         folder: matches.get_str("FOLDER").unwrap_or("-"),
         out: matches.get_str("OUT").unwrap_or("-"),
     })
@@ -297,24 +324,42 @@ fn diff_order<'a>(matches: &ArgMatches<'a>) -> Order<'a> {
     })
 }
 
+/// How far a clock is wrong, as a word says, or as it is taken where the word is left out.
+fn clock_of(matches: &ArgMatches<'_>, name: &str, otherwise: u64) -> u32 {
+    let wrong = matches.get_one(name).unwrap_or(otherwise);
+    u32::try_from(wrong).unwrap_or(u32::MAX)
+}
+
 /// A log that is watched, by its name.
 fn watch_of<'a>(matches: &ArgMatches<'a>, log: &'a str) -> WatchOrder<'a> {
-    let error = matches.get_one("error").unwrap_or(1000);
-    let drift = matches.get_one("drift").unwrap_or(200);
     WatchOrder {
         network: network_of(matches),
         log,
         channel: matches.get_str("channel"),
         are_distances: matches.get_flag("delta"),
-        error: u32::try_from(error).unwrap_or(u32::MAX),
-        drift: u32::try_from(drift).unwrap_or(u32::MAX),
+        error: clock_of(matches, "error", LOG_ERROR),
+        drift: clock_of(matches, "drift", DRIFT),
+        limit: None,
     }
 }
 
 fn watch_order<'a>(matches: &ArgMatches<'a>) -> Order<'a> {
-    Order::Watch {
-        log: watch_of(matches, matches.get_str("LOG").unwrap_or("-")),
-        csv: matches.get_str("csv"),
+    match matches.get_str("port") {
+        Some(port) => Order::Listen(ListenOrder {
+            network: network_of(matches),
+            port,
+            limit: matches.get_one("for"),
+            error: clock_of(matches, "error", PORT_ERROR),
+            drift: clock_of(matches, "drift", DRIFT),
+            csv: matches.get_str("csv"),
+        }),
+        None => Order::Watch {
+            log: WatchOrder {
+                limit: matches.get_one("for"),
+                ..watch_of(matches, matches.get_str("LOG").unwrap_or("-"))
+            },
+            csv: matches.get_str("csv"),
+        },
     }
 }
 

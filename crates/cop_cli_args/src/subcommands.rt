@@ -1,9 +1,9 @@
 //! The subcommands, and their words.
 
-use crate::machine_words::{BOOT, NMT, READ, SCAN, VERIFY, WRITE};
+use crate::machine_words::{BOOT, FOR, INIT, NMT, READ, SCAN, VERIFY, WRITE};
 use crate::words::{
     CHANNEL, Choices, DELTA, DRIFT, ERROR, EXPLAIN, JSON, Kind, LISTED_RATES, MARGIN, MOST_NODE,
-    NODES, Need, PDOS, SETUP, Word,
+    NODES, Need, PDOS, PORT, SETUP, Word,
 };
 use cop_orders::MOST_UNTIL;
 
@@ -254,22 +254,6 @@ static TIDY: [Word; 9] = [
     },
 ];
 
-static INIT: [Word; 3] = [
-    Word {
-        name: "FOLDER",
-        kind: Kind::Place,
-        need: Need::Required,
-        help: "A folder with the EDS files of the devices",
-    },
-    Word {
-        name: "OUT",
-        kind: Kind::Place,
-        need: Need::Required,
-        help: "A folder, which has to be there, for nodes.csv, pdos.csv and network.toml; nothing that is there is replaced",
-    },
-    EXPLAIN,
-];
-
 static DIFF: [Word; 4] = [
     Word {
         name: "OLD",
@@ -287,7 +271,7 @@ static DIFF: [Word; 4] = [
     JSON,
 ];
 
-static WATCH: [Word; 13] = [
+static WATCH: [Word; 15] = [
     NODES,
     PDOS,
     SETUP,
@@ -298,13 +282,28 @@ static WATCH: [Word; 13] = [
     Word {
         name: "LOG",
         kind: Kind::Place,
-        need: Need::Required,
+        need: Need::Unless("port"),
         help: "The log, as candump, a tool of Vector (.asc) or of PEAK (.trc) writes it; - is standard input",
     },
-    ERROR,
+    Word {
+        need: Need::Against("LOG"),
+        help: "The serial device of a CAN adapter that speaks slcan: its bus is watched as frames come, and none is sent; - is standard input and output",
+        ..PORT
+    },
+    FOR,
+    Word {
+        help: "By how much distances of two stamps of the log are wrong at most; 1000 where it is left out, and 2000 at a port",
+        ..ERROR
+    },
     DRIFT,
-    CHANNEL,
-    DELTA,
+    Word {
+        need: Need::Against("port"),
+        ..CHANNEL
+    },
+    Word {
+        need: Need::Against("port"),
+        ..DELTA
+    },
     Word {
         name: "csv",
         kind: Kind::Text("FILE"),
@@ -437,13 +436,13 @@ impl Subcommand {
                 "Makes of an EDS file as makers ship it one that plan reads, and tells each change"
             }
             Subcommand::Init => {
-                "Makes tables to start from of the EDS files of a folder, and tells each guess"
+                "Makes tables to start from of the EDS files of a folder, for each file or for each node on a bus, and tells each guess"
             }
             Subcommand::Diff => {
                 "Says which devices of a machine have to be set again for another plan, and to which values"
             }
             Subcommand::Watch => {
-                "Reads a log of a real bus, and says whether it keeps to the tables"
+                "Reads a log of a real bus, or listens to one, and says whether it keeps to the tables"
             }
             Subcommand::Explain => {
                 "Says what the rule of a refusal is, what is usually behind it, and what is right"
@@ -481,9 +480,15 @@ impl Subcommand {
             Subcommand::Report => "Example: canplan report nodes.csv pdos.csv report.html",
             Subcommand::Export => "Example: canplan export dbc nodes.csv pdos.csv plan.dbc",
             Subcommand::Tidy => "Example: canplan tidy unit.eds unit-tidy.eds",
-            Subcommand::Init => "Example: canplan init eds tables",
+            Subcommand::Init => {
+                "Examples: canplan init eds tables
+          canplan init --port /dev/ttyACM0 --rate 500 eds tables"
+            }
             Subcommand::Diff => "Example: canplan diff old new",
-            Subcommand::Watch => { "Example: candump -L can0 | canplan watch nodes.csv pdos.csv -" }
+            Subcommand::Watch => {
+                "Examples: candump -L can0 | canplan watch nodes.csv pdos.csv -
+          canplan watch --port /dev/ttyACM0 --for 60 nodes.csv pdos.csv"
+            }
             Subcommand::Explain => "Example: canplan explain 41",
         }
     }

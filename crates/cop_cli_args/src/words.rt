@@ -96,6 +96,8 @@ pub(crate) enum Need {
     Unless(&'static str),
     /// It cannot be there where this word is.
     Against(&'static str),
+    /// It cannot be there without this word.
+    With(&'static str),
 }
 
 /// A word of the command line.

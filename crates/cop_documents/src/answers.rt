@@ -1,6 +1,6 @@
 //! Answers that are told line by line.
 
-use crate::faults::number_if;
+use crate::faults::{number_if, text_if};
 use crate::objects::{Object, text_of};
 use crate::values::time_if;
 use cop_boot_answer::{BootAnswer, Detail, NodeLine, State};
@@ -161,33 +161,38 @@ fn names_of(alloc: Global, names: &[String]) -> Result<Value, AllocError> {
     Ok(Value::Array(all))
 }
 
+/// A node that answered a scan: what its device told of itself.
+#[derive(Drop)]
+pub struct FoundNode {
+    pub found: Found,
+    /// The name of the device, if it told one.
+    pub name: Option<String>,
+    /// The names of the EDS files that fit it, if they were looked for.
+    pub eds: Option<Vec<String>>,
+}
+
 /// What the device of a node told, and which EDS files fit it, if they were looked for.
-fn found_of(alloc: Global, found: &Found, fitting: Option<&[String]>) -> Result<Value, AllocError> {
+fn found_of(alloc: Global, node: &FoundNode) -> Result<Value, AllocError> {
+    let found = &node.found;
+    let name = node.name.as_ref().map(|name| name.as_str());
     let object = Object::new(alloc)
         .plain("node", found.node)
         .plain("device_type", told(found.device_type))
         .plain("vendor", told(found.vendor))
         .plain("product", told(found.product))
-        .plain("revision", told(found.revision));
-    match fitting {
+        .plain("revision", told(found.revision))
+        .with("name", text_if(alloc, name));
+    match &node.eds {
         Some(names) => object.plain("eds", names_of(alloc, names)?).end(),
         None => object.end(),
     }
 }
 
-/// The answer of a scan: the nodes that answered, each with the names of the EDS files that fit it, if they were looked for.
-pub fn scan_document(
-    alloc: Global,
-    found: &[Found],
-    fitting: Option<&[Vec<String>]>,
-) -> Result<String, AllocError> {
+/// The answer of a scan: the nodes that answered.
+pub fn scan_document(alloc: Global, found: &[FoundNode]) -> Result<String, AllocError> {
     let mut nodes = Vec::new(alloc);
-    for (place, one) in found.iter().enumerate() {
-        let names = match fitting {
-            Some(all) => all.get(place).map(|names| names.as_slice()),
-            None => None,
-        };
-        nodes.push(found_of(alloc, one, names)?)?;
+    for node in found {
+        nodes.push(found_of(alloc, node)?)?;
     }
     let document = Object::new(alloc)
         .text("command", "scan")

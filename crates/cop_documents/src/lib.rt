@@ -12,7 +12,8 @@ mod values;
 mod warnings;
 
 pub use answers::{
-    boot_document, check_document, judge_document, scan_document, test_document, verify_document,
+    FoundNode, boot_document, check_document, judge_document, scan_document, test_document,
+    verify_document,
 };
 pub use faults::{Told, fault_document};
 pub use logs::watch_document;

@@ -4,7 +4,7 @@ use crate::objects::{Object, text_of};
 use crate::values::{micros, time};
 use cop_logbook::{
     Breach, Broken, LateHeartbeat, Logbook, Nearest, Notice, Notices, Seen, Stranger, abort_words,
-    command_words,
+    command_words, emergency_words,
 };
 use cop_rta::Stream;
 use serde_json::Value;
@@ -110,7 +110,8 @@ fn notice_of(alloc: Global, line: u64, notice: Notice) -> Result<Value, AllocErr
         Notice::Emergency { node, code } => told
             .text("kind", "emergency")
             .plain("node", node)
-            .plain("code", code),
+            .plain("code", code)
+            .text("words", emergency_words(code)),
         Notice::Abort {
             node,
             is_client,

@@ -2,6 +2,7 @@
 
 use cop_dict::{Dictionary, Direction};
 use cop_eds::Refusal;
+use cop_fitting::Node;
 use cop_pdo::payload;
 use cop_start::{Offer, Pace, Row, Sender, Source, Start, Tables, offered};
 use std::alloc::{AllocError, Global};
@@ -58,6 +59,43 @@ impl Notes {
         )?;
         self.text.push_str(&line)
     }
+
+    /// That a node is left out since the one file that fits is refused for it.
+    pub(crate) fn refused_for(
+        &mut self,
+        node: u8,
+        name: &str,
+        refused: Refusal,
+    ) -> Result<(), AllocError> {
+        let (number, line) = (refused.rule.number(), refused.line);
+        let line = format!(in self.alloc;
+            "node {node}: left out, {name} is refused {number} at line {line} for it\n"
+        )?;
+        self.text.push_str(&line)
+    }
+
+    /// That a node is left out since no file fits what its device told.
+    pub(crate) fn unfitted(&mut self, one: Node) -> Result<(), AllocError> {
+        let node = one.node;
+        write!(self.text, "node {node}: left out, no file fits")?;
+        push_told(&mut self.text, "vendor", one.told.vendor)?;
+        push_told(&mut self.text, "product", one.told.product)?;
+        self.text.push_str("\n")
+    }
+
+    /// That a node is left out since more than one file fits.
+    pub(crate) fn several(&mut self, node: u8, names: &str) -> Result<(), AllocError> {
+        let line = format!(in self.alloc; "node {node}: left out, several files fit: {names}\n")?;
+        self.text.push_str(&line)
+    }
+}
+
+/// Adds a number that a device told, of eight hexadecimal digits, behind its name.
+fn push_told(text: &mut String, name: &str, told: Option<u32>) -> Result<(), AllocError> {
+    match told {
+        Some(number) => write!(text, " {name} {number:08X}"),
+        None => write!(text, " {name} -"),
+    }
 }
 
 /// From where a period comes.
@@ -110,7 +148,8 @@ fn why_not(offer: Offer) -> Option<&'static str> {
 }
 
 /// The file of a device, and its TPDOs that have no rows.
-fn tell_device(notes: &mut Notes, node: usize, source: &Source) -> Result<(), AllocError> {
+fn tell_device(notes: &mut Notes, source: &Source) -> Result<(), AllocError> {
+    let node = source.node();
     let file = str::from_utf8(source.file()).unwrap_or("");
     let line = format!(in notes.alloc; "node {node}: {file}\n")?;
     notes.text.push_str(&line)?;
@@ -133,7 +172,7 @@ fn tell_row(
     let (node, tpdo) = (sender.node, sender.tpdo);
     let source = source_of(notes.alloc, sender)?;
     let mut line = format!(in notes.alloc; "pdo {node}.{tpdo}: {source};")?;
-    if let Some(source) = start.sources().get(usize::from(node).saturating_sub(1)) {
+    if let Some(source) = start.sources().iter().find(|source| source.node() == node) {
         push_objects(&mut line, source.dictionary(), tpdo)?;
     }
     push_takers(&mut line, row)?;
@@ -156,8 +195,8 @@ pub(crate) fn tell_rows(
     start: &Start,
     tables: &Tables,
 ) -> Result<(), AllocError> {
-    for (before, source) in start.sources().iter().enumerate() {
-        tell_device(notes, before.saturating_add(1), source)?;
+    for source in start.sources() {
+        tell_device(notes, source)?;
     }
     for (sender, row) in tables.senders.iter().zip(tables.rows.iter()) {
         tell_row(notes, start, sender, row)?;

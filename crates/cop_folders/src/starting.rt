@@ -1,15 +1,12 @@
 //! Tables to start from, made of the EDS files of a folder.
 
-use crate::devices::described;
 use crate::notes::{Notes, tell_rows};
+use crate::usable::{Usable, made_usable};
 use cop_dict::Dictionary;
-use cop_eds::{EdsFault, Refusal};
 use cop_engine::Fault;
-use cop_files::{Failure, Use, eds_names, file_failure, print, read_file, write_file};
-use cop_orders::InitOrder;
-use cop_rows::is_name;
+use cop_files::{Failure, Use, eds_names, file_failure, print, read_file, tell, write_file};
+use cop_orders::{InitOrder, ScanOrder};
 use cop_start::{Start, Tables, first_tables};
-use cop_tidy::{TidyFault, Words, tidy};
 use cop_written::{node_text, pdo_text};
 use std::alloc::{AllocError, Global};
 use std::{fs, io};
@@ -29,73 +26,62 @@ struct Taken {
 
 /// What is found in a folder.
 #[derive(Drop)]
-struct Found {
+pub(crate) struct Found {
     start: Start,
     taken: Vec<Taken>,
-    notes: Notes,
+    pub notes: Notes,
 }
 
 impl Found {
-    /// Takes a file with what it describes for the next node.
-    fn take(
+    /// Nothing yet.
+    pub(crate) fn new(alloc: Global) -> Found {
+        Found {
+            start: Start::new(alloc),
+            taken: Vec::new(alloc),
+            notes: Notes::new(alloc),
+        }
+    }
+
+    /// Whether a file of this name was taken.
+    pub(crate) fn has(&self, name: &str) -> bool {
+        self.taken.iter().any(|file| file.name.as_str() == name)
+    }
+
+    /// Takes a file for a node, with what it describes for this one.
+    pub(crate) fn take(
         &mut self,
+        node: u8,
         name: &str,
-        text: Vec<u8>,
+        text: &[u8],
         dictionary: Dictionary,
     ) -> Result<(), AllocError> {
         let alloc = self.notes.alloc();
         let file = Vec::from_slice(alloc, name.as_bytes())?;
-        if self.start.add(file, dictionary)? {
+        if self.start.add(node, file, dictionary)? && !self.has(name) {
             let name = String::from_str(alloc, name)?;
+            let text = Vec::from_slice(alloc, text)?;
             self.taken.push(Taken { name, text })?;
         }
         Ok(())
     }
 
-    /// Takes what tidy makes of a refused text, if it asks nothing and the file may be written anew.
-    fn mend(
-        &mut self,
-        name: &str,
-        text: &[u8],
-        node: u8,
-        is_copied: bool,
-        refused: Refusal,
-    ) -> Result<(), AllocError> {
-        let alloc = self.notes.alloc();
-        let tidied = match tidy(alloc, text, &Words::none(alloc)) {
-            Ok(tidied) => tidied,
-            Err(TidyFault::Refused(_)) => return self.notes.refused(name, refused, "asks"),
-            Err(TidyFault::Memory) => return Err(AllocError),
-        };
-        if !is_copied {
-            return self.notes.refused(name, refused, "mends it");
-        }
-        match described(alloc, &tidied.text, node) {
-            Ok(dictionary) => {
-                self.notes.mended(name, refused)?;
-                self.take(name, tidied.text, dictionary)
-            }
-            Err(EdsFault::Refused(_)) => self.notes.refused(name, refused, "does not mend it"),
-            Err(EdsFault::Memory) => Err(AllocError),
-        }
-    }
-
-    /// Takes a file, or notes why it is left out.
+    /// Takes a file for the next node, or notes why it is left out.
     fn look_at(&mut self, name: &str, text: Vec<u8>, is_copied: bool) -> Result<(), AllocError> {
         let Some(node) = self.start.next_node() else {
             return self.notes.left(name, "a network has 127 nodes at most");
         };
-        if !is_name(name.as_bytes()) {
-            return self.notes.left(
-                name,
-                "a table takes no file of this name: 1 to 40 letters, digits, blanks, _, - and .",
-            );
+        let Some(found) = made_usable(&mut self.notes, name, text, node, is_copied)? else {
+            return Ok(());
+        };
+        let Usable {
+            text,
+            dictionary,
+            refused,
+        } = found;
+        if let Some(refused) = refused {
+            self.notes.mended(name, refused)?;
         }
-        match described(self.notes.alloc(), &text, node) {
-            Ok(dictionary) => self.take(name, text, dictionary),
-            Err(EdsFault::Refused(refusal)) => self.mend(name, &text, node, is_copied, refusal),
-            Err(EdsFault::Memory) => Err(AllocError),
-        }
+        self.take(node, name, &text, dictionary)
     }
 }
 
@@ -107,14 +93,17 @@ fn real_path(rt: &HostRuntime, path: &str) -> Result<String, Failure> {
     }
 }
 
+/// Whether the EDS files are copied: the tables are written to another folder.
+pub(crate) fn is_copied(rt: &HostRuntime, order: InitOrder<'_>) -> Result<bool, Failure> {
+    let folder = real_path(rt, order.folder)?;
+    let out = real_path(rt, order.out)?;
+    Ok(folder.as_str() != out.as_str())
+}
+
 /// What is found in the files of a folder. They are copied into another one, if the tables are written there.
 fn look(rt: &HostRuntime, folder: &str, is_copied: bool) -> Result<Found, Failure> {
     let alloc = rt.alloc();
-    let mut found = Found {
-        start: Start::new(alloc),
-        taken: Vec::new(alloc),
-        notes: Notes::new(alloc),
-    };
+    let mut found = Found::new(alloc);
     for name in eds_names(rt, folder)? {
         let path = format!(in alloc; "{folder}/{name}")?;
         let text = read_file(rt, &path)?;
@@ -137,6 +126,14 @@ fn check_free(rt: &HostRuntime, folder: &str, name: &str) -> Result<(), Failure>
     })
 }
 
+/// Refuses to replace any of the files that are always written.
+pub(crate) fn check_free_tables(rt: &HostRuntime, out: &str) -> Result<(), Failure> {
+    for name in WRITTEN {
+        check_free(rt, out, name)?;
+    }
+    Ok(())
+}
+
 /// Refuses to replace any file.
 fn check_all_free(
     rt: &HostRuntime,
@@ -144,9 +141,7 @@ fn check_all_free(
     taken: &[Taken],
     is_copied: bool,
 ) -> Result<(), Failure> {
-    for name in WRITTEN {
-        check_free(rt, out, name)?;
-    }
+    check_free_tables(rt, out)?;
     if is_copied {
         for file in taken {
             check_free(rt, out, &file.name)?;
@@ -178,27 +173,45 @@ fn write_all(
     write_in(rt, out, "network.toml", PROJECT)
 }
 
-/// Makes tables to start from of the EDS files of a folder: each guess is told, and then they are written. Nothing that is there is
-/// replaced. The status is 3 if no file is one that plan reads.
-#[inline(never)]
-pub fn start_tables(rt: &HostRuntime, order: InitOrder<'_>) -> Result<u8, Failure> {
-    let alloc = rt.alloc();
-    let folder = real_path(rt, order.folder)?;
-    let out = real_path(rt, order.out)?;
-    let is_copied = folder.as_str() != out.as_str();
+/// Gives the answer: on standard error if standard output is the port of the bus.
+fn answer(rt: &HostRuntime, order: InitOrder<'_>, text: Vec<u8>) -> Result<(), Failure> {
+    if let Some(ScanOrder { port: "-", .. }) = order.scan {
+        tell(rt, Ok(text));
+        Ok(())
+    } else {
+        print(rt, &text)
+    }
+}
+
+/// Tells what is found, and writes its tables. The status is 3 if there is no device.
+pub(crate) fn finish(
+    rt: &HostRuntime,
+    order: InitOrder<'_>,
+    found: Found,
+    is_copied: bool,
+) -> Result<u8, Failure> {
     let Found {
         start,
         taken,
         mut notes,
-    } = look(rt, order.folder, is_copied)?;
+    } = found;
     check_all_free(rt, order.out, &taken, is_copied)?;
-    let tables = first_tables(alloc, &start)?;
+    let tables = first_tables(rt.alloc(), &start)?;
     tell_rows(&mut notes, &start, &tables)?;
-    print(rt, &notes.into_bytes())?;
+    answer(rt, order, notes.into_bytes())?;
     if taken.is_empty() {
         return Ok(3);
     }
     let copied = if is_copied { taken.as_slice() } else { &[] };
     write_all(rt, order.out, &tables, copied)?;
     Ok(0)
+}
+
+/// Makes tables to start from of the EDS files of a folder: each guess is told, and then they are written. Nothing that is there is
+/// replaced. The status is 3 if no file is one that plan reads.
+#[inline(never)]
+pub fn start_tables(rt: &HostRuntime, order: InitOrder<'_>) -> Result<u8, Failure> {
+    let is_copied = is_copied(rt, order)?;
+    let found = look(rt, order.folder, is_copied)?;
+    finish(rt, order, found, is_copied)
 }

@@ -349,6 +349,22 @@ impl Breach {
     }
 }
 
+/// The lines of breaches, in their order.
+pub(crate) fn lines_of(
+    alloc: Global,
+    clock: Clock,
+    breaches: &[Breach],
+) -> Result<String, AllocError>
+    ensures { IfOk result (λ text. AreLines breaches.now (string_bytes text)) }
+{
+    let mut text = String::new(alloc);
+    for breach in breaches {
+        let line = breach.line_of(alloc, clock)?;
+        text.push_str(&line)?;
+    }
+    Ok(text)
+}
+
 impl Breaches {
     /// None yet.
     pub fn new(alloc: Global) -> Result<Breaches, AllocError>
@@ -373,18 +389,6 @@ impl Breaches {
         ensures { result.now ≡ self.now.told.items }
     {
         &self.told
-    }
-
-    /// The lines of those that are told, in their order.
-    pub fn words(&self, alloc: Global, clock: Clock) -> Result<String, AllocError>
-        ensures { IfOk result (λ text. AreLines self.now.told.items (string_bytes text)) }
-    {
-        let mut text = String::new(alloc);
-        for place in 0..self.told.len() {
-            let line = self.told[place].line_of(alloc, clock)?;
-            text.push_str(&line)?;
-        }
-        Ok(text)
     }
 
     /// Counts a breach, and keeps it as long as not too many of its identifier were kept.

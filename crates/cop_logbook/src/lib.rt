@@ -4,6 +4,7 @@
 
 mod abort_codes;
 mod breaches;
+mod emergency_codes;
 mod heartbeats;
 mod loads;
 mod logbook;
@@ -15,6 +16,7 @@ mod watching;
 
 pub use abort_codes::abort_words;
 pub use breaches::{Breach, Broken, Nearest};
+pub use emergency_codes::emergency_words;
 pub use heartbeats::LateHeartbeat;
 pub use loads::{Loads, PARTS};
 pub use logbook::{BookFault, Logbook};
@@ -22,4 +24,4 @@ pub use noticed::{Counts, Notice, Notices, command_words};
 pub use seen::Seen;
 pub use spread::{STEPS, Spread};
 pub use strangers::Stranger;
-pub use watching::{WatchFault, watched};
+pub use watching::{Nobody, Onlooker, WatchFault, watched};

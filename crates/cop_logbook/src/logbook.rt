@@ -8,7 +8,7 @@ ghost use Rattle.std.specs.String.{string_bytes};
 ghost use Rattle.cop_logbook.specs.Words.{verdict, AreLines};
 ghost use Rattle.cop_logbook.specs.Books.{IsSaid, book_fault, Begins, Takes, Refuses, IsWith, Counts, Tells, Notes, Ends};
 
-use crate::breaches::{Breach, Breaches, Broken};
+use crate::breaches::{Breach, Breaches, Broken, lines_of};
 use crate::heartbeats::{LateHeartbeat, late_heartbeat};
 use crate::loads::Loads;
 use crate::noticed::Notices;
@@ -157,7 +157,14 @@ impl<'a> Logbook<'a> {
     pub fn words(&self) -> Result<String, AllocError>
         ensures { IfOk result (λ text. AreLines self.now.breaches.told.items (string_bytes text)) }
     {
-        self.breaches.words(self.alloc, self.clock)
+        self.lines_of(self.told())
+    }
+
+    /// The words of breaches, a line each.
+    pub fn lines_of(&self, breaches: &[Breach]) -> Result<String, AllocError>
+        ensures { IfOk result (λ text. AreLines breaches.now (string_bytes text)) }
+    {
+        lines_of(self.alloc, self.clock, breaches)
     }
 
     /// What was noticed that breaks nothing.

@@ -1,6 +1,7 @@
 //! What is worth a word in a log, and breaks nothing: commands, boot-ups, emergencies and SDO aborts.
 
 use crate::abort_codes::abort_words;
+use crate::emergency_codes::emergency_words;
 use cop_frame::identifiers::{EMCY, HEARTBEAT, NMT, SDO_REQUEST, SDO_RESPONSE};
 use std::alloc::{AllocError, Global};
 
@@ -108,7 +109,11 @@ fn write_notice(text: &mut String, line: u64, notice: Notice) -> Result<(), Allo
         }
         Notice::BootUp { node } => write!(text, "line {line}: node {node} boots up\n"),
         Notice::Emergency { node, code } => {
-            write!(text, "line {line}: EMCY of node {node}, code {code:04X}h\n")
+            let words = emergency_words(code);
+            write!(
+                text,
+                "line {line}: EMCY of node {node}, code {code:04X}h: {words}\n"
+            )
         }
         Notice::Abort {
             node,

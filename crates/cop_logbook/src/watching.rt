@@ -52,11 +52,26 @@ impl<T: Drop> From<AllocFailed<T>> for WatchFault {
     }
 }
 
-/// Takes all pieces that a reader has left. Each takes the place of the one before.
-fn take_pieces<R: Read>(
+/// What looks on while a log is watched.
+pub trait Onlooker {
+    /// Is shown the logbook once a piece of the log was taken.
+    fn look(&mut self, book: &Logbook<'_>);
+}
+
+/// Nobody looks on.
+#[derive(Clone, Copy)]
+pub struct Nobody;
+
+impl Onlooker for Nobody {
+    fn look(&mut self, _book: &Logbook<'_>) {}
+}
+
+/// Takes all pieces that a reader has left. Each takes the place of the one before, and is looked at once it was taken.
+fn take_pieces<R: Read, L: Onlooker>(
     book: &mut Logbook<'_>,
     reader: &mut R,
     piece: &mut [u8],
+    onlooker: &mut L,
 ) -> Result<(), WatchFault>
     requires { 0 < length piece.old }
     ensures taken { OnOk result (TakesAlong (R.remaining reader.old) (R.remaining reader.new) book.old book.new) }
@@ -66,7 +81,10 @@ fn take_pieces<R: Read>(
     'pieces: for _ in 0..u64::MAX {
         match reader.read(piece) {
             Ok(0) => return Ok(()),
-            Ok(len) => book.take_piece(&piece[..len])?,
+            Ok(len) => {
+                book.take_piece(&piece[..len])?;
+                onlooker.look(book);
+            }
             Err(error) => return Err(WatchFault::Read(error)),
         }
     }
@@ -76,14 +94,15 @@ fn take_pieces<R: Read>(
 /// A log that a reader has left, watched to its end by a plan: each breach is evident from it, and where a legal run in which all streams
 /// obey has it, within the error of its clock, there is none. The frames of the channel count, those of the first frame's where none is
 /// given; `are_distances` says that the stamps of a log in columns are distances. A last line that lacks its end is left out, and memory
-/// does not grow with the log. It is refused where a line is, or where no frame is of the channel.
-pub fn watched<'a, R: Read + Drop>(
+/// does not grow with the log. It is refused where a line is, or where no frame is of the channel. An onlooker is shown how far it came.
+pub fn watched<'a, R: Read + Drop, L: Onlooker>(
     alloc: Global,
     plan: &'a Plan,
     clock: Clock,
     channel: Option<&str>,
     are_distances: bool,
     mut reader: R,
+    onlooker: &mut L,
 ) -> Result<Logbook<'a>, WatchFault>
     ensures watched { IfOk result (λ book. HoldsOfAll (R.remaining reader) (λ text. length text < 2 ^ 64
         → IsWatched plan.now clock (record { channel = option_copied channel.entry; are_distances = are_distances }) text book)) }
@@ -91,7 +110,7 @@ pub fn watched<'a, R: Read + Drop>(
 {
     let mut book = Logbook::new(alloc, plan, clock, channel, are_distances)?;
     let mut piece = vec![in alloc; 0; PIECE]?;
-    take_pieces(&mut book, &mut reader, &mut piece)?;
+    take_pieces(&mut book, &mut reader, &mut piece, onlooker)?;
     book.end()?;
     Ok(book)
 }

@@ -4,7 +4,7 @@
 mod orders;
 
 pub use orders::{
-    DiffOrder, Format, InitOrder, MOST_UNTIL, MachineOrder, NetworkFiles, NmtOrder, Order,
-    PlanOrder, Rates, Request, ScanOrder, Shown, TidyChoices, TidyOrder, TransferOrder,
+    DiffOrder, Format, InitOrder, ListenOrder, MOST_UNTIL, MachineOrder, NetworkFiles, NmtOrder,
+    Order, PlanOrder, Rates, Request, ScanOrder, Shown, TidyChoices, TidyOrder, TransferOrder,
     VerifyOrder, WatchOrder,
 };

@@ -177,6 +177,8 @@ pub struct TidyOrder<'a> {
 /// EDS files from which the tables of a network are to start.
 #[derive(Clone, Copy)]
 pub struct InitOrder<'a> {
+    /// The question who is on the bus, if the devices are those that answer it. Otherwise each file is one device's.
+    pub scan: Option<ScanOrder<'a>>,
     /// The folder of the files.
     pub folder: &'a str,
     /// The folder that the tables are written to.
@@ -213,6 +215,22 @@ pub struct WatchOrder<'a> {
     /// By how many microseconds, and by how many parts in a million, distances of two stamps are wrong at most.
     pub error: u32,
     pub drift: u32,
+    /// For how many seconds of this computer's clock it is read. Otherwise to its end.
+    pub limit: Option<u64>,
+}
+
+/// A bus behind the adapter of a port that is to be watched.
+#[derive(Clone, Copy)]
+pub struct ListenOrder<'a> {
+    pub network: NetworkFiles<'a>,
+    pub port: &'a str,
+    /// For how many seconds it is listened. Otherwise until the port ends.
+    pub limit: Option<u64>,
+    /// By how many microseconds, and by how many parts in a million, distances of two moments at which frames are read are wrong at most.
+    pub error: u32,
+    pub drift: u32,
+    /// The file that a table of what was seen of each stream is written to, if one is wanted.
+    pub csv: Option<&'a str>,
 }
 
 /// What a page shows of the bus beside the plan.
@@ -299,6 +317,8 @@ pub enum Order<'a> {
         /// The file that a table of what was seen of each stream is written to, if one is wanted.
         csv: Option<&'a str>,
     },
+    /// A bus behind the adapter of a port, watched by the plan of a network.
+    Listen(ListenOrder<'a>),
     /// What the rule of a number says, or what all say.
     Explain {
         number: Option<u8>,

@@ -4,3 +4,4 @@ pub mod Reasons
 pub mod Scanning
 pub mod Transferring
 pub mod Verifying
+pub mod Watching

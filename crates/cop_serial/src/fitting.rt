@@ -3,23 +3,15 @@
 use cop_dict::{Dictionary, build};
 use cop_eds::{EdsFault, parse};
 use cop_files::{Failure, eds_names, read_file};
+use cop_fitting::{Identity, places, stated};
 use cop_scan::Found;
 use std::alloc::{AllocError, Global};
 
-/// What an EDS file says of its device (CiA 301, "Device type", "Identity object"): none of what it does not state, or states as 0.
+/// EDS files, and what each of them states of its device.
 #[derive(Drop)]
-pub(crate) struct Description {
-    name: String,
-    device_type: Option<u64>,
-    vendor: Option<u64>,
-    product: Option<u64>,
-    revision: Option<u64>,
-}
-
-/// The number at an address, if it is another one than 0.
-fn stated(dictionary: &Dictionary, index: u16, sub: u8) -> Option<u64> {
-    let number = dictionary.entry(index, sub)?.unsigned32()?;
-    if number == 0 { None } else { Some(number) }
+pub(crate) struct Descriptions {
+    names: Vec<String>,
+    stated: Vec<Identity>,
 }
 
 fn described(alloc: Global, text: &[u8]) -> Result<Dictionary, EdsFault> {
@@ -28,23 +20,20 @@ fn described(alloc: Global, text: &[u8]) -> Result<Dictionary, EdsFault> {
 }
 
 /// What the EDS files of a folder say of their devices. A file that plan refuses says nothing.
-pub(crate) fn read_descriptions(
-    rt: &HostRuntime,
-    folder: &str,
-) -> Result<Vec<Description>, Failure> {
+pub(crate) fn read_descriptions(rt: &HostRuntime, folder: &str) -> Result<Descriptions, Failure> {
     let alloc = rt.alloc();
-    let mut all = Vec::new(alloc);
+    let mut all = Descriptions {
+        names: Vec::new(alloc),
+        stated: Vec::new(alloc),
+    };
     for name in eds_names(rt, folder)? {
         let path = format!(in alloc; "{folder}/{name}")?;
         let text = read_file(rt, &path)?;
         match described(alloc, &text) {
-            Ok(dictionary) => all.push(Description {
-                name,
-                device_type: stated(&dictionary, 0x1000, 0),
-                vendor: stated(&dictionary, 0x1018, 1),
-                product: stated(&dictionary, 0x1018, 2),
-                revision: stated(&dictionary, 0x1018, 3),
-            })?,
+            Ok(dictionary) => {
+                all.names.push(name)?;
+                all.stated.push(stated(&dictionary))?;
+            }
             Err(EdsFault::Refused(_)) => {}
             Err(EdsFault::Memory) => return Err(Failure::from(AllocError)),
         }
@@ -52,54 +41,35 @@ pub(crate) fn read_descriptions(
     Ok(all)
 }
 
-/// Whether a device told the number that a file states; one that states none fits each.
-fn agrees(stated: Option<u64>, told: Option<u32>) -> bool {
-    match stated {
-        Some(number) => told.map(u64::from) == Some(number),
-        None => true,
-    }
-}
-
-impl Description {
-    /// Whether it fits a device: it states the vendor, and the device told that, the product and the device type, if these are stated.
-    fn fits(&self, found: &Found) -> bool {
-        self.vendor.is_some()
-            && agrees(self.vendor, found.vendor)
-            && agrees(self.product, found.product)
-            && agrees(self.device_type, found.device_type)
-    }
-
-    /// Whether it fits a device of this revision, too.
-    fn fits_exactly(&self, found: &Found) -> bool {
-        self.fits(found) && self.revision.is_some() && agrees(self.revision, found.revision)
+/// What a device told of what it is.
+pub(crate) fn identity_of(found: &Found) -> Identity {
+    Identity {
+        device_type: found.device_type,
+        vendor: found.vendor,
+        product: found.product,
+        revision: found.revision,
     }
 }
 
 /// The names of the files that fit a device: those of its revision, and if there is none, those of any.
-fn fitting(alloc: Global, all: &[Description], found: &Found) -> Result<Vec<String>, AllocError> {
-    let is_exact = all.iter().any(|one| one.fits_exactly(found));
+fn fitting(alloc: Global, all: &Descriptions, found: &Found) -> Result<Vec<String>, AllocError> {
     let mut names = Vec::new(alloc);
-    for one in all {
-        if if is_exact {
-            one.fits_exactly(found)
-        } else {
-            one.fits(found)
-        } {
-            names.push(String::from_str(alloc, &one.name)?)?;
+    for place in places(alloc, &all.stated, identity_of(found))? {
+        if let Some(name) = all.names.get(place) {
+            names.push(String::from_str(alloc, name)?)?;
         }
     }
     Ok(names)
 }
 
-/// The names of the files that fit each device.
-pub(crate) fn fitting_all(
+/// The names of the files that fit a device, if there is a folder of them.
+pub(crate) fn fitting_if(
     alloc: Global,
-    all: &[Description],
-    found: &[Found],
-) -> Result<Vec<Vec<String>>, AllocError> {
-    let mut names = Vec::new(alloc);
-    for one in found {
-        names.push(fitting(alloc, all, one)?)?;
+    all: Option<&Descriptions>,
+    found: &Found,
+) -> Result<Option<Vec<String>>, AllocError> {
+    match all {
+        Some(all) => Ok(Some(fitting(alloc, all, found)?)),
+        None => Ok(None),
     }
-    Ok(names)
 }

@@ -2,6 +2,7 @@
 
 use cop_frame::Frame;
 use cop_frame::identifiers::EMCY;
+use cop_logbook::emergency_words;
 use cop_slcan::{Reader, Said};
 
 /// An error that a device told by EMCY: its code, and its error register (CiA 301, "Emergency object").
@@ -12,24 +13,9 @@ pub struct Emergency {
 }
 
 impl Emergency {
-    /// Of what the error is, by the first byte of its code.
+    /// Of what the error is, by its code.
     pub fn kind(self) -> &'static str {
-        match self.code >> 8 {
-            0x10 => "a generic error",
-            0x20..=0x23 => "current",
-            0x30..=0x33 => "voltage",
-            0x40..=0x42 => "temperature",
-            0x50 => "the device's hardware",
-            0x60..=0x63 => "the device's software",
-            0x70 => "additional modules",
-            0x81 => "communication",
-            0x82 => "a protocol error",
-            0x80 => "monitoring",
-            0x90 => "an external error",
-            0xF0 => "additional functions",
-            0xFF => "of the device's own kind",
-            _ => "of a code that CiA 301 does not list",
-        }
+        emergency_words(self.code)
     }
 }
 

@@ -6,8 +6,8 @@ ghost use Rattle.cop_serial.specs.Boots.{watch_of, approach_of, status_of, refus
 
 use crate::serial::{SECOND, Serial, limit_of, open_serial};
 use crate::telling::{
-    answer, emergencies_of, errors_refusal, line_failure, refusal, say, tell_adapter, tell_heard,
-    unopened_refusal,
+    answer, emergencies_of, errors_refusal, failure_behind, line_failure, refusal, say,
+    tell_adapter, tell_heard, unopened_refusal,
 };
 use cop_answers::{ABSENT, GARBLED, Inputs, RUNNING, boot_notes, identity_notes};
 use cop_boot_answer::BootAnswer;
@@ -18,7 +18,6 @@ use cop_files::{Failure, Form, Use, file_failure, read_network, write_file};
 use cop_orders::MachineOrder;
 use cop_plan::Outcome;
 use cop_report::{Sheet, sheet_of};
-use std::str;
 
 /// Gives the answer of a boot in a form, and that no rate passes where there is none.
 fn answer_in(
@@ -44,23 +43,7 @@ fn running_refusal(rt: &HostRuntime, runner: Runner) -> Failure
     refusal(RUNNING, u64::from(runner.node), line.ok())
 }
 
-/// A failure with lines behind its reason.
-fn with_lines(rt: &HostRuntime, failure: Failure, text: &[u8]) -> Failure {
-    let reason = match &failure.reason {
-        Some(reason) => reason.as_str(),
-        None => "",
-    };
-    let lines = str::from_utf8(text).unwrap_or("");
-    match format!(in rt.alloc(); "{reason}{lines}") {
-        Ok(all) => Failure {
-            fault: failure.fault,
-            reason: Some(all),
-        },
-        Err(error) => Failure::from(error),
-    }
-}
-
-/// Tells how far the boot of each node was on a line that failed, before the failure or, as that is one document, in it; and gives the failure.
+/// Tells how far the boot of each node was on a line that failed, and gives the failure.
 fn boot_failure(
     rt: &HostRuntime,
     name: &str,
@@ -68,15 +51,8 @@ fn boot_failure(
     told: &BootAnswer,
     port: &Serial<'_>,
 ) -> Result<Failure, Failure> {
-    let failure = line_failure(rt, name, port);
     let text = told.text(rt.alloc())?;
-    if form == Form::Document {
-        return Ok(with_lines(rt, failure, &text));
-    }
-    if !text.is_empty() {
-        answer(rt, name, &text)?;
-    }
-    Ok(failure)
+    failure_behind(rt, name, form, &text, line_failure(rt, name, port))
 }
 
 /// What is said where a device did not go back to the values that it left the factory with.

@@ -4,13 +4,17 @@ ghost use Rattle.std.specs.Prelude.{◌≡◌, IfOk, IfErr, Some};
 ghost use Rattle.cop_serial.specs.Boots.{FailsBy};
 ghost use Rattle.cop_serial.specs.Scanning.{status_of, refused_as};
 
-use crate::fitting::{fitting_all, read_descriptions};
+use crate::fitting::{fitting_if, read_descriptions};
+use crate::naming::{ask_names, name_of};
 use crate::serial::{MILLISECOND, Serial, limit_of, open_serial};
-use crate::telling::{answer, line_failure, reason_refusal, say, tell_adapter, tell_heard};
-use cop_documents::scan_document;
+use crate::telling::{
+    answer, failure_behind, line_failure, reason_refusal, say, tell_adapter, tell_heard,
+};
+use cop_documents::{FoundNode, scan_document};
 use cop_files::{Failure, Form, Use, file_failure};
 use cop_orders::ScanOrder;
 use cop_scan::{Found, Scanned, scan};
+use cop_transfer::EachRead;
 use std::alloc::{AllocError, Global};
 
 /// Adds a number that was told, of eight hexadecimal digits, behind its name.
@@ -18,6 +22,14 @@ fn push_told(text: &mut String, name: &str, told: Option<u32>) -> Result<(), All
     match told {
         Some(number) => write!(text, " {name} {number:08X}"),
         None => write!(text, " {name} -"),
+    }
+}
+
+/// Adds the name of a device.
+fn push_name(text: &mut String, name: Option<&str>) -> Result<(), AllocError> {
+    match name {
+        Some(name) => write!(text, " name \"{name}\""),
+        None => text.push_str(" name -"),
     }
 }
 
@@ -33,38 +45,51 @@ fn push_names(text: &mut String, names: &[String]) -> Result<(), AllocError> {
 }
 
 /// The line of a node that answered, with the EDS files that fit it, if they were looked for.
-fn push_found(
-    text: &mut String,
-    found: &Found,
-    fitting: Option<&[String]>,
-) -> Result<(), AllocError> {
-    let node = found.node;
-    write!(text, "node {node}")?;
+fn push_node(text: &mut String, node: &FoundNode) -> Result<(), AllocError> {
+    let found = &node.found;
+    let number = found.node;
+    write!(text, "node {number}")?;
     push_told(text, "type", found.device_type)?;
     push_told(text, "vendor", found.vendor)?;
     push_told(text, "product", found.product)?;
     push_told(text, "revision", found.revision)?;
-    if let Some(names) = fitting {
+    push_name(text, node.name.as_ref().map(|name| name.as_str()))?;
+    if let Some(names) = &node.eds {
         push_names(text, names)?;
     }
     text.push_str("\n")
 }
 
 /// The lines of the nodes that answered.
-fn found_lines(
-    alloc: Global,
-    found: &[Found],
-    fitting: Option<&[Vec<String>]>,
-) -> Result<String, AllocError> {
+fn node_lines(alloc: Global, nodes: &[FoundNode]) -> Result<String, AllocError> {
     let mut text = String::new(alloc);
-    for (place, one) in found.iter().enumerate() {
-        let names = match fitting {
-            Some(all) => all.get(place).map(|names| names.as_slice()),
-            None => None,
-        };
-        push_found(&mut text, one, names)?;
+    for node in nodes {
+        push_node(&mut text, node)?;
     }
     Ok(text)
+}
+
+/// The nodes that answered, with the names of their devices and the EDS files that fit them, if they are to be looked for.
+fn nodes_of(
+    rt: &HostRuntime,
+    order: ScanOrder<'_>,
+    found: &[Found],
+    each: &EachRead,
+) -> Result<Vec<FoundNode>, Failure> {
+    let alloc = rt.alloc();
+    let descriptions = match order.eds {
+        Some(folder) => Some(read_descriptions(rt, folder)?),
+        None => None,
+    };
+    let mut nodes = Vec::new(alloc);
+    for one in found {
+        nodes.push(FoundNode {
+            found: *one,
+            name: name_of(alloc, each, one.node)?,
+            eds: fitting_if(alloc, descriptions.as_ref(), one)?,
+        })?;
+    }
+    Ok(nodes)
 }
 
 /// Gives the answer in a form.
@@ -72,21 +97,45 @@ fn answer_in(
     rt: &HostRuntime,
     order: ScanOrder<'_>,
     form: Form,
-    found: &[Found],
+    nodes: &[FoundNode],
 ) -> Result<(), Failure> {
     let alloc = rt.alloc();
-    let fitting = match order.eds {
-        Some(folder) => Some(fitting_all(alloc, &read_descriptions(rt, folder)?, found)?),
-        None => None,
-    };
-    let fitting = fitting.as_ref().map(|all| all.as_slice());
     let text = if form == Form::Document {
-        let document = scan_document(alloc, found, fitting)?;
+        let document = scan_document(alloc, nodes)?;
         format!(in alloc; "{document}\n")?
     } else {
-        found_lines(alloc, found, fitting)?
+        node_lines(alloc, nodes)?
     };
     answer(rt, order.port, text.as_bytes())
+}
+
+/// Why the names were not read, if they were not.
+fn unnamed(
+    rt: &HostRuntime,
+    order: ScanOrder<'_>,
+    each: &EachRead,
+    port: &Serial<'_>,
+) -> Option<Failure> {
+    match each {
+        EachRead::Ended { .. } => None,
+        EachRead::Left { reason } => Some(reason_refusal(rt, *reason, order.rate)),
+        EachRead::Failed => Some(line_failure(rt, order.port, port)),
+    }
+}
+
+/// Tells of the nodes that answered, also if their names were not read, which is a failure then.
+fn tell_seen(
+    rt: &HostRuntime,
+    order: ScanOrder<'_>,
+    form: Form,
+    nodes: &[FoundNode],
+    unnamed: Option<Failure>,
+) -> Result<(), Failure> {
+    let Some(failure) = unnamed else {
+        return answer_in(rt, order, form, nodes);
+    };
+    let lines = node_lines(rt.alloc(), nodes)?;
+    Err(failure_behind(rt, order.port, form, lines.as_bytes(), failure)?)
 }
 
 /// Tells what came of it, and gives its status: 3 if no node answered.
@@ -95,6 +144,7 @@ fn tell_scanned(
     order: ScanOrder<'_>,
     form: Form,
     scanned: &Scanned,
+    each: &EachRead,
     port: &Serial<'_>,
 ) -> Result<u8, Failure>
     ensures ends { IfOk result (λ status. status_of scanned.now ≡ Some status) }
@@ -102,7 +152,8 @@ fn tell_scanned(
 {
     match scanned {
         Scanned::Seen { found } => {
-            answer_in(rt, order, form, found)?;
+            let nodes = nodes_of(rt, order, found, each)?;
+            tell_seen(rt, order, form, &nodes, unnamed(rt, order, each, port))?;
             if found.is_empty() {
                 say(rt, b"canplan: no node answered\n");
                 return Ok(3);
@@ -125,9 +176,12 @@ fn nodes_up_to(alloc: Global, greatest: u8) -> Result<Vec<u8>, AllocError> {
     Ok(nodes)
 }
 
-/// Asks the nodes at a port what their devices are. Nothing is written to them.
-#[inline(never)]
-pub fn scan_bus(rt: &HostRuntime, order: ScanOrder<'_>, form: Form) -> Result<u8, Failure> {
+/// Asks the nodes at a port what their devices are, and leaves the port open to whoever asks more.
+pub(crate) fn scan_port<'a>(
+    rt: &'a HostRuntime,
+    order: ScanOrder<'_>,
+    form: Form,
+) -> Result<(Scanned, Serial<'a>), Failure> {
     let nodes = nodes_up_to(rt.alloc(), order.up_to)?;
     let mut port = match open_serial(rt, order.port, limit_of(order.limit)) {
         Ok(port) => port,
@@ -141,8 +195,21 @@ pub fn scan_bus(rt: &HostRuntime, order: ScanOrder<'_>, form: Form) -> Result<u8
     }
     let pause = order.gently.saturating_mul(MILLISECOND);
     let scanned = scan(rt.alloc(), order.rate, pause, &nodes, &mut port)?;
+    Ok((scanned, port))
+}
+
+/// Closes a line that has ended, and tells what the adapter and the bus told beside the answers.
+pub(crate) fn tell_port(rt: &HostRuntime, port: &mut Serial<'_>) {
     port.close_if_over();
-    tell_adapter(rt, &port);
-    tell_heard(rt, &port);
-    tell_scanned(rt, order, form, &scanned, &port)
+    tell_adapter(rt, port);
+    tell_heard(rt, port);
+}
+
+/// Asks the nodes at a port what their devices are, and those that answer for their names. Nothing is written to them.
+#[inline(never)]
+pub fn scan_bus(rt: &HostRuntime, order: ScanOrder<'_>, form: Form) -> Result<u8, Failure> {
+    let (scanned, mut port) = scan_port(rt, order, form)?;
+    let each = ask_names(rt, order, &scanned, &mut port)?;
+    tell_port(rt, &mut port);
+    tell_scanned(rt, order, form, &scanned, &each, &port)
 }

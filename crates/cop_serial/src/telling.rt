@@ -9,13 +9,14 @@ use crate::serial::Serial;
 use cop_answers::{ERRONEOUS, GARBLED, UNOPENED};
 use cop_commission::Command;
 use cop_engine::Fault;
-use cop_files::{Failure, Use, file_failure, print};
+use cop_files::{Failure, Form, Use, file_failure, print};
 use cop_frame::Rate;
 use cop_report as report;
 use cop_slcan::rate_digit;
 use cop_survey::Reason;
 use std::alloc::{AllocError, Global};
 use std::io::Write;
+use std::str;
 
 /// Says something on standard error.
 pub(crate) fn say(rt: &HostRuntime, words: &[u8]) {
@@ -30,6 +31,39 @@ pub fn answer(rt: &HostRuntime, port: &str, text: &[u8]) -> Result<(), Failure> 
     } else {
         print(rt, text)
     }
+}
+
+/// A failure with lines behind its reason.
+fn with_lines(rt: &HostRuntime, failure: Failure, text: &[u8]) -> Failure {
+    let reason = match &failure.reason {
+        Some(reason) => reason.as_str(),
+        None => "",
+    };
+    let lines = str::from_utf8(text).unwrap_or("");
+    match format!(in rt.alloc(); "{reason}{lines}") {
+        Ok(all) => Failure {
+            fault: failure.fault,
+            reason: Some(all),
+        },
+        Err(error) => Failure::from(error),
+    }
+}
+
+/// Tells lines before a failure or, as that is one document, in it; and gives the failure.
+pub(crate) fn failure_behind(
+    rt: &HostRuntime,
+    port: &str,
+    form: Form,
+    lines: &[u8],
+    failure: Failure,
+) -> Result<Failure, Failure> {
+    if form == Form::Document {
+        return Ok(with_lines(rt, failure, lines));
+    }
+    if !lines.is_empty() {
+        answer(rt, port, lines)?;
+    }
+    Ok(failure)
 }
 
 /// Tells of what the adapter refused since it was opened, and of what it takes otherwise than others.

@@ -1,9 +1,9 @@
 -- Each TPDO that may have a row has one.
-use Rattle.std.proofs.Common.{◌≡◌, ℕ, zero, suc, ◌+◌, ◌-◌, ◌<◌, ◌≤◌, ◌⊎◌, inl, inr, Bool, true, false, ◌&&◌, ◌||◌, ◌==◌, List, [], ◌∷◌, ◌++◌, length, take, slice_get, refl, sym, ap, ◌∙◌, arith, Option, Some, None}
+use Rattle.std.proofs.Common.{◌≡◌, ℕ, zero, suc, ◌+◌, ◌<◌, ◌≤◌, ◌⊎◌, inl, inr, Bool, true, false, ◌&&◌, ◌||◌, ◌==◌, List, [], ◌∷◌, ◌++◌, length, take, slice_get, refl, ap, ◌∙◌, arith, Some}
 use Rattle.std.specs.List.{list_any}
 use Rattle.std.proofs.lemmas.List.{take_all}
 use Rattle.std.proofs.lemmas.List.Folds.{list_any-append}
-use Rattle.std.proofs.lemmas.Bool.{eq-eqb, ne_eqb, cases_eq, cases_lt}
+use Rattle.std.proofs.lemmas.Bool.{eq-eqb, ne_eqb, cases_eq}
 use Rattle.cop_dict.specs.Find.{Entry}
 use Rattle.cop_rows.specs.PdoReading.{is_named}
 use Rattle.cop_written.specs.Sound.{pdo_rows}
@@ -11,9 +11,9 @@ use Rattle.cop_start.specs.declared.offers.Offer.{Offer}
 use Rattle.cop_start.specs.declared.offers.Offer.TheVariants.{Absent, Off, Unmapped, Untimed, Sends}
 use Rattle.cop_start.specs.declared.senders.Sender.{Sender}
 use Rattle.cop_start.specs.declared.receivers.Receiver.{Receiver}
-use Rattle.cop_start.specs.Start.{Device}
+use Rattle.cop_start.specs.Start.{Device, Rise, AreSources}
 use Rattle.cop_start.specs.Offers.{offer_of}
-use Rattle.cop_start.specs.Senders.{each_to, sender_by, sender_at, device_senders, senders_from, senders_of, receivers_of}
+use Rattle.cop_start.specs.Senders.{each_to, sender_by, sender_at, device_senders, senders_of, receivers_of}
 use Rattle.cop_start.specs.Rows.{rows_from, rows_of, may_have_row}
 
 -- some of these is this TPDO
@@ -89,37 +89,45 @@ none_of_other node first dict tpdo zero ne = refl
 none_of_other node first dict tpdo (suc n) ne =
     rw (both node tpdo (each_to (sender_at first dict) n) (sender_at first dict (n + 1)), none_of_other node first dict tpdo n ne, other_node node first dict tpdo (n + 1) (offer_of dict (n + 1)) ne) refl
 
-none_behind : (node first tpdo : ℕ) (devices : List Device) → node < first → has node tpdo (senders_from first devices) ≡ false
+-- no device behind a node has it
+none_behind : (node behind tpdo : ℕ) (devices : List Device) → node ≤ behind → Rise behind devices → has node tpdo (senders_of devices) ≡ false
 unfolding has
-none_behind node first tpdo [] lt = refl
-none_behind node first tpdo (d ∷ devices) lt =
-    rw (both node tpdo (device_senders first d.dict) (senders_from (first + 1) devices), none_of_other node first d.dict tpdo 512 (λ e. omega (arith, e, lt)), none_behind node (first + 1) tpdo devices (omega (arith, lt))) refl
-
-all_have : (first place tpdo : ℕ) (devices : List Device) (d : Device) → slice_get devices place ≡ Some d → 1 ≤ tpdo → tpdo ≤ 512 → has (first + place) tpdo (senders_from first devices) ≡ may_have_row (offer_of d.dict tpdo)
-all_have first place tpdo [] d e low high = cc e
-all_have first zero tpdo (x ∷ devices) d e low high =
-    let same : x ≡ d = cc e in
-    let here : first + 0 ≡ first = omega arith in
+none_behind node behind tpdo [] le rise = refl
+none_behind node behind tpdo (d ∷ devices) le rise =
     rw (
-      here,
-      both first tpdo (device_senders first x.dict) (senders_from (first + 1) devices),
-      own_below first x.dict tpdo 512 low high,
-      none_behind first (first + 1) tpdo devices (omega arith),
-      or_false (may_have_row (offer_of x.dict tpdo)),
-      same,
+      both node tpdo (device_senders d.node d.dict) (senders_of devices),
+      none_of_other node d.node d.dict tpdo 512 (λ e. omega (arith, e, le, rise.0)),
+      none_behind node d.node tpdo devices (omega (arith, le, rise.0)) rise.2,
     ) refl
-all_have first (suc place) tpdo (x ∷ devices) d e low high =
-    let there : first + suc place ≡ first + 1 + place = omega arith in
-    rw (
-      there,
-      both (first + 1 + place) tpdo (device_senders first x.dict) (senders_from (first + 1) devices),
-      none_of_other (first + 1 + place) first x.dict tpdo 512 (λ h. omega (arith, h)),
-    ) (all_have (first + 1) place tpdo devices d e low high)
 
-pub sender_has_row : (devices : List Device) (node tpdo : ℕ) (d : Device) → length (senders_of devices) ≤ 512 → 1 ≤ node → slice_get devices (node - 1) ≡ Some d → 1 ≤ tpdo → tpdo ≤ 512
-    → is_named (pdo_rows (rows_of devices)) node tpdo ≡ may_have_row (offer_of d.dict tpdo)
-sender_has_row devices node tpdo d few some e low high =
-    let here : 1 + (node - 1) ≡ node = omega (arith, some) in
+-- the node of each is behind the number that they rise from
+is_behind : (behind place : ℕ) (devices : List Device) (d : Device) → Rise behind devices → slice_get devices place ≡ Some d → behind < d.node
+is_behind behind place [] d rise e = cc e
+is_behind behind zero (x ∷ devices) d rise e = let same : x ≡ d = cc e in rw (← same) rise.0
+is_behind behind (suc place) (x ∷ devices) d rise e = omega (arith, rise.0, is_behind x.node place devices d rise.2 e)
+
+all_have : (behind place tpdo : ℕ) (devices : List Device) (d : Device) → Rise behind devices → slice_get devices place ≡ Some d → 1 ≤ tpdo → tpdo ≤ 512
+    → has d.node tpdo (senders_of devices) ≡ may_have_row (offer_of d.dict tpdo)
+all_have behind place tpdo [] d rise e low high = cc e
+all_have behind zero tpdo (x ∷ devices) d rise e low high =
+    let same : x ≡ d = cc e in
+    rw (
+      ← same,
+      both x.node tpdo (device_senders x.node x.dict) (senders_of devices),
+      own_below x.node x.dict tpdo 512 low high,
+      none_behind x.node x.node tpdo devices (omega arith) rise.2,
+      or_false (may_have_row (offer_of x.dict tpdo)),
+    ) refl
+all_have behind (suc place) tpdo (x ∷ devices) d rise e low high =
+    let later : x.node < d.node = is_behind x.node place devices d rise.2 e in
+    rw (
+      both d.node tpdo (device_senders x.node x.dict) (senders_of devices),
+      none_of_other d.node x.node x.dict tpdo 512 (λ h. omega (arith, h, later)),
+    ) (all_have x.node place tpdo devices d rise.2 e low high)
+
+pub sender_has_row : (devices : List Device) (place tpdo : ℕ) (d : Device) → AreSources devices → length (senders_of devices) ≤ 512 → slice_get devices place ≡ Some d → 1 ≤ tpdo → tpdo ≤ 512
+    → is_named (pdo_rows (rows_of devices)) d.node tpdo ≡ may_have_row (offer_of d.dict tpdo)
+sender_has_row devices place tpdo d sources few e low high =
     let kept : take 512 (senders_of devices) ≡ senders_of devices = take_all 512 (senders_of devices) few in
-    rows_have devices (senders_of devices) (receivers_of devices) (take 512 (senders_of devices)) node tpdo
-    ∙ rw (kept, ← here) (all_have 1 (node - 1) tpdo devices d e low high)
+    rows_have devices (senders_of devices) (receivers_of devices) (take 512 (senders_of devices)) d.node tpdo
+    ∙ rw kept (all_have 0 place tpdo devices d sources.nodes e low high)

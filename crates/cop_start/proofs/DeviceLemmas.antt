@@ -1,14 +1,14 @@
 -- The rows of devices are those that a table takes.
-use Rattle.std.proofs.Common.{◌≡◌, ℕ, zero, suc, ◌+◌, ◌-◌, ◌<◌, ◌≤◌, ◌⊎◌, inl, inr, Bool, true, false, ◌&&◌, if◌then◌else◌, List, [], ◌∷◌, length, take, refl, sym, ap, ◌∙◌, arith, nat_le, nat_lt, All}
+use Rattle.std.proofs.Common.{◌≡◌, ℕ, zero, suc, ◌-◌, ◌<◌, inl, inr, Bool, true, false, ◌&&◌, if◌then◌else◌, List, [], ◌∷◌, length, take, refl, ap, arith, nat_le, nat_lt}
 use Rattle.std.specs.List.{list_all, AllByRecursion}
 use Rattle.std.proofs.lemmas.List.{length-take-le}
 use Rattle.std.proofs.lemmas.List.Elements.{recursion_from_All}
-use Rattle.std.proofs.lemmas.Bool.{le-leb, leb-true, ltb-true, and_parts, cases_eq}
+use Rattle.std.proofs.lemmas.Bool.{le-leb, leb-true, ltb-true, and_parts}
 use Rattle.cop_rows.specs.Names.{is_name, is_name_code}
 use Rattle.cop_written.specs.declared.nodes.Device as written
-use Rattle.cop_written.specs.Sound.{IsDevice, AreDevices, HasNode}
-use Rattle.cop_start.specs.Start.{Device, AreSources}
-use Rattle.cop_start.specs.Devices.{stem, devices_from, devices_of}
+use Rattle.cop_written.specs.Sound.{AreDevices, HasNode}
+use Rattle.cop_start.specs.Start.{Device, Rise, AreSources}
+use Rattle.cop_start.specs.Devices.{stem, devices_of}
 
 all_of_taken : (p : ℕ → Bool) (n : ℕ) (xs : List ℕ) → list_all p xs ≡ true → list_all p (take n xs) ≡ true
 all_of_taken p zero xs h = refl
@@ -29,26 +29,27 @@ stem_by true file e h =
       all_of_taken is_name_code (length file - 4) file parts.1,
     ) refl
 
-devices_sound : (node behind : ℕ) (devices : List Device) → behind < node → node + length devices ≤ 128 → AllByRecursion (λ d. is_name d.file ≡ true) devices → AreDevices behind (devices_from node devices)
-devices_sound node behind [] lt few h = tt
-devices_sound node behind (d ∷ devices) lt few h = (
-  record { rises = lt; most = omega (arith, few); name = stem_by (nat_lt 4 (length d.file)) d.file refl h.0; eds = h.0 },
-  devices_sound (node + 1) node devices (omega arith) (omega (arith, few)) h.1,
+devices_sound : (behind : ℕ) (devices : List Device) → Rise behind devices → AllByRecursion (λ d. is_name d.file ≡ true) devices → AreDevices behind (devices_of devices)
+devices_sound behind [] rise h = tt
+devices_sound behind (d ∷ devices) rise h = (
+  record { rises = rise.0; most = rise.1; name = stem_by (nat_lt 4 (length d.file)) d.file refl h.0; eds = h.0 },
+  devices_sound d.node devices rise.2 h.1,
 )
 
 pub sound_devices : (devices : List Device) → AreSources devices → AreDevices 0 (devices_of devices)
 sound_devices devices h =
-    devices_sound 1 0 devices (omega arith) (omega (arith, h.count)) (recursion_from_All (λ (d : Device). is_name d.file ≡ true) devices h.names)
+    devices_sound 0 devices h.nodes (recursion_from_All (λ (d : Device). is_name d.file ≡ true) devices h.names)
 
--- each node from the first up to the last has its device
-pub has_node : (first node : ℕ) (devices : List Device) → first ≤ node → node < first + length devices → HasNode (devices_from first devices) node
-has_node first node [] low high = absurd (omega arith)
-has_node first node (d ∷ devices) low high =
-    elim (cases_eq first node) [
-      | inl same ↦ inl same
-      | inr other ↦ inr (has_node (first + 1) node devices (omega (arith, low, other)) (omega (arith, high)))
-    ]
+-- each device has its row
+more_nodes : (x : written.Device) (all : List written.Device) (devices : List Device) → AllByRecursion (λ (d : Device). HasNode all d.node) devices
+    → AllByRecursion (λ (d : Device). HasNode (x ∷ all) d.node) devices
+more_nodes x all [] h = tt
+more_nodes x all (d ∷ devices) h = (inr h.0, more_nodes x all devices h.1)
 
-pub count_devices : (node : ℕ) (devices : List Device) → length (devices_from node devices) ≡ length devices
-count_devices node [] = refl
-count_devices node (d ∷ devices) = ap suc (count_devices (node + 1) devices)
+pub have_nodes : (devices : List Device) → AllByRecursion (λ (d : Device). HasNode (devices_of devices) d.node) devices
+have_nodes [] = tt
+have_nodes (d ∷ devices) = (inl refl, more_nodes (record { node = d.node; name = stem d.file; eds = d.file }) (devices_of devices) devices (have_nodes devices))
+
+pub count_devices : (devices : List Device) → length (devices_of devices) ≡ length devices
+count_devices [] = refl
+count_devices (d ∷ devices) = ap suc (count_devices devices)

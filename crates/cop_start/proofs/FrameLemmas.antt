@@ -1,22 +1,22 @@
 -- The rows of frames are those that a table takes.
-use Rattle.std.proofs.Common.{◌≡◌, ℕ, suc, ◌+◌, ◌*◌, ◌%◌, ◌<◌, ◌≤◌, Bool, true, false, not, ◌&&◌, ◌==◌, if◌then◌else◌, List, [], ◌∷◌, ◌++◌, length, refl, sym, ap, ◌∙◌, arith, nat_le, Option, Some, None, IfSome, append_assoc}
-use Rattle.std.proofs.lemmas.Bool.{leb-true, and_parts, cases_Bool}
+use Rattle.std.proofs.Common.{◌≡◌, ℕ, ◌+◌, ◌*◌, ◌≤◌, Bool, true, false, if◌then◌else◌, List, [], ◌∷◌, ◌++◌, refl, arith, nat_le, Option, Some, None, IfSome, append_assoc}
+use Rattle.std.specs.List.{AllByRecursion}
+use Rattle.std.proofs.lemmas.Bool.{leb-true, and_parts}
 use native.Mathlib.Nat.{mul-mod_left}
 use Rattle.cop_dict.specs.Find.{Entry}
 use Rattle.cop_dict.specs.Pdo.{exists_by}
 use Rattle.cop_warn.specs.Warnings.{natural_at, word_at}
 use Rattle.cop_rows.specs.Fields.{is_within}
 use Rattle.cop_rows.specs.NodeReading.{number_of_kind}
-use Rattle.cop_rows.specs.declared.node_table.FrameKind.TheVariants.{Nmt, Sync, Emcy, SdoResponse, SdoRequest, Heartbeat}
+use Rattle.cop_rows.specs.declared.node_table.FrameKind.TheVariants.{Sync, Emcy, SdoResponse, SdoRequest}
 use Rattle.cop_written.specs.declared.nodes.Device as written
 use Rattle.cop_written.specs.declared.nodes.Frame.{Frame}
-use Rattle.cop_written.specs.Sound.{HasNode, rank, IsFrame, AreFrames}
-use Rattle.cop_start.specs.declared.senders.Sender.{Sender}
-use Rattle.cop_start.specs.Start.{Device, AreSources}
+use Rattle.cop_written.specs.Sound.{HasNode, AreFrames}
+use Rattle.cop_start.specs.Start.{Device, Rise, AreSources}
 use Rattle.cop_start.specs.Devices.{devices_of}
 use Rattle.cop_start.specs.Senders.{senders_of}
-use Rattle.cop_start.specs.Frames.{may_beat, second_if, heartbeat_by, heartbeat_of, period_or, sync_period_of, is_by_sync, emcy_frames, heartbeat_frames, device_frames, frames_from, first_frames, frames_of}
-use Rattle.cop_start.proofs.DeviceLemmas.{has_node}
+use Rattle.cop_start.specs.Frames.{may_beat, second_if, heartbeat_by, heartbeat_of, period_or, sync_period_of, is_by_sync, emcy_frames, heartbeat_frames, device_frames, frames_behind, frames_of}
+use Rattle.cop_start.proofs.DeviceLemmas.{have_nodes}
 
 bounds : (least most n : ℕ) → is_within least most n ≡ true → (least ≤ n) × (n ≤ most)
 bounds least most n h = let parts = and_parts (nat_le least n) (nat_le n most) h in (leb-true least n parts.0, leb-true n most parts.1)
@@ -93,11 +93,12 @@ module _ (all : List written.Device) (node : ℕ) (has : HasNode all node) where
       rw (append_assoc (emcy_frames node (word_at dict 0x1014 0)) (record { kind = SdoResponse; node = node; period = 100000 } ∷ record { kind = SdoRequest; node = node; period = 100000 } ∷ heartbeat_frames node (heartbeat_of dict)) rest)
       (emcy behind (word_at dict 0x1014 0) _ le (after_emcy (8 * node + 3) (heartbeat_of dict) rest (omega arith) (beat_good (may_beat dict) (natural_at dict 0x1017 0)) more))
 
-frames_sound : (all : List written.Device) (node : ℕ) (devices : List Device) (behind : ℕ) → ((n : ℕ) → node ≤ n → n < node + length devices → HasNode all n) → behind ≤ 8 * node + 2 → AreFrames all behind (frames_from node devices)
-frames_sound all node [] behind has le = tt
-frames_sound all node (d ∷ devices) behind has le =
-    one_device all node (has node (omega arith) (omega arith)) behind d.dict (frames_from (node + 1) devices) le
-    (frames_sound all (node + 1) devices (8 * node + 6) (λ n low high. has n (omega (arith, low)) (omega (arith, high))) (omega arith))
+frames_sound : (all : List written.Device) (devices : List Device) (before behind : ℕ) → AllByRecursion (λ (d : Device). HasNode all d.node) devices → Rise before devices → behind ≤ 8 * before + 6
+    → AreFrames all behind (frames_behind devices)
+frames_sound all [] before behind has rise le = tt
+frames_sound all (d ∷ devices) before behind has rise le =
+    one_device all d.node has.0 behind d.dict (frames_behind devices) (omega (arith, le, rise.0))
+    (frames_sound all devices d.node (8 * d.node + 6) has.1 rise.2 (omega arith))
 
 sync_row : (all : List written.Device) (b : Bool) (period : ℕ) (rest : List Frame) → (100 ≤ period) × (period ≤ 60000000) → AreFrames all 2 rest
     → AreFrames all 1 ((if b then record { kind = Sync; node = 0; period = period } ∷ [] else []) ++ rest)
@@ -105,10 +106,10 @@ unfolding number_of_kind
 sync_row all true period rest good more = (record { rises = omega arith; node = refl; least = good.0; most = good.1; milliseconds = λ e. cc e }, more)
 sync_row all false period rest good more = weaker all 1 2 rest (omega arith) more
 
-pub sound_frames : (devices : List Device) → AreFrames (devices_of devices) 0 (frames_of devices)
+pub sound_frames : (devices : List Device) → AreSources devices → AreFrames (devices_of devices) 0 (frames_of devices)
 unfolding number_of_kind
-sound_frames devices = (
+sound_frames devices h = (
   record { rises = omega arith; node = refl; least = omega arith; most = omega arith; milliseconds = λ e. cc e },
-  sync_row (devices_of devices) (is_by_sync (senders_of devices)) (sync_period_of devices) (frames_from 1 devices) (sync_good devices)
-      (frames_sound (devices_of devices) 1 devices 2 (λ n low high. has_node 1 n devices low high) (omega arith)),
+  sync_row (devices_of devices) (is_by_sync (senders_of devices)) (sync_period_of devices) (frames_behind devices) (sync_good devices)
+      (frames_sound (devices_of devices) devices 0 2 (have_nodes devices) h.nodes (omega arith)),
 )

@@ -1,4 +1,5 @@
 pub mod EachLemmas
+pub mod StartLemmas
 pub mod TakeLemmas
 pub mod DeviceLemmas
 pub mod FrameLemmas

@@ -1,25 +1,24 @@
 -- The rows of PDOs are those that a table takes.
-use Rattle.std.proofs.Common.{◌≡◌, ◌≢◌, ℕ, zero, suc, ◌+◌, ◌*◌, ◌%◌, ◌^◌, ◌<◌, ◌≤◌, ◌⊎◌, inl, inr, min, Bool, true, false, not, ◌&&◌, ◌==◌, if◌then◌else◌, List, [], ◌∷◌, ◌++◌, length, take, refl, sym, ap, ◌∙◌, arith, Option, Some, None}
+use Rattle.std.proofs.Common.{◌≡◌, ℕ, zero, suc, ◌+◌, ◌*◌, ◌%◌, ◌^◌, ◌<◌, ◌≤◌, ◌⊎◌, inl, inr, Bool, true, false, ◌==◌, if◌then◌else◌, List, [], ◌∷◌, ◌++◌, length, take, refl, ap, arith, Option, Some, None}
 use Rattle.std.specs.List.{AllByRecursion}
 use Rattle.std.proofs.lemmas.List.{length-take}
-use Rattle.std.proofs.lemmas.Bool.{eqb-true, eqb-false, cases_Bool}
+use Rattle.std.proofs.lemmas.Bool.{eqb-false}
 use native.Mathlib.Nat.{min-le_left, min-le_right, le-min}
 use Rattle.std.proofs.Math.Nat.{mul-pos}
 use Rattle.cop_dict.specs.Find.{Entry}
 use Rattle.cop_dict.specs.Pdo.{cob_id_at, exists_by}
 use Rattle.cop_rows.specs.Pdos.{IsConsumer}
 use Rattle.cop_rows.specs.declared.pdo_table.Consumer.{Consumer}
-use Rattle.cop_written.specs.declared.pdos.Row.{Row}
-use Rattle.cop_written.specs.Sound.{key, IsRow, AreRows}
+use Rattle.cop_written.specs.Sound.{AreRows}
 use Rattle.cop_start.specs.declared.offers.Offer.{Offer}
 use Rattle.cop_start.specs.declared.offers.Offer.TheVariants.{Absent, Off, Unmapped, Untimed, Sends}
 use Rattle.cop_start.specs.declared.senders.Sender.{Sender}
 use Rattle.cop_start.specs.declared.receivers.Receiver.{Receiver}
-use Rattle.cop_start.specs.Start.{Device, AreSources}
-use Rattle.cop_start.specs.Offers.{offer_of, inhibit_of, timer_of, pace_of, at_most_a_minute, period_by, period_of}
-use Rattle.cop_start.specs.Senders.{each_to, sender_by, sender_at, device_senders, senders_from, senders_of, receiver_by, receiver_at, device_receivers, receivers_from, receivers_of}
+use Rattle.cop_start.specs.Start.{Device, Rise, AreSources}
+use Rattle.cop_start.specs.Offers.{offer_of, inhibit_of, timer_of, at_most_a_minute, period_of}
+use Rattle.cop_start.specs.Senders.{each_to, sender_by, sender_at, senders_of, receiver_by, receiver_at, receivers_of}
 use Rattle.cop_start.specs.Frames.{sync_period_of}
-use Rattle.cop_start.specs.Rows.{takes, is_first, consumers_by, row_consumers, deadline_of, rows_from, rows_of}
+use Rattle.cop_start.specs.Rows.{takes, is_first, consumers_by, deadline_of, rows_from, rows_of}
 use Rattle.cop_start.proofs.FrameLemmas.{sync_good}
 
 -- ---- times
@@ -92,14 +91,13 @@ each_sender node dict (suc n) low high most =
     let one = rw last at (one_sender node dict n (offer_of dict (n + 1)) low high (omega (arith, most))) in
     both (512 * node) (512 * node + n) (512 * node + suc n) _ _ (each_sender node dict n low high (omega (arith, most))) one
 
-all_senders : (node : ℕ) (devices : List Device) → 1 ≤ node → node + length devices ≤ 128 → AreSenders (512 * node) (512 * (node + length devices)) (senders_from node devices)
+all_senders : (behind : ℕ) (devices : List Device) → behind ≤ 127 → Rise behind devices → AreSenders (512 * behind + 512) (512 * 128) (senders_of devices)
 unfolding AreSenders
-all_senders node [] low few = omega arith
-all_senders node (d ∷ devices) low few =
-    let last : 512 * (node + 1 + length devices) ≡ 512 * (node + length (d ∷ devices)) = omega arith in
-    let next : 512 * (node + 1) ≡ 512 * node + 512 = omega arith in
-    let more = rw (last, next) at (all_senders (node + 1) devices (omega arith) (omega (arith, few))) in
-    both (512 * node) (512 * node + 512) (512 * (node + length (d ∷ devices))) _ _ (each_sender node d.dict 512 low (omega (arith, few)) (omega arith)) more
+all_senders behind [] most rise = omega (arith, most)
+all_senders behind (d ∷ devices) most rise =
+    let own = each_sender d.node d.dict 512 (omega (arith, rise.0)) rise.1 (omega arith) in
+    both (512 * behind + 512) (512 * d.node + 512) (512 * 128) _ _
+    (less (512 * behind + 512) (512 * d.node) (512 * d.node + 512) _ (omega (arith, rise.0)) own) (all_senders d.node devices rise.1 rise.2)
 
 -- ---- consumers
 
@@ -126,10 +124,10 @@ each_receiver node dict zero low high most = tt
 each_receiver node dict (suc n) low high most =
     all_both IsReceiver _ _ (each_receiver node dict n low high (omega (arith, most))) (one_receiver node (n + 1) (cob_id_at dict (0x13FF + (n + 1))) low high (omega arith) (omega (arith, most)))
 
-all_receivers : (node : ℕ) (devices : List Device) → 1 ≤ node → node + length devices ≤ 128 → AllByRecursion IsReceiver (receivers_from node devices)
-all_receivers node [] low few = tt
-all_receivers node (d ∷ devices) low few =
-    all_both IsReceiver _ _ (each_receiver node d.dict 512 low (omega (arith, few)) (omega arith)) (all_receivers (node + 1) devices (omega arith) (omega (arith, few)))
+all_receivers : (behind : ℕ) (devices : List Device) → Rise behind devices → AllByRecursion IsReceiver (receivers_of devices)
+all_receivers behind [] rise = tt
+all_receivers behind (d ∷ devices) rise =
+    all_both IsReceiver _ _ (each_receiver d.node d.dict 512 (omega (arith, rise.0)) rise.1 (omega arith)) (all_receivers d.node devices rise.2)
 
 consumer_by : (b : Bool) (r : Receiver) (cs : List Consumer) → IsReceiver r → AllByRecursion IsConsumer cs → AllByRecursion IsConsumer (if b then record { node = r.node; rpdo = r.rpdo } ∷ cs else cs)
 unfolding IsReceiver
@@ -185,10 +183,9 @@ taken_rise (suc n) behind last (s ∷ senders) h = let more = taken_rise n (plac
 
 pub sound_rows : (devices : List Device) → AreSources devices → AreRows 0 (rows_of devices)
 sound_rows devices h =
-    let few : 1 + length devices ≤ 128 = omega (arith, h.count) in
-    let rise = less 0 512 (512 * (1 + length devices)) (senders_of devices) (omega arith) (all_senders 1 devices (omega arith) few) in
+    let rise = less 0 512 (512 * 128) (senders_of devices) (omega arith) (all_senders 0 devices (omega arith) h.nodes) in
     let kept = taken_rise 512 0 _ (senders_of devices) rise in
-    rows_sound devices (senders_of devices) (receivers_of devices) 0 kept.0 (take 512 (senders_of devices)) (all_receivers 1 devices (omega arith) few) kept.1
+    rows_sound devices (senders_of devices) (receivers_of devices) 0 kept.0 (take 512 (senders_of devices)) (all_receivers 0 devices h.nodes) kept.1
 
 count_rows : (devices : List Device) (all : List Sender) (receivers : List Receiver) (kept : List Sender) → length (rows_from devices all receivers kept) ≡ length kept
 count_rows devices all receivers [] = refl

@@ -1,5 +1,5 @@
 -- The rows of the devices.
-use Rattle.std.specs.Prelude.{ℕ, ◌+◌, ◌-◌, List, [], ◌∷◌, take, length, nat_lt, if◌then◌else◌}
+use Rattle.std.specs.Prelude.{ℕ, ◌-◌, List, [], ◌∷◌, take, length, nat_lt, if◌then◌else◌}
 use Rattle.cop_written.specs.declared.nodes.Device as written
 use Rattle.cop_start.specs.Start.{Device}
 
@@ -7,9 +7,7 @@ use Rattle.cop_start.specs.Start.{Device}
 abbrev pub stem : List ℕ → List ℕ
 stem file = if nat_lt 4 (length file) then take (length file - 4) file else file
 
-abbrev pub devices_from : ℕ → List Device → List written.Device
-devices_from node [] = []
-devices_from node (d ∷ devices) = record { node = node; name = stem d.file; eds = d.file } ∷ devices_from (node + 1) devices
-
+-- each device has its node
 abbrev pub devices_of : List Device → List written.Device
-devices_of devices = devices_from 1 devices
+devices_of [] = []
+devices_of (d ∷ devices) = record { node = d.node; name = stem d.file; eds = d.file } ∷ devices_of devices

@@ -1,5 +1,5 @@
 -- The frames of fixed identifiers that tables start with: times are in microseconds.
-use Rattle.std.specs.Prelude.{ℕ, ◌+◌, ◌*◌, Bool, false, not, ◌&&◌, List, [], ◌∷◌, ◌++◌, ◌==◌, if◌then◌else◌, Option, Some, None}
+use Rattle.std.specs.Prelude.{ℕ, ◌*◌, Bool, false, not, ◌&&◌, List, [], ◌∷◌, ◌++◌, ◌==◌, if◌then◌else◌, Option, Some, None}
 use Rattle.std.specs.List.{list_any}
 use Rattle.std.specs.Option.{option_map_or}
 use Rattle.cop_dict.specs.Types.{is_writable}
@@ -57,9 +57,10 @@ device_frames node dict =
     emcy_frames node (word_at dict 0x1014 0)
     ++ (record { kind = SdoResponse; node = node; period = 100000 } ∷ record { kind = SdoRequest; node = node; period = 100000 } ∷ heartbeat_frames node (heartbeat_of dict))
 
-abbrev pub frames_from : ℕ → List Device → List Frame
-frames_from node [] = []
-frames_from node (d ∷ devices) = device_frames node d.dict ++ frames_from (node + 1) devices
+-- those of all devices, each for its node
+abbrev pub frames_behind : List Device → List Frame
+frames_behind [] = []
+frames_behind (d ∷ devices) = device_frames d.node d.dict ++ frames_behind devices
 
 -- the rows of nobody's frames: NMT, and SYNC where some TPDO is sent by it
 abbrev pub first_frames : List Device → List Sender → List Frame
@@ -69,4 +70,4 @@ first_frames devices senders =
 
 -- all rows of frames
 abbrev pub frames_of : List Device → List Frame
-frames_of devices = first_frames devices (senders_of devices) ++ frames_from 1 devices
+frames_of devices = first_frames devices (senders_of devices) ++ frames_behind devices

@@ -1,9 +1,9 @@
 -- What the TPDOs of a device are good for before any plan (CiA 301, "PDO communication parameter record"), and from where periods come.
-use Rattle.std.specs.Prelude.{ℕ, ◌+◌, ◌*◌, ◌%◌, ◌^◌, min, List, ◌==◌, if◌then◌else◌, Option, Some, None, option_and_then, unwrap_or, Result, Ok, Err}
+use Rattle.std.specs.Prelude.{ℕ, ◌+◌, ◌*◌, ◌%◌, ◌^◌, min, List, ◌==◌, if◌then◌else◌, Option, Some, None, unwrap_or, Result, Ok, Err}
 use Rattle.cop_dict.specs.declared.mapping.Mapped.{Mapped}
 use Rattle.cop_dict.specs.declared.mapping.MappingFault.{MappingFault}
 use Rattle.cop_dict.specs.declared.mapping.Direction.TheVariants.{Transmit}
-use Rattle.cop_dict.specs.Find.{Entry, entry_at}
+use Rattle.cop_dict.specs.Find.{Entry}
 use Rattle.cop_dict.specs.Pdo.{cob_id_at, exists_by}
 use Rattle.cop_pdo.specs.Payload.{payload_of}
 use Rattle.cop_net.specs.Pdos.{every_at}

@@ -1,5 +1,5 @@
 -- The rows of a table of PDOs to start from: times are in microseconds.
-use Rattle.std.specs.Prelude.{ℕ, ◌+◌, ◌*◌, ◌-◌, min, Bool, true, false, not, ◌&&◌, List, [], ◌∷◌, ◌++◌, take, slice_get, map, option_map, ◌==◌, if◌then◌else◌, Option, Some, None, Result, Ok, Err}
+use Rattle.std.specs.Prelude.{ℕ, ◌*◌, Bool, true, false, not, ◌&&◌, List, [], ◌∷◌, take, ◌==◌, if◌then◌else◌, Option, Some, None, Result, Ok, Err}
 use Rattle.cop_dict.specs.declared.mapping.Mapped.{Mapped}
 use Rattle.cop_dict.specs.declared.mapping.MappingFault.{MappingFault}
 use Rattle.cop_dict.specs.declared.mapping.Direction.TheVariants.{Transmit, Receive}
@@ -19,7 +19,8 @@ use Rattle.cop_start.specs.Frames.{sync_period_of}
 
 -- the dictionary of a node
 abbrev pub dict_at : List Device → ℕ → Option (List Entry)
-dict_at devices node = option_map (λ d. d.dict) (slice_get devices (node - 1))
+dict_at [] node = None
+dict_at (d ∷ devices) node = if d.node == node then Some d.dict else dict_at devices node
 
 -- two payloads with the same layout
 abbrev pub have_same_layout : Result (List Mapped) MappingFault → Result (List Mapped) MappingFault → Bool

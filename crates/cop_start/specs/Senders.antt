@@ -30,13 +30,10 @@ sender_at node dict tpdo = sender_by node dict tpdo (offer_of dict tpdo)
 abbrev pub device_senders : ℕ → List Entry → List Sender
 device_senders node dict = each_to (sender_at node dict) 512
 
--- those of devices from a node on
-abbrev pub senders_from : ℕ → List Device → List Sender
-senders_from node [] = []
-senders_from node (d ∷ devices) = device_senders node d.dict ++ senders_from (node + 1) devices
-
+-- those of all devices, each of its node
 abbrev pub senders_of : List Device → List Sender
-senders_of devices = senders_from 1 devices
+senders_of [] = []
+senders_of (d ∷ devices) = device_senders d.node d.dict ++ senders_of devices
 
 -- an RPDO that exists, with bits 0 to 29 of its COB-ID
 abbrev pub receiver_by : ℕ → ℕ → Option ℕ → List Receiver
@@ -49,9 +46,6 @@ receiver_at node dict rpdo = receiver_by node rpdo (cob_id_at dict (0x13FF + rpd
 abbrev pub device_receivers : ℕ → List Entry → List Receiver
 device_receivers node dict = each_to (receiver_at node dict) 512
 
-abbrev pub receivers_from : ℕ → List Device → List Receiver
-receivers_from node [] = []
-receivers_from node (d ∷ devices) = device_receivers node d.dict ++ receivers_from (node + 1) devices
-
 abbrev pub receivers_of : List Device → List Receiver
-receivers_of devices = receivers_from 1 devices
+receivers_of [] = []
+receivers_of (d ∷ devices) = device_receivers d.node d.dict ++ receivers_of devices

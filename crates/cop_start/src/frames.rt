@@ -1,8 +1,8 @@
 //! The frames of fixed identifiers that tables start with.
 
-ghost use Rattle.std.specs.Prelude.{◌≡◌, ◌≤◌, ◌<◌, ◌+◌, ◌^◌, ◌++◌, ◌∷◌, [], OnOk, IfOk, IfSome, length};
+ghost use Rattle.std.specs.Prelude.{◌≡◌, ◌≤◌, ◌<◌, ◌^◌, ◌++◌, ◌∷◌, [], OnOk, IfOk, IfSome};
 ghost use Rattle.cop_warn.specs.Warnings.{word_at};
-ghost use Rattle.cop_start.specs.Frames.{heartbeat_of, sync_period_of, is_by_sync, emcy_frames, heartbeat_frames, device_frames, frames_from, first_frames, may_beat};
+ghost use Rattle.cop_start.specs.Frames.{heartbeat_of, sync_period_of, is_by_sync, emcy_frames, heartbeat_frames, device_frames, frames_behind, first_frames, may_beat};
 
 use crate::senders::Sender;
 use crate::start::{Source, Start};
@@ -103,16 +103,15 @@ fn add_device(frames: &mut Vec<Frame>, node: u8, dict: &Dictionary) -> Result<()
     add_heartbeat(frames, node, heartbeat(dict))
 }
 
-/// Adds the rows of devices from a node on.
-fn add_devices(frames: &mut Vec<Frame>, node: u8, sources: &[Source]) -> Result<(), AllocError>
-    requires { node + length sources.now ≤ 128 }
-    ensures { OnOk result (frames.new.items ≡ frames.old.items ++ frames_from node sources.now) }
+/// Adds the rows of devices.
+fn add_devices(frames: &mut Vec<Frame>, sources: &[Source]) -> Result<(), AllocError>
+    ensures { OnOk result (frames.new.items ≡ frames.old.items ++ frames_behind sources.now) }
 {
     match sources {
         [] => Ok(()),
         [first, rest @ ..] => {
-            add_device(frames, node, first.dictionary())?;
-            add_devices(frames, node + 1, rest)
+            add_device(frames, first.node(), first.dictionary())?;
+            add_devices(frames, rest)
         }
     }
 }
@@ -123,7 +122,7 @@ pub(crate) fn frames(
     start: &Start,
     senders: &[Sender],
 ) -> Result<Vec<Frame>, AllocError>
-    ensures { IfOk result (λ frames. frames.items ≡ first_frames start.now senders.now ++ frames_from 1 start.now) }
+    ensures { IfOk result (λ frames. frames.items ≡ first_frames start.now senders.now ++ frames_behind start.now) }
 {
     let mut frames = Vec::new(alloc);
     frames.push(Frame {
@@ -138,6 +137,6 @@ pub(crate) fn frames(
             period: sync_period(start.sources()),
         })?;
     }
-    add_devices(&mut frames, 1, start.sources())?;
+    add_devices(&mut frames, start.sources())?;
     Ok(frames)
 }

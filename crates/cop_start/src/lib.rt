@@ -1,4 +1,4 @@
-//! Tables to start from: what the EDS files of a folder say of a network, as rows of a table of nodes and of a table of PDOs.
+//! Tables to start from: what the EDS files of its devices say of a network, as rows of a table of nodes and of a table of PDOs.
 #![tactic(auto)]
 
 mod frames;
@@ -11,7 +11,7 @@ mod start;
 mod tables;
 
 pub use cop_written::{Device, Frame, Row};
-pub use laws::{each_sender_has_a_row, tables_are_read};
+pub use laws::{each_sender_has_a_row, nodes_count_up, tables_are_read};
 pub use offers::{Offer, Pace, offered};
 pub use senders::Sender;
 pub use start::{Source, Start};

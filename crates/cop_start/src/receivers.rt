@@ -1,7 +1,7 @@
 //! The RPDOs of all devices that exist.
 
-ghost use Rattle.std.specs.Prelude.{◌≡◌, ◌≤◌, ◌+◌, ◌++◌, [], OnOk, IfOk, length};
-ghost use Rattle.cop_start.specs.Senders.{receiver_at, device_receivers, receivers_from, receivers_of};
+ghost use Rattle.std.specs.Prelude.{◌≡◌, ◌≤◌, ◌++◌, [], OnOk, IfOk};
+ghost use Rattle.cop_start.specs.Senders.{receiver_at, device_receivers, receivers_of};
 
 use crate::start::{Source, Start};
 use cop_dict::Dictionary;
@@ -53,20 +53,15 @@ fn add_device(receivers: &mut Vec<Receiver>, node: u8, dict: &Dictionary) -> Res
     Ok(())
 }
 
-/// Adds those of devices from a node on.
-fn add_devices(
-    receivers: &mut Vec<Receiver>,
-    node: u8,
-    sources: &[Source],
-) -> Result<(), AllocError>
-    requires { node + length sources.now ≤ 128 }
-    ensures { OnOk result (receivers.new.items ≡ receivers.old.items ++ receivers_from node sources.now) }
+/// Adds those of devices.
+fn add_devices(receivers: &mut Vec<Receiver>, sources: &[Source]) -> Result<(), AllocError>
+    ensures { OnOk result (receivers.new.items ≡ receivers.old.items ++ receivers_of sources.now) }
 {
     match sources {
         [] => Ok(()),
         [first, rest @ ..] => {
-            add_device(receivers, node, first.dictionary())?;
-            add_devices(receivers, node + 1, rest)
+            add_device(receivers, first.node(), first.dictionary())?;
+            add_devices(receivers, rest)
         }
     }
 }
@@ -76,6 +71,6 @@ pub(crate) fn receivers(alloc: Global, start: &Start) -> Result<Vec<Receiver>, A
     ensures { IfOk result (λ receivers. receivers.items ≡ receivers_of start.now) }
 {
     let mut receivers = Vec::new(alloc);
-    add_devices(&mut receivers, 1, start.sources())?;
+    add_devices(&mut receivers, start.sources())?;
     Ok(receivers)
 }

@@ -19,9 +19,10 @@ use std::alloc::{AllocError, Global};
 fn dictionary_of(sources: &[Source], node: u8) -> Option<&Dictionary>
     ensures { option_copied result ≡ dict_at sources.now node }
 {
-    match sources.get(usize::from(node).saturating_sub(1)) {
-        Some(source) => Some(source.dictionary()),
-        None => None,
+    match sources {
+        [] => None,
+        [first, ..] if first.node() == node => Some(first.dictionary()),
+        [_, rest @ ..] => dictionary_of(rest, node),
     }
 }
 

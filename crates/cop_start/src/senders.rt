@@ -1,7 +1,7 @@
 //! The TPDOs of all devices that may have a row.
 
-ghost use Rattle.std.specs.Prelude.{◌≡◌, ◌≤◌, ◌+◌, ◌++◌, [], OnOk, IfOk, length};
-ghost use Rattle.cop_start.specs.Senders.{sender_at, device_senders, senders_from, senders_of};
+ghost use Rattle.std.specs.Prelude.{◌≡◌, ◌≤◌, ◌++◌, [], OnOk, IfOk};
+ghost use Rattle.cop_start.specs.Senders.{sender_at, device_senders, senders_of};
 
 use crate::offers::{Offer, Pace, offered, paced};
 use crate::start::{Source, Start};
@@ -54,16 +54,15 @@ fn add_device(senders: &mut Vec<Sender>, node: u8, dict: &Dictionary) -> Result<
     Ok(())
 }
 
-/// Adds those of devices from a node on.
-fn add_devices(senders: &mut Vec<Sender>, node: u8, sources: &[Source]) -> Result<(), AllocError>
-    requires { node + length sources.now ≤ 128 }
-    ensures { OnOk result (senders.new.items ≡ senders.old.items ++ senders_from node sources.now) }
+/// Adds those of devices.
+fn add_devices(senders: &mut Vec<Sender>, sources: &[Source]) -> Result<(), AllocError>
+    ensures { OnOk result (senders.new.items ≡ senders.old.items ++ senders_of sources.now) }
 {
     match sources {
         [] => Ok(()),
         [first, rest @ ..] => {
-            add_device(senders, node, first.dictionary())?;
-            add_devices(senders, node + 1, rest)
+            add_device(senders, first.node(), first.dictionary())?;
+            add_devices(senders, rest)
         }
     }
 }
@@ -73,6 +72,6 @@ pub(crate) fn senders(alloc: Global, start: &Start) -> Result<Vec<Sender>, Alloc
     ensures { IfOk result (λ senders. senders.items ≡ senders_of start.now) }
 {
     let mut senders = Vec::new(alloc);
-    add_devices(&mut senders, 1, start.sources())?;
+    add_devices(&mut senders, start.sources())?;
     Ok(senders)
 }

@@ -1,16 +1,17 @@
 //! The devices from which tables start.
 
 ghost use Rattle.std.specs.Prelude.{◌≡◌, ◌≤◌, ◌+◌, ◌++◌, [], ◌∷◌, OnOk, OnErr, IfSome, length, IfOk, All, IsTrue};
-ghost use Rattle.cop_start.specs.Start.{added, is_taken, next_node, AreSources};
+ghost use Rattle.cop_start.specs.Start.{added, is_taken, last_from, next_node, AreSources};
 
 use cop_dict::Dictionary;
 use cop_rows::is_name;
 use std::alloc::{AllocError, Global};
 use std::marker::Model;
 
-/// A device: the name of its EDS file, which a table of nodes takes, and what the file describes for the device's node.
+/// A device: its node, the name of its EDS file, which a table of nodes takes, and what the file describes for this node.
 #[derive(Drop)]
 pub struct Source {
+    pub(crate) node: u8,
     pub(crate) file: Vec<u8>,
     pub(crate) dictionary: Dictionary,
 }
@@ -22,12 +23,19 @@ impl Model for Source {
 
     ghost Value = { Device };
 
-    ghost view = { λ s. record { file = s.file.items; dict = s.dictionary } };
+    ghost view = { λ s. record { node = s.node; file = s.file.items; dict = s.dictionary } };
 
     ghost invariant = { λ s. IsTrue (is_name s.file.items) };
 }
 
 impl Source {
+    /// The node.
+    pub fn node(&self) -> u8
+        ensures { result ≡ self.now.node }
+    {
+        self.node
+    }
+
     /// The name of the EDS file.
     pub fn file(&self) -> &[u8]
         ensures { result.now ≡ self.now.file }
@@ -43,7 +51,17 @@ impl Source {
     }
 }
 
-/// The devices of a network that is to start: the first is node 1, the next node 2 and so on, up to 127.
+/// The node of the last of some devices, or another number where there is none.
+fn last_node(sources: &[Source], behind: u8) -> u8
+    ensures { result ≡ last_from behind sources.now }
+{
+    match sources {
+        [] => behind,
+        [first, rest @ ..] => last_node(rest, first.node),
+    }
+}
+
+/// The devices of a network that is to start, by rising node from 1 to 127.
 #[derive(Drop)]
 pub struct Start {
     sources: Vec<Source>,
@@ -78,27 +96,38 @@ impl Start {
         &self.sources
     }
 
-    /// The node that the next device gets, if there is one left.
+    /// The node above those of all devices, if there is one left: 1, 2 and so on where each device gets the next one.
     pub fn next_node(&self) -> Option<u8>
         ensures { result ≡ next_node self.now }
     {
-        if self.sources.len() >= 127 {
+        let last = last_node(&self.sources, 0);
+        if last >= 127 {
             return None;
         }
-        Some(self.sources.len() as u8 + 1)
+        Some(last + 1)
     }
 
-    /// Adds a device with the next node, whose dictionary is that of this node; nothing where no node is left, or where a table does
-    /// not take the name of its file. Tells whether it did.
-    pub fn add(&mut self, file: Vec<u8>, dictionary: Dictionary) -> Result<bool, AllocError>
-        ensures ok { OnOk result (self.new ≡ added self.old file.items dictionary) }
-        ensures told { IfOk result (λ is_added. is_added ≡ is_taken self.old file.items) }
+    #[tactic(auto, using(crate::proofs::StartLemmas::sources_more))]
+    /// Adds a device with a node, whose dictionary is that of this node; nothing where the node is not above those of all others and
+    /// at most 127, or where a table does not take the name of its file. Tells whether it did.
+    pub fn add(
+        &mut self,
+        node: u8,
+        file: Vec<u8>,
+        dictionary: Dictionary,
+    ) -> Result<bool, AllocError>
+        ensures ok { OnOk result (self.new ≡ added self.old node file.items dictionary) }
+        ensures told { IfOk result (λ is_added. is_added ≡ is_taken self.old node file.items) }
         ensures err { OnErr result (self.new ≡ self.old) }
     {
-        if self.sources.len() >= 127 || !is_name(&file) {
+        if last_node(&self.sources, 0) >= node || node > 127 || !is_name(&file) {
             return Ok(false);
         }
-        self.sources.push(Source { file, dictionary })?;
+        self.sources.push(Source {
+            node,
+            file,
+            dictionary,
+        })?;
         Ok(true)
     }
 }

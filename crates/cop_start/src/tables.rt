@@ -1,10 +1,10 @@
 //! The rows that tables start with.
 
-ghost use Rattle.std.specs.Prelude.{◌≡◌, ◌≤◌, ◌+◌, ◌++◌, [], OnOk, IfOk, length, take};
+ghost use Rattle.std.specs.Prelude.{◌≡◌, ◌++◌, [], OnOk, IfOk, take};
 ghost use Rattle.cop_start.specs.Senders.{senders_of, receivers_of};
 ghost use Rattle.cop_start.specs.Frames.{frames_of};
 ghost use Rattle.cop_start.specs.Rows.{rows_of};
-ghost use Rattle.cop_start.specs.Devices.{stem, devices_from, devices_of};
+ghost use Rattle.cop_start.specs.Devices.{stem, devices_of};
 
 use crate::frames::frames;
 use crate::receivers::receivers;
@@ -35,25 +35,23 @@ fn stem(file: &[u8]) -> &[u8]
     }
 }
 
-/// Adds the rows of devices from a node on.
+/// Adds the rows of devices.
 fn add_devices(
     alloc: Global,
     devices: &mut Vec<Device>,
-    node: u8,
     sources: &[Source],
 ) -> Result<(), AllocError>
-    requires { node + length sources.now ≤ 128 }
-    ensures { OnOk result (devices.new.items ≡ devices.old.items ++ devices_from node sources.now) }
+    ensures { OnOk result (devices.new.items ≡ devices.old.items ++ devices_of sources.now) }
 {
     match sources {
         [] => Ok(()),
         [first, rest @ ..] => {
             devices.push(Device {
-                node,
+                node: first.node(),
                 name: Text::new(Vec::from_slice(alloc, stem(first.file()))?),
                 eds: Text::new(Vec::from_slice(alloc, first.file())?),
             })?;
-            add_devices(alloc, devices, node + 1, rest)
+            add_devices(alloc, devices, rest)
         }
     }
 }
@@ -68,7 +66,7 @@ pub fn first_tables(alloc: Global, start: &Start) -> Result<Tables, AllocError>
 {
     let sources = start.sources();
     let mut devices = Vec::new(alloc);
-    add_devices(alloc, &mut devices, 1, sources)?;
+    add_devices(alloc, &mut devices, sources)?;
     let senders = senders(alloc, start)?;
     let receivers = receivers(alloc, start)?;
     let frames = frames(alloc, start, &senders)?;

@@ -3,3 +3,4 @@ pub mod ClientLemmas
 pub mod CarryLemmas
 pub mod NodeLemmas
 pub mod TransferLemmas
+pub mod ReadingLemmas

@@ -13,7 +13,7 @@ use cop_survey::{Reached, Reason, reach};
 use std::alloc::{AllocError, Global};
 
 /// The ticks for which an answer is awaited: 1 s by a read, and 10 s by a write, as devices that store a value need seconds.
-const READ_LIMIT: u64 = 4_000_000;
+pub(crate) const READ_LIMIT: u64 = 4_000_000;
 
 const WRITE_LIMIT: u64 = 40_000_000;
 

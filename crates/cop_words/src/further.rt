@@ -1,7 +1,8 @@
-//! The faults of a table behind the first one.
+//! The faults of a table, or of the EDS files, behind the first one.
 
 use crate::networks::{Network, row_words, table_of};
 use crate::places::{record_at, without_record};
+use crate::refused_files::push_refused_files;
 use crate::words::{Source, push_place};
 use cop_net::{PlanFault, Refusal, Rule, Table, network, read_nodes, read_pdos, read_settings};
 use cop_rules::explained;
@@ -132,14 +133,16 @@ fn push_all(
     words.extend_from_slice(b"there may be more\n")
 }
 
-/// What is said of the faults of a table behind the first one, as far as these can be seen before that one is mended.
+/// What is said of the faults of a table, or of the EDS files, behind the first one, as far as these can be seen before that one is mended.
 pub fn further_words(
     alloc: Global,
     files: Network<'_>,
     first: &Refusal,
 ) -> Result<Vec<u8>, AllocError> {
     let mut words = Vec::new(alloc);
-    if is_further(first.table, first) {
+    if let Rule::Eds(Some(_)) = first.rule {
+        push_refused_files(&mut words, alloc, files, first)?;
+    } else if is_further(first.table, first) {
         push_all(&mut words, alloc, files, first)?;
     }
     Ok(words)

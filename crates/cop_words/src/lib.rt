@@ -20,6 +20,7 @@ mod places;
 mod questions;
 mod rates;
 mod refusals;
+mod refused_files;
 mod reports;
 mod separators;
 mod settings;

@@ -1,7 +1,7 @@
 //! Logs that are watched by a plan to their end.
 
 use cop_log::Clock;
-use cop_logbook::{BookFault, WatchFault, watched};
+use cop_logbook::{BookFault, Logbook, Nobody, Onlooker, WatchFault, watched};
 use cop_net::{Network, NodeTable, PdoTable, all_rates, network, read_nodes, read_pdos};
 use cop_plan::{Choice, Outcome, Plan, plan};
 use std::alloc::{AllocError, Global};
@@ -114,7 +114,7 @@ fn breaches(
     log: Pieces<'_>,
 ) -> Result<u64, WatchFault> {
     let clock = Clock { error: 1, drift: 0 };
-    let book = watched(alloc, plan, clock, channel, false, log)?;
+    let book = watched(alloc, plan, clock, channel, false, log, &mut Nobody)?;
     Ok(book.breaches())
 }
 
@@ -204,10 +204,55 @@ fn what_is_said_ends_in_the_breaches(rt: HostRuntime) -> Result<(), Fail> {
     for case in SAID {
         let (log, wanted) = *case;
         let pieces = in_pieces(log, false);
-        let Ok(book) = watched(rt.alloc(), &plan, clock, None, false, pieces) else {
+        let Ok(book) = watched(rt.alloc(), &plan, clock, None, false, pieces, &mut Nobody) else {
             return Err(Fail::from("it is refused"));
         };
         assert!(rt; book.finish()?.ends_with(wanted));
     }
+    Ok(())
+}
+
+/// How many breaches were told, and how many frames were taken, when it was looked for the last time before there was one.
+#[derive(Clone, Copy)]
+struct Looks {
+    told: usize,
+    frames: u64,
+}
+
+impl Onlooker for Looks {
+    fn look(&mut self, book: &Logbook<'_>) {
+        if self.told == 0 {
+            self.frames = book.all().frames;
+        }
+        self.told = book.told().len();
+    }
+}
+
+/// What was seen of a log by an onlooker, as it was watched in pieces.
+fn looks_at(alloc: Global, plan: &Plan, log: &str) -> Result<Looks, WatchFault> {
+    let clock = Clock { error: 1, drift: 0 };
+    let mut looks = Looks { told: 0, frames: 0 };
+    watched(
+        alloc,
+        plan,
+        clock,
+        None,
+        false,
+        in_pieces(log, false),
+        &mut looks,
+    )?;
+    Ok(looks)
+}
+
+#[test]
+fn breaches_are_told_as_they_come(rt: HostRuntime) -> Result<(), Fail> {
+    let plan = planned(rt.alloc())?;
+    let log =
+        "(0.000000) can0 181#00112233\n(0.001000) can0 181#00112233\n(1.000000) can0 181#00112233\n";
+    let Ok(looks) = looks_at(rt.alloc(), &plan, log) else {
+        return Err(Fail::from("it is refused"));
+    };
+    assert!(rt; looks.told == 1);
+    assert!(rt; looks.frames == 2);
     Ok(())
 }

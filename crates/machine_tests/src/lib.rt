@@ -1,4 +1,4 @@
-//! Tests of what is done over a port: of listening, of questions, of the boot of a planned network and of one node alone, of what is read back, of
+//! Tests of what is done over a port: of listening before a boot and by itself, of questions, of the boot of a planned network and of one node alone, of what is read back, of
 //! devices that are verified, of scans, of values, and of NMT commands. The port gives what a script has.
 
 #![tactic(auto)]
@@ -9,6 +9,8 @@ mod asking;
 mod boots;
 #[cfg(test)]
 mod commanding;
+#[cfg(test)]
+mod hearing;
 #[cfg(test)]
 mod identities;
 #[cfg(test)]

@@ -2,7 +2,9 @@
 
 use crate::scripts::{Script, Turn};
 use cop_frame::Rate;
-use cop_transfer::{Address, ClientFault, End, Reason, Transferred, read, write};
+use cop_transfer::{
+    Address, ClientFault, EachRead, End, NodeValue, Reason, Transferred, read, read_each, write,
+};
 use std::test::Fail;
 
 /// An object of node 5.
@@ -49,6 +51,27 @@ const UNANSWERED: &[Turn] = &[
     (3_999_999, b""),
     (4_000_010, b""),
     (4_000_020, b""),
+];
+
+/// The name of a device.
+const NAME: Address = Address {
+    index: 0x1008,
+    sub: 0,
+};
+
+/// Node 5 tells a name of nine bytes in two segments, node 6 one of four bytes at once; node 7 does not answer.
+const NAMES: &[Turn] = &[
+    (0, b"t705105\r"),
+    (10, b"t585841081000"),
+    (20, b"09000000\r"),
+    (30, b"t585800414243"),
+    (40, b"44454647\r"),
+    (50, b"t58581B4849000000"),
+    (60, b"0000\r"),
+    (70, b"t586843081000464F5552\r"),
+    (80, b""),
+    (4_000_090, b""),
+    (4_000_100, b""),
 ];
 
 /// A line that is no frame.
@@ -111,6 +134,50 @@ fn gives_up_where_no_answer_comes(rt: HostRuntime) -> Result<(), Fail> {
     assert!(rt; value.came == Transferred::Ended { end: End::Silent });
     assert!(rt; value.bytes.is_empty());
     assert!(rt; sent(&port) == Some(b"t60584001200200000000\rt60588001200200000405\r".as_slice()));
+    Ok(())
+}
+
+/// What is told of a node, if the nodes were asked.
+fn value_at(each: &EachRead, place: usize) -> Option<&NodeValue> {
+    match each {
+        EachRead::Ended { values } => values.get(place),
+        EachRead::Left { .. } | EachRead::Failed => None,
+    }
+}
+
+/// Whether a node ended so, with these bytes.
+fn is_told(value: Option<&NodeValue>, node: u8, end: End, bytes: &[u8]) -> bool {
+    match value {
+        Some(value) => value.node == node && value.end == end && value.bytes.as_slice() == bytes,
+        None => false,
+    }
+}
+
+#[test]
+fn reads_an_object_of_several_nodes(rt: HostRuntime) -> Result<(), Fail> {
+    let mut port = Script::new(rt.alloc(), NAMES);
+    let each = read_each(rt.alloc(), Rate::Kbit500, 0, &[5, 6, 7], NAME, &mut port)?;
+    assert!(rt; is_told(value_at(&each, 0), 5, End::Done, b"ABCDEFGHI"));
+    assert!(rt; is_told(value_at(&each, 1), 6, End::Done, b"FOUR"));
+    assert!(rt; is_told(value_at(&each, 2), 7, End::Silent, b""));
+    assert!(rt; value_at(&each, 3).is_none());
+    assert!(rt;
+        sent(&port)
+            == Some(
+                b"t60584008100000000000\rt60586000000000000000\rt60587000000000000000\rt60684008100000000000\rt60784008100000000000\rt60788008100000000405\r".as_slice()
+            )
+    );
+    Ok(())
+}
+
+#[test]
+fn asks_several_nodes_nothing_on_another_bus(rt: HostRuntime) -> Result<(), Fail> {
+    let mut port = Script::new(rt.alloc(), GARBLED);
+    match read_each(rt.alloc(), Rate::Kbit500, 0, &[5, 6], NAME, &mut port)? {
+        EachRead::Left { reason } => assert!(rt; reason == Reason::Garbled { lines: 1 }),
+        EachRead::Ended { .. } | EachRead::Failed => assert!(rt; false),
+    }
+    assert!(rt; port.written.as_slice() == b"\r\rC\rS6\rL\rC\r".as_slice());
     Ok(())
 }
 

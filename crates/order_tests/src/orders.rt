@@ -2,7 +2,7 @@
 
 use cop_cli_args::read_request;
 use cop_frame::Rate;
-use cop_orders::{Format, NetworkFiles, Order, Rates, TransferOrder, WatchOrder};
+use cop_orders::{Format, ListenOrder, NetworkFiles, Order, Rates, TransferOrder, WatchOrder};
 use cop_plan::Choice;
 use std::alloc::{AllocError, Global};
 use std::test::Fail;
@@ -62,6 +62,19 @@ fn write_watch(
     text.push_str("watch")?;
     write_log(text, order)?;
     if let Some(csv) = csv {
+        write!(text, " csv {csv}")?;
+    }
+    write_network(text, order.network)
+}
+
+/// Adds a bus that is watched at a port.
+fn write_listen(text: &mut String, order: ListenOrder<'_>) -> Result<(), AllocError> {
+    let (port, error, drift) = (order.port, order.error, order.drift);
+    write!(text, "listen {port} {error} {drift}")?;
+    if let Some(limit) = order.limit {
+        write!(text, " for {limit}")?;
+    }
+    if let Some(csv) = order.csv {
         write!(text, " csv {csv}")?;
     }
     write_network(text, order.network)
@@ -185,9 +198,18 @@ fn write_at_port(text: &mut String, order: Order<'_>) -> Result<(), AllocError> 
             }
         }
         Order::Transfer(order) => write_transfer(text, order),
+        Order::Listen(order) => write_listen(text, order),
         Order::Init(order) => {
             let (folder, out) = (order.folder, order.out);
-            write!(text, "init {folder} {out}")
+            write!(text, "init {folder} {out}")?;
+            match order.scan {
+                Some(scan) => {
+                    let (port, kbits, up_to) = (scan.port, scan.rate.kbits(), scan.up_to);
+                    let gently = scan.gently;
+                    write!(text, " scan {port} {kbits} {up_to} {gently}")
+                }
+                None => Ok(()),
+            }
         }
         Order::Diff(order) => {
             let (old, new) = (order.old, order.new);
@@ -327,6 +349,14 @@ const ASKED: &[(&str, &str)] = &[
     ),
     ("judge --json n p t", "judge t n p json"),
     ("init --explain f out", "init f out explain"),
+    (
+        "init --port x --rate 500 f out",
+        "init f out scan x 500 127 0",
+    ),
+    (
+        "init --rate 50 --up-to 9 --gently 20 --port - f out",
+        "init f out scan - 50 9 20",
+    ),
     ("diff a b", "diff a b"),
     ("diff --json a b", "diff a b json"),
     ("room --json n p", "room n p json"),
@@ -351,6 +381,11 @@ const ASKED: &[(&str, &str)] = &[
     (
         "watch --csv d.csv n p l",
         "watch log l 1000 200 first csv d.csv n p",
+    ),
+    ("watch --port x n p", "listen x 2000 200 n p"),
+    (
+        "watch --for 60 --error 9 --csv d.csv --port - n p --json",
+        "listen - 9 200 for 60 csv d.csv n p json",
     ),
     ("explain 41", "explain 41"),
 ];
@@ -410,6 +445,11 @@ const REFUSED: &[&str] = &[
     "write --port x --rate 500 --type UNSIGNED16 5 1017 0",
     "init f",
     "init --json f out",
+    "init --port x f out",
+    "init --rate 500 f out",
+    "init --up-to 9 f out",
+    "init --port x --rate 500 --up-to 0 f out",
+    "init --port x --rate 500 out",
     "diff a",
     "diff a b c",
     "plan --setup n p out",
@@ -421,6 +461,12 @@ const REFUSED: &[&str] = &[
     "tidy --octal --decimal in out",
     "watch --error 1000001 n p l",
     "watch --csv n p l",
+    "watch n p",
+    "watch --port x n p l",
+    "watch --port x --for 0 n p",
+    "watch --port x --for 86401 n p",
+    "watch --port x --channel can1 n p",
+    "watch --port x --delta n p",
     "report --log l --csv d.csv n p out",
     "explain 0",
     "explain 256",

@@ -1,4 +1,4 @@
-use Rattle.std.proofs.Common.{◌≡◌, ◌++◌, ◌+◌, sym, ap, ◌∙◌, append-nil, append_assoc}
+use Rattle.std.proofs.Common.{◌++◌, ◌+◌, sym, ap, ◌∙◌, append-nil, append_assoc}
 use Rattle.cop_start.specs.Senders.{each_to, receiver_at}
 use Rattle.cop_start.proofs.EachLemmas.{receivers_none, receivers_more}
 use Rattle.cop_start.proofs.receivers.add_device.Goals as goal

@@ -1,4 +1,4 @@
-use Rattle.std.proofs.Common.{◌≡◌, ◌++◌, ◌+◌, sym, ap, ◌∙◌, append-nil, append_assoc}
+use Rattle.std.proofs.Common.{◌++◌, ◌+◌, sym, ap, ◌∙◌, append-nil, append_assoc}
 use Rattle.cop_start.specs.Senders.{each_to, sender_at}
 use Rattle.cop_start.proofs.EachLemmas.{senders_none, senders_more}
 use Rattle.cop_start.proofs.senders.add_device.Goals as goal

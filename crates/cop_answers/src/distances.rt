@@ -25,7 +25,7 @@ fn write_row(text: &mut String, book: &Logbook<'_>, stream: &Stream) -> Result<(
 
 /// The table of what a log shows, once all its lines were taken: a row for each stream of the plan, also for those that were never
 /// seen. Times are in microseconds, and loads in billionths of the bus. No field needs quotes.
-pub(crate) fn distances_table(alloc: Global, book: &Logbook<'_>) -> Result<String, AllocError> {
+pub fn distances_table(alloc: Global, book: &Logbook<'_>) -> Result<String, AllocError> {
     let mut text = String::from_str(alloc, "id,frames,period,least,mean,greatest,load\n")?;
     for stream in book.plan().streams().streams() {
         write_row(&mut text, book, stream)?;
