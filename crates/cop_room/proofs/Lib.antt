@@ -12,5 +12,7 @@ pub mod RangeLemmas
 pub mod RoomLemmas
 pub mod WholeLemmas
 pub mod NetworkWhole
+pub mod KeptLemmas
 pub mod MissLemmas
 pub mod SpareLemmas
+pub mod AnewLemmas

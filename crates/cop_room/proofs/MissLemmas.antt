@@ -1,112 +1,33 @@
 -- Longer deadlines, and plans that are made with them.
-use Rattle.std.proofs.Common.{◌≡◌, ◌∙◌, ℕ, suc, ◌+◌, ◌-◌, ◌*◌, ◌/◌, ◌<◌, ◌≤◌, ◌==◌, max, min, false, if◌then◌else◌, List, [], ◌∷◌, length, slice_get, get_or, unwrap_or, Option, Some, None, option_map, is_some, MatchOption, Contains, ◌⊎◌, inl, inr, refl, sym, ap, subst, arith, le_refl, true≢false, ⊎_elim}
+use Rattle.std.proofs.Common.{◌≡◌, ◌∙◌, ℕ, ◌+◌, ◌-◌, ◌*◌, ◌/◌, ◌<◌, ◌≤◌, max, min, false, List, [], length, get_or, unwrap_or, Option, Some, None, is_some, MatchOption, Contains, sym, ap, subst, arith, le_refl, true≢false, ⊎_elim}
 use Rattle.std.specs.Int.{div_ceil}
-use Rattle.std.specs.Option.{option_map_or, option_and_then}
 use Rattle.std.proofs.lemmas.Bool.{cases_lt}
 use Rattle.std.proofs.lemmas.List.Elements.{at_from_Contains}
-use Rattle.std.proofs.lemmas.Option.{slice_get_cases, slice_get-get_or}
 use Rattle.cop_frame.specs.declared.rates.Rate.{Rate}
 use Rattle.cop_rta.specs.declared.streams.Stream.{Stream}
 use Rattle.cop_rta.specs.declared.verdicts.Verdict.{Verdict}
 use Rattle.cop_rta.specs.declared.verdicts.Verdict.TheVariants.{Pass, Late, Long}
 use Rattle.cop_rta.specs.CeilLemmas.{div_ceil-reaches, div_ceil-least}
-use Rattle.cop_rta.specs.Entries.{Entry, entry_of}
-use Rattle.cop_rta.specs.Greatest.{AreSynced, HasGreatest}
-use Rattle.cop_rta.specs.Ranges.{first_range, second_range, IsOutside}
-use Rattle.cop_rta.specs.Streams.{place_of_id}
-use Rattle.cop_rta.specs.Test.{StreamPlace, Passes, place_by_id, of_stream, sync_id, deadline_at}
+use Rattle.cop_rta.specs.Greatest.{HasGreatest}
+use Rattle.cop_rta.specs.Test.{StreamPlace, Passes, place_by_id, deadline_at}
 use Rattle.cop_rta.specs.Verdict.{IsJudged, PassesBy, response_of}
 use Rattle.cop_rta.proofs.GreatestLemmas.{greatest_response_is, same_response}
 use Rattle.cop_rta.proofs.VerdictLemmas.{pass_iff}
-use Rattle.cop_cert.specs.Assignments.{id_at, IsPassing, NoAssignmentPasses}
+use Rattle.cop_cert.specs.Assignments.{IsPassing, NoAssignmentPasses}
 use Rattle.cop_plan.specs.declared.choices.Kept.{Kept}
 use Rattle.cop_plan.specs.Caps.{deadline_of}
 use Rattle.cop_plan.specs.Margins.{IsChosenOrder, Leaves}
 use Rattle.cop_plan.specs.Orders.{IsPlanOrder}
 use Rattle.cop_plan.specs.Plans.{CanAssign, IsPlan}
 use Rattle.cop_plan.specs.Values.{PlanValue, AreOnTime, id_of}
-use Rattle.cop_room.specs.Changes.{AreChanged, stretched, with_deadlines}
+use Rattle.cop_room.specs.Changes.{AreChanged, with_deadlines}
 use Rattle.cop_room.specs.Keeping.{CanBePlanned, Holds, Fails, IsLeastLimit}
 use Rattle.cop_room.specs.Misses.{NoneStretches, IsTightest, IsStretch}
 use Rattle.cop_room.specs.Planning.{IsPlannedAt, IsPlannedWith, left_in}
 use Rattle.cop_room.proofs.ChangeLemmas.{deadlines_by, deadlines_harder}
+use Rattle.cop_room.proofs.KeptLemmas.{can_assign_longer}
 use Rattle.cop_room.proofs.LimitLemmas.{no_harder, anew_falls, least_anew}
 use Rattle.cop_room.proofs.TrialLemmas.{IsBetween, go_down, go_up, ends_below, ends_nowhere}
-
--- ---- longer deadlines leave all else as it is
-
-same_places : (streams longer : List Stream) (id : ℕ) → length streams ≡ length longer → ((k : ℕ) (s t : Stream) → slice_get streams k ≡ Some s → slice_get longer k ≡ Some t → t.id ≡ s.id)
-    → place_of_id longer id ≡ place_of_id streams id
-same_places [] [] id size each = refl
-same_places [] (t ∷ ts) id size each = absurd (omega (arith, size))
-same_places (s ∷ ss) [] id size each = absurd (omega (arith, size))
-same_places (s ∷ ss) (t ∷ ts) id size each =
-    let first : t.id ≡ s.id = each 0 s t refl refl in
-    let rest : place_of_id ts id ≡ place_of_id ss id = same_places ss ts id (omega (arith, size)) (λ k a b at there. each (suc k) a b at there) in
-    ap (λ n. if n == id then Some 0 else option_map (λ k. suc k) (place_of_id ts id)) first ∙ ap (λ (o : Option ℕ). if s.id == id then Some 0 else option_map (λ k. suc k) o) rest
-
-module _ (part : ℕ) (streams longer : List Stream) (changed : AreChanged (with_deadlines part) streams longer) where
-  field_kept : (f : Stream → ℕ) → ((s t : Stream) → entry_of t ≡ with_deadlines part 0 (entry_of s) → f t ≡ f s) → (k : ℕ) → of_stream f longer k ≡ of_stream f streams k
-  field_kept f same k = ⊎_elim
-      (λ o. ⊎_elim
-      (λ p. ap (λ (x : Option Stream). option_map_or f x 0) p.2 ∙ same o.0 p.0 (changed.each k o.0 p.0 o.2 p.2) ∙ sym (ap (λ (x : Option Stream). option_map_or f x 0) o.2))
-      (λ past. absurd (let n = past.0 in omega (arith, n, o.1, changed.as_many)))
-      (slice_get_cases longer k).1)
-      (λ past. ⊎_elim
-      (λ p. absurd (let n = past.0 in omega (arith, n, p.1, changed.as_many)))
-      (λ gone. ap (λ (x : Option Stream). option_map_or f x 0) (gone.1 ∙ sym past.1))
-      (slice_get_cases longer k).1)
-      (slice_get_cases streams k).1
-
-  id_kept : (k : ℕ) → id_at longer k ≡ id_at streams k
-  id_kept = field_kept (λ s. s.id) (λ s t e. ap (λ (x : Entry). x.id) e)
-
-  period_kept : (k : ℕ) → of_stream (λ s. s.period) longer k ≡ of_stream (λ s. s.period) streams k
-  period_kept = field_kept (λ s. s.period) (λ s t e. ap (λ (x : Entry). x.period) e)
-
-  sync_kept : place_of_id longer sync_id ≡ place_of_id streams sync_id
-  sync_kept = same_places streams longer sync_id changed.as_many (λ k s t at there. ap (λ (x : Entry). x.id) (changed.each k s t at there))
-
-  deadline_kept : (k : ℕ) → k < length streams → (d : ℕ) × (option_and_then (λ (s : Stream). s.deadline) (slice_get streams k) ≡ Some d) → (d : ℕ) × (option_and_then (λ (s : Stream). s.deadline) (slice_get longer k) ≡ Some d)
-  deadline_kept k lt dated = ⊎_elim
-      (λ o. ⊎_elim
-      (λ p.
-      let its : o.0.deadline ≡ Some dated.0 = sym (ap (option_and_then (λ (s : Stream). s.deadline)) o.2) ∙ dated.1 in
-      let grown : p.0.deadline ≡ Some (stretched part dated.0) = ap (λ (x : Entry). x.deadline) (changed.each k o.0 p.0 o.2 p.2) ∙ ap (option_map (stretched part)) its in
-      (stretched part dated.0, ap (option_and_then (λ (s : Stream). s.deadline)) p.2 ∙ grown))
-      (λ past. absurd (let n = past.0 in omega (arith, n, lt, changed.as_many)))
-      (slice_get_cases longer k).1)
-      (λ past. absurd (let n = past.0 in omega (arith, n, lt)))
-      (slice_get_cases streams k).1
-
-  synced_kept : AreSynced streams → AreSynced longer
-  synced_kept synced = record { each = λ k d lt some. paced k d lt some (slice_get_cases streams k).1 }
-    where
-      paced : (k : ℕ) (d : Stream) → k < length longer → 1 ≤ (get_or longer k d).every → ((s : Stream) × (k < length streams) × (slice_get streams k ≡ Some s) × (get_or streams k s ≡ s)) ⊎ ((length streams ≤ k) × (slice_get streams k ≡ None))
-          → (i : ℕ) × (place_of_id longer sync_id ≡ Some i) × ((get_or longer k d).period ≡ (get_or longer k d).every * of_stream (λ t. t.period) longer i)
-      paced k d lt some (inr past) = absurd (let n = past.0 in omega (arith, n, lt, changed.as_many))
-      paced k d lt some (inl o) =
-          let t = get_or longer k d in
-          let e : entry_of t ≡ with_deadlines part k (entry_of o.0) = changed.each k o.0 t o.2 (slice_get-get_or longer k d lt) in
-          let every : t.every ≡ o.0.every = ap (λ (x : Entry). x.every) e in
-          let its : 1 ≤ (get_or streams k o.0).every = subst (λ (s : Stream). 1 ≤ s.every) (sym o.3) (omega (arith, some, every)) in
-          let pace = synced.each k o.0 o.1 its in
-          let one : o.0.period ≡ o.0.every * of_stream (λ t. t.period) streams pace.0 = subst (λ (s : Stream). s.period ≡ s.every * of_stream (λ t. t.period) streams pace.0) o.3 pace.2 in (
-            pace.0,
-            sync_kept ∙ pace.1,
-            ap (λ (x : Entry). x.period) e ∙ one ∙ ap (λ n. n * of_stream (λ t. t.period) streams pace.0) (sym every) ∙ ap (λ n. t.every * n) (sym (period_kept pace.0)),
-          )
-
-  pub can_assign_longer : (pdos : ℕ) → CanAssign streams pdos → CanAssign longer pdos
-  can_assign_longer pdos can = record {
-    count = omega (arith, can.count, changed.as_many);
-    few = can.few;
-    deadlines = λ p low. deadline_kept p (omega (arith, low, can.count)) (can.deadlines p low);
-    provisional = λ p low. omega (arith, can.provisional p low, id_kept p);
-    outside_first = λ k fixed inside. subst (IsOutside first_range) (sym (id_kept k)) (can.outside_first k fixed (omega (arith, inside, changed.as_many)));
-    outside_second = λ k fixed inside. subst (IsOutside second_range) (sym (id_kept k)) (can.outside_second k fixed (omega (arith, inside, changed.as_many)));
-    synced = synced_kept can.synced;
-  }
 
 -- ---- plans that are made
 

@@ -21,10 +21,10 @@ use Rattle.cop_room.specs.declared.rows.RowRoom.{RowRoom}
 use Rattle.cop_room.specs.declared.rooms.Room.{Room}
 use Rattle.cop_room.specs.Changes.{AreChanged, at_row, with_period, with_deadline, with_jitter, with_bytes, with_sync_period, with_periods, with_times, scaled, scaled_period}
 use Rattle.cop_room.specs.Keeping.{AllStillPass, Holds, IsLeastLimit}
-use Rattle.cop_room.specs.Room.{CanFall, period_now, jitter_now, deadline_now, bytes_now, IsRowRoom, IsSyncRoom, IsRoom}
-use Rattle.cop_room.specs.Whole.{IsWhole, AreInMicroseconds, AreRowLimits, IsSyncLimit, AreLimits}
-use Rattle.cop_room.proofs.Assigned.{plan_passes}
+use Rattle.cop_room.specs.Room.{CanFall, period_now, jitter_now, deadline_now, bytes_now, GoesAlone, IsSyncRoom, IsRoom}
+use Rattle.cop_room.specs.Whole.{IsWhole, AreInMicroseconds, AreLimitsAlone, IsSyncLimit, AreLimits}
 use Rattle.cop_room.proofs.ChangeLemmas.{bytes_more, changed_harder}
+use Rattle.cop_room.proofs.LimitLemmas.{Falls, kept_falls}
 
 -- ---- a whole time in a thousand thousandths is itself
 
@@ -67,9 +67,9 @@ with_fewer s = record {
 
 -- ---- what changes nothing
 
-module _ (rate : Rate) (streams : List Stream) (pdos : ℕ) (all : AllStillPass rate pdos streams) (whole : AreInMicroseconds streams) where
-  -- what changes no stream leaves all that pass
-  stays : (change : ℕ → Entry → Entry) → ((k : ℕ) (s : Stream) → slice_get streams k ≡ Some s → change k (entry_of s) ≡ entry_of s) → Holds (AllStillPass rate pdos) change streams
+module _ (P : List Stream → Type 0) (streams : List Stream) (all : P streams) (whole : AreInMicroseconds streams) where
+  -- what changes no stream leaves what holds
+  stays : (change : ℕ → Entry → Entry) → ((k : ℕ) (s : Stream) → slice_get streams k ≡ Some s → change k (entry_of s) ≡ entry_of s) → Holds P change streams
   stays change same = record { changed = streams; are_changed = record { as_many = refl; each = each }; holds = all }
     where
       each : (k : ℕ) (s t : Stream) → slice_get streams k ≡ Some s → slice_get streams k ≡ Some t → entry_of t ≡ change k (entry_of s)
@@ -78,7 +78,7 @@ module _ (rate : Rate) (streams : List Stream) (pdos : ℕ) (all : AllStillPass 
           let one : s ≡ t = cc in
           sym (same k s at ∙ ap entry_of one)
 
-  row_stays : (change : Entry → Entry) (row : ℕ) (s : Stream) → slice_get streams row ≡ Some s → change (entry_of s) ≡ entry_of s → Holds (AllStillPass rate pdos) (at_row row change) streams
+  row_stays : (change : Entry → Entry) (row : ℕ) (s : Stream) → slice_get streams row ≡ Some s → change (entry_of s) ≡ entry_of s → Holds P (at_row row change) streams
   row_stays change row s here same = stays (at_row row change) each
     where
       each : (k : ℕ) (t : Stream) → slice_get streams k ≡ Some t → at_row row change k (entry_of t) ≡ entry_of t
@@ -97,13 +97,13 @@ module _ (rate : Rate) (streams : List Stream) (pdos : ℕ) (all : AllStillPass 
     period_is : 4 * period_now streams row ≡ s.period
     period_is = ap (λ (o : Option Stream). 4 * (option_map_or (λ x. x.period) o 0 / 4)) here ∙ (whole row s here).period
 
-    period_stays : Holds (AllStillPass rate pdos) (at_row row (with_period (4 * period_now streams row))) streams
+    period_stays : Holds P (at_row row (with_period (4 * period_now streams row))) streams
     period_stays = row_stays (with_period (4 * period_now streams row)) row s here (ap (λ x. with_period x (entry_of s)) period_is)
 
     jitter_is : 4 * jitter_now streams row ≡ s.jitter
     jitter_is = ap (λ (o : Option Stream). 4 * (option_map_or (λ x. x.jitter) o 0 / 4)) here ∙ (whole row s here).jitter
 
-    jitter_stays : Holds (AllStillPass rate pdos) (at_row row (with_jitter (4 * jitter_now streams row))) streams
+    jitter_stays : Holds P (at_row row (with_jitter (4 * jitter_now streams row))) streams
     jitter_stays = row_stays (with_jitter (4 * jitter_now streams row)) row s here (ap (λ x. with_jitter x (entry_of s)) jitter_is)
 
     bytes_is : bytes_now streams row ≡ min 8 s.bytes
@@ -130,17 +130,16 @@ module _ (rate : Rate) (streams : List Stream) (pdos : ℕ) (all : AllStillPass 
     are_lighter : AreChanged (at_row row (with_bytes (bytes_now streams row))) streams lighter
     are_lighter = record { as_many = sym (length-set streams row (with_fewer s)); each = lighter_is }
 
-    bytes_stay : pdos ≤ length streams → Holds (AllStillPass rate pdos) (at_row row (with_bytes (bytes_now streams row))) streams
-    bytes_stay count =
+    bytes_stay : Falls P streams → Holds P (at_row row (with_bytes (bytes_now streams row))) streams
+    bytes_stay falls =
         let as_it_is = row_stays (with_bytes s.bytes) row s here refl in
         let fewer : bytes_now streams row ≤ s.bytes = omega (arith, bytes_is) in
         let harder = changed_harder (at_row row (with_bytes (bytes_now streams row))) (at_row row (with_bytes s.bytes)) streams lighter as_it_is.changed
         (bytes_more row (bytes_now streams row) s.bytes fewer) are_lighter as_it_is.are_changed in
-        let size = length-set streams row (with_fewer s) in
         record {
           changed = lighter;
           are_changed = are_lighter;
-          holds = plan_passes lighter as_it_is.changed rate pdos harder (omega (arith, count, size)) as_it_is.holds;
+          holds = falls lighter as_it_is.changed harder are_lighter.as_many as_it_is.holds;
         }
 
     module _ (d : ℕ) (dated : option_and_then (λ (x : Stream). x.deadline) (slice_get streams row) ≡ Some d) where
@@ -150,7 +149,7 @@ module _ (rate : Rate) (streams : List Stream) (pdos : ℕ) (all : AllStillPass 
       deadline_is : 4 * deadline_now streams row ≡ d
       deadline_is = ap (λ (o : Option ℕ). 4 * (unwrap_or o 0 / 4)) dated ∙ (whole row s here).deadline d own_deadline
 
-      deadline_stays : Holds (AllStillPass rate pdos) (at_row row (with_deadline (4 * deadline_now streams row))) streams
+      deadline_stays : Holds P (at_row row (with_deadline (4 * deadline_now streams row))) streams
       deadline_stays = row_stays (with_deadline (4 * deadline_now streams row)) row s here
           (ap (λ (o : Option ℕ). record (entry_of s) { deadline = o }) (ap (λ n. Some n) deadline_is ∙ sym own_deadline))
 
@@ -168,20 +167,21 @@ module _ (rate : Rate) (streams : List Stream) (pdos : ℕ) (all : AllStillPass 
 
   period_limit : (row : ℕ) (s : Stream) → slice_get streams row ≡ Some s → (o : Option ℕ)
       → MatchOption o (1 ≤ of_stream (λ x. x.every) streams row)
-      (λ x. (of_stream (λ t. t.every) streams row ≡ 0) × CanFall (AllStillPass rate pdos) (λ y. at_row row (with_period (4 * y))) streams 100 (period_now streams row) x)
-      → MatchOption o (1 ≤ of_stream (λ x. x.every) streams row) (λ x. IsLeastLimit (AllStillPass rate pdos) (λ y. at_row row (with_period (4 * y))) streams 100 x)
+      (λ x. (of_stream (λ t. t.every) streams row ≡ 0) × CanFall P (λ y. at_row row (with_period (4 * y))) streams 100 (period_now streams row) x)
+      → MatchOption o (1 ≤ of_stream (λ x. x.every) streams row) (λ x. IsLeastLimit P (λ y. at_row row (with_period (4 * y))) streams 100 x)
   period_limit row s here None h = h
   period_limit row s here (Some x) h = h.1 (period_counts row s here) (period_stays row s here)
 
-  row_limits : (row : ℕ) (s : Stream) (d : ℕ) (r : RowRoom) → pdos ≤ length streams → slice_get streams row ≡ Some s → option_and_then (λ (x : Stream). x.deadline) (slice_get streams row) ≡ Some d
-      → IsRowRoom rate streams pdos row r → AreRowLimits rate streams pdos row r
-  row_limits row s d r count here dated room = record {
+  pub row_limits : (row : ℕ) (s : Stream) (d : ℕ) (r : RowRoom) → Falls P streams → slice_get streams row ≡ Some s → option_and_then (λ (x : Stream). x.deadline) (slice_get streams row) ≡ Some d
+      → GoesAlone P streams row r → AreLimitsAlone P streams row r
+  row_limits row s d r falls here dated room = record {
     period = period_limit row s here r.period room.period;
     jitter = room.jitter (jitter_counts row s here) (jitter_stays row s here);
     deadline = room.deadline (deadline_counts row s here d dated) (deadline_stays row s here d dated);
-    bytes = room.bytes (bytes_count row s here) (bytes_stay row s here count);
+    bytes = room.bytes (bytes_count row s here) (bytes_stay row s here falls);
   }
 
+module _ (rate : Rate) (streams : List Stream) (pdos : ℕ) (all : AllStillPass rate pdos streams) (whole : AreInMicroseconds streams) where
   -- ---- all at once
 
   module _ (synced : AreSynced streams) where
@@ -221,7 +221,7 @@ module _ (rate : Rate) (streams : List Stream) (pdos : ℕ) (all : AllStillPass 
             ap (λ n. s.every * scaled 400 1000 (n / s.every)) pace.2 ∙ scaled_stays s.every (of_stream (λ t. t.period) streams pace.0) some sync.0 sync.1 ∙ sym pace.2
 
     periods_stay : Holds (AllStillPass rate pdos) (with_periods 1000) streams
-    periods_stay = stays (with_periods 1000) (λ k s here. ap (λ x. with_period x (entry_of s)) (period_kept k s here))
+    periods_stay = stays (AllStillPass rate pdos) streams all whole (with_periods 1000) (λ k s here. ap (λ x. with_period x (entry_of s)) (period_kept k s here))
 
     deadline_kept : (o : Option ℕ) → ForSome o IsWhole → ForSome o (λ d. 1 ≤ d) → option_map (scaled 4 1000) o ≡ o
     deadline_kept None is_whole least = refl
@@ -230,7 +230,7 @@ module _ (rate : Rate) (streams : List Stream) (pdos : ℕ) (all : AllStillPass 
         ap (λ n. Some n) (whole_scaled 4 d (omega (arith, w, least d refl)) w)
 
     times_stay : Holds (AllStillPass rate pdos) (with_times 1000) streams
-    times_stay = stays (with_times 1000) (λ k s here.
+    times_stay = stays (AllStillPass rate pdos) streams all whole (with_times 1000) (λ k s here.
         ap (λ x. record { id = s.id; bytes = s.bytes; period = x; jitter = s.jitter; deadline = option_map (scaled 4 1000) s.deadline; every = s.every }) (period_kept k s here)
         ∙ ap (λ (o : Option ℕ). record (entry_of s) { deadline = o }) (deadline_kept s.deadline (whole k s here).deadline s.deadline_least))
 
@@ -258,7 +258,7 @@ module _ (rate : Rate) (streams : List Stream) (pdos : ℕ) (all : AllStillPass 
           sym (pace.2 ∙ ap (λ n. s.every * of_stream (λ t. t.period) streams n) one)
 
       sync_stays : Holds (AllStillPass rate pdos) (with_sync_period (4 * period_now streams i)) streams
-      sync_stays = stays (with_sync_period (4 * period_now streams i)) each
+      sync_stays = stays (AllStillPass rate pdos) streams all whole (with_sync_period (4 * period_now streams i)) each
         where
           each : (k : ℕ) (s : Stream) → slice_get streams k ≡ Some s → with_sync_period (4 * period_now streams i) k (entry_of s) ≡ entry_of s
           each k s here = go (s.id == sync_id) (s.every == 0) (λ e. eqb-true s.id sync_id e) (λ f. eqb-false s.every 0 f)
@@ -297,7 +297,7 @@ module _ (rate : Rate) (streams : List Stream) (pdos : ℕ) (all : AllStillPass 
           let mine = room.rows p low in
           let d = dated p low in
           ⊎_elim
-          (λ o. (mine.0, mine.1, row_limits p o.0 d.0 mine.0 count o.2 d.1 mine.2))
+          (λ o. (mine.0, mine.1, row_limits (AllStillPass rate pdos) streams all whole p o.0 d.0 mine.0 (kept_falls with_periods rate streams pdos count) o.2 d.1 mine.2))
           (λ past. absurd (let n = past.0 in omega (arith, n, low, count)))
           (slice_get_cases streams p).1;
       sync = sync_limit distinct r.sync count room.sync;

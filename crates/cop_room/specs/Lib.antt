@@ -6,3 +6,4 @@ pub mod Room
 pub mod Whole
 pub mod Planning
 pub mod Misses
+pub mod Anew

@@ -38,14 +38,18 @@ deadline_now streams row = unwrap_or (option_and_then (λ s. s.deadline) (slice_
 abbrev pub bytes_now : List Stream → ℕ → ℕ
 bytes_now streams row = min 8 (of_stream (λ s. s.bytes) streams row)
 
--- how far the numbers of a row go alone, all else as it is. The period of a synchronous row is SYNC's
-pub record IsRowRoom (rate : Rate) (streams : List Stream) (pdos row : ℕ) (r : RowRoom) : Type 0 where
+-- how far the numbers of a row go alone, all else as it is, so that something holds. The period of a synchronous row is SYNC's
+pub record GoesAlone (P : List Stream → Type 0) (streams : List Stream) (row : ℕ) (r : RowRoom) : Type 0 where
   pub period : MatchOption r.period (1 ≤ of_stream (λ s. s.every) streams row)
       (λ x. (of_stream (λ s. s.every) streams row ≡ 0)
-      × CanFall (AllStillPass rate pdos) (λ y. at_row row (with_period (4 * y))) streams 100 (period_now streams row) x)
-  pub jitter : CanRise (AllStillPass rate pdos) (λ y. at_row row (with_jitter (4 * y))) streams 60000000 (jitter_now streams row) r.jitter
-  pub deadline : CanFall (AllStillPass rate pdos) (λ y. at_row row (with_deadline (4 * y))) streams 1 (deadline_now streams row) r.deadline
-  pub bytes : CanRise (AllStillPass rate pdos) (λ y. at_row row (with_bytes y)) streams 8 (bytes_now streams row) r.bytes
+      × CanFall P (λ y. at_row row (with_period (4 * y))) streams 100 (period_now streams row) x)
+  pub jitter : CanRise P (λ y. at_row row (with_jitter (4 * y))) streams 60000000 (jitter_now streams row) r.jitter
+  pub deadline : CanFall P (λ y. at_row row (with_deadline (4 * y))) streams 1 (deadline_now streams row) r.deadline
+  pub bytes : CanRise P (λ y. at_row row (with_bytes y)) streams 8 (bytes_now streams row) r.bytes
+
+-- so that all still pass under the identifiers that they have
+abbrev pub IsRowRoom : Rate → List Stream → ℕ → ℕ → RowRoom → Type 0
+IsRowRoom rate streams pdos row r = GoesAlone (AllStillPass rate pdos) streams row r
 
 -- SYNC's period with all synchronous rows
 pub record IsSyncRoom (rate : Rate) (streams : List Stream) (pdos x : ℕ) : Type 0 where

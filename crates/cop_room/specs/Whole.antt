@@ -25,13 +25,16 @@ pub record IsInMicroseconds (e : Entry) : Type 0 where
 abbrev pub AreInMicroseconds : List Stream → Type 0
 AreInMicroseconds streams = (k : ℕ) (s : Stream) → slice_get streams k ≡ Some s → IsInMicroseconds (entry_of s)
 
--- how far the numbers of a row go alone. The period of a synchronous row is SYNC's
-pub record AreRowLimits (rate : Rate) (streams : List Stream) (pdos row : ℕ) (r : RowRoom) : Type 0 where
-  pub period : MatchOption r.period (1 ≤ of_stream (λ s. s.every) streams row)
-      (λ x. IsLeastLimit (AllStillPass rate pdos) (λ y. at_row row (with_period (4 * y))) streams 100 x)
-  pub jitter : IsGreatestLimit (AllStillPass rate pdos) (λ y. at_row row (with_jitter (4 * y))) streams 60000000 r.jitter
-  pub deadline : IsLeastLimit (AllStillPass rate pdos) (λ y. at_row row (with_deadline (4 * y))) streams 1 r.deadline
-  pub bytes : IsGreatestLimit (AllStillPass rate pdos) (λ y. at_row row (with_bytes y)) streams 8 r.bytes
+-- how far the numbers of a row go alone, so that something holds. The period of a synchronous row is SYNC's
+pub record AreLimitsAlone (P : List Stream → Type 0) (streams : List Stream) (row : ℕ) (r : RowRoom) : Type 0 where
+  pub period : MatchOption r.period (1 ≤ of_stream (λ s. s.every) streams row) (λ x. IsLeastLimit P (λ y. at_row row (with_period (4 * y))) streams 100 x)
+  pub jitter : IsGreatestLimit P (λ y. at_row row (with_jitter (4 * y))) streams 60000000 r.jitter
+  pub deadline : IsLeastLimit P (λ y. at_row row (with_deadline (4 * y))) streams 1 r.deadline
+  pub bytes : IsGreatestLimit P (λ y. at_row row (with_bytes y)) streams 8 r.bytes
+
+-- so that all still pass under the identifiers that they have
+abbrev pub AreRowLimits : Rate → List Stream → ℕ → ℕ → RowRoom → Type 0
+AreRowLimits rate streams pdos row r = AreLimitsAlone (AllStillPass rate pdos) streams row r
 
 -- SYNC's period with all synchronous rows
 pub record IsSyncLimit (rate : Rate) (streams : List Stream) (pdos x : ℕ) : Type 0 where

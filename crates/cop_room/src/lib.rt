@@ -1,6 +1,7 @@
 //! How far each number of a plan can go: what asks more of a bus passes less.
 #![tactic(auto)]
 
+mod anew;
 mod changing;
 mod laws;
 mod limits;
@@ -11,6 +12,7 @@ mod rooms;
 mod rows;
 mod trials;
 
+pub use anew::room_anew;
 pub use laws::{
     changed_streams_are_harder, changes_get_harder, fewer_plans_pass, fewer_streams_pass,
     greatest_response_decides, harder_assignments_pass_less, harder_places_pass_less,

@@ -48,7 +48,7 @@ const LEAST: u64 = 1001;
 const MOST: u64 = 60_000_000_000;
 
 /// The plan at a rate, if some assignment passes there.
-fn planned_at(
+pub(crate) fn planned_at(
     alloc: Global,
     set: &StreamSet,
     pdos: usize,

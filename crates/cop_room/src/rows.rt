@@ -38,7 +38,7 @@ pub(crate) struct Seen {
 
 /// Whether a stream is synchronous.
 #[tactic(auto, using(cop_rta::specs::SumsLemmas::of_stream_read))]
-fn is_synchronous(streams: &[Stream], row: usize) -> bool
+pub(crate) fn is_synchronous(streams: &[Stream], row: usize) -> bool
     requires { row < length streams.now }
     ensures yes { OnTrue result (1 ≤ of_stream (λ s. s.every) streams.now row) }
     ensures no { OnFalse result (of_stream (λ s. s.every) streams.now row ≡ 0) }
@@ -59,7 +59,7 @@ pub(crate) fn period_of(streams: &[Stream], row: usize) -> u64
 
 /// The jitter of a stream in microseconds.
 #[tactic(auto, using(cop_rta::specs::SumsLemmas::of_stream_read))]
-fn jitter_of(streams: &[Stream], row: usize) -> u64
+pub(crate) fn jitter_of(streams: &[Stream], row: usize) -> u64
     requires { row < length streams.now }
     ensures value { result ≡ jitter_now streams.now row }
     ensures most { result ≤ 60000000 }
@@ -68,7 +68,7 @@ fn jitter_of(streams: &[Stream], row: usize) -> u64
 }
 
 /// The deadline of a stream in microseconds, 0 where it has none.
-fn deadline_of(streams: &[Stream], row: usize) -> u64
+pub(crate) fn deadline_of(streams: &[Stream], row: usize) -> u64
     requires { row < length streams.now }
     ensures value { result ≡ deadline_now streams.now row }
     ensures most { result ≤ 60000000 }
@@ -78,7 +78,7 @@ fn deadline_of(streams: &[Stream], row: usize) -> u64
 
 /// The bytes of a stream, 8 at most.
 #[tactic(auto, using(cop_rta::specs::SumsLemmas::of_stream_read))]
-fn bytes_of(streams: &[Stream], row: usize) -> u64
+pub(crate) fn bytes_of(streams: &[Stream], row: usize) -> u64
     requires { row < length streams.now }
     ensures value { result ≡ bytes_now streams.now row }
     ensures most { result ≤ 8 }

@@ -1,4 +1,4 @@
-use Rattle.cop_room.proofs.MissLemmas.{can_assign_longer}
+use Rattle.cop_room.proofs.KeptLemmas.{can_assign_longer}
 use Rattle.cop_room.proofs.misses.planned_with.Goals as goal
 
 pub planned_at-requires : goal.planned_at-requires
