@@ -5,7 +5,7 @@
 
 The response of each PDO is computed here, with a stream of 166 bits above all (margins.py). No page, line, document and database may name an
 identifier that is not on the bus, and each has to tell of disturbed transfers where it should. Refusals are checked, a run is judged and
-watched, also with an error frame in its log. Last a deadline is missed by errors alone, which has to be told as such.
+watched, also with as many error frames in its log as the row allows, and with one more. Last a deadline is missed by errors alone, which has to be told as such.
 """
 import csv
 import json
@@ -17,7 +17,7 @@ import sys
 import tempfile
 
 from files import bytes_of, network_in, status_of, write
-from log_lines import ends_of, line_of
+from log_lines import ends_of, line_of, lines_of_document
 from margins import response
 
 HERE = os.path.dirname(os.path.dirname(os.path.realpath(__file__)))
@@ -119,8 +119,8 @@ def faults_of_page(page, often, has_sync):
             yield f"the page has {part!r}"
 
 
-def faults_of_run(folder, network, often, has_sync):
-    """A run, its judgement, its page, and its log without and with an error frame."""
+def faults_of_run(folder, network, row, often, has_sync):
+    """A run, its judgement, its page, and its log without and with error frames."""
     trace, log, page = f"{folder}/out/trace.csv", f"{folder}/out/run.log", f"{folder}/out/report.html"
     status, said, words = called("run", "--seed", "7", "--until", str(UNTIL), *network, trace)
     if status or not said.endswith("on time\n"):
@@ -141,14 +141,30 @@ def faults_of_run(folder, network, often, has_sync):
     if status or has_nmt != ("<b>000h</b> NMT" in text) or has_nmt != ("<td>NMT</td>" in text) or "keeps to the tables" not in text:
         yield f"report ends with {status} and {words!r}"
     yield from faults_of_page(text, often, has_sync)
-    # The error frame comes where the bus is idle.
-    ends = [int(end) for _, _, end in ends_of(trace)]
+    yield from faults_of_error_frames(network, row, lines, [int(end) for _, _, end in ends_of(trace)], log)
+
+
+def faults_of_error_frames(network, row, lines, ends, log):
+    """The log with as many error frames as the row allows at once, with one more, and with a frame of 001h."""
+    period, jitter = map(int, row.split(",")[4:6])
+    most = jitter // period + 1
+    # They come where the bus is idle.
     at = next(k for k in range(50, len(ends)) if ends[k] - ends[k - 1] > 2000)
-    error = line_of(START + (ends[at - 1] + ends[at]) // 2, 0x20000080, "00" * 8)
-    write(log, "".join(f"{line}\n" for line in [*lines[:at], error, *lines[at:]]).encode())
-    status, said, words = called("watch", "--error", "1", "--drift", "0", *network, log)
-    if status != 3 or f"line {at + 1}: an error frame; breaks: no frame is disturbed\n" not in said or not said.endswith("breaches 1\n"):
-        yield f"watch of an error frame ends with {status}, {said[-200:]!r} and {words!r}"
+    begin = START + ends[at - 1] + 300
+    errors = [line_of(begin + 200 * k, 0x20000080, "00" * 8) for k in range(most + 1)]
+    soon = f"line {at + most + 1}: an error frame comes {200 * most} us after that of line {at + 1}; the least is "
+    for put, number, words in (
+        (errors[:most], 0, f"errors frames {most} "), (errors, 3, soon), (errors, 3, "; breaks: disturbed transfers are as rare as the row errors says\nbreaches 1\n"),
+        ([line_of(begin, 1, "0100")], 3, f"line {at + 1}: 001h is of no sender in the tables; breaks: nothing else sends\nbreaches 1\n"),
+    ):
+        write(log, "".join(f"{line}\n" for line in [*lines[:at], *put, *lines[at:]]).encode())
+        status, said, told = called("watch", "--error", "1", "--drift", "0", *network, log)
+        if status != number or words not in said:
+            yield f"watch of {len(put)} frames more ends with {status}, {said[-300:]!r} and {told!r}"
+        status, said, told = called("watch", "--json", "--error", "1", "--drift", "0", *network, log)
+        lines_said = lines_of_document(json.loads(said))
+        if status != number or not any(words.split("\n")[0] in line for line in lines_said):
+            yield f"the document of {len(put)} frames more ends with {status}, {lines_said[-3:]} and {told!r}"
 
 
 def faults_of_exports(folder, network):
@@ -166,7 +182,7 @@ def faults_of_case(folder, name, row, rate, often):
     network = copied(name, row, folder)
     os.makedirs(f"{folder}/out")
     yield from faults_of_plan(folder, network, rate, often)
-    yield from faults_of_run(folder, network, often, name == "drives")
+    yield from faults_of_run(folder, network, row, often, name == "drives")
     yield from faults_of_exports(folder, network)
 
 

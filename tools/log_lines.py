@@ -38,6 +38,14 @@ def stream_line(it):
     return f"{begin} distance {least} {mean} {greatest} {table} load {share(it['load'])}"
 
 
+def errors_line(it):
+    table = f"table {int(it['period']['us'])}"
+    if it["distance"] is None:
+        return f"errors frames {it['frames']} {table}"
+    least, mean, greatest = (it["distance"][key]["us"] for key in ("least", "mean", "greatest"))
+    return f"errors frames {it['frames']} distance {least} {mean} {greatest} {table}"
+
+
 def table_row(it):
     distances = [it["distance"][key]["us"] for key in ("least", "mean", "greatest")] if it["distance"] else [""] * 3
     return ",".join(map(str, (f"{it['id']:03X}h", it["frames"], int(it["period"]["us"]), *distances, it["load"])))
@@ -83,7 +91,11 @@ def breach_words(it, clock):
     if it["kind"] == "soon":
         least = it["least"]
         time, period, response, transfer, bit = (int(least[key]["us"]) for key in ("time", "period", "response", "transfer", "bit"))
-        made = f"{least['periods']} x {period} us - {response} us response + {transfer} us frame - {bit} us bit"
+        made = f"{least['periods']} x {period} us - {response} us response"
+        if it["frame"] == "error":
+            named = "an error frame"
+        else:
+            made += f" + {transfer} us frame - {bit} us bit"
         return f"{named} comes {it['distance']['us']} us after that of line {it['from_line']}; the least is {time} us ({made}), {clock}"
     if it["kind"] == "fallen":
         return f"the log's clock falls by {it['fall']['us']} us from line {it['from_line']} on, {clock.split(' and ')[0]} for the clock"
@@ -101,6 +113,7 @@ def lines_of_document(it):
     clock = f"with {it['clock']['error']['us']} us and {it['clock']['drift']} ppm for the clock"
     lines = [f"rate {it['rate']} frames {it['frames']} time {it['time']['us']} us load {share(it['load'])}"]
     lines += [stream_line(stream) for stream in it["streams"]]
+    lines += [errors_line(it["errors"])] if "errors" in it else []
     lines += [f"{stream['id']:03X}h never seen" for stream in it["streams"] if stream["frames"] == 0]
     lines += [unknown_line(stranger) for stranger in it["unknown"]]
     lines += [heartbeat_line(heartbeat) for heartbeat in it["late_heartbeats"]]

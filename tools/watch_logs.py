@@ -13,16 +13,19 @@ table that --csv writes beside it, too; of a log that is refused there is none.
 
 By more seeds the log is written in each other form (log_forms.py): nothing may be found in it, and what is said of the streams has to be the
 same in each form that keeps the microseconds; then a breach of some kind is put in, which has to be found at its line.
+
+Last each example gets a row `errors`, for one error in a second. In each form one error frame may not be a breach, and a second one right behind it has to be.
 """
 import json
 import os
 import random
 import re
+import shutil
 import subprocess
 import sys
 import tempfile
 
-from files import bytes_of
+from files import bytes_of, write as write_bytes
 from log_forms import FORMS, Frame
 from log_lines import ends_of, line_of, lines_of_document, stamped, table_of_document
 
@@ -32,6 +35,8 @@ PROGRAM = sys.argv[1] if len(sys.argv) > 1 else f"{HERE}/bin/canplan"
 NAMES = ("valve", "crane", "conveyor", "drives", "second-range")
 SEEDS = range(1, 6)
 MORE_SEEDS = range(6, 48)
+RARE_SEEDS = range(48, 50)
+RARE = "errors,0,,,1000000,0"
 UNTIL = 1500000
 
 # What the clock does, and what is said of it.
@@ -237,6 +242,40 @@ def faults_of_forms(name, seed, folder):
             yield f"{name} {seed} {form} {kind} at {head + place + 1}: status {status} {err} {[it for it in out.splitlines() if 'breaks' in it][:2]}"
 
 
+def rare_tables(name, folder):
+    """The tables of an example with a row `errors`, for one error in a second."""
+    rare = f"{folder}/rare"
+    shutil.rmtree(rare, ignore_errors=True)
+    shutil.copytree(f"{EXAMPLES}/{name}", rare)
+    nodes = bytes_of(f"{rare}/nodes.csv").decode()
+    commas = nodes.splitlines()[0].count(",") - RARE.count(",")
+    write_bytes(f"{rare}/nodes.csv", f"{nodes}{RARE}{',' * commas}\n".encode())
+    return f"{rare}/nodes.csv", f"{rare}/pdos.csv"
+
+
+def faults_of_errors(name, seed, folder):
+    """Error frames against a row `errors`, in each form: one of a second is none too many, and the second of a moment is."""
+    chance = random.Random(f"errors {name} {seed}")
+    tables = rare_tables(name, folder)
+    trace = f"{folder}/trace.csv"
+    run("run", "--seed", str(seed), "--until", str(UNTIL), *tables, trace)
+    frames = [Frame(*entry) for entry in log_of(ends_of(trace), chance)]
+    # They come where the bus is idle.
+    idle = [k for k in range(1, len(frames)) if frames[k].at - frames[k - 1].at > 3000]
+    n = chance.choice(idle)
+    errors = [Frame(frames[n - 1].at + 700 + 300 * k, 0x80, "0000000000000000", "error") for k in range(2)]
+    for form, (write, rounded, words, never) in FORMS.items():
+        if "error" in never:
+            continue
+        said = (*words, "--error", str(60 + rounded), "--drift", "100")
+        for count, number, word in ((1, 0, "errors frames 1 table 1000000"), (2, 3, "; breaks: disturbed transfers are as rare as the row errors says")):
+            text, head = write(frames[:n] + errors[:count] + frames[n:])
+            status, out, err = run("watch", *said, *tables, "-", text=text.encode())
+            found = [it for it in out.splitlines() if word in it]
+            if status != number or not found or count == 2 and not found[0].startswith(f"line {head + n + 2}: an error frame comes "):
+                yield f"{name} {seed} {form} {count} error frames at {head + n + 1}: status {status} {err} {out[-300:]!r}"
+
+
 def faults_of(name, seed, folder):
     chance = random.Random(f"{name} {seed}")
     tables = (f"{EXAMPLES}/{name}/nodes.csv", f"{EXAMPLES}/{name}/pdos.csv")
@@ -280,9 +319,11 @@ def main():
                 faults += faults_of(name, seed, folder)
             for seed in MORE_SEEDS:
                 faults += faults_of_forms(name, seed, folder)
+            for seed in RARE_SEEDS:
+                faults += faults_of_errors(name, seed, folder)
     for fault in faults:
         print(fault)
-    print(f"{len(NAMES) * (len(SEEDS) + len(MORE_SEEDS))} runs, {len(faults)} faults")
+    print(f"{len(NAMES) * (len(SEEDS) + len(MORE_SEEDS) + len(RARE_SEEDS))} runs, {len(faults)} faults")
     return 1 if faults else 0
 
 

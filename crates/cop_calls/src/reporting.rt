@@ -7,16 +7,16 @@ use cop_files::{Failure, read_eds_files, read_file, read_tables, write_file};
 use cop_logbook::Logbook;
 use cop_net::NodeTable;
 use cop_orders::{NetworkFiles, Shown};
-use cop_plan::Plan;
+use cop_plan::{Outcome, Plan};
 
-/// What a log shows, by the plan on the bus alone. Where no rate passes it is not looked at.
+/// What a log shows. Where no rate passes it is not looked at.
 fn log_book<'p>(
     rt: &HostRuntime,
     sources: Sources<'_>,
-    plan: Option<&'p Plan>,
+    outcome: &'p Outcome,
 ) -> Result<Option<Logbook<'p>>, Failure> {
-    match (sources.shown.log, plan) {
-        (Some(order), Some(plan)) => Ok(Some(watched(rt, order, plan)?)),
+    match (sources.shown.log, outcome) {
+        (Some(order), Outcome::Planned(plan)) => Ok(Some(watched(rt, order, plan)?)),
         _ => Ok(None),
     }
 }
@@ -40,7 +40,7 @@ fn page(
     let bus = bus_plan_of(rt.alloc(), outcome)?;
     let plan = plan_in(bus.as_ref());
     let timeline = timeline(rt.alloc(), sources, plan)?;
-    let book = log_book(rt, sources, plan)?;
+    let book = log_book(rt, sources, outcome)?;
     Ok(page_text(
         rt.alloc(),
         sources,

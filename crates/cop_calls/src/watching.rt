@@ -1,6 +1,6 @@
 //! A log of a real bus, watched by the plan of its network.
 
-use cop_answers::{BusPlan, Inputs, distances_table};
+use cop_answers::{Inputs, distances_table};
 use cop_documents::watch_document;
 use cop_engine::none_passes;
 use cop_files::{
@@ -138,8 +138,7 @@ fn tell_book(rt: &HostRuntime, form: Form, book: &Logbook<'_>) -> Result<u8, Fai
     Ok(if book.breaches() == 0 { 0 } else { 3 })
 }
 
-/// Watches the log of an order by a plan, writes its table if one is wanted, says what it shows, and gives the status. Where the plan counts disturbed
-/// transfers, its frames are held to the responses that they have without these, and each error frame is told.
+/// Watches the log of an order by a plan, writes its table if one is wanted, says what it shows, and gives the status.
 fn watch_by(
     rt: &HostRuntime,
     order: WatchOrder<'_>,
@@ -147,8 +146,7 @@ fn watch_by(
     form: Form,
     plan: &Plan,
 ) -> Result<u8, Failure> {
-    let bus = BusPlan::of(rt.alloc(), plan)?;
-    let book = watched(rt, order, bus.plan())?;
+    let book = watched(rt, order, plan)?;
     write_table(rt, csv, &book)?;
     tell_book(rt, form, &book)
 }

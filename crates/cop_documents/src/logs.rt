@@ -65,6 +65,25 @@ fn streams_of(alloc: Global, book: &Logbook<'_>) -> Result<Value, AllocError> {
     Ok(Value::Array(streams))
 }
 
+/// The error frames, and how rare disturbed transfers are to be.
+fn errors_of(alloc: Global, book: &Logbook<'_>, errors: &Stream) -> Result<Value, AllocError> {
+    let seen = book.disturbed();
+    Object::new(alloc)
+        .plain("frames", seen.frames)
+        .with("period", time(alloc, errors.period))
+        .with("jitter", time(alloc, errors.jitter))
+        .with("distance", distance_of(alloc, seen))
+        .end()
+}
+
+/// An object with the error frames, where the plan counts disturbed transfers.
+fn with_errors(object: Object, alloc: Global, book: &Logbook<'_>) -> Object {
+    match book.errors() {
+        Some(errors) => object.with("errors", errors_of(alloc, book, &errors)),
+        None => object,
+    }
+}
+
 fn stranger_of(alloc: Global, stranger: &Stranger) -> Result<Value, AllocError> {
     with_id(Object::new(alloc), stranger.id)
         .plain("frames", stranger.seen.frames)
@@ -237,13 +256,14 @@ pub fn watch_document(alloc: Global, book: Option<&Logbook<'_>>) -> Result<Strin
         return document.end()?.to_string(alloc);
     };
     let (all, rate) = (book.all(), book.plan().rate());
-    document
+    let document = document
         .plain("rate", rate.kbits())
         .with("clock", clock_of(alloc, book))
         .plain("frames", all.frames)
         .with("time", micros(alloc, all.span()))
         .plain("load", all.billionths(rate, all.span()))
-        .with("streams", streams_of(alloc, book))
+        .with("streams", streams_of(alloc, book));
+    with_errors(document, alloc, book)
         .with("unknown", strangers_of(alloc, book))
         .with("late_heartbeats", heartbeats_of(alloc, book))
         .with("noticed", notices_of(alloc, book.notices()))

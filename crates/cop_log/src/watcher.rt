@@ -2,6 +2,7 @@
 
 ghost use Rattle.std.specs.Prelude.{◌≡◌, ◌+◌, ◌^◌, ◌<◌, ◌&&◌, true, false, is_none, Option, IfOk, IfSome, IfNone, length, List, slice_index_or};
 ghost use Rattle.cop_rta.specs.Streams.{place_of_id};
+ghost use Rattle.cop_rta.specs.Errors.{errors_of};
 ghost use Rattle.cop_lines.specs.declared.entries.Entry.{Entry as Seen};
 ghost use Rattle.std.specs.Option.{ForSome};
 ghost use Rattle.cop_log.specs.declared.anchors.Anchor.{Anchor as Counted};
@@ -25,7 +26,7 @@ use crate::watches::Watch;
 use crate::watching::watch_next;
 use cop_frame::Rate;
 use cop_lines::Entry;
-use cop_rta::StreamSet;
+use cop_rta::{Stream, StreamSet};
 use std::alloc::{AllocError, Global};
 
 /// What is known of the entries of a log that were taken so far. It keeps none of them but one for each stream and one for all, so that
@@ -211,6 +212,13 @@ impl<'a> Watcher<'a> {
         ensures { result ≡ self.now.number }
     {
         self.number
+    }
+
+    /// The stream of disturbed transfers, if the set counts them.
+    pub fn errors(&self) -> Option<Stream>
+        ensures { result ≡ errors_of (terms_of self.now).streams }
+    {
+        self.streams.errors()
     }
 
     /// The entry from which those of the stream at a place are counted.

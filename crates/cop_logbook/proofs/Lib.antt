@@ -1,3 +1,4 @@
+pub mod Through
 pub mod ToldLemmas
 pub mod WordLemmas
 pub mod ShownLemmas

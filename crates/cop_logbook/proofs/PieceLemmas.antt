@@ -1,15 +1,27 @@
 -- A log that a reader gives in pieces.
-use Rattle.std.proofs.Common.{◌≡◌, ◌∙◌, ℕ, ◌^◌, ◌<◌, zero, suc, List, [], ◌∷◌, ◌++◌, length, refl, sym, ap, subst, arith, append_assoc, append-nil, length-append, Option, true, false}
-use Rattle.std.specs.Prelude.{slice_index_or, None, Some, Result, Ok, Err, IsErrAnd, IfErr}
+use Rattle.std.proofs.Common.{◌≡◌, ◌≢◌, ◌∙◌, ℕ, ◌^◌, ◌<◌, zero, suc, List, [], ◌∷◌, ◌++◌, length, refl, sym, ap, subst, arith, append_assoc, append-nil, length-append, Option, true, false}
+use Rattle.std.proofs.lemmas.List.Elements.{All-from_recursion, All-contains}
+use Rattle.std.specs.Prelude.{All, slice_index_or, None, Some, Result, Ok, Err, IsErrAnd, IfErr}
 use Rattle.std.specs.Io.KnownBytes.{Consumes, IsAtEnd}
 use Rattle.std.proofs.KnownBytes.{Consumes-nil, Consumes-trans, Consumes-all}
+use Rattle.cop_frame.specs.Rate.{ticks_of}
+use Rattle.cop_rta.specs.declared.streams.Stream.{Stream}
+use Rattle.cop_rta.specs.Streams.{AreDistinct}
+use Rattle.cop_rta.specs.Errors.{errors_of, bus_of}
+use Rattle.cop_rta.proofs.BusLemmas.{tested_again}
 use Rattle.cop_rta.specs.Test.{place_by_id}
 use Rattle.cop_rta.specs.Verdict.{PassesBy}
 use Rattle.cop_rta.specs.Greatest.{AreSynced}
+use Rattle.cop_bus.specs.Run.{Instance, IsKnown}
+use Rattle.cop_bus.proofs.Totals.{Each-from_Contains}
+use Rattle.cop_errors.specs.Errors.{Disturbance}
+use Rattle.cop_errors.specs.Extended.{extended_by, IsRunThrough}
+use Rattle.cop_errors.proofs.Up.{known_not_one}
+use Rattle.cop_errors.proofs.SetRuns.{of_set}
 use Rattle.cop_lines.specs.declared.entries.Entry.{Entry}
 use Rattle.cop_log.specs.declared.clocks.Clock.{Clock}
 use Rattle.cop_log.specs.declared.findings.Finding.{Finding}
-use Rattle.cop_log.specs.Log.{Terms}
+use Rattle.cop_log.specs.Log.{Terms, IsRunWith}
 use Rattle.cop_log.specs.Reading.{Wanted, HasRead, log_in}
 use Rattle.cop_log.specs.Watchers.{terms_of, IsKept}
 use Rattle.cop_log.proofs.ReadLemmas.{piece_more}
@@ -20,20 +32,22 @@ use Rattle.cop_logbook.specs.declared.logbook.BookFault.{BookFault}
 use Rattle.cop_logbook.specs.declared.logbook.BookFault.TheVariants.{Refused, Memory}
 use Rattle.cop_logbook.specs.declared.watching.WatchFault.{WatchFault}
 use Rattle.cop_logbook.specs.declared.watching.WatchFault.TheVariants.{Book, Read}
+use Rattle.cop_logbook.specs.ErrorFrames.{tested_log}
 use Rattle.cop_logbook.specs.Told.{counted, HasKept}
+use Rattle.cop_logbook.proofs.Through.{has_log}
 use Rattle.cop_logbook.specs.Books.{terms_by, Begins, HasNoted, IsBook, IsWatched, IsRefused, IsWhy, Takes, Refuses, Ends}
 use Rattle.cop_table.specs.Pieces.{HoldsOfAll}
 use Rattle.cop_logbook.specs.Pieces.{TakesAlong, RefusesAlong, FailsAlong, IsWhyNot}
 
 -- nothing was read yet
-pub begins : (plan : PlanValue) (clock : Clock) (w : Wanted) (b : Logbook) (bounds : List (Option ℕ)) → AreSynced plan.streams
+pub begins : (plan : PlanValue) (clock : Clock) (w : Wanted) (b : Logbook) (bounds : List (Option ℕ)) → AreSynced plan.streams → AreDistinct plan.streams
     → ((p d : ℕ) → slice_index_or bounds p None ≡ Some d → PassesBy (place_by_id plan.streams p plan.rate) d)
     → ((p r : ℕ) → p < length plan.streams → PassesBy (place_by_id plan.streams p plan.rate) r → slice_index_or bounds p None ≡ Some r)
     → terms_of b.watcher ≡ terms_by plan clock bounds → (b.watcher.number ≡ 0) × (b.watcher.is_clean ≡ true)
     → ((log : List Entry) → IsKept b.watcher log) → HasRead w [] [] b.log [] → HasKept [] b.breaches → b.all.frames ≡ 0 → Begins plan clock w b
-begins plan clock w b bounds synced sound each terms none kept read held frames = record {
+begins plan clock w b bounds synced distinct sound each terms none kept read held frames = record {
   bounds = bounds;
-  all = record { bounded = record { synced = synced; passes = sound }; each = each };
+  all = record { bounded = record { synced = synced; passes = sound }; distinct = distinct; each = each };
   none = record {
     log = [];
     found = [];
@@ -74,14 +88,33 @@ taken_more left mid rest a b c piece along given takes = record {
       subst (λ (xs : List ℕ). HasNoted t w xs [] c) all (takes t w ((text ++ along.bytes) ++ piece) fits (noted_before t w (text ++ along.bytes) piece b (along.taken t w text few h)));
 }
 
--- a legal run in which all streams obey shows no breach
+-- an instance of the bus has not the identifier that NMT gets in the set
+free_of : (plan : PlanValue) (until : ℕ) (run : List Instance) (hits : List Disturbance) (events : List ℕ) → AreDistinct plan.streams → IsRunThrough plan.rate plan.streams until run hits events
+    → (s : Stream) → errors_of plan.streams ≡ Some s → All (λ y. y.id ≢ 1) run
+free_of plan until run hits events distinct h s some =
+    let free = (tested_again plan.streams distinct s some).free in
+    All-from_recursion (λ y. y.id ≢ 1) run
+    (Each-from_Contains (λ y. y.id ≢ 1) run (λ y c. known_not_one (bus_of plan.streams) y free (All-contains (IsKnown (bus_of plan.streams)) run y h.disturbed.known c)))
+
+-- a legal run in which all streams obey shows no breach, and neither does a run of the bus through rare disturbances
 watched_by : (plan : PlanValue) (clock : Clock) (w : Wanted) (text : List ℕ) (a b : Logbook) (begun : Begins plan clock w a) → IsBook (terms_by plan clock begun.bounds) w text b → IsWatched plan clock w text b
 watched_by plan clock w text a b begun book = record {
   bounds = begun.bounds;
   all = begun.all;
   book = book;
-  innocent = λ until run h. book.count ∙ ap (λ (found : List Finding). counted (length found)) (book.answer.innocent until run begun.all.bounded h);
+  innocent = innocent;
+  through = λ until run hits events h has.
+      let of = of_set plan.rate until run hits events plan.streams begun.all.distinct h in
+      innocent until (extended_by (errors_of plan.streams) run hits events)
+      (record {
+        legal = of.legal;
+        obeying = of.obeying;
+        has = has_log (errors_of plan.streams) (ticks_of plan.rate) clock until run hits events book.log h.rare (free_of plan until run hits events begun.all.distinct h) has;
+      });
 }
+  where
+    innocent : (until : ℕ) (run : List Instance) → IsRunWith (terms_by plan clock begun.bounds) until run (tested_log plan.streams book.log) → b.breaches.count ≡ 0
+    innocent until run h = book.count ∙ ap (λ (found : List Finding). counted (length found)) (book.answer.innocent until run begun.all.bounded h)
 
 -- all that the reader had was watched
 pub all_watched : (plan : PlanValue) (clock : Clock) (w : Wanted) (left rest : Option (List ℕ)) (a b : Logbook) → Begins plan clock w a → TakesAlong left rest a b → IsAtEnd rest → Ends b

@@ -9,10 +9,15 @@ use Rattle.cop_logbook.specs.declared.breaches.Breach.{Breach}
 use Rattle.cop_logbook.specs.declared.logbook.BookFault.{BookFault}
 use Rattle.cop_logbook.specs.declared.logbook.BookFault.TheVariants.{Refused, Memory}
 use Rattle.cop_logbook.specs.Words.{verdict, AreLines}
+use Rattle.cop_logbook.specs.ErrorFrames.{tested_log, HasLogThrough}
 use Rattle.cop_logbook.specs.Told.{counted, told_of, breach_by, AreShown, all_told, HasKept}
+use Rattle.cop_frame.specs.Rate.{ticks_of}
+use Rattle.cop_rta.specs.Streams.{AreDistinct}
 use Rattle.cop_rta.specs.Test.{place_by_id}
 use Rattle.cop_rta.specs.Verdict.{PassesBy}
 use Rattle.cop_bus.specs.Run.{Instance}
+use Rattle.cop_errors.specs.Errors.{Disturbance}
+use Rattle.cop_errors.specs.Extended.{IsRunThrough}
 use Rattle.cop_lines.specs.declared.entries.Entry.{Entry}
 use Rattle.cop_log.specs.declared.clocks.Clock.{Clock}
 use Rattle.cop_log.specs.declared.findings.Finding.{Finding}
@@ -51,7 +56,7 @@ pub record HasNoted (t : Terms) (w : Wanted) (text left : List ℕ) (b : Logbook
   pub log : List Entry
   pub found : List Finding
   pub read : HasRead w text left b.log log
-  pub watched : HasWatched t log b.watcher found
+  pub watched : HasWatched t (tested_log t.streams log) b.watcher found
   pub frames : b.all.frames ≡ counted (length log)
   pub kept : AreKept t log found b
 
@@ -72,11 +77,11 @@ abbrev pub Counts : Logbook → Logbook → Type 0
 Counts before after = (after.log ≡ before.log) × (after.watcher ≡ before.watcher) × (after.breaches ≡ before.breaches) × (after.all.frames ≡ counted (before.all.frames + 1))
 
 -- what an entry shows was told
-pub record Tells (scene : Scene) (told : Told) (before after : Logbook) : Type 0 where
+pub record Tells (e : Entry) (scene : Scene) (told : Told) (before after : Logbook) : Type 0 where
   pub log : after.log ≡ before.log
   pub watcher : after.watcher ≡ before.watcher
   pub frames : after.all.frames ≡ before.all.frames
-  pub kept : (t : Terms) (log : List Entry) (all : List Breach) → AreShown t log scene told → HasKept all before.breaches → HasKept (all_told t log all told) after.breaches
+  pub kept : (t : Terms) (log : List Entry) (all : List Breach) → AreShown t log e scene told → HasKept all before.breaches → HasKept (all_told t log all told) after.breaches
 
 -- an entry was watched, and what it shows was told
 pub record Notes (e : Entry) (before after : Logbook) : Type 0 where
@@ -84,17 +89,17 @@ pub record Notes (e : Entry) (before after : Logbook) : Type 0 where
   pub frames : after.all.frames ≡ counted (before.all.frames + 1)
   pub told : Told
   pub watched : (t : Terms) (log : List Entry) (found : List Finding) → length (log ++ e ∷ []) < 2 ^ 64
-      → HasWatched t log before.watcher found → HasWatched t (log ++ e ∷ []) after.watcher (found ++ findings_of told)
+      → HasWatched t (tested_log t.streams log) before.watcher found → HasWatched t (tested_log t.streams (log ++ e ∷ [])) after.watcher (found ++ findings_of told)
   pub kept : (t : Terms) (log : List Entry) (found : List Finding) → length (log ++ e ∷ []) < 2 ^ 64
-      → HasWatched t log before.watcher found → AreKept t log found before → AreKept t (log ++ e ∷ []) (found ++ findings_of told) after
+      → HasWatched t (tested_log t.streams log) before.watcher found → AreKept t log found before → AreKept t (log ++ e ∷ []) (found ++ findings_of told) after
 
--- The log of a whole text was watched: each finding is evident from it; where there is none, nothing is; and where a legal run in which all
--- streams obey has the log, there is none. As many are counted, and told are the first of each identifier, each as the breach that it is.
+-- The log of a whole text was watched, its error frames as disturbed transfers where the set counts these: each finding is evident from it; where
+-- there is none, nothing is; and where a legal run in which all streams obey has the log, there is none. As many are counted, and told are the first of each identifier, each as the breach that it is.
 pub record IsBook (t : Terms) (w : Wanted) (text : List ℕ) (b : Logbook) : Type 0 where
   pub log : List Entry
   pub read : log_in w text ≡ Ok log
   pub found : List Finding
-  pub answer : IsAnswer t log found
+  pub answer : IsAnswer t (tested_log t.streams log) found
   pub count : b.breaches.count ≡ counted (length found)
   pub told : b.breaches.told.items ≡ told_of (map (breach_by t log) found)
   pub frames : b.all.frames ≡ counted (length log)
@@ -106,9 +111,10 @@ Ends b = (t : Terms) (w : Wanted) (text : List ℕ) → length text < 2 ^ 64 →
 abbrev pub terms_by : PlanValue → Clock → List (Option ℕ) → Terms
 terms_by plan clock bounds = record { rate = plan.rate; streams = plan.streams; bounds = bounds; clock = clock }
 
--- the bounds of a plan: of each stream that passes the response-time test its greatest response (Davis et al. 2007, section 4), and no others
+-- the bounds of a plan, whose streams are distinct: of each stream that passes the response-time test its greatest response (Davis et al. 2007, section 4), and no others
 pub record AreBoundsOf (plan : PlanValue) (clock : Clock) (bounds : List (Option ℕ)) : Type 0 where
   pub bounded : AreBounded (terms_by plan clock bounds)
+  pub distinct : AreDistinct plan.streams
   pub each : (p r : ℕ) → p < length plan.streams → PassesBy (place_by_id plan.streams p plan.rate) r → slice_index_or bounds p None ≡ Some r
 
 -- a logbook of a plan begins: nothing of its log was read
@@ -117,13 +123,16 @@ pub record Begins (plan : PlanValue) (clock : Clock) (w : Wanted) (b : Logbook) 
   pub all : AreBoundsOf plan clock bounds
   pub none : HasNoted (terms_by plan clock bounds) w [] [] b
 
--- The log of a whole text was watched by a plan. No false accusation: where a legal run in which all streams obey has the log, there is no
--- breach.
+-- The log of a whole text was watched by a plan. No false accusation: where a legal run of its streams in which all obey has the log, there is no
+-- breach. And where a run of the bus has it, in which the streams of the bus obey, and disturbed transfers are as rare as the plan counts them
+-- (none where it counts none), there is no breach, whatever error frames the log has.
 pub record IsWatched (plan : PlanValue) (clock : Clock) (w : Wanted) (text : List ℕ) (b : Logbook) : Type 0 where
   pub bounds : List (Option ℕ)
   pub all : AreBoundsOf plan clock bounds
   pub book : IsBook (terms_by plan clock bounds) w text b
-  pub innocent : (until : ℕ) (run : List Instance) → IsRunWith (terms_by plan clock bounds) until run book.log → b.breaches.count ≡ 0
+  pub innocent : (until : ℕ) (run : List Instance) → IsRunWith (terms_by plan clock bounds) until run (tested_log plan.streams book.log) → b.breaches.count ≡ 0
+  pub through : (until : ℕ) (run : List Instance) (hits : List Disturbance) (events : List ℕ) → IsRunThrough plan.rate plan.streams until run hits events
+      → HasLogThrough (ticks_of plan.rate) clock until run hits book.log → b.breaches.count ≡ 0
 
 -- what is said of a log: what was seen, the lines of the breaches that are told, and how many there are
 abbrev pub IsSaid : Logbook → List ℕ → Type 0

@@ -1,3 +1,4 @@
+pub mod ErrorFrames
 pub mod Told
 pub mod Words
 pub mod Books

@@ -20,6 +20,7 @@ use Rattle.cop_logbook.specs.declared.breaches.Broken.{Broken}
 use Rattle.cop_logbook.specs.declared.breaches.Broken.TheVariants.{Unknown, Length, Soon, Crowded, Fallen}
 use Rattle.cop_logbook.specs.declared.breaches.Breach.{Breach}
 use Rattle.cop_logbook.specs.declared.breaches.Breaches.{Breaches}
+use Rattle.cop_logbook.specs.ErrorFrames.{tested_log}
 
 -- the line of an entry
 abbrev pub line_at : List Entry → ℕ → ℕ
@@ -50,9 +51,9 @@ broken_by t log (finding.Soon i j n) = Soon (line_at log i) (stamp log j - stamp
 broken_by t log (finding.Crowded i j) = Crowded (line_at log i) (stamp log j - stamp log i) (least_of (ticks_of t.rate) log (suc j) - least_of (ticks_of t.rate) log (suc i))
 broken_by t log (finding.Fallen i j) = Fallen (line_at log i) (stamp log i - stamp log j)
 
--- The breach that a finding is: its last entry, with its line, and what that breaks.
+-- The breach that a finding of a log's entries is, these being seen as the set's: its last entry, with its line, and what that breaks.
 abbrev pub breach_by : Terms → List Entry → Finding → Breach
-breach_by t log f = record { line = line_at log (last_of f); entry = entry_at log (last_of f); broken = broken_by t log f }
+breach_by t log f = record { line = line_at log (last_of f); entry = entry_at log (last_of f); broken = broken_by t (tested_log t.streams log) f }
 
 -- Breaches are told by identifier. All that no stream can have are one kind.
 abbrev pub kind_of : Breach → ℕ
@@ -107,16 +108,20 @@ pub record Shows (t : Terms) (log : List Entry) (s : Scene) (f : Finding) : Type
   pub bound : s.bound ≡ bound_of t (entry_at log (last_of f)).id
   pub from : IsFrom t log s f
 
+-- a finding is seen of the scene of an entry, which is the last of which it speaks
+abbrev pub IsSeenOf : Terms → List Entry → Entry → Scene → Finding → Type 0
+IsSeenOf t log e s f = Shows t (tested_log t.streams log) s f × (e ≡ entry_at log (last_of f))
+
 -- the breaches with what was found, if something was
 abbrev pub all_with : Terms → List Entry → List Breach → Option Finding → List Breach
 all_with t log all found = all ++ map (breach_by t log) (listed found)
 
 -- what an entry shows is seen of its scene
-pub record AreShown (t : Terms) (log : List Entry) (scene : Scene) (told : Told) : Type 0 where
-  pub fallen : ForSome told.fallen (Shows t log scene)
-  pub named : ForSome told.named (Shows t log scene)
-  pub soon : ForSome told.soon (Shows t log scene)
-  pub crowded : ForSome told.crowded (Shows t log scene)
+pub record AreShown (t : Terms) (log : List Entry) (e : Entry) (scene : Scene) (told : Told) : Type 0 where
+  pub fallen : ForSome told.fallen (IsSeenOf t log e scene)
+  pub named : ForSome told.named (IsSeenOf t log e scene)
+  pub soon : ForSome told.soon (IsSeenOf t log e scene)
+  pub crowded : ForSome told.crowded (IsSeenOf t log e scene)
 
 abbrev pub all_told : Terms → List Entry → List Breach → Told → List Breach
 all_told t log all told = all_with t log (all_with t log (all_with t log (all_with t log all told.fallen) told.named) told.soon) told.crowded

@@ -1,12 +1,9 @@
 -- What is said of a log's breaches.
-use Rattle.std.specs.Prelude.{◌≡◌, ℕ, ◌/◌, ◌%◌, ◌^◌, ◌==◌, if◌then◌else◌, List, [], ◌∷◌, ◌++◌, codes, decimal, Bool}
+use Rattle.std.specs.Prelude.{◌≡◌, ℕ, ◌==◌, if◌then◌else◌, List, [], ◌∷◌, ◌++◌, codes, decimal, Bool}
 use Rattle.cop_logbook.specs.declared.breaches.Broken.{Broken}
 use Rattle.cop_logbook.specs.declared.breaches.Broken.TheVariants.{Unknown, Length, Soon, Crowded, Fallen}
 use Rattle.cop_logbook.specs.declared.breaches.Breach.{Breach}
-
--- an identifier with bit 29 is that of an error frame
-abbrev pub is_error : ℕ → Bool
-is_error id = id / 2 ^ 29 % 2 == 1
+use Rattle.cop_logbook.specs.ErrorFrames.{is_error}
 
 abbrev pub has_error : Breach → Bool
 has_error b = is_error b.entry.id
@@ -15,7 +12,7 @@ has_error b = is_error b.entry.id
 abbrev pub premise_of : Bool → Broken → List ℕ
 premise_of is_error Unknown = if is_error then codes "no frame is disturbed" else codes "nothing else sends"
 premise_of is_error (Length planned) = codes "each frame is as long as its mapping"
-premise_of is_error (Soon from since nearest) = codes "events are as far apart as the periods say"
+premise_of is_error (Soon from since nearest) = if is_error then codes "disturbed transfers are as rare as the row errors says" else codes "events are as far apart as the periods say"
 premise_of is_error (Crowded from since ticks) = codes "the bus has the planned rate"
 premise_of is_error (Fallen from by) = codes "the clock of the log does not fall"
 

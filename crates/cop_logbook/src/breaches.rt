@@ -12,9 +12,10 @@ ghost use Rattle.cop_log.specs.Log.{Terms};
 ghost use Rattle.cop_logbook.specs.declared.breaches.Broken.TheVariants as broken;
 ghost use Rattle.cop_logbook.specs.declared.breaches.Breach.{Breach as Told};
 ghost use Rattle.std.specs.String.{string_bytes};
-ghost use Rattle.cop_logbook.specs.Words.{is_error, has_error, premise_of, IsLine, AreLines};
-ghost use Rattle.cop_logbook.specs.Told.{broken_by, breach_by, kind_of, kept_of, bytes_with, or_zero, nearest_with, all_with, HasKept, Shows};
+ghost use Rattle.cop_logbook.specs.Words.{has_error, premise_of, IsLine, AreLines};
+ghost use Rattle.cop_logbook.specs.Told.{broken_by, breach_by, kind_of, kept_of, bytes_with, or_zero, nearest_with, all_with, HasKept, Shows, IsSeenOf};
 
+use crate::disturbed::is_error;
 use cop_frame::{Rate, least_bits};
 use cop_lines::Entry;
 use cop_log::{Clock, Finding, Scene, least_ticks};
@@ -189,13 +190,13 @@ fn broken_of(scene: &Scene, finding: Finding) -> Broken
     }
 }
 
-/// The breach that a finding is.
-fn breach_of(scene: &Scene, finding: Finding) -> Breach
-    ensures { (t : Terms) (log : List Seen) → Shows t log scene.now finding → result ≡ breach_by t log finding }
+/// The breach that a finding is of an entry.
+fn breach_of(entry: &Entry, scene: &Scene, finding: Finding) -> Breach
+    ensures { (t : Terms) (log : List Seen) → IsSeenOf t log entry.now scene.now finding → result ≡ breach_by t log finding }
 {
     Breach {
-        line: scene.entry.line,
-        entry: scene.entry,
+        line: entry.line,
+        entry: *entry,
         broken: broken_of(scene, finding),
     }
 }
@@ -248,22 +249,35 @@ fn write_id(text: &mut String, id: u32) -> Result<(), AllocError> {
     }
 }
 
-/// The sum by which a frame is too near: of periods, response, shortest frame and a bit time.
-fn write_sum(text: &mut String, nearest: &Nearest, clock: Clock) -> Result<(), AllocError> {
+/// The sum by which a frame is too near: of periods, response, shortest frame and a bit time. The last two are one another's for an error frame.
+fn write_sum(
+    text: &mut String,
+    nearest: &Nearest,
+    clock: Clock,
+    is_error: bool,
+) -> Result<(), AllocError> {
     let (least, count, period) = (nearest.ticks() / 4, nearest.count, nearest.period / 4);
     let (response, transfer, bit) = (nearest.response / 4, nearest.transfer / 4, nearest.bit / 4);
     let (error, drift) = (clock.error, clock.drift);
     write!(
         text,
-        "; the least is {least} us ({count} x {period} us - {response} us response + {transfer} us frame - {bit} us bit), with {error} us and {drift} ppm for the clock"
-    )
+        "; the least is {least} us ({count} x {period} us - {response} us response"
+    )?;
+    if !is_error {
+        write!(text, " + {transfer} us frame - {bit} us bit")?;
+    }
+    write!(text, "), with {error} us and {drift} ppm for the clock")
 }
 
-/// Whether an identifier is that of an error frame.
-fn is_error(id: u32) -> bool
-    ensures { result ≡ is_error id }
+/// What does not hold, where a frame comes too soon.
+fn soon_premise(is_error: bool, from: u64, since: u64, nearest: Option<Nearest>) -> &'static str
+    ensures { result.now ≡ premise_of is_error (broken.Soon from since nearest) }
 {
-    id / 0x2000_0000 % 2 == 1
+    if is_error {
+        "disturbed transfers are as rare as the row errors says"
+    } else {
+        "events are as far apart as the periods say"
+    }
 }
 
 /// What does not hold, where an identifier is of no sender.
@@ -294,7 +308,11 @@ impl Breach {
         match self.broken {
             Broken::Unknown => unknown_premise(is_error(self.entry.id)),
             Broken::Length { .. } => "each frame is as long as its mapping",
-            Broken::Soon { .. } => "events are as far apart as the periods say",
+            Broken::Soon {
+                from,
+                since,
+                nearest,
+            } => soon_premise(is_error(self.entry.id), from, since, nearest),
             Broken::Crowded { .. } => "the bus has the planned rate",
             Broken::Fallen { .. } => "the clock of the log does not fall",
         }
@@ -315,9 +333,10 @@ impl Breach {
                 since,
                 nearest,
             } => {
-                write!(text, "{id:03X}h comes {since} us after that of line {from}")?;
+                write_id(text, id)?;
+                write!(text, " comes {since} us after that of line {from}")?;
                 match nearest {
-                    Some(nearest) => write_sum(text, &nearest, clock),
+                    Some(nearest) => write_sum(text, &nearest, clock, is_error(id)),
                     None => Ok(()),
                 }
             }
@@ -403,13 +422,18 @@ impl Breaches {
         Ok(())
     }
 
-    /// Adds what was found, if something was.
-    pub fn note(&mut self, scene: &Scene, finding: Option<Finding>) -> Result<(), AllocError>
-        ensures { OnOk result ((t : Terms) (log : List Seen) (all : List Told) → ForSome finding (Shows t log scene.now)
+    /// Adds what was found of an entry, if something was.
+    pub fn note(
+        &mut self,
+        entry: &Entry,
+        scene: &Scene,
+        finding: Option<Finding>,
+    ) -> Result<(), AllocError>
+        ensures { OnOk result ((t : Terms) (log : List Seen) (all : List Told) → ForSome finding (IsSeenOf t log entry.now scene.now)
             → HasKept all self.old → HasKept (all_with t log all finding) self.new) }
     {
         match finding {
-            Some(finding) => self.add(breach_of(scene, finding)),
+            Some(finding) => self.add(breach_of(entry, scene, finding)),
             None => Ok(()),
         }
     }

@@ -4,6 +4,7 @@
 
 mod abort_codes;
 mod breaches;
+mod disturbed;
 mod emergency_codes;
 mod heartbeats;
 mod loads;

@@ -9,6 +9,7 @@ ghost use Rattle.cop_logbook.specs.Words.{verdict, AreLines};
 ghost use Rattle.cop_logbook.specs.Books.{IsSaid, book_fault, Begins, Takes, Refuses, IsWith, Counts, Tells, Notes, Ends};
 
 use crate::breaches::{Breach, Breaches, Broken, lines_of};
+use crate::disturbed::{is_error, tested_entry};
 use crate::heartbeats::{LateHeartbeat, late_heartbeat};
 use crate::loads::Loads;
 use crate::noticed::Notices;
@@ -18,6 +19,7 @@ use crate::strangers::Stranger;
 use cop_lines::{Entry, Message};
 use cop_log::{Clock, LogFault, LogReader, Scene, Told, Watcher, bounds_of};
 use cop_plan::Plan;
+use cop_rta::Stream;
 use std::alloc::{AllocError, Global};
 use std::collections::BTreeMap;
 
@@ -89,11 +91,21 @@ fn verdict_of(alloc: Global, count: u64) -> Result<String, AllocError>
     }
 }
 
+/// The plan on the bus alone, if its streams count disturbed transfers.
+fn bus_of(alloc: Global, plan: &Plan) -> Result<Option<Plan>, AllocError> {
+    if plan.streams().errors().is_none() {
+        return Ok(None);
+    }
+    Ok(Some(plan.on_bus(alloc)?))
+}
+
 /// A log that is watched.
 #[derive(Drop)]
 pub struct Logbook<'a> {
     alloc: Global,
     plan: &'a Plan,
+    // The plan on the bus alone, where it is another.
+    bus: Option<Plan>,
     clock: Clock,
     watcher: Watcher<'a>,
     log: LogReader,
@@ -103,12 +115,14 @@ pub struct Logbook<'a> {
     spreads: Vec<Spread>,
     loads: Loads,
     others: BTreeMap<u32, Seen>,
+    // The error frames, where the plan counts disturbed transfers.
+    disturbed: Seen,
     breaches: Breaches,
     notices: Notices,
 }
 
 impl<'a> Logbook<'a> {
-    /// A log of no line yet. `are_distances` says that the stamps of a log in columns are distances, as `candump -td` writes them.
+    /// A log of no line yet. Where the plan counts disturbed transfers, each error frame is one of these. `are_distances` says that the stamps of a log in columns are distances, as `candump -td` writes them.
     pub fn new(
         alloc: Global,
         plan: &'a Plan,
@@ -119,6 +133,7 @@ impl<'a> Logbook<'a> {
         ensures { IfOk result (λ book. Begins plan.now clock (record { channel = option_copied channel.entry; are_distances = are_distances }) book) }
     {
         let (streams, rate) = (plan.streams(), plan.rate());
+        let _distinct = streams.streams();
         let bounds = bounds_of(alloc, streams, rate)?;
         let count = bounds.len();
         let watcher = Watcher::new(alloc, streams, bounds, rate, clock)?;
@@ -126,6 +141,7 @@ impl<'a> Logbook<'a> {
         Ok(Logbook {
             alloc,
             plan,
+            bus: bus_of(alloc, plan)?,
             clock,
             watcher,
             log: LogReader::new(alloc, wanted, are_distances),
@@ -134,6 +150,7 @@ impl<'a> Logbook<'a> {
             spreads: vec![in alloc; Spread::NOTHING; count]?,
             loads: Loads::new(alloc)?,
             others: BTreeMap::new(alloc),
+            disturbed: Seen::NOTHING,
             breaches: Breaches::new(alloc)?,
             notices: Notices::new(alloc),
         })
@@ -197,15 +214,28 @@ impl<'a> Logbook<'a> {
         &self.loads
     }
 
-    /// The plan that the log is watched by.
+    /// The plan that the log is watched by, as the bus has it.
     pub fn plan(&self) -> &Plan {
-        self.plan
+        match &self.bus {
+            Some(bus) => bus,
+            None => self.plan,
+        }
+    }
+
+    /// How rare disturbed transfers are to be, if the plan counts them.
+    pub fn errors(&self) -> Option<Stream> {
+        self.watcher.errors()
+    }
+
+    /// What was seen of the error frames, where the plan counts disturbed transfers.
+    pub fn disturbed(&self) -> &Seen {
+        &self.disturbed
     }
 
     /// The place of the stream of an identifier.
     fn place_of(&self, id: u32) -> Option<usize> {
         match u16::try_from(id) {
-            Ok(id) => self.plan.streams().place_of(id),
+            Ok(id) => self.plan().streams().place_of(id),
             Err(_) => None,
         }
     }
@@ -235,9 +265,10 @@ impl<'a> Logbook<'a> {
         let entry = &message.entry;
         let place = self.place_of(entry.id);
         self.count(entry, place)?;
-        let scene = self.watcher.scene(entry);
-        let told = self.watcher.take(entry);
-        self.tell(&scene, &told)?;
+        let tested = tested_entry(self.watcher.errors(), entry);
+        let scene = self.watcher.scene(&tested);
+        let told = self.watcher.take(&tested);
+        self.tell(entry, &scene, &told)?;
         self.notice(message)?;
         Ok(())
     }
@@ -274,7 +305,7 @@ impl<'a> Logbook<'a> {
     fn spread(&mut self, place: usize, distance: u64)
         ensures { IsWith self.old self.new self.old.log }
     {
-        let Some(stream) = self.plan.streams().streams().get(place) else {
+        let Some(stream) = self.plan().streams().streams().get(place) else {
             return;
         };
         let period = stream.period / 4;
@@ -287,6 +318,10 @@ impl<'a> Logbook<'a> {
     fn count_other(&mut self, entry: &Entry) -> Result<(), AllocError>
         ensures { OnOk result (IsWith self.old self.new self.old.log) }
     {
+        if is_error(entry.id) && self.watcher.errors().is_some() {
+            let _ = self.disturbed.note(self.log.line(), entry.at, entry.len);
+            return Ok(());
+        }
         let mut seen = match self.others.get(&entry.id) {
             Some(seen) => *seen,
             None => Seen::NOTHING,
@@ -299,20 +334,20 @@ impl<'a> Logbook<'a> {
     }
 
     /// Tells what the entry shows.
-    fn tell(&mut self, scene: &Scene, told: &Told) -> Result<(), AllocError>
-        ensures { OnOk result (Tells scene.now told.now self.old self.new) }
+    fn tell(&mut self, entry: &Entry, scene: &Scene, told: &Told) -> Result<(), AllocError>
+        ensures { OnOk result (Tells entry.now scene.now told.now self.old self.new) }
     {
-        self.breaches.note(scene, told.fallen)?;
-        self.breaches.note(scene, told.named)?;
-        self.breaches.note(scene, told.soon)?;
-        self.breaches.note(scene, told.crowded)?;
+        self.breaches.note(entry, scene, told.fallen)?;
+        self.breaches.note(entry, scene, told.named)?;
+        self.breaches.note(entry, scene, told.soon)?;
+        self.breaches.note(entry, scene, told.crowded)?;
         Ok(())
     }
 
     /// Adds the lines of the streams.
     fn write_streams(&self, text: &mut String, span: u64) -> Result<(), AllocError> {
-        let rate = self.plan.rate();
-        for stream in self.plan.streams().streams() {
+        let rate = self.plan().rate();
+        for stream in self.plan().streams().streams() {
             if let Some(seen) = self.seen.get(usize::from(stream.id)) {
                 seen.write(text, stream, rate, span)?;
             }
@@ -320,10 +355,18 @@ impl<'a> Logbook<'a> {
         Ok(())
     }
 
+    /// Adds the line of the error frames, where the plan counts disturbed transfers.
+    fn write_disturbed(&self, text: &mut String) -> Result<(), AllocError> {
+        match self.watcher.errors() {
+            Some(errors) => self.disturbed.write_errors(text, &errors),
+            None => Ok(()),
+        }
+    }
+
     /// The heartbeats that stayed away, by the places of their streams.
     pub fn late_heartbeats(&self) -> Result<Vec<LateHeartbeat>, AllocError> {
         let mut late = Vec::new(self.alloc);
-        for stream in self.plan.streams().streams() {
+        for stream in self.plan().streams().streams() {
             let Some(seen) = self.seen(stream.id) else {
                 continue;
             };
@@ -340,7 +383,7 @@ impl<'a> Logbook<'a> {
         let mut strangers = Vec::new(self.alloc);
         for id in 0..IDS {
             let seen = self.seen(id).copied().unwrap_or(Seen::NOTHING);
-            if seen.frames > 0 && !self.plan.streams().has_id(id) {
+            if seen.frames > 0 && !self.plan().streams().has_id(id) {
                 let id = u32::from(id);
                 strangers.push(Stranger { id, seen })?;
             }
@@ -371,7 +414,7 @@ impl<'a> Logbook<'a> {
 
     /// Whether the stamps look as if they were distances: more transfers than the bus carries in their time, and a clock that falls.
     pub fn may_be_distances(&self) -> bool {
-        let load = self.all.load(self.plan.rate(), self.all.span());
+        let load = self.all.load(self.plan().rate(), self.all.span());
         let falls = self
             .told()
             .iter()
@@ -381,7 +424,7 @@ impl<'a> Logbook<'a> {
 
     /// Adds the streams of which no frame came.
     fn write_unseen(&self, text: &mut String) -> Result<(), AllocError> {
-        for stream in self.plan.streams().streams() {
+        for stream in self.plan().streams().streams() {
             if matches!(self.seen(stream.id), Some(seen) if seen.frames == 0) {
                 let id = stream.id;
                 write!(text, "{id:03X}h never seen\n")?;
@@ -421,15 +464,16 @@ impl<'a> Logbook<'a> {
 
     /// Adds what is seen of the log beside its breaches.
     fn write_seen(&self, text: &mut String) -> Result<(), AllocError> {
-        let (frames, kbits) = (self.all.frames, self.plan.rate().kbits());
+        let (frames, kbits) = (self.all.frames, self.plan().rate().kbits());
         let span = self.all.span();
-        let load = self.all.load(self.plan.rate(), span);
+        let load = self.all.load(self.plan().rate(), span);
         let (whole, part) = (load / 100, load % 100);
         write!(
             text,
             "rate {kbits} frames {frames} time {span} us load {whole}.{part:02}%\n"
         )?;
         self.write_streams(text, span)?;
+        self.write_disturbed(text)?;
         self.write_asides(text)
     }
 

@@ -122,6 +122,23 @@ impl Seen {
         self.share(rate, span, 1_000_000_000)
     }
 
+    /// Adds the line of the error frames, which are to be as rare as a stream says.
+    pub(crate) fn write_errors(
+        &self,
+        text: &mut String,
+        errors: &Stream,
+    ) -> Result<(), AllocError> {
+        let (frames, table) = (self.frames, errors.period / 4);
+        if frames < 2 {
+            return write!(text, "errors frames {frames} table {table}\n");
+        }
+        let (least, mean, greatest) = (self.least, self.mean(), self.greatest);
+        write!(
+            text,
+            "errors frames {frames} distance {least} {mean} {greatest} table {table}\n"
+        )
+    }
+
     /// Adds the line of the identifier of a stream of the plan.
     pub(crate) fn write(
         &self,

@@ -92,7 +92,8 @@ fn take_pieces<R: Read, L: Onlooker>(
 }
 
 /// A log that a reader has left, watched to its end by a plan: each breach is evident from it, and where a legal run in which all streams
-/// obey has it, within the error of its clock, there is none. The frames of the channel count, those of the first frame's where none is
+/// obey has it, within the error of its clock, there is none. Where the plan counts disturbed transfers, each error frame is one of these: then
+/// error frames are no breach as long as they are as rare as the plan says. The frames of the channel count, those of the first frame's where none is
 /// given; `are_distances` says that the stamps of a log in columns are distances. A last line that lacks its end is left out, and memory
 /// does not grow with the log. It is refused where a line is, or where no frame is of the channel. An onlooker is shown how far it came.
 pub fn watched<'a, R: Read + Drop, L: Onlooker>(

@@ -6,7 +6,7 @@ ghost use Rattle.cop_serial.specs.Watching.{refused_as};
 
 use crate::serial::{SECOND, Serial, open_serial};
 use crate::telling::{answer, line_failure, refusal, say, tell_adapter, unopened_refusal};
-use cop_answers::{BusPlan, GARBLED, Inputs, distances_table};
+use cop_answers::{GARBLED, Inputs, distances_table};
 use cop_documents::watch_document;
 use cop_engine::none_passes;
 use cop_files::{Failure, Form, Use, file_failure, read_network, write_file};
@@ -223,16 +223,14 @@ fn listen_to(
     tell_watched(rt, order, form, listened, watched, &port)
 }
 
-/// Watches the bus at a port by a plan. Where the plan counts disturbed transfers, its frames are held to the responses that they have without
-/// these.
+/// Watches the bus at a port by a plan.
 fn watch_by(
     rt: &HostRuntime,
     order: ListenOrder<'_>,
     form: Form,
     plan: &Plan,
 ) -> Result<u8, Failure> {
-    let bus = BusPlan::of(rt.alloc(), plan)?;
-    let mut watched = unheard(rt, order, bus.plan())?;
+    let mut watched = unheard(rt, order, plan)?;
     listen_to(rt, order, form, &mut watched)
 }
 

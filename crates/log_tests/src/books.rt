@@ -10,6 +10,10 @@ use std::test::Fail;
 
 const NODES: &[u8] = b"row,node,name,eds,period,jitter\ndevice,5,Valve,unit.eds,0,0\n";
 
+/// One error in 100 ms, and two at once. NMT counts as 001h where errors are counted.
+const RARE_NODES: &[u8] =
+    b"row,node,name,eds,period,jitter\nerrors,0,,,100000,100000\nnmt,0,,,1000000,0\ndevice,5,Valve,unit.eds,0,0\n";
+
 const PDOS: &[u8] = b"node,tpdo,period,jitter,deadline,consumers\n5,1,10000,0,5000,\n";
 
 /// A device that sends one PDO of 32 bits.
@@ -56,8 +60,8 @@ fn eds_files(alloc: Global) -> Result<Vec<(String, Vec<u8>)>, AllocError> {
 }
 
 /// The tables of the network.
-fn tables(alloc: Global) -> Result<(NodeTable, PdoTable), Fail> {
-    let nodes = read_nodes(alloc, NODES)?;
+fn tables(alloc: Global, nodes: &[u8]) -> Result<(NodeTable, PdoTable), Fail> {
+    let nodes = read_nodes(alloc, nodes)?;
     Ok((nodes, read_pdos(alloc, PDOS)?))
 }
 
@@ -71,7 +75,12 @@ fn plan_of(alloc: Global, network: &Network<'_>) -> Result<Plan, Fail> {
 
 /// The PDO has the identifier 181h, and an event every 10 ms.
 fn planned(alloc: Global) -> Result<Plan, Fail> {
-    let (nodes, pdos) = tables(alloc)?;
+    planned_by(alloc, NODES)
+}
+
+/// The same by another table of nodes.
+fn planned_by(alloc: Global, nodes: &[u8]) -> Result<Plan, Fail> {
+    let (nodes, pdos) = tables(alloc, nodes)?;
     let files = eds_files(alloc)?;
     let network = network(alloc, &all_rates(), &nodes, &pdos, &files)?;
     plan_of(alloc, &network)
@@ -197,6 +206,25 @@ const SAID: &[(&str, &str)] = &[
     ),
 ];
 
+/// A log with more errors than the row says, and what is said at its end.
+const MORE: (&str, &str) = (
+    "(0.000000) can0 20000080#\n(0.000400) can0 20000080#\n(0.010000) can0 20000080#\n",
+    "errors frames 3 distance 400 5000 9600 table 100000\n181h never seen\n000h never seen\nline 3: an error frame comes 10000 us after that of line 1; the least is 98956 us (2 x 100000 us - 101044 us response), with 1 us and 0 ppm for the clock; breaks: disturbed transfers are as rare as the row errors says\nbreaches 1\n",
+);
+
+#[test]
+fn more_errors_than_the_row_says_are_told(rt: HostRuntime) -> Result<(), Fail> {
+    let plan = planned_by(rt.alloc(), RARE_NODES)?;
+    let clock = Clock { error: 1, drift: 0 };
+    let (log, wanted) = MORE;
+    let pieces = in_pieces(log, false);
+    let Ok(book) = watched(rt.alloc(), &plan, clock, None, false, pieces, &mut Nobody) else {
+        return Err(Fail::from("it is refused"));
+    };
+    assert!(rt; book.finish()?.ends_with(wanted));
+    Ok(())
+}
+
 #[test]
 fn what_is_said_ends_in_the_breaches(rt: HostRuntime) -> Result<(), Fail> {
     let plan = planned(rt.alloc())?;
@@ -209,6 +237,55 @@ fn what_is_said_ends_in_the_breaches(rt: HostRuntime) -> Result<(), Fail> {
         };
         assert!(rt; book.finish()?.ends_with(wanted));
     }
+    Ok(())
+}
+
+/// Logs with error frames, and how many breaches they show where one is allowed in 100 ms, and two at once.
+const DISTURBED: &[(&str, u64)] = &[
+    // Two at once, and then one in each period.
+    (
+        "(0.000000) can0 20000080#0000000000000000\n(0.000400) can0 20000080#0000000000000000\n(0.100000) can0 20000080#\n(0.200000) can0 2000008C#0000000000000000\n",
+        0,
+    ),
+    // Three at once.
+    (
+        "(0.000000) can0 20000080#0000000000000000\n(0.000400) can0 20000080#0000000000000000\n(0.000800) can0 20000080#0000000000000000\n",
+        1,
+    ),
+    // Three in 95 ms, of which the response is 1.3 ms without the jitter.
+    (
+        "(0.000000) can0 20000080#\n(0.000400) can0 20000080#\n(0.095000) can0 20000080#\n",
+        1,
+    ),
+    // NMT and the PDO are frames as on the bus, and 001h is of no sender.
+    (
+        "(0.000000) can0 000#0100\n(0.001000) can0 181#00112233\n(0.002000) can0 20000080#\n(0.003000) can0 001#0100\n",
+        1,
+    ),
+    // A remote frame and one of 29 bits are no error frames.
+    ("(0.000000) can0 181#R\n(0.001000) can0 00000181#00\n", 2),
+];
+
+#[test]
+fn error_frames_are_counted_against_the_row(rt: HostRuntime) -> Result<(), Fail> {
+    let plan = planned_by(rt.alloc(), RARE_NODES)?;
+    for case in DISTURBED {
+        let (log, wanted) = *case;
+        let found = breaches(rt.alloc(), &plan, None, in_pieces(log, false));
+        assert!(rt; matches!(found, Ok(found) if found == wanted));
+    }
+    Ok(())
+}
+
+#[test]
+fn each_error_frame_is_a_breach_without_the_row(rt: HostRuntime) -> Result<(), Fail> {
+    let plan = planned(rt.alloc())?;
+    let log = in_pieces(
+        "(0.000000) can0 20000080#\n(1.000000) can0 20000080#\n",
+        false,
+    );
+    let found = breaches(rt.alloc(), &plan, None, log);
+    assert!(rt; matches!(found, Ok(2)));
     Ok(())
 }
 
