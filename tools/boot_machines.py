@@ -16,6 +16,7 @@ import shutil
 import subprocess
 import sys
 import tempfile
+import time
 
 import jsonschema
 
@@ -341,15 +342,32 @@ TRANSFERRED = {
     "write: no value of the type, as a document": ("valve", None, ["write", "--json", "--type", "UNSIGNED8", "5", "1017", "0", "256"], "VALUE is no value of its type", 2, {}),
 }
 
-# The page of a boot: the example, the words of the rig, the program's status, and what has to stand on the page.
+# The page of a boot: the example, the words of the rig, further words of the program, its status, and what has to stand on the page.
 SHEETS = {
-    "page: all ready": ("drives", "--error 12:4210:09", 0, [
-        "At 500 kbit/s", ">started<", "<td>X axis</td><td>drive.eds</td><td>ready</td><td>–</td><td></td>", "<td>ready</td><td>–</td><td>4210h (temperature), error register 09h </td>",
+    "page: all ready": ("drives", "--error 12:4210:09", ["--title", "Gantry & saw", "--date", "2026-12-01"], 0, [
+        "<title>Gantry &amp; saw</title>", "<h1>Gantry &amp; saw</h1>", "<dt>Rate</dt><dd>500 kbit/s</dd>", "<dt>Date</dt><dd>2026-12-01</dd>", "<dt>Took</dt><dd>", ">started<",
+        "<td>X axis</td><td>drive.eds</td><td>type&nbsp;00020192h product&nbsp;00000040h </td><td>ready</td><td>–</td><td></td>",
+        "<td>ready</td><td>–</td><td>4210h (temperature), error register 09h </td>", "it was asked for its own",
         "<h3>Y axis <small>node 12</small></h3>", "<li>6060h sub 0: 07h</li>", "<li>1800h sub 1: 40000185h</li>"]),
-    "page: one aborts": ("drives", "--abort 12:6060:0:06090030", 3, [">not started<", "<td>aborted 6060h sub 0: 06090030h</td>"]),
-    "page: another device": ("conveyor", "--identity 13:1018:2:191", 3, [">not started<", "<td>other 1018h sub 2: 00000191h</td>"]),
-    "page: the line fails": ("drives", "--gone 45", 5, [">not known to be started<", "<td>unfinished</td>"]),
-    "page: no boot": ("valve", "--running 5", 3, None),
+    "page: nobody is asked": ("valve", "", ["--no-identity"], 0, ["<h1>CANopen boot</h1>", "No device was asked for its own", ">started<"]),
+    "page: one aborts": ("drives", "--abort 12:6060:0:06090030", [], 3, [">not started<", "<td>aborted 6060h sub 0: 06090030h</td>"]),
+    "page: another device": ("conveyor", "--identity 13:1018:2:191", [], 3, [">not started<", "<td>other 1018h sub 2: 00000191h</td>"]),
+    "page: the line fails": ("drives", "--gone 45", [], 5, [">not known to be started<", "<td>unfinished</td>"]),
+    "page: no boot": ("valve", "--running 5", [], 3, None),
+}
+
+# Machines whose devices are asked while their PDOs come: the example, the words of the rig and of the question. By all that is on the bus meanwhile the
+# machine keeps to its tables, the SDO frames too where a question comes as late behind the last one as the table has it.
+RUNNING_PDOS = "--every 181:0.01:4 182:0.01:4 183:0.01:4 184:0.01:4 185:0.05:4 186:0.05:4 187:0.01:2 188:0.01:2 189:0.01:2 18A:0.01:2"
+BESIDE = {
+    "verified beside its PDOs": ("conveyor", RUNNING_PDOS, ["--only", "12", "--gently", "200"]),
+}
+
+# The errors in the document of a boot: the example, the words of the rig, and the errors by node.
+IN_DOCUMENT = {
+    "an error that a device tells, as a document": (
+        "drives", "--error 12:4210:09", [{"node": 12, "code": 0x4210, "words": "temperature", "register": 9}]),
+    "no error, as a document": ("valve", "", []),
 }
 
 SIGNED = "[{0}]\nObjectType=0x8\nSubNumber=2\n[{0}sub0]\nDataType=0x0005\nAccessType=ro\nDefaultValue=1\n[{0}sub1]\nDataType=0x0007\nAccessType=rw\n"
@@ -437,6 +455,21 @@ def told(name, folder):
         faults.append(f"status {it.returncode}, says {it.stdout!r}")
     if said != wanted:
         faults.append(f"says {said}, not {wanted}")
+    return faults + ([f"standard error: {it.stderr}"] if faults else [])
+
+
+def errors_in_document(name, folder):
+    """What is wrong with the errors that devices told, in the document of a boot, and with how long it says that it took."""
+    example, words, wanted = IN_DOCUMENT[name]
+    began = time.monotonic()
+    it, _ = boot(example, words, ["--json"], folder)
+    within = time.monotonic() - began
+    value = document_of(it.stdout)
+    faults = [] if it.returncode == 0 else [f"status {it.returncode}"]
+    if value["emergencies"] != wanted:
+        faults.append(f"tells the errors {value['emergencies']}, not {wanted}")
+    if not 2_000_000 <= value["took"]["us"] <= within * 1_000_000:
+        faults.append(f"took {value['took']}, and all took {within} s")
     return faults + ([f"standard error: {it.stderr}"] if faults else [])
 
 
@@ -619,6 +652,35 @@ def verified(name, folder):
     return faults + ([f"standard error: {it.stderr}"] if faults else [])
 
 
+def log_of(log):
+    """The frames since the adapter was opened the last time, as candump writes them."""
+    with open(log) as file:
+        lines = [line.split() for line in file]
+    opened = [at for at, line in enumerate(lines) if line[1:3] == ["adapter:", "open"]]
+    frames = [line for line in lines[opened[-1]:] if line[1] in ("->", "<-")]
+    return "".join(f"({float(moment):.6f}) can0 {ident}#{''.join(data).upper()}\n" for moment, _, ident, *data in frames)
+
+
+def beside_its_pdos(name, folder):
+    """What is wrong with a machine that is asked while its PDOs come: whether it keeps to its tables meanwhile."""
+    example, words, options = BESIDE[name]
+    tables = network_in(f"{HERE}/examples/{example}")
+    port, log = f"{folder}/port", f"{folder}/log"
+    rig = subprocess.Popen([sys.executable, RIG, tables[0], port, "--log", log, "--report", f"{folder}/report.json", "--sessions", "2", *words.split()],
+                           stdout=subprocess.PIPE, text=True)
+    rig.stdout.readline()
+    subprocess.run([PROGRAM, "boot", "--port", port, "--watch", "0", "--take-over", *tables], capture_output=True, text=True, timeout=120)
+    it = subprocess.run([PROGRAM, "verify", "--port", port, *options, *tables], capture_output=True, text=True, timeout=120)
+    rig.wait(timeout=60)
+    node = options[options.index("--only") + 1]
+    faults = [] if (it.stdout, it.returncode) == (f"node {node} as planned\n", 0) else [f"says {it.stdout!r} with status {it.returncode}: {it.stderr}"]
+    frames = log_of(log)
+    watched = subprocess.run([PROGRAM, "watch", "--error", "5000", *tables, "-"], input=frames, capture_output=True, text=True, timeout=60)
+    if watched.returncode or frames.count(" 182#") < 100 or frames.count(" 60C#") < 10:
+        faults.append(f"{frames.count(chr(10))} frames: {watched.stdout[-600:]}")
+    return faults
+
+
 def rate_of(example):
     """The rate of an example's plan, in kbit/s."""
     return "250" if example == "conveyor" else "500"
@@ -724,9 +786,9 @@ def transferred(name, folder):
 
 def sheet(name, folder):
     """What is wrong with the page of a boot."""
-    example, words, status, parts = SHEETS[name]
+    example, words, options, status, parts = SHEETS[name]
     page = f"{folder}/page.html"
-    it, _ = boot(example, words, ["--report", page], folder)
+    it, _ = boot(example, words, ["--report", page, *options], folder)
     faults = [] if it.returncode == status else [f"status {it.returncode}, says {it.stdout!r}"]
     if parts is None:
         return faults + (["there is a page"] if os.path.exists(page) else [])
@@ -742,7 +804,7 @@ def sheet(name, folder):
 
 def faults_of(name, folder):
     """What is wrong with a case."""
-    for cases, tried in ((CASES, run), (LEFT_ALONE, left_alone), (TOLD, told), (REACHES, reach), (TWICE, twice), (VERIFIED, verified), (COMMANDED, commanded), (SCANNED, scanned), (TRANSFERRED, transferred), (SHEETS, sheet)):
+    for cases, tried in ((CASES, run), (LEFT_ALONE, left_alone), (TOLD, told), (REACHES, reach), (TWICE, twice), (VERIFIED, verified), (COMMANDED, commanded), (SCANNED, scanned), (TRANSFERRED, transferred), (SHEETS, sheet), (BESIDE, beside_its_pdos), (IN_DOCUMENT, errors_in_document)):
         if name in cases:
             try:
                 return tried(name, folder)
@@ -753,7 +815,7 @@ def faults_of(name, folder):
 
 def main(words):
     passed, failed = 0, 0
-    for name in [*CASES, *LEFT_ALONE, *TOLD, *REACHES, *TWICE, *VERIFIED, *COMMANDED, *SCANNED, *TRANSFERRED, *SHEETS]:
+    for name in [*CASES, *LEFT_ALONE, *TOLD, *REACHES, *TWICE, *VERIFIED, *COMMANDED, *SCANNED, *TRANSFERRED, *SHEETS, *BESIDE, *IN_DOCUMENT]:
         if words and not any(word in name for word in words):
             continue
         with tempfile.TemporaryDirectory() as folder:

@@ -99,6 +99,8 @@ _canplan() {
             '--watch=[The seconds after the start for which heartbeats are awaited, 0 for none; one and a half of the longest heartbeat time where it is left out]:watch: ' \
             '--limit=[The seconds after which the port is given up]:limit: ' \
             '--report=[Writes a page that shows how the boot ended, and what each node was set to]:OUT:_files' \
+            '--title=[The name of the machine at the page'\''s head]:TITLE: ' \
+            '--date=[The date at the page'\''s head]:DATE: ' \
             '(-h --help)'{-h,--help}'[Print help]' \
             '1:NODES:_files' \
             '2:PDOS:_files'

@@ -255,7 +255,7 @@ class Rig:
             due, seconds, ident, count = each
             if now >= due:
                 each[0] = now + seconds
-                self.adapter.frame(ident, bytes(count))
+                self.send(ident, bytes(count))
 
     def write_some(self):
         while self.outgoing:

@@ -19,7 +19,7 @@ pub fn boot(
     let planned = inputs.network.planned(rt.alloc(), &tables)?;
     let answer = boot_of(rt.alloc(), seed, &planned)?;
     if form == Form::Document {
-        print_document(rt, &boot_document(rt.alloc(), answer.as_ref())?)?;
+        print_document(rt, &boot_document(rt.alloc(), answer.as_ref(), None)?)?;
     } else {
         print(rt, &boot_text(rt.alloc(), answer.as_ref())?)?;
     }

@@ -1,8 +1,8 @@
 //! The words of the subcommands that are carried out at an adapter.
 
 use crate::words::{
-    BUS_RATE, Choices, EXPLAIN, JSON, Kind, LISTED_RATES, MARGIN, MOST_NODE, NODES, Need, PDOS,
-    PORT, SETUP, Word,
+    BUS_RATE, Choices, DATE, EXPLAIN, JSON, Kind, LISTED_RATES, MARGIN, MOST_NODE, NODES, Need,
+    PDOS, PORT, SETUP, TITLE, Word,
 };
 
 /// The greatest time at a port, a day in seconds.
@@ -83,7 +83,7 @@ const EDS: Word = Word {
     help: "The device's EDS file, which names the type of the value",
 };
 
-pub(crate) static BOOT: [Word; 19] = [
+pub(crate) static BOOT: [Word; 21] = [
     NODES,
     PDOS,
     SETUP,
@@ -162,6 +162,14 @@ pub(crate) static BOOT: [Word; 19] = [
         kind: Kind::Text("OUT"),
         need: Need::Against("seed"),
         help: "Writes a page that shows how the boot ended, and what each node was set to",
+    },
+    Word {
+        need: Need::With("report"),
+        ..TITLE
+    },
+    Word {
+        need: Need::With("report"),
+        ..DATE
     },
 ];
 

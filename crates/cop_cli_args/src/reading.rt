@@ -101,6 +101,8 @@ fn boot_order<'a>(matches: &ArgMatches<'a>) -> Order<'a> {
             watch: matches.get_one("watch"),
             limit: matches.get_one("limit"),
             report: matches.get_str("report"),
+            title: matches.get_str("title"),
+            date: matches.get_str("date"),
         }),
         None => Order::Boot {
             seed: matches.get_one("seed").unwrap_or(0),

@@ -2,8 +2,8 @@
 
 use crate::machine_words::{BOOT, FOR, INIT, NMT, READ, SCAN, VERIFY, WRITE};
 use crate::words::{
-    CHANNEL, Choices, DELTA, DRIFT, ERROR, EXPLAIN, JSON, Kind, LISTED_RATES, MARGIN, MOST_NODE,
-    NODES, Need, PDOS, PORT, SETUP, Word,
+    CHANNEL, Choices, DATE, DELTA, DRIFT, ERROR, EXPLAIN, JSON, Kind, LISTED_RATES, MARGIN,
+    MOST_NODE, NODES, Need, PDOS, PORT, SETUP, TITLE, Word,
 };
 use cop_orders::MOST_UNTIL;
 
@@ -147,18 +147,8 @@ static REPORT: [Word; 15] = [
         need: Need::Optional,
         help: "A log of the machine's bus, as watch takes it: the page shows what it shows, too",
     },
-    Word {
-        name: "title",
-        kind: Kind::Text("TITLE"),
-        need: Need::Optional,
-        help: "The name of the machine at the page's head",
-    },
-    Word {
-        name: "date",
-        kind: Kind::Text("DATE"),
-        need: Need::Optional,
-        help: "The date at the page's head",
-    },
+    TITLE,
+    DATE,
     ERROR,
     DRIFT,
     CHANNEL,

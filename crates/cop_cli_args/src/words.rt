@@ -179,6 +179,21 @@ pub(crate) const JSON: Word = Word {
     help: "Answers by one document in JSON on standard output, also of a fault",
 };
 
+/// What stands at the head of a page.
+pub(crate) const TITLE: Word = Word {
+    name: "title",
+    kind: Kind::Text("TITLE"),
+    need: Need::Optional,
+    help: "The name of the machine at the page's head",
+};
+
+pub(crate) const DATE: Word = Word {
+    name: "date",
+    kind: Kind::Text("DATE"),
+    need: Need::Optional,
+    help: "The date at the page's head",
+};
+
 /// By how much the stamps of a log may be wrong.
 pub(crate) const ERROR: Word = Word {
     name: "error",

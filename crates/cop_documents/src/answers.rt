@@ -5,7 +5,7 @@ use crate::objects::{Object, text_of};
 use crate::values::time_if;
 use cop_boot_answer::{BootAnswer, Detail, NodeLine, State};
 use cop_cert::Refusal;
-use cop_logbook::abort_words;
+use cop_logbook::{Emergency, abort_words};
 use cop_rta::Verdict;
 use cop_scan::Found;
 use cop_sdo::Address;
@@ -108,8 +108,50 @@ fn nodes_of(alloc: Global, lines: &[NodeLine]) -> Result<Value, AllocError> {
     Ok(Value::Array(nodes))
 }
 
+/// What is told of a boot at a port beside its answer.
+#[derive(Clone, Copy)]
+pub struct AtPort<'a> {
+    /// The first error that each node told by EMCY.
+    pub emergencies: &'a [Emergency],
+    /// The ticks of 250 ns from the opening of the port until the end, if they are known.
+    pub took: Option<u64>,
+}
+
+/// An error that a node told.
+fn emergency_of(alloc: Global, told: &Emergency) -> Result<Value, AllocError> {
+    Object::new(alloc)
+        .plain("node", told.node)
+        .plain("code", told.code)
+        .with("words", text_of(alloc, told.kind()))
+        .plain("register", told.register)
+        .end()
+}
+
+/// The errors that nodes told.
+fn emergencies_of(alloc: Global, emergencies: &[Emergency]) -> Result<Value, AllocError> {
+    let mut all = Vec::new(alloc);
+    for told in emergencies {
+        all.push(emergency_of(alloc, told)?)?;
+    }
+    Ok(Value::Array(all))
+}
+
+/// With what was told at a port, if the boot was at one.
+fn with_port(alloc: Global, told: Object, port: Option<AtPort<'_>>) -> Object {
+    match port {
+        Some(port) => told
+            .with("emergencies", emergencies_of(alloc, port.emergencies))
+            .with("took", time_if(alloc, port.took)),
+        None => told,
+    }
+}
+
 /// The answer of a boot, and that no rate passes where there is none.
-pub fn boot_document(alloc: Global, answer: Option<&BootAnswer>) -> Result<String, AllocError> {
+pub fn boot_document(
+    alloc: Global,
+    answer: Option<&BootAnswer>,
+    port: Option<AtPort<'_>>,
+) -> Result<String, AllocError> {
     let (nodes, heartbeats) = match answer {
         Some(answer) => (
             nodes_of(alloc, &answer.nodes)?,
@@ -123,8 +165,8 @@ pub fn boot_document(alloc: Global, answer: Option<&BootAnswer>) -> Result<Strin
         .plain("planned", answer.is_some())
         .plain("started", started)
         .plain("nodes", nodes)
-        .plain("heartbeats", heartbeats)
-        .end()?;
+        .plain("heartbeats", heartbeats);
+    let document = with_port(alloc, document, port).end()?;
     document.to_string(alloc)
 }
 

@@ -12,7 +12,7 @@ mod values;
 mod warnings;
 
 pub use answers::{
-    FoundNode, boot_document, check_document, judge_document, scan_document, test_document,
+    AtPort, FoundNode, boot_document, check_document, judge_document, scan_document, test_document,
     verify_document,
 };
 pub use faults::{Told, fault_document};

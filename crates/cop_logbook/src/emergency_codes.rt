@@ -36,3 +36,18 @@ fn kind_words(code: u16) -> &'static str {
         _ => "of a code that CiA 301 does not list",
     }
 }
+
+/// An error that a node told by EMCY: its code, and its error register (CiA 301, "Emergency object").
+#[derive(Clone, Copy)]
+pub struct Emergency {
+    pub node: u8,
+    pub code: u16,
+    pub register: u8,
+}
+
+impl Emergency {
+    /// Of what the error is, by its code.
+    pub fn kind(self) -> &'static str {
+        emergency_words(self.code)
+    }
+}

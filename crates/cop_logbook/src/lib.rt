@@ -17,7 +17,7 @@ mod watching;
 
 pub use abort_codes::abort_words;
 pub use breaches::{Breach, Broken, Nearest};
-pub use emergency_codes::emergency_words;
+pub use emergency_codes::{Emergency, emergency_words};
 pub use heartbeats::LateHeartbeat;
 pub use loads::{Loads, PARTS};
 pub use logbook::{BookFault, Logbook};

@@ -90,6 +90,9 @@ pub struct MachineOrder<'a> {
     pub limit: Option<u64>,
     /// The file that the page of the boot is written to, if one is wanted.
     pub report: Option<&'a str>,
+    /// What stands at its head: the machine's name, and the date.
+    pub title: Option<&'a str>,
+    pub date: Option<&'a str>,
 }
 
 /// The devices at the adapter of a port, which are asked whether they are as their network is planned.

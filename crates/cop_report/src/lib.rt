@@ -30,6 +30,6 @@ mod unsorted;
 mod warnings;
 
 pub use page::{Input, Report, page_of};
-pub use sheet::{Emergency, Sheet, sheet_of};
+pub use sheet::{Sheet, sheet_of};
 pub use title::VERSION;
 pub use units::{Escaped, Identifier, Left, Millis, Percent};

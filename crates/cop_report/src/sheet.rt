@@ -4,23 +4,16 @@ ghost use Rattle.std.specs.Prelude.{length};
 ghost use Rattle.cop_plan.specs.Plans.{IsPlan};
 
 use crate::style::STYLE;
-use crate::units::{Escaped, Value};
+use crate::title::{push_date, push_program};
+use crate::units::{Escaped, Seconds, Value};
 use cop_boot_answer::{BootAnswer, NodeLine};
 use cop_dcf::{Setting, settings};
+use cop_fitting::{Identity, stated};
+use cop_logbook::Emergency;
 use cop_net::{DeviceRow, Network};
 use cop_plan::Plan;
 use std::alloc::{AllocError, Global};
 use std::str;
-
-/// An error that a node told by EMCY meanwhile.
-#[derive(Clone, Copy)]
-pub struct Emergency {
-    pub node: u8,
-    pub code: u16,
-    pub register: u8,
-    /// Of what it is, in words.
-    pub kind: &'static str,
-}
 
 /// What a page shows of a boot.
 #[derive(Clone, Copy)]
@@ -28,7 +21,15 @@ pub struct Sheet<'a, 'b> {
     pub network: &'a Network<'b>,
     pub plan: &'a Plan,
     pub answer: &'a BootAnswer,
+    /// The first error that each node told meanwhile.
     pub emergencies: &'a [Emergency],
+    /// Whether the devices were to be asked who they are before anything was written to them.
+    pub identify: bool,
+    /// The ticks of 250 ns from the opening of the port until the end, if they are known.
+    pub took: Option<u64>,
+    /// What the page is called and dated, if the call says so.
+    pub title: Option<&'a str>,
+    pub date: Option<&'a str>,
 }
 
 /// Adds where a node stands: its state, and what is behind it.
@@ -53,13 +54,37 @@ fn push_line_of(page: &mut String, lines: &[NodeLine], node: u8) -> Result<(), A
 /// Adds the errors that a node told.
 fn push_errors(page: &mut String, emergencies: &[Emergency], node: u8) -> Result<(), AllocError> {
     for told in emergencies.iter().filter(|told| told.node == node) {
-        let (code, register, kind) = (told.code, told.register, told.kind);
+        let (code, register, kind) = (told.code, told.register, told.kind());
         write!(
             page,
             "{code:04X}h ({kind}), error register {register:02X}h "
         )?;
     }
     Ok(())
+}
+
+/// Adds a number of an identity behind its name, if it is stated.
+fn push_stated(page: &mut String, name: &str, number: Option<u32>) -> Result<(), AllocError> {
+    match number {
+        Some(number) => write!(page, "{name}&nbsp;{number:08X}h "),
+        None => Ok(()),
+    }
+}
+
+/// Adds what the EDS file of a node states of its device.
+fn push_identity(page: &mut String, network: &Network<'_>, node: u8) -> Result<(), AllocError> {
+    let Some(dictionary) = network.dictionary(node) else {
+        return Ok(());
+    };
+    let Identity {
+        device_type,
+        vendor,
+        product,
+        ..
+    } = stated(dictionary);
+    push_stated(page, "type", device_type)?;
+    push_stated(page, "vendor", vendor)?;
+    push_stated(page, "product", product)
 }
 
 /// Adds the row of a device.
@@ -72,6 +97,8 @@ fn push_row(page: &mut String, sheet: Sheet<'_, '_>, row: &DeviceRow) -> Result<
         page,
         "<tr><td class=\"n\">{node}</td><td>{name}</td><td>{eds}</td><td>"
     )?;
+    push_identity(page, sheet.network, node)?;
+    page.push_str("</td><td>")?;
     push_line_of(page, &answer.nodes, node)?;
     page.push_str("</td><td>")?;
     push_line_of(page, &answer.heartbeats, node)?;
@@ -80,11 +107,22 @@ fn push_row(page: &mut String, sheet: Sheet<'_, '_>, row: &DeviceRow) -> Result<
     page.push_str("</td></tr>\n")
 }
 
+/// What the identities of a page are, and whether devices were asked for theirs.
+fn identities_said(identify: bool) -> &'static str {
+    if identify {
+        "<p>The identity is that of the EDS file. Before a device was set, it was asked for its own. A device that told another one has the state 'other', and then none was set.</p>\n"
+    } else {
+        "<p>The identity is that of the EDS file. No device was asked for its own.</p>\n"
+    }
+}
+
 /// Adds the table of the devices.
 fn push_devices(page: &mut String, sheet: Sheet<'_, '_>) -> Result<(), AllocError> {
+    page.push_str("<section id=\"devices\">\n<h2>The devices</h2>\n")?;
+    page.push_str(identities_said(sheet.identify))?;
     page.push_str(
-        "<section id=\"devices\">\n<h2>The devices</h2>\n<div class=\"scroll\"><table>\n\
-<thead><tr><th>Node</th><th>Device</th><th>EDS file</th><th>State</th><th>Heartbeat</th><th>Errors (EMCY)</th></tr></thead>\n<tbody>\n",
+        "<div class=\"scroll\"><table>\n\
+<thead><tr><th>Node</th><th>Device</th><th>EDS file</th><th>Identity</th><th>State</th><th>Heartbeat</th><th>Errors (EMCY)</th></tr></thead>\n<tbody>\n",
     )?;
     for row in sheet.network.devices() {
         push_row(page, sheet, row)?;
@@ -132,26 +170,50 @@ A PDO that is switched off keeps the other bits of the COB-ID that its device to
     page.push_str("</div>\n</section>\n")
 }
 
+/// Whether the nodes were started, as a page says it.
+fn started_said(started: Option<bool>) -> &'static str {
+    match started {
+        Some(true) => "<p>The nodes were <b class=\"good\">started</b>.</p>\n",
+        Some(false) => "<p>The nodes were <b class=\"bad\">not started</b>.</p>\n",
+        None => "<p>The nodes are <b class=\"bad\">not known to be started</b>.</p>\n",
+    }
+}
+
+/// Adds the block of a page: rate, date, how long the boot took, and the program.
+fn push_block(page: &mut String, sheet: Sheet<'_, '_>) -> Result<(), AllocError> {
+    let kbits = sheet.plan.rate().kbits();
+    write!(
+        page,
+        "<dl class=\"block\">\n<div><dt>Rate</dt><dd>{kbits} kbit/s</dd></div>\n"
+    )?;
+    push_date(page, sheet.date)?;
+    if let Some(ticks) = sheet.took {
+        let seconds = Seconds(ticks);
+        write!(page, "<div><dt>Took</dt><dd>{seconds} s</dd></div>\n")?;
+    }
+    push_program(page)?;
+    page.push_str("</dl>\n")
+}
+
 /// Adds the head of a page, and whether the nodes were started.
 fn push_head(page: &mut String, sheet: Sheet<'_, '_>) -> Result<(), AllocError> {
-    let kbits = sheet.plan.rate().kbits();
-    let answer = sheet.answer;
-    let started = match answer.started {
-        Some(true) => "<b class=\"good\">started</b>",
-        Some(false) => "<b class=\"bad\">not started</b>",
-        None => "<b class=\"bad\">not known to be started</b>",
-    };
-    page.push_str(
+    let title = Escaped(sheet.title.unwrap_or("CANopen boot"));
+    write!(
+        page,
         "<!DOCTYPE html>\n<html lang=\"en\">\n<head>\n<meta charset=\"utf-8\">\n\
-<meta name=\"viewport\" content=\"width=device-width, initial-scale=1\">\n<title>CANopen boot</title>\n<style>",
+<meta name=\"viewport\" content=\"width=device-width, initial-scale=1\">\n<title>{title}</title>\n<style>"
     )?;
     page.push_str(STYLE)?;
     write!(
         page,
-        "</style>\n</head>\n<body>\n<main>\n<h1>CANopen boot</h1>\n\
-<p>At {kbits} kbit/s. The nodes were {started}.</p>\n<p>Machine, date and name: ______________________</p>\n"
-    )
+        "</style>\n</head>\n<body>\n<main>\n<p class=\"soft\">CANopen boot</p>\n<h1>{title}</h1>\n"
+    )?;
+    push_block(page, sheet)?;
+    page.push_str(started_said(sheet.answer.started))
 }
+
+/// The lines that are filled in by hand.
+const SIGNATURE: &str = "<p>Machine, date and name: ______________________</p>\n";
 
 /// The page of a boot. `Err` is want of memory.
 pub fn sheet_of(alloc: Global, sheet: Sheet<'_, '_>) -> Result<String, AllocError>
@@ -159,6 +221,7 @@ pub fn sheet_of(alloc: Global, sheet: Sheet<'_, '_>) -> Result<String, AllocErro
 {
     let mut page = String::new(alloc);
     push_head(&mut page, sheet)?;
+    page.push_str(SIGNATURE)?;
     push_devices(&mut page, sheet)?;
     push_all_settings(&mut page, alloc, sheet)?;
     page.push_str("<footer>Made by canplan.</footer>\n</main>\n</body>\n</html>\n")?;

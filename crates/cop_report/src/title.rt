@@ -96,19 +96,33 @@ fn push_files(page: &mut String, inputs: &[Input<'_>]) -> Result<(), AllocError>
     page.push_str("</tbody></table></div></details>\n")
 }
 
+/// Adds the date, if the call says one.
+pub(crate) fn push_date(page: &mut String, date: Option<&str>) -> Result<(), AllocError> {
+    match date {
+        Some(date) => {
+            let date = Escaped(date);
+            write!(page, "<div><dt>Date</dt><dd>{date}</dd></div>\n")
+        }
+        None => Ok(()),
+    }
+}
+
+/// Adds the program.
+pub(crate) fn push_program(page: &mut String) -> Result<(), AllocError> {
+    write!(
+        page,
+        "<div><dt>Program</dt><dd>canplan {VERSION}</dd></div>\n"
+    )
+}
+
 /// Adds the title block.
 pub(crate) fn push_block(page: &mut String, report: Report<'_, '_>) -> Result<(), AllocError> {
     page.push_str("<dl class=\"block\">\n")?;
     if let Some(rate) = report.figures.rate {
         push_rate(page, rate)?;
     }
-    if let Some(date) = report.date {
-        let date = Escaped(date);
-        write!(page, "<div><dt>Date</dt><dd>{date}</dd></div>\n")?;
-    }
-    write!(
-        page,
-        "<div><dt>Program</dt><dd>canplan {VERSION}</dd></div>\n</dl>\n"
-    )?;
+    push_date(page, report.date)?;
+    push_program(page)?;
+    page.push_str("</dl>\n")?;
     push_files(page, report.inputs)
 }

@@ -40,6 +40,18 @@ impl fmt::Display for Millis {
     }
 }
 
+/// Ticks of 250 ns as seconds with one digit, rounded up.
+#[derive(Clone, Copy, Debug)]
+pub(crate) struct Seconds(pub u64);
+
+impl fmt::Display for Seconds {
+    fn fmt<W: fmt::Write>(&self, f: &mut fmt::Formatter<W>) -> fmt::Result {
+        let tenths = self.0.div_ceil(400_000);
+        let (whole, rest) = (tenths / 10, tenths % 10);
+        write!(f, "{whole}.{rest}")
+    }
+}
+
 /// What is left of a deadline, of ticks of 250 ns, as milliseconds with three digits, rounded down.
 #[derive(Clone, Copy, Debug)]
 pub struct Left(pub u64);

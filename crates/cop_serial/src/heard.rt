@@ -2,22 +2,8 @@
 
 use cop_frame::Frame;
 use cop_frame::identifiers::EMCY;
-use cop_logbook::emergency_words;
+use cop_logbook::Emergency;
 use cop_slcan::{Reader, Said};
-
-/// An error that a device told by EMCY: its code, and its error register (CiA 301, "Emergency object").
-#[derive(Clone, Copy)]
-pub struct Emergency {
-    pub code: u16,
-    pub register: u8,
-}
-
-impl Emergency {
-    /// Of what the error is, by its code.
-    pub fn kind(self) -> &'static str {
-        emergency_words(self.code)
-    }
-}
 
 /// An NMT command (CiA 301, "NMT"): its number, and its node, 0 for all.
 #[derive(Clone, Copy, PartialEq, Eq)]
@@ -51,13 +37,17 @@ fn command_of(frame: &Frame) -> Option<NmtCommand> {
     }
 }
 
-/// The node and the error of a frame. Code 0 tells that an error is gone.
-fn emergency_of(frame: &Frame) -> Option<(u16, Emergency)> {
+/// The error that a frame tells. Code 0 tells that an error is gone.
+fn emergency_of(frame: &Frame) -> Option<Emergency> {
     let node = frame.id.checked_sub(EMCY)?;
     let [low, high, register, ..] = frame.body;
     let code = u16::from(high) << 8 | u16::from(low);
     if node >= 1 && node <= 127 && frame.len == 8 && code != 0 {
-        Some((node, Emergency { code, register }))
+        Some(Emergency {
+            node: node as u8,
+            code,
+            register,
+        })
     } else {
         None
     }
@@ -81,8 +71,8 @@ impl Heard {
     }
 
     fn note_frame(&mut self, frame: &Frame) {
-        if let Some((node, emergency)) = emergency_of(frame)
-            && let Some(first) = self.emergencies.get_mut(usize::from(node))
+        if let Some(emergency) = emergency_of(frame)
+            && let Some(first) = self.emergencies.get_mut(usize::from(emergency.node))
             && first.is_none()
         {
             *first = Some(emergency);

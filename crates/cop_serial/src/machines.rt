@@ -12,25 +12,42 @@ use crate::telling::{
 use cop_answers::{ABSENT, GARBLED, Inputs, RUNNING, boot_notes, identity_notes};
 use cop_boot_answer::BootAnswer;
 use cop_commission::{Approach, Commissioned, Reach, Runner, Watch, commission_planned};
-use cop_documents::boot_document;
+use cop_documents::{AtPort, boot_document};
 use cop_engine::{PlannedNetwork, boot_text};
 use cop_files::{Failure, Form, Use, file_failure, read_network, write_file};
 use cop_orders::MachineOrder;
 use cop_plan::Outcome;
 use cop_report::{Sheet, sheet_of};
+use std::alloc::{AllocError, Global};
+
+/// The document of a boot, with its end of line.
+fn document_of(
+    alloc: Global,
+    told: Option<&BootAnswer>,
+    port: &Serial<'_>,
+) -> Result<String, AllocError> {
+    let emergencies = emergencies_of(alloc, port)?;
+    let at_port = AtPort {
+        emergencies: &emergencies,
+        took: port.ticks(),
+    };
+    let mut document = boot_document(alloc, told, Some(at_port))?;
+    document.push_str("\n")?;
+    Ok(document)
+}
 
 /// Gives the answer of a boot in a form, and that no rate passes where there is none.
 fn answer_in(
     rt: &HostRuntime,
-    port: &str,
+    name: &str,
     form: Form,
     told: Option<&BootAnswer>,
+    port: &Serial<'_>,
 ) -> Result<(), Failure> {
     if form == Form::Document {
-        let document = boot_document(rt.alloc(), told)?;
-        answer(rt, port, format!(in rt.alloc(); "{document}\n")?.as_bytes())
+        answer(rt, name, document_of(rt.alloc(), told, port)?.as_bytes())
     } else {
-        answer(rt, port, &boot_text(rt.alloc(), told)?)
+        answer(rt, name, &boot_text(rt.alloc(), told)?)
     }
 }
 
@@ -79,17 +96,17 @@ fn tell_ended(
             rate,
             ..
         } => {
-            answer_in(rt, name, form, Some(answer))?;
+            answer_in(rt, name, form, Some(answer), port)?;
             say(rt, &boot_notes(rt.alloc(), answer, *rate)?);
             Ok(if *ready && *operational { 0 } else { 3 })
         }
         Commissioned::Others { answer, exchanges } => {
-            answer_in(rt, name, form, Some(answer))?;
+            answer_in(rt, name, form, Some(answer), port)?;
             say(rt, &identity_notes(rt.alloc(), exchanges)?);
             Ok(3)
         }
         Commissioned::Unrestored { answer } => {
-            answer_in(rt, name, form, Some(answer))?;
+            answer_in(rt, name, form, Some(answer), port)?;
             say(rt, UNRESTORED);
             Ok(3)
         }
@@ -99,7 +116,7 @@ fn tell_ended(
         Commissioned::Unopened { command, rate } => Err(unopened_refusal(rt, *command, *rate)),
         Commissioned::Absent => Err(refusal(ABSENT, u64::from(order.only.unwrap_or(0)), None)),
         Commissioned::NonePasses => {
-            answer_in(rt, name, form, None)?;
+            answer_in(rt, name, form, None, port)?;
             Ok(4)
         }
         Commissioned::Failed { answer } => Err(boot_failure(rt, name, form, answer, port)?),
@@ -141,6 +158,10 @@ fn write_sheet(
         plan,
         answer,
         emergencies: &emergencies,
+        identify: order.identify,
+        took: port.ticks(),
+        title: order.title,
+        date: order.date,
     };
     let page = sheet_of(rt.alloc(), sheet)?;
     write_file(rt, out, page.as_bytes())

@@ -106,7 +106,7 @@ impl Serial<'_> {
     }
 
     /// The ticks since the line was opened.
-    fn ticks(&self) -> Option<u64> {
+    pub(crate) fn ticks(&self) -> Option<u64> {
         match Instant::now(self.rt) {
             Ok(now) => u64::try_from(now.duration_since(self.opened).as_nanos() / TICK).ok(),
             Err(_) => None,

@@ -4,14 +4,14 @@ ghost use Rattle.std.specs.Prelude.{◌≡◌};
 ghost use Rattle.cop_engine.specs.declared.faults.Fault.TheVariants.{Refused};
 ghost use Rattle.cop_serial.specs.Reasons.{refused_for};
 
-use crate::heard::{Emergency, NmtCommand};
+use crate::heard::NmtCommand;
 use crate::serial::Serial;
 use cop_answers::{ERRONEOUS, GARBLED, UNOPENED};
 use cop_commission::Command;
 use cop_engine::Fault;
 use cop_files::{Failure, Form, Use, file_failure, print};
 use cop_frame::Rate;
-use cop_report as report;
+use cop_logbook::Emergency;
 use cop_slcan::rate_digit;
 use cop_survey::Reason;
 use std::alloc::{AllocError, Global};
@@ -91,8 +91,13 @@ pub(crate) fn tell_adapter(rt: &HostRuntime, port: &Serial<'_>) {
 }
 
 /// What is said of an error that a node told.
-fn emergency_line(alloc: Global, node: u8, emergency: Emergency) -> Result<String, AllocError> {
-    let (code, register, kind) = (emergency.code, emergency.register, emergency.kind());
+fn emergency_line(alloc: Global, emergency: Emergency) -> Result<String, AllocError> {
+    let Emergency {
+        node,
+        code,
+        register,
+    } = emergency;
+    let kind = emergency.kind();
     format!(in alloc;
         "canplan: node {node} told an error by EMCY: code {code:04X}h ({kind}), error register {register:02X}h\n"
     )
@@ -102,16 +107,11 @@ fn emergency_line(alloc: Global, node: u8, emergency: Emergency) -> Result<Strin
 pub(crate) fn emergencies_of(
     alloc: Global,
     port: &Serial<'_>,
-) -> Result<Vec<report::Emergency>, AllocError> {
+) -> Result<Vec<Emergency>, AllocError> {
     let mut all = Vec::new(alloc);
     for node in 1..128_u8 {
         if let Some(told) = port.heard.emergency(node) {
-            all.push(report::Emergency {
-                node,
-                code: told.code,
-                register: told.register,
-                kind: told.kind(),
-            })?;
+            all.push(told)?;
         }
     }
     Ok(all)
@@ -129,7 +129,7 @@ fn foreign_line(alloc: Global, command: NmtCommand) -> Result<String, AllocError
 pub(crate) fn tell_heard(rt: &HostRuntime, port: &Serial<'_>) {
     for node in 1..128_u8 {
         if let Some(emergency) = port.heard.emergency(node)
-            && let Ok(line) = emergency_line(rt.alloc(), node, emergency)
+            && let Ok(line) = emergency_line(rt.alloc(), emergency)
         {
             say(rt, line.as_bytes());
         }

@@ -174,7 +174,8 @@ fn write_at_port(text: &mut String, order: Order<'_>) -> Result<(), AllocError> 
             let (port, take_over, boot_limit) = (order.port, order.take_over, order.boot_limit);
             write!(text, "machine {port} {take_over} {boot_limit}")?;
             if let Some(report) = order.report {
-                write!(text, " page {report}")?;
+                let (title, date) = (order.title.unwrap_or("-"), order.date.unwrap_or("-"));
+                write!(text, " page {report} {title} {date}")?;
             }
             write_network(text, order.network)
         }
@@ -294,7 +295,11 @@ const ASKED: &[(&str, &str)] = &[
     ),
     (
         "boot --port x --report out.html n p",
-        "machine x false 5 page out.html n p",
+        "machine x false 5 page out.html - - n p",
+    ),
+    (
+        "boot --port x --report out.html --title Gantry --date today n p",
+        "machine x false 5 page out.html Gantry today n p",
     ),
     ("verify --port - n p", "verify - 0 0 n p"),
     (
@@ -413,6 +418,8 @@ const REFUSED: &[&str] = &[
     "boot --seed 1 --port x n p",
     "boot --seed 1 --boot-limit 8 n p",
     "boot --seed 1 --report out n p",
+    "boot --port x --title Gantry n p",
+    "boot --port x --date today n p",
     "boot --port x --boot-limit 0 n p",
     "boot --port x --boot-limit 601 n p",
     "boot --seed 18446744073709551616 n p",
