@@ -70,6 +70,7 @@ def example(folder):
     assert lines == [f"transfers {value['transfers']}", "on time"] and value["on_time"] and value["planned"], lines
     watch(tables, f"{folder}/run.csv")
     room(tables)
+    as_is(tables)
     changes(folder, tables)
 
 
@@ -95,6 +96,19 @@ def room(tables):
     wanted = [f"pdo {it['pdo']['node']}.{it['pdo']['tpdo']} id {it['id']:X}h" for it in found["pdos"]]
     assert [" ".join(it.split()[:4]) for it in lines if it.startswith("pdo ")] == wanted, wanted
     assert f"periods {found['periods']}" in lines and f"clock {found['clock']}" in lines, lines
+
+
+def as_is(tables):
+    """Whether the example passes with the identifiers of its EDS files, or which row cannot keep its own."""
+    lines, fault, value = answers("plan", "--as-is", *tables)
+    if fault:
+        assert fault == [f"canplan: refused 140 {value['error']['record']}"] and value["error"]["table"] == "pdos", fault
+        return
+    assert lines[0] == (f"rate {value['rate']}" if value["rate"] else "no rate passes"), lines
+    wanted = [f"pdo {it['pdo']['node']}.{it['pdo']['tpdo']} id {it['id']:X}h response {it['response']['ticks']}" for it in value["pdos"] if value["rate"]]
+    assert [it for it in lines if it.startswith("pdo ")] == wanted, wanted
+    refused = [f"refused {it['rate']} failing {len(it['failing'])}" for it in value["refused"]]
+    assert [" ".join(it.split()[:4]) for it in lines if it.startswith("refused ")] == refused, refused
 
 
 def watch(tables, trace):

@@ -69,7 +69,7 @@ _canplan() {
     if [[ $word == -* ]]; then
         case "$sub" in
         test) _canplan_words "--rate --strict --json --explain --help" ;;
-        plan) _canplan_words "--setup --rates --margin --explain --json --strict --help" ;;
+        plan) _canplan_words "--setup --rates --margin --as-is --explain --json --strict --help" ;;
         room) _canplan_words "--setup --rates --margin --explain --json --help" ;;
         check) _canplan_words "--setup --rates --margin --explain --json --strict --help" ;;
         boot) _canplan_words "--setup --rates --margin --explain --json --seed --port --take-over --no-identity --only --no-start --boot-limit --restore --store --watch --limit --report --title --date --help" ;;

@@ -48,13 +48,14 @@ _canplan() {
             '--setup=[The table of settings, which the devices get besides\: row,node,object,value]:FILE:_files' \
             '--rates=[The rates in kbit/s that the plan may have, as 250,500; all where it is left out]:LIST:_values -s , LIST 10 20 50 125 250 500 800 1000' \
             '--margin[Takes, at the same rate, the identifiers with the greatest least margin of all deadlines]' \
+            '--as-is[Tests the identifiers that the devices have by their EDS files\: none is chosen, and nothing is written]' \
             '--explain[Says of a fault in words where it stands, what is wanted and what is usually behind it]' \
             '--json[Answers by one document in JSON on standard output, also of a fault]' \
             '--strict[Ends with status 3 where something is worth a look before one relies on the plan, as --explain tells it]' \
             '(-h --help)'{-h,--help}'[Print help]' \
             '1:NODES:_files' \
             '2:PDOS:_files' \
-            '3:OUT:_files'
+            '3::OUT:_files'
         ;;
     room)
         _arguments -S \

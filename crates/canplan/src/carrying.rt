@@ -3,7 +3,8 @@
 use crate::faults::tell;
 use cop_answers::{Inputs, explained_line, page_of_rules, words_of_rule};
 use cop_calls::{
-    Drawn, Wanted, boot, check, export, judge, plan, room, run, test, watch_bus, write_report,
+    Drawn, Wanted, boot, check, export, judge, plan, room, run, test, test_as_is, watch_bus,
+    write_report,
 };
 use cop_engine::{Fault, status, test_status};
 use cop_files::{Failure, Form, print};
@@ -71,6 +72,7 @@ pub fn carry_out(
             Ok(test_status(all_pass || !strict))
         }
         Order::Plan(order) => plan(rt, order, form, inputs),
+        Order::AsIs(network) => test_as_is(rt, network, form, inputs),
         Order::Room(network) => room(rt, network, form, inputs),
         Order::Check {
             network,

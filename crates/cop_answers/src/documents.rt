@@ -5,6 +5,7 @@ ghost use Rattle.cop_figures.specs.Figures.{AreFigures};
 use crate::pages::breakdowns;
 use crate::rooms::fastest_miss;
 use crate::spots::{Spot, spot_in_network, spot_of_refusal};
+use crate::standing_rules::NO_IDENTIFIER;
 use crate::texts::Inputs;
 use crate::warnings::all_warned;
 use cop_documents::{PlanNumbers, Told, fault_document, plan_document};
@@ -69,6 +70,7 @@ fn table_name(number: u8) -> Option<&'static str> {
         30..=36 => Some("refusals"),
         60..=69 => Some("trace"),
         90..=96 => Some("log"),
+        NO_IDENTIFIER => Some("pdos"),
         _ => None,
     }
 }

@@ -2,6 +2,7 @@
 
 use crate::booting::{is_machine_rule, machine_words};
 use crate::log_rules::log_rule_words;
+use crate::standing_rules::STANDING_RULE;
 use crate::texts::{Inputs, beside};
 use crate::trace_forms::form_words;
 use cop_net::{Refusal, Rule, read_nodes};
@@ -27,7 +28,7 @@ pub(crate) fn network_of<'a>(order: Order<'a>) -> Option<NetworkFiles<'a>> {
         Order::Boot { network, .. } => Some(network),
         Order::Judge { network, .. } => Some(network),
         Order::Run { network, .. } => Some(network),
-        Order::Room(network) => Some(network),
+        Order::AsIs(network) | Order::Room(network) => Some(network),
         Order::Report { network, .. } | Order::Export { network, .. } => Some(network),
         Order::Watch { log, .. } => Some(log.network),
         Order::Listen(order) => Some(order.network),
@@ -106,6 +107,23 @@ fn refused_network(
     Ok(words)
 }
 
+/// What is said of the row of a PDO that cannot keep its identifier.
+fn row_words(
+    alloc: Global,
+    files: NetworkFiles<'_>,
+    inputs: &Inputs,
+    number: u8,
+    record: u64,
+) -> Result<Vec<u8>, AllocError> {
+    let source = Source {
+        name: files.pdos,
+        text: &inputs.network.pdos,
+    };
+    let mut words = record_words(alloc, source, number, record)?;
+    words.extend_from_slice(STANDING_RULE.as_bytes())?;
+    Ok(words)
+}
+
 /// What is said of a refusal by a rule that is none of a network's: of what was read, where the rule is broken and what it is.
 pub fn words_on_refusal(
     alloc: Global,
@@ -126,6 +144,9 @@ pub fn words_on_refusal(
     }
     if is_machine_rule(number) {
         return machine_words(alloc, number, place);
+    }
+    if let Order::AsIs(files) = order {
+        return row_words(alloc, files, inputs, number, place);
     }
     match file_of(order, number) {
         Some(name) => {

@@ -3,18 +3,20 @@
 use crate::booting::machine_rule_words;
 use crate::log_rules::log_rule_words;
 use crate::project_rules::project_rule_words;
+use crate::standing_rules::{NO_IDENTIFIER, STANDING_RULE};
 use crate::warning_rules::warning_rule_words;
 use cop_words::{question_words, rule_words};
 use std::alloc::{AllocError, Global};
 use std::str;
 
 /// What the rule of a number says that stands in no table of rules of its own: of an EDS file that is made one that is read, of a log, of
-/// a machine, of a project file, or of a warning. Nothing for a number that has none.
+/// a machine, of a network as it stands, of a project file, or of a warning. Nothing for a number that has none.
 fn other_words(number: u8) -> &'static str {
     match number {
         70..=84 => question_words(number),
         90..=96 => log_rule_words(number),
         100..=104 => machine_rule_words(number),
+        NO_IDENTIFIER => STANDING_RULE,
         150..=152 => project_rule_words(number),
         _ => warning_rule_words(number),
     }

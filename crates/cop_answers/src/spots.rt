@@ -79,6 +79,7 @@ pub fn spot_of_refusal(
     match order {
         Order::Tidy(order) => line_spot(alloc, order.input, place),
         Order::Watch { log, .. } if number >= 90 => line_spot(alloc, log.log, place),
+        Order::AsIs(files) => record_spot(alloc, files.pdos, &inputs.network.pdos, place),
         order => match file_of(order, number) {
             Some(name) => record_spot(alloc, name, &inputs.other, place),
             None => Ok(Spot::nowhere()),

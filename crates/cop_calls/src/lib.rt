@@ -9,6 +9,7 @@ mod plans;
 mod reporting;
 mod rooms;
 mod runs;
+mod standings;
 mod streams;
 mod watching;
 
@@ -20,5 +21,6 @@ pub use plans::plan;
 pub use reporting::write_report;
 pub use rooms::room;
 pub use runs::{Drawn, run};
+pub use standings::test_as_is;
 pub use streams::test;
 pub use watching::watch_bus;

@@ -60,8 +60,12 @@ fn test_order<'a>(matches: &ArgMatches<'a>) -> Order<'a> {
 }
 
 fn plan_order<'a>(matches: &ArgMatches<'a>) -> Order<'a> {
+    let network = network_of(matches);
+    if matches.get_flag("as-is") {
+        return Order::AsIs(network);
+    }
     Order::Plan(PlanOrder {
-        network: network_of(matches),
+        network,
         out: matches.get_str("OUT").unwrap_or("-"),
         strict: matches.get_flag("strict"),
     })

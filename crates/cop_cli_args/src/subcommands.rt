@@ -33,24 +33,33 @@ static TEST: [Word; 5] = [
     EXPLAIN,
 ];
 
-static PLAN: [Word; 9] = [
+static PLAN: [Word; 10] = [
     NODES,
     PDOS,
     SETUP,
     LISTED_RATES,
-    MARGIN,
+    Word {
+        need: Need::Against("as-is"),
+        ..MARGIN
+    },
+    Word {
+        name: "as-is",
+        kind: Kind::Flag,
+        need: Need::Against("OUT"),
+        help: "Tests the identifiers that the devices have by their EDS files: none is chosen, and nothing is written",
+    },
     EXPLAIN,
     JSON,
     Word {
         name: "strict",
         kind: Kind::Flag,
-        need: Need::Optional,
+        need: Need::Against("as-is"),
         help: "Ends with status 3 where something is worth a look before one relies on the plan, as --explain tells it",
     },
     Word {
         name: "OUT",
         kind: Kind::Place,
-        need: Need::Required,
+        need: Need::Unless("as-is"),
         help: "A folder, which has to be there, for plan.txt, refusals.csv and node-005.dcf and so on",
     },
 ];

@@ -260,6 +260,8 @@ pub enum Order<'a> {
     },
     /// The plan of a network, into a folder.
     Plan(PlanOrder<'a>),
+    /// The question whether a network passes as it stands, with the identifiers that its devices have.
+    AsIs(NetworkFiles<'a>),
     /// How far each number of a network's plan can go.
     Room(NetworkFiles<'a>),
     /// The check of a refusal file against a network.

@@ -88,6 +88,10 @@ fn write_planned(text: &mut String, order: Order<'_>) -> Result<(), AllocError> 
             write!(text, "plan {out} {strict}")?;
             write_network(text, order.network)
         }
+        Order::AsIs(network) => {
+            text.push_str("as-is")?;
+            write_network(text, network)
+        }
         Order::Check {
             network,
             refusals,
@@ -270,6 +274,11 @@ const ASKED: &[(&str, &str)] = &[
     ("test --strict --rate 10 --json -", "test 10 - true json"),
     ("plan n p out", "plan out false n p"),
     ("plan --strict n p out", "plan out true n p"),
+    ("plan --as-is n p", "as-is n p"),
+    (
+        "plan --json --setup=s --rates 250 n p --as-is",
+        "as-is n p set s at 250 json",
+    ),
     ("plan --setup s.csv n p out", "plan out false n p set s.csv"),
     (
         "boot --port - --margin --setup=s n p",
@@ -411,6 +420,10 @@ const REFUSED: &[&str] = &[
     "room n",
     "room --strict n p",
     "plan n p out more",
+    "plan --as-is n p out",
+    "plan --as-is --margin n p",
+    "plan --as-is --strict n p",
+    "room --as-is n p",
     "plan --rates 300 n p out",
     "test s.csv",
     "test --rate 7 s.csv",
