@@ -20,7 +20,7 @@ PROGRAM = os.environ.get("CANPLAN", f"{HERE}/bin/canplan")
 # The values that files and folders complete, and those that nothing completes. A name in small letters is of the last kind.
 FILES = {"FILE", "NODES", "PDOS", "OUT", "REFUSALS", "TRACE", "LOG", "IN", "PORT"}
 FOLDERS = {"FOLDER", "OLD", "NEW"}
-PLAIN = {"NODE", "INDEX", "SUB", "VALUE", "NUMBER", "LIST", "TITLE", "DATE", "US", "PPM", "NAME", "COMMAND", "FORMAT"}
+PLAIN = {"NODE", "NODE.TPDO", "INDEX", "SUB", "VALUE", "NUMBER", "LIST", "TITLE", "DATE", "US", "PPM", "NAME", "COMMAND", "FORMAT"}
 POSSIBLE = re.compile(r"\s*\[possible values: (.*)\]$")
 MADE = "Made by tools/completions.py of the help of canplan"
 

@@ -96,6 +96,11 @@ def room(tables):
     wanted = [f"pdo {it['pdo']['node']}.{it['pdo']['tpdo']} id {it['id']:X}h" for it in found["pdos"]]
     assert [" ".join(it.split()[:4]) for it in lines if it.startswith("pdo ")] == wanted, wanted
     assert f"periods {found['periods']}" in lines and f"clock {found['clock']}" in lines, lines
+    first = found["pdos"][0]["pdo"]
+    lines, _, value = answers("room", "--anew", f"{first['node']}.{first['tpdo']}", *tables)
+    told = value["room"]["anew"]
+    assert lines[1].startswith(f"pdo {first['node']}.{first['tpdo']} anew ") and told["pdo"] == first, lines
+    assert lines[1].endswith(f" deadline {told['deadline']['now']['us']} {told['deadline']['limit']['us']} bytes {told['bytes']['now']} {told['bytes']['limit']}"), lines
 
 
 def as_is(tables):

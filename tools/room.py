@@ -5,8 +5,9 @@
 
 Makes COUNT random networks of up to five PDOs of one device (60 where nothing is said), some with fixed frames and an SDO frame that has a
 deadline. Each number that `room` tells is put into a table of the planned streams: with it each PDO and that SDO frame passes, and with the
-next number of its range one of them does not. Of each rate that is refused, `plan` has to find identifiers with the deadlines that are told,
-and none with deadlines that are a thousandth shorter. The document has to say the same as the lines.
+next number of its range one of them does not. Of one PDO of each network `--anew` is asked, too: `plan` has to find identifiers at that rate
+with the period, the jitter and the deadline that are told, and none with the next ones. Of each rate that is refused, it has to find identifiers
+with the deadlines that are told, and none with deadlines that are a thousandth shorter. The document has to say the same as the lines.
 """
 import json
 import os
@@ -101,25 +102,32 @@ def faults_of_all(folder, rate, streams, pdos, numbers):
         yield ("more", numbers["more"])
 
 
+def read_pairs(text):
+    """The numbers of a line, each with its limit."""
+    words = text.split()
+    return {words[k]: (int(words[k + 1]), int(words[k + 2])) for k in range(0, len(words), 3)}
+
+
 def read_lines(text):
     """The rate, the pairs of each row by TPDO with its identifier, and the numbers of all rows at once."""
     rate = re.search(r"^rate (\d+)$", text, re.M)[1]
-    rows = {}
-    for tpdo, found, pairs in re.findall(r"^pdo 1\.(\d+) id ([0-9A-F]+)h (.*)$", text, re.M):
-        words = pairs.split()
-        rows[int(tpdo)] = (int(found, 16), {words[k]: (int(words[k + 1]), int(words[k + 2])) for k in range(0, len(words), 3)})
+    rows = {int(tpdo): (int(found, 16), read_pairs(pairs)) for tpdo, found, pairs in re.findall(r"^pdo 1\.(\d+) id ([0-9A-F]+)h (.*)$", text, re.M)}
     numbers = {name: None if value == "none" else int(value) for name, value in re.findall(r"^(periods|clock|more) (\S+)$", text, re.M)}
     return rate, rows, numbers
+
+
+def pairs_of(row):
+    """The numbers of a row of a document, each with its limit."""
+    def pair(value):
+        return tuple(value[key]["us"] if isinstance(value[key], dict) else value[key] for key in ("now", "limit"))
+    return {column: pair(row[column]) for column in RANGES}
 
 
 def is_same_document(text, rate, rows, numbers):
     """Whether the document says what the lines say."""
     told = json.loads(text)
     room = told["room"]
-
-    def pair(value):
-        return tuple(value[key]["us"] if isinstance(value[key], dict) else value[key] for key in ("now", "limit"))
-    by_tpdo = {row["pdo"]["tpdo"]: (row["id"], {column: pair(row[column]) for column in RANGES}) for row in room["pdos"]}
+    by_tpdo = {row["pdo"]["tpdo"]: (row["id"], pairs_of(row)) for row in room["pdos"]}
     more = room["more"]["us"] if room["more"] else None
     return told["rate"] == int(rate) and by_tpdo == rows and numbers == {"periods": room["periods"], "clock": room["clock"], "more": more}
 
@@ -198,6 +206,27 @@ def faults_of_missed(folder, rows, fixed, *words):
     return faults_of_plan(folder, words, misses[-1:]) + faults_of_misses(folder, rows, fixed, misses)
 
 
+def faults_of_anew(folder, rate, rows, fixed, at):
+    """What is wrong with how far the numbers of a row are said to go with identifiers chosen anew. Its bytes are those of its EDS file."""
+    write_network(folder, rows, fixed)
+    words = ("--anew", f"1.{rows[at]['tpdo']}", f"{folder}/nodes.csv", f"{folder}/pdos.csv")
+    lines = called("room", *words).stdout.splitlines()
+    document = json.loads(called("room", "--json", *words).stdout)
+    said = re.fullmatch(rf"pdo 1\.{rows[at]['tpdo']} anew (.*)", lines[1])
+    told = read_pairs(said[1])
+    if lines[0] != f"rate {rate}" or len(lines) != 2 or document["rate"] != int(rate) or pairs_of(document["room"]["anew"]) != told:
+        yield ("anew", lines, document)
+    for column in ("period", "jitter", "deadline"):
+        now, limit = told[column]
+
+        def passes(number, column=column):
+            return passes_at(folder, rate, [row | {column: number} if k == at else row for k, row in enumerate(rows)], fixed)
+        low, high = RANGES[column]
+        following = limit + 1 if column in RISING else limit - 1
+        if now != rows[at][column] or not is_limit(passes, limit, following, lambda n, low=low, high=high: low <= n <= high):
+            yield ("anew", column, limit)
+
+
 def faults_of(folder, rows, fixed):
     """What is wrong with the room of a network; None where no rate passes."""
     write_network(folder, rows, fixed)
@@ -219,7 +248,7 @@ def faults_of(folder, rows, fixed):
     wrong += faults_of_all(folder, rate, streams, pdos, numbers)
     if not is_same_document(called("room", "--json", *tables).stdout, rate, told, numbers):
         wrong.append("the document")
-    return wrong
+    return wrong + list(faults_of_anew(folder, rate, rows, fixed, len(rows) // 2))
 
 
 def main():

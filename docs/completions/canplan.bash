@@ -45,7 +45,7 @@ _canplan() {
         _canplan_list "10 20 50 125 250 500 800 1000"
         return
         ;;
-    "boot --seed" | "boot --only" | "boot --boot-limit" | "boot --watch" | "boot --limit" | "boot --title" | "boot --date" | "verify --only" | "verify --gently" | "verify --limit" | "nmt --limit" | "scan --up-to" | "scan --gently" | "scan --limit" | "read --limit" | "write --limit" | "run --seed" | "run --until" | "report --title" | "report --date" | "report --error" | "report --drift" | "report --channel" | "export --manager" | "init --up-to" | "init --gently" | "init --limit" | "watch --for" | "watch --error" | "watch --drift" | "watch --channel")
+    "room --anew" | "boot --seed" | "boot --only" | "boot --boot-limit" | "boot --watch" | "boot --limit" | "boot --title" | "boot --date" | "verify --only" | "verify --gently" | "verify --limit" | "nmt --limit" | "scan --up-to" | "scan --gently" | "scan --limit" | "read --limit" | "write --limit" | "run --seed" | "run --until" | "report --title" | "report --date" | "report --error" | "report --drift" | "report --channel" | "export --manager" | "init --up-to" | "init --gently" | "init --limit" | "watch --for" | "watch --error" | "watch --drift" | "watch --channel")
         :
         return
         ;;
@@ -70,7 +70,7 @@ _canplan() {
         case "$sub" in
         test) _canplan_words "--rate --strict --json --explain --help" ;;
         plan) _canplan_words "--setup --rates --margin --as-is --explain --json --strict --help" ;;
-        room) _canplan_words "--setup --rates --margin --explain --json --help" ;;
+        room) _canplan_words "--setup --rates --margin --explain --json --anew --help" ;;
         check) _canplan_words "--setup --rates --margin --explain --json --strict --help" ;;
         boot) _canplan_words "--setup --rates --margin --explain --json --seed --port --take-over --no-identity --only --no-start --boot-limit --restore --store --watch --limit --report --title --date --help" ;;
         verify) _canplan_words "--setup --rates --margin --explain --json --port --only --gently --limit --help" ;;
@@ -94,7 +94,7 @@ _canplan() {
     for ((at = 2; at < COMP_CWORD; at++)); do
         it="${COMP_WORDS[at]}"
         case "$sub $it" in
-        "test --rate" | "plan --setup" | "plan --rates" | "room --setup" | "room --rates" | "check --setup" | "check --rates" | "boot --setup" | "boot --rates" | "boot --seed" | "boot --port" | "boot --only" | "boot --boot-limit" | "boot --watch" | "boot --limit" | "boot --report" | "boot --title" | "boot --date" | "verify --setup" | "verify --rates" | "verify --port" | "verify --only" | "verify --gently" | "verify --limit" | "nmt --port" | "nmt --rate" | "nmt --limit" | "scan --port" | "scan --rate" | "scan --up-to" | "scan --gently" | "scan --eds" | "scan --limit" | "read --port" | "read --rate" | "read --type" | "read --eds" | "read --limit" | "write --port" | "write --rate" | "write --type" | "write --eds" | "write --limit" | "run --setup" | "run --rates" | "run --seed" | "run --until" | "judge --setup" | "judge --rates" | "report --setup" | "report --rates" | "report --trace" | "report --log" | "report --title" | "report --date" | "report --error" | "report --drift" | "report --channel" | "export --manager" | "export --setup" | "export --rates" | "tidy --access" | "tidy --unlisted" | "tidy --rates" | "init --port" | "init --rate" | "init --up-to" | "init --gently" | "init --limit" | "watch --setup" | "watch --rates" | "watch --port" | "watch --for" | "watch --error" | "watch --drift" | "watch --channel" | "watch --csv") [[ ${COMP_WORDS[at + 1]} == "=" ]] && ((at++)); ((at++)) ;;
+        "test --rate" | "plan --setup" | "plan --rates" | "room --setup" | "room --rates" | "room --anew" | "check --setup" | "check --rates" | "boot --setup" | "boot --rates" | "boot --seed" | "boot --port" | "boot --only" | "boot --boot-limit" | "boot --watch" | "boot --limit" | "boot --report" | "boot --title" | "boot --date" | "verify --setup" | "verify --rates" | "verify --port" | "verify --only" | "verify --gently" | "verify --limit" | "nmt --port" | "nmt --rate" | "nmt --limit" | "scan --port" | "scan --rate" | "scan --up-to" | "scan --gently" | "scan --eds" | "scan --limit" | "read --port" | "read --rate" | "read --type" | "read --eds" | "read --limit" | "write --port" | "write --rate" | "write --type" | "write --eds" | "write --limit" | "run --setup" | "run --rates" | "run --seed" | "run --until" | "judge --setup" | "judge --rates" | "report --setup" | "report --rates" | "report --trace" | "report --log" | "report --title" | "report --date" | "report --error" | "report --drift" | "report --channel" | "export --manager" | "export --setup" | "export --rates" | "tidy --access" | "tidy --unlisted" | "tidy --rates" | "init --port" | "init --rate" | "init --up-to" | "init --gently" | "init --limit" | "watch --setup" | "watch --rates" | "watch --port" | "watch --for" | "watch --error" | "watch --drift" | "watch --channel" | "watch --csv") [[ ${COMP_WORDS[at + 1]} == "=" ]] && ((at++)); ((at++)) ;;
         *" -"?*) ;;
         *) ((place++)) ;;
         esac

@@ -64,6 +64,7 @@ _canplan() {
             '--margin[Takes, at the same rate, the identifiers with the greatest least margin of all deadlines]' \
             '--explain[Says of a fault in words where it stands, what is wanted and what is usually behind it]' \
             '--json[Answers by one document in JSON on standard output, also of a fault]' \
+            '--anew=[Says of this PDO alone how far its numbers can go where the identifiers of all PDOs are chosen anew]:NODE.TPDO: ' \
             '(-h --help)'{-h,--help}'[Print help]' \
             '1:NODES:_files' \
             '2:PDOS:_files'

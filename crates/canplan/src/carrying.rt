@@ -73,7 +73,7 @@ pub fn carry_out(
         }
         Order::Plan(order) => plan(rt, order, form, inputs),
         Order::AsIs(network) => test_as_is(rt, network, form, inputs),
-        Order::Room(network) => room(rt, network, form, inputs),
+        Order::Room(order) => room(rt, order, form, inputs),
         Order::Check {
             network,
             refusals,

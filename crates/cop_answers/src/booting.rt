@@ -20,7 +20,10 @@ pub const GARBLED: u8 = 103;
 /// The number of the rule that the adapter takes the rate and is opened.
 pub const UNOPENED: u8 = 104;
 
-/// What the rule of a number says, and what is right. Nothing for a number that is no rule of a machine.
+/// The number of the rule that the PDO whose numbers are asked for alone has a row.
+pub const UNLISTED: u8 = 105;
+
+/// What the rule of a number says, and what is right. Nothing for a number that is no rule of a machine, or of a choice among its rows.
 pub fn machine_rule_words(number: u8) -> &'static str {
     match number {
         RUNNING => {
@@ -38,11 +41,14 @@ pub fn machine_rule_words(number: u8) -> &'static str {
         UNOPENED => {
             "the adapter refuses the bit rate (S) or to be opened (O); no frame was sent\ngive --rates with rates that it has, or take another adapter\n"
         }
+        UNLISTED => {
+            "the TPDO of --anew has no row in the table of PDOs\ngive --anew the node and the TPDO of a row, as 42.1\n"
+        }
         _ => "",
     }
 }
 
-/// Whether a number is that of a rule of a machine.
+/// Whether a number is that of a rule of a machine, or of a choice among its rows.
 pub fn is_machine_rule(number: u8) -> bool {
     !machine_rule_words(number).is_empty()
 }
@@ -52,7 +58,7 @@ pub fn machine_words(alloc: Global, number: u8, place: u64) -> Result<Vec<u8>, A
     let rule = machine_rule_words(number);
     let words = match number {
         RUNNING if place == 0 => format!(in alloc; "some node: {rule}")?,
-        RUNNING | ABSENT => format!(in alloc; "node {place}: {rule}")?,
+        RUNNING | ABSENT | UNLISTED => format!(in alloc; "node {place}: {rule}")?,
         GARBLED => format!(in alloc; "{place} lines: {rule}")?,
         _ => String::from_str(alloc, rule)?,
     };

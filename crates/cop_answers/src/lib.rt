@@ -25,7 +25,7 @@ mod verifying;
 mod warning_rules;
 mod warnings;
 
-pub use booting::{ABSENT, ERRONEOUS, GARBLED, RUNNING, UNOPENED, boot_notes};
+pub use booting::{ABSENT, ERRONEOUS, GARBLED, RUNNING, UNLISTED, UNOPENED, boot_notes};
 pub use bus_plans::{BusPlan, bus_plan_of};
 pub use checking::status_after_check;
 pub use distances::distances_table;
@@ -35,7 +35,7 @@ pub use identities::identity_notes;
 pub use masters::{NamedFile, concise_files, sync_maker};
 pub use notes::{Notes, plan_notes};
 pub use pages::{Sources, page_text, timeline};
-pub use rooms::{misses_of, misses_text, room_text};
+pub use rooms::{anew_of, anew_text, misses_of, misses_text, room_text};
 pub use rules::{explained_line, page_of_rules, words_of_rule};
 pub use standing_rules::NO_IDENTIFIER;
 pub use standings::{standing_reason, standing_text, standing_words, uncounted_pdos};

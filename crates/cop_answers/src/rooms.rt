@@ -1,21 +1,16 @@
 //! How far each number of a plan goes, in lines.
 
 use cop_cert::Refusal;
+use cop_frame::Rate;
 use cop_frame::identifiers::SYNC;
 use cop_net::{Network, PdoRow};
 use cop_plan::{Outcome, Plan, can_assign};
-use cop_room::{Miss, Room, RowRoom, nearest_miss};
+use cop_room::{Miss, Room, RowRoom, nearest_miss, room_anew};
 use cop_rta::Stream;
 use std::alloc::{AllocError, Global};
 
 /// Adds how far the numbers of a row go: each as the table has it, and as far as it can go alone.
-fn push_row(
-    text: &mut String,
-    row: &PdoRow,
-    stream: &Stream,
-    room: &RowRoom,
-) -> Result<(), AllocError> {
-    write!(text, "pdo {}.{} id {:X}h", row.node, row.tpdo, stream.id)?;
+fn push_numbers(text: &mut String, stream: &Stream, room: &RowRoom) -> Result<(), AllocError> {
     if let Some(period) = room.period {
         write!(text, " period {} {period}", stream.period / 4)?;
     }
@@ -23,6 +18,17 @@ fn push_row(
     let deadline = stream.deadline.unwrap_or(0) / 4;
     write!(text, " deadline {deadline} {}", room.deadline)?;
     write!(text, " bytes {} {}\n", stream.bytes, room.bytes)
+}
+
+/// Adds a row under its identifier.
+fn push_row(
+    text: &mut String,
+    row: &PdoRow,
+    stream: &Stream,
+    room: &RowRoom,
+) -> Result<(), AllocError> {
+    write!(text, "pdo {}.{} id {:X}h", row.node, row.tpdo, stream.id)?;
+    push_numbers(text, stream, room)
 }
 
 /// Adds the rows, that with the lowest identifier first.
@@ -71,6 +77,37 @@ pub fn room_text(
     match room.more {
         Some(period) => write!(text, "more {period}\n")?,
         None => text.push_str("more none\n")?,
+    }
+    Ok(text)
+}
+
+/// How far the numbers of a PDO go at a rate where the identifiers of all PDOs are chosen anew; none where there is no such PDO.
+pub fn anew_of(
+    alloc: Global,
+    network: &Network<'_>,
+    rate: Rate,
+    pdo: usize,
+) -> Result<Option<RowRoom>, AllocError> {
+    let (set, pdos) = (network.set(), network.pdos());
+    if pdo < pdos && can_assign(set, pdos) {
+        Ok(Some(room_anew(alloc, set, pdos, rate, pdo)?))
+    } else {
+        Ok(None)
+    }
+}
+
+/// The same in lines: the rate, and the row, which has no identifier.
+pub fn anew_text(
+    alloc: Global,
+    network: &Network<'_>,
+    rate: Rate,
+    pdo: usize,
+    room: &RowRoom,
+) -> Result<String, AllocError> {
+    let mut text = format!(in alloc; "rate {}\n", rate.kbits())?;
+    if let (Some(row), Some(stream)) = (network.rows().get(pdo), network.set().streams().get(pdo)) {
+        write!(text, "pdo {}.{} anew", row.node, row.tpdo)?;
+        push_numbers(&mut text, stream, room)?;
     }
     Ok(text)
 }

@@ -15,7 +15,7 @@ fn other_words(number: u8) -> &'static str {
     match number {
         70..=84 => question_words(number),
         90..=96 => log_rule_words(number),
-        100..=104 => machine_rule_words(number),
+        100..=105 => machine_rule_words(number),
         NO_IDENTIFIER => STANDING_RULE,
         150..=152 => project_rule_words(number),
         _ => warning_rule_words(number),

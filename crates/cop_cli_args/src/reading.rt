@@ -10,7 +10,7 @@ use cop_engine::rate_of;
 use cop_frame::Rate;
 use cop_orders::{
     DiffOrder, Format, InitOrder, ListenOrder, MachineOrder, NetworkFiles, NmtOrder, Order,
-    PlanOrder, Rates, Request, ScanOrder, Shown, TidyChoices, TidyOrder, TransferOrder,
+    PlanOrder, Rates, Request, RoomOrder, ScanOrder, Shown, TidyChoices, TidyOrder, TransferOrder,
     VerifyOrder, WatchOrder,
 };
 use cop_plan::Choice;
@@ -80,7 +80,10 @@ fn check_order<'a>(matches: &ArgMatches<'a>) -> Order<'a> {
 }
 
 fn room_order<'a>(matches: &ArgMatches<'a>) -> Order<'a> {
-    Order::Room(network_of(matches))
+    Order::Room(RoomOrder {
+        network: network_of(matches),
+        anew: matches.get_str("anew"),
+    })
 }
 
 /// The node that a word names; 0, which is no node's number, if the word is none.

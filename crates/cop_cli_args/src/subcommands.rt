@@ -64,7 +64,21 @@ static PLAN: [Word; 10] = [
     },
 ];
 
-static ROOM: [Word; 7] = [NODES, PDOS, SETUP, LISTED_RATES, MARGIN, EXPLAIN, JSON];
+static ROOM: [Word; 8] = [
+    NODES,
+    PDOS,
+    SETUP,
+    LISTED_RATES,
+    MARGIN,
+    EXPLAIN,
+    JSON,
+    Word {
+        name: "anew",
+        kind: Kind::Text("NODE.TPDO"),
+        need: Need::Optional,
+        help: "Says of this PDO alone how far its numbers can go where the identifiers of all PDOs are chosen anew",
+    },
+];
 
 static CHECK: [Word; 9] = [
     NODES,
@@ -454,7 +468,10 @@ impl Subcommand {
         match self {
             Subcommand::Test => "Example: canplan test --rate 125 streams.csv",
             Subcommand::Plan => "Example: canplan plan nodes.csv pdos.csv out",
-            Subcommand::Room => "Example: canplan room nodes.csv pdos.csv",
+            Subcommand::Room => {
+                "Examples: canplan room nodes.csv pdos.csv
+          canplan room --anew 42.1 nodes.csv pdos.csv"
+            }
             Subcommand::Check => "Example: canplan check nodes.csv pdos.csv out/refusals.csv",
             Subcommand::Boot => {
                 "Examples: canplan boot --seed 1 nodes.csv pdos.csv

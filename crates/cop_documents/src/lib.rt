@@ -20,7 +20,7 @@ pub use faults::{Told, fault_document};
 pub use logs::watch_document;
 pub use objects::{Object, text_of};
 pub use plans::{PlanNumbers, plan_document};
-pub use rooms::{no_room_document, room_document};
+pub use rooms::{anew_document, no_room_document, room_document};
 pub use standings::{Uncounted, standing_document};
 pub use transfers::{Meaning, Transfer, TransferEnd, transfer_document};
 pub use warnings::Warned;

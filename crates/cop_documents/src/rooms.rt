@@ -3,6 +3,7 @@
 use crate::objects::Object;
 use crate::plans::pdo_name;
 use crate::values::micros;
+use cop_frame::Rate;
 use cop_frame::identifiers::SYNC;
 use cop_net::Network;
 use cop_plan::Plan;
@@ -34,21 +35,38 @@ fn bytes_of(alloc: Global, now: u8, limit: u8) -> Result<Value, AllocError> {
         .end()
 }
 
+/// With the numbers of a row.
+fn with_numbers(object: Object, alloc: Global, stream: &Stream, room: &RowRoom) -> Object {
+    let deadline = stream.deadline.unwrap_or(0) / 4;
+    object
+        .with("period", times_if(alloc, stream.period / 4, room.period))
+        .with("jitter", times_of(alloc, stream.jitter / 4, room.jitter))
+        .with("deadline", times_of(alloc, deadline, room.deadline))
+        .with("bytes", bytes_of(alloc, stream.bytes, room.bytes))
+}
+
 fn row_of(
     alloc: Global,
     name: Result<Value, AllocError>,
     stream: &Stream,
     room: &RowRoom,
 ) -> Result<Value, AllocError> {
-    let deadline = stream.deadline.unwrap_or(0) / 4;
-    Object::new(alloc)
-        .with("pdo", name)
-        .plain("id", stream.id)
-        .with("period", times_if(alloc, stream.period / 4, room.period))
-        .with("jitter", times_of(alloc, stream.jitter / 4, room.jitter))
-        .with("deadline", times_of(alloc, deadline, room.deadline))
-        .with("bytes", bytes_of(alloc, stream.bytes, room.bytes))
-        .end()
+    let object = Object::new(alloc).with("pdo", name).plain("id", stream.id);
+    with_numbers(object, alloc, stream, room).end()
+}
+
+/// A row whose identifier is chosen anew.
+fn anew_of(
+    alloc: Global,
+    network: &Network<'_>,
+    pdo: usize,
+    room: &RowRoom,
+) -> Result<Value, AllocError> {
+    let Some(stream) = network.set().streams().get(pdo) else {
+        return Ok(Value::Null);
+    };
+    let object = Object::new(alloc).with("pdo", pdo_name(alloc, network.rows().get(pdo)));
+    with_numbers(object, alloc, stream, room).end()
 }
 
 /// The rows, that with the lowest identifier first.
@@ -110,6 +128,25 @@ pub fn room_document(
         .text("command", "room")
         .plain("rate", plan.rate().kbits())
         .with("room", room_of(alloc, network, plan, room))
+        .end()?;
+    document.to_string(alloc)
+}
+
+/// How far the numbers of a PDO go at a rate where the identifiers of all are chosen anew. `Err` is want of memory.
+pub fn anew_document(
+    alloc: Global,
+    network: &Network<'_>,
+    rate: Rate,
+    pdo: usize,
+    room: &RowRoom,
+) -> Result<String, AllocError> {
+    let anew = Object::new(alloc)
+        .with("anew", anew_of(alloc, network, pdo, room))
+        .end();
+    let document = Object::new(alloc)
+        .text("command", "room")
+        .plain("rate", rate.kbits())
+        .with("room", anew)
         .end()?;
     document.to_string(alloc)
 }

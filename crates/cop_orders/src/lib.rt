@@ -5,6 +5,6 @@ mod orders;
 
 pub use orders::{
     DiffOrder, Format, InitOrder, ListenOrder, MOST_UNTIL, MachineOrder, NetworkFiles, NmtOrder,
-    Order, PlanOrder, Rates, Request, ScanOrder, Shown, TidyChoices, TidyOrder, TransferOrder,
-    VerifyOrder, WatchOrder,
+    Order, PlanOrder, Rates, Request, RoomOrder, ScanOrder, Shown, TidyChoices, TidyOrder,
+    TransferOrder, VerifyOrder, WatchOrder,
 };

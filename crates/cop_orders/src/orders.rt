@@ -65,6 +65,14 @@ pub struct PlanOrder<'a> {
     pub strict: bool,
 }
 
+/// A network of whose plan it is asked how far numbers can go.
+#[derive(Clone, Copy)]
+pub struct RoomOrder<'a> {
+    pub network: NetworkFiles<'a>,
+    /// The PDO, as `42.1`, whose numbers alone are asked for, with identifiers chosen anew. Otherwise all numbers are, with those of the plan.
+    pub anew: Option<&'a str>,
+}
+
 /// The devices at the adapter of a port, which are to be booted by the plan of their network.
 #[derive(Clone, Copy)]
 pub struct MachineOrder<'a> {
@@ -263,7 +271,7 @@ pub enum Order<'a> {
     /// The question whether a network passes as it stands, with the identifiers that its devices have.
     AsIs(NetworkFiles<'a>),
     /// How far each number of a network's plan can go.
-    Room(NetworkFiles<'a>),
+    Room(RoomOrder<'a>),
     /// The check of a refusal file against a network.
     Check {
         network: NetworkFiles<'a>,

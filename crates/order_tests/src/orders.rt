@@ -145,9 +145,12 @@ fn write_made(text: &mut String, order: Order<'_>) -> Result<(), AllocError> {
             write!(text, "export {name} {out}")?;
             write_network(text, network)
         }
-        Order::Room(network) => {
+        Order::Room(order) => {
             text.push_str("room")?;
-            write_network(text, network)
+            if let Some(pdo) = order.anew {
+                write!(text, " anew {pdo}")?;
+            }
+            write_network(text, order.network)
         }
         Order::Watch { log, csv } => write_watch(text, log, csv),
         _ => write_planned(text, order),
@@ -375,6 +378,7 @@ const ASKED: &[(&str, &str)] = &[
     ("diff --json a b", "diff a b json"),
     ("room --json n p", "room n p json"),
     ("room --rates 125,500 n p", "room n p at 125 at 500"),
+    ("room --anew 42.1 n p", "room anew 42.1 n p"),
     ("report n p out", "report out no n p"),
     (
         "report --trace t --log l --error 7 n p out",
@@ -419,6 +423,7 @@ const REFUSED: &[&str] = &[
     "plan n p",
     "room n",
     "room --strict n p",
+    "room n p --anew",
     "plan n p out more",
     "plan --as-is n p out",
     "plan --as-is --margin n p",
