@@ -223,18 +223,29 @@ fn sent_by(node: u8, object: &Object) -> Option<Uncounted> {
     })
 }
 
+/// Adds the PDOs that the device of a node sends and that no row has.
+fn push_uncounted(
+    found: &mut Vec<Uncounted>,
+    rows: &[PdoRow],
+    node: u8,
+    dict: &Dictionary,
+) -> Result<(), AllocError> {
+    for object in dict.entries() {
+        if let Some(pdo) = sent_by(node, object)
+            && !has_row(rows, pdo.node, pdo.tpdo)
+        {
+            found.push(pdo)?;
+        }
+    }
+    Ok(())
+}
+
 /// The PDOs that devices send by their EDS files and that no row has, so that no test counts them: by the devices' rows, and by number.
 pub fn uncounted_pdos(alloc: Global, network: &Network<'_>) -> Result<Vec<Uncounted>, AllocError> {
     let mut found = Vec::new(alloc);
     for device in network.devices() {
         if let Some(dict) = network.dictionary(device.node) {
-            for object in dict.entries() {
-                if let Some(pdo) = sent_by(device.node, object) {
-                    if !has_row(network.rows(), pdo.node, pdo.tpdo) {
-                        found.push(pdo)?;
-                    }
-                }
-            }
+            push_uncounted(&mut found, network.rows(), device.node, dict)?;
         }
     }
     Ok(found)

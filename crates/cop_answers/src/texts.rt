@@ -6,14 +6,22 @@ use cop_plan::{Asked, Choice};
 use std::alloc::{AllocError, Global};
 
 /// The two tables of a network, each read once.
-#[derive(Drop)]
 pub struct Tables {
     pub nodes: NodeTable,
     pub pdos: PdoTable,
 }
 
+/// One call on each way out is cheaper to prove than the fields one by one.
+impl Drop for Tables {
+    fn drop(self) {
+        let Tables {
+            nodes: _nodes,
+            pdos: _pdos,
+        } = self;
+    }
+}
+
 /// The files of a network, as far as they were read.
-#[derive(Drop)]
 pub struct Texts {
     pub nodes: Vec<u8>,
     pub pdos: Vec<u8>,
@@ -25,12 +33,34 @@ pub struct Texts {
     pub asked: Asked,
 }
 
+/// One call on each way out is cheaper to prove than the fields one by one.
+impl Drop for Texts {
+    fn drop(self) {
+        let Texts {
+            nodes: _nodes,
+            pdos: _pdos,
+            settings: _settings,
+            eds_files: _eds_files,
+            asked: _asked,
+        } = self;
+    }
+}
+
 /// All that was read for an order. It is kept, so that the words of a fault are of what was read.
-#[derive(Drop)]
 pub struct Inputs {
     pub network: Texts,
     /// The table of streams, the refusals or the trace.
     pub other: Vec<u8>,
+}
+
+/// One call on each way out is cheaper to prove than the fields one by one.
+impl Drop for Inputs {
+    fn drop(self) {
+        let Inputs {
+            network: _network,
+            other: _other,
+        } = self;
+    }
 }
 
 impl Inputs {

@@ -87,21 +87,12 @@ pub(crate) fn command_of<'a>(
     Ok(command)
 }
 
-/// Whether the first word behind the program's name is a subcommand's.
-fn is_named(subcommand: Subcommand, given: &[String]) -> bool {
-    given
-        .get(1)
-        .is_some_and(|word| word.as_str() == subcommand.name())
-}
-
-/// The subcommand that the words name.
+/// The subcommand that the first word behind the program's name is.
 pub(crate) fn named(given: &[String]) -> Option<Subcommand> {
-    for subcommand in Subcommand::ALL {
-        if is_named(subcommand, given) {
-            return Some(subcommand);
-        }
+    match given {
+        [_, word, ..] => Subcommand::named(word.as_str()),
+        _ => None,
     }
-    None
 }
 
 /// The command line: with the subcommand alone that the words name, and with all where they name none.
@@ -110,11 +101,9 @@ pub(crate) fn command<'a>(alloc: Global, given: &[String]) -> Result<Command<'a>
         .version("0.1.0")
         .about(ABOUT)
         .after_help(AFTER);
-    let names_one = Subcommand::ALL
-        .iter()
-        .any(|subcommand| is_named(*subcommand, given));
+    let named = named(given);
     for subcommand in Subcommand::ALL {
-        if !names_one || is_named(subcommand, given) {
+        if named.is_none() || named == Some(subcommand) {
             command = command.subcommand(command_of(alloc, subcommand)?)?;
         }
     }

@@ -78,7 +78,7 @@ fn message_of(
     given: &[String],
     kind: ErrorKind,
 ) -> Result<Option<String>, AllocError> {
-    let is_boot = subcommand.name() == "boot";
+    let is_boot = subcommand == Subcommand::Boot;
     match kind {
         ErrorKind::InvalidValue => match wrong_rate(given) {
             Some(word) => Ok(Some(rate_message(alloc, word)?)),
@@ -102,7 +102,7 @@ fn better(alloc: Global, given: &[String], kind: ErrorKind) -> Result<Option<Err
     };
     let name = format!(in alloc; "canplan {}", subcommand.name())?;
     let mut command = command_of(alloc, subcommand)?.bin_name(&name)?;
-    if subcommand.name() == "boot" {
+    if subcommand == Subcommand::Boot {
         command = command.override_usage(BOOT_USAGE);
     }
     Ok(Some(command.error(kind, &message)?))

@@ -2,6 +2,7 @@
 
 use crate::commands::command;
 use crate::mistakes::mistake;
+use crate::subcommands::Subcommand;
 use clap::{ArgMatches, Error};
 use cop_command::Command;
 use cop_dict::DataType;
@@ -382,47 +383,69 @@ fn explain_order<'a>(matches: &ArgMatches<'a>) -> Order<'a> {
     }
 }
 
-fn order_of<'a>(name: &str, matches: &ArgMatches<'a>) -> Order<'a> {
-    match name {
-        "plan" => plan_order(matches),
-        "room" => room_order(matches),
-        "check" => check_order(matches),
-        "boot" => boot_order(matches),
-        "verify" => verify_order(matches),
-        "nmt" => nmt_order(matches),
-        "scan" => scan_order(matches),
-        "read" => read_order(matches),
-        "write" => write_order(matches),
-        "judge" => judge_order(matches),
-        "run" => run_order(matches),
-        "report" => report_order(matches),
-        "export" => export_order(matches),
-        "tidy" => tidy_order(matches),
-        "init" => init_order(matches),
-        "diff" => diff_order(matches),
-        "watch" => watch_order(matches),
-        "explain" => explain_order(matches),
-        _ => test_order(matches),
+fn order_of<'a>(subcommand: Subcommand, matches: &ArgMatches<'a>) -> Order<'a> {
+    match subcommand {
+        Subcommand::Test => test_order(matches),
+        Subcommand::Plan => plan_order(matches),
+        Subcommand::Room => room_order(matches),
+        Subcommand::Check => check_order(matches),
+        Subcommand::Boot => boot_order(matches),
+        Subcommand::Verify => verify_order(matches),
+        Subcommand::Nmt => nmt_order(matches),
+        Subcommand::Scan => scan_order(matches),
+        Subcommand::Read => read_order(matches),
+        Subcommand::Write => write_order(matches),
+        Subcommand::Run => run_order(matches),
+        Subcommand::Judge => judge_order(matches),
+        Subcommand::Report => report_order(matches),
+        Subcommand::Export => export_order(matches),
+        Subcommand::Tidy => tidy_order(matches),
+        Subcommand::Init => init_order(matches),
+        Subcommand::Diff => diff_order(matches),
+        Subcommand::Watch => watch_order(matches),
+        Subcommand::Explain => explain_order(matches),
     }
 }
 
 /// Whether the answer of a subcommand can be a document.
-fn has_document(name: &str) -> bool {
+fn has_document(subcommand: Subcommand) -> bool {
     matches!(
-        name,
-        "plan"
-            | "room"
-            | "check"
-            | "test"
-            | "judge"
-            | "boot"
-            | "verify"
-            | "scan"
-            | "read"
-            | "write"
-            | "diff"
-            | "watch"
+        subcommand,
+        Subcommand::Plan
+            | Subcommand::Room
+            | Subcommand::Check
+            | Subcommand::Test
+            | Subcommand::Judge
+            | Subcommand::Boot
+            | Subcommand::Verify
+            | Subcommand::Scan
+            | Subcommand::Read
+            | Subcommand::Write
+            | Subcommand::Diff
+            | Subcommand::Watch
     )
+}
+
+/// What is asked for without a word.
+fn unasked<'a>() -> Request<'a> {
+    Request {
+        order: Order::Test {
+            rate: Rate::Kbit125,
+            file: "-",
+            strict: false,
+        },
+        explain: false,
+        json: false,
+    }
+}
+
+/// What the words of a subcommand ask for.
+fn request_of<'a>(subcommand: Subcommand, matches: &ArgMatches<'a>) -> Request<'a> {
+    Request {
+        order: order_of(subcommand, matches),
+        explain: subcommand != Subcommand::Explain && matches.get_flag("explain"),
+        json: has_document(subcommand) && matches.get_flag("json"),
+    }
 }
 
 /// What the words ask for, the program's name being the first. With no other word it is `test --rate 125 -`.
@@ -432,20 +455,11 @@ pub fn read_request<'a>(alloc: Global, words: &'a [String]) -> Result<Request<'a
         Ok(matches) => matches,
         Err(error) => return Err(mistake(alloc, words, error)),
     };
-    match matches.subcommand() {
-        Some((name, matches)) => Ok(Request {
-            order: order_of(name, matches),
-            explain: name != "explain" && matches.get_flag("explain"),
-            json: has_document(name) && matches.get_flag("json"),
-        }),
-        None => Ok(Request {
-            order: Order::Test {
-                rate: Rate::Kbit125,
-                file: "-",
-                strict: false,
-            },
-            explain: false,
-            json: false,
-        }),
+    let Some((name, matches)) = matches.subcommand() else {
+        return Ok(unasked());
+    };
+    match Subcommand::named(name) {
+        Some(subcommand) => Ok(request_of(subcommand, matches)),
+        None => Ok(unasked()),
     }
 }

@@ -341,7 +341,7 @@ static EXPLAIN_RULE: [Word; 2] = [
 ];
 
 /// The subcommands.
-#[derive(Clone, Copy)]
+#[derive(Clone, Copy, PartialEq, Eq)]
 pub(crate) enum Subcommand {
     Test,
     Plan,
@@ -387,6 +387,16 @@ impl Subcommand {
         Subcommand::Watch,
         Subcommand::Explain,
     ];
+
+    /// The one of a name.
+    pub fn named(name: &str) -> Option<Subcommand> {
+        for subcommand in Subcommand::ALL {
+            if subcommand.name() == name {
+                return Some(subcommand);
+            }
+        }
+        None
+    }
 
     pub fn name(self) -> &'static str {
         match self {

@@ -16,10 +16,19 @@ use std::alloc::{AllocError, Global};
 use std::marker::Model;
 
 /// A network and what the planner answers for it.
-#[derive(Drop)]
 pub struct PlannedNetwork<'a> {
     network: Network<'a>,
     outcome: Outcome,
+}
+
+/// One call on each way out is cheaper to prove than the fields one by one.
+impl Drop for PlannedNetwork<'_> {
+    fn drop(self) {
+        let PlannedNetwork {
+            network: _network,
+            outcome: _outcome,
+        } = self;
+    }
 }
 
 impl<'a> Model for PlannedNetwork<'a> {
@@ -60,7 +69,11 @@ impl<'a> PlannedNetwork<'a> {
     pub(crate) fn into_outcome(self) -> Outcome
         ensures { result ≡ self.entry.outcome }
     {
-        self.outcome
+        let PlannedNetwork {
+            network: _network,
+            outcome,
+        } = self;
+        outcome
     }
 
     /// Whether some rate passes.

@@ -18,7 +18,6 @@ use cop_rta::{StreamSet, verdicts_by_id};
 use std::alloc::{AllocError, Global};
 
 /// The numbers of a report.
-#[derive(Drop)]
 pub struct Figures {
     /// The planned rate, if some rate passes.
     pub rate: Option<Rate>,
@@ -32,6 +31,20 @@ pub struct Figures {
     pub loads: Vec<Load>,
     /// The refused rates, the slowest first.
     pub refused: Vec<RefusedRate>,
+}
+
+/// One call on each way out is cheaper to prove than the fields one by one.
+impl Drop for Figures {
+    fn drop(self) {
+        let Figures {
+            rate: _rate,
+            sync: _sync,
+            pdos: _pdos,
+            frames: _frames,
+            loads: _loads,
+            refused: _refused,
+        } = self;
+    }
 }
 
 /// The times of the PDOs of a plan, and those of its SDO frames with deadlines. In the set the PDOs have provisional identifiers.

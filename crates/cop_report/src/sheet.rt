@@ -209,7 +209,8 @@ fn push_head(page: &mut String, sheet: Sheet<'_, '_>) -> Result<(), AllocError> 
         "</style>\n</head>\n<body>\n<main>\n<p class=\"soft\">CANopen boot</p>\n<h1>{title}</h1>\n"
     )?;
     push_block(page, sheet)?;
-    page.push_str(started_said(sheet.answer.started))
+    let answer = sheet.answer;
+    page.push_str(started_said(answer.started))
 }
 
 /// The lines that are filled in by hand.

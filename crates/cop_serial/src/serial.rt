@@ -30,7 +30,6 @@ enum Line {
 }
 
 /// A line to an adapter, with a clock that began as it was opened. What a line and a clock give no contract can say.
-#[derive(Drop)]
 pub struct Serial<'a> {
     rt: &'a HostRuntime,
     line: Line,
@@ -51,6 +50,25 @@ pub struct Serial<'a> {
     limit: u64,
     /// Whether it was given up.
     pub over: bool,
+}
+
+/// One call on each way out is cheaper to prove than the fields one by one.
+impl Drop for Serial<'_> {
+    fn drop(self) {
+        let Serial {
+            rt: _rt,
+            line: _line,
+            opened: _opened,
+            refused: _refused,
+            cannot_listen: _cannot_listen,
+            is_at_seven: _is_at_seven,
+            heard: _heard,
+            letter: _letter,
+            error: _error,
+            limit: _limit,
+            over: _over,
+        } = self;
+    }
 }
 
 // The device file of a serial line. Any other file is refused before a byte is written there.

@@ -1,13 +1,12 @@
 //! What is said of deadlines that are shorter than the frames themselves.
 
 use crate::findings::Finding;
-use crate::mappings::pdo_name;
-use crate::refusals::micros;
-use cop_dict::Direction;
+use crate::names::{Micros, PdoName, tpdo_of};
 use cop_frame::{Rate, worst_bits};
-use cop_net::{DevicePdo, Network, PdoRow};
+use cop_net::{Network, PdoRow};
 use cop_rta::Stream;
 use std::alloc::{AllocError, Global};
+use std::fmt;
 
 /// A PDO whose frame alone takes longer than its deadline at the fastest rate.
 #[derive(Clone, Copy)]
@@ -57,6 +56,19 @@ fn short_ones(alloc: Global, network: &Network<'_>) -> Result<Vec<Short>, AllocE
     Ok(short)
 }
 
+/// How many others come behind the first one.
+#[derive(Clone, Copy)]
+struct More(usize);
+
+impl fmt::Display for More {
+    fn fmt<W: fmt::Write>(&self, f: &mut fmt::Formatter<W>) -> fmt::Result {
+        match self.0 {
+            0 => Ok(()),
+            others => write!(f, " and {others} more"),
+        }
+    }
+}
+
 /// What is said of the first of some such PDOs, behind which others come.
 fn short_words(
     alloc: Global,
@@ -64,18 +76,9 @@ fn short_words(
     first: Short,
     others: usize,
 ) -> Result<String, AllocError> {
-    let pdo = DevicePdo {
-        direction: Direction::Transmit,
-        node: row.node,
-        number: row.tpdo,
-    };
-    let name = pdo_name(alloc, pdo)?;
+    let name = PdoName(tpdo_of(row));
     let (deadline, kbits) = (row.deadline, first.rate.kbits());
-    let transfer = micros(alloc, first.transfer)?;
-    let more = match others {
-        0 => String::new(alloc),
-        _ => format!(in alloc; " and {others} more")?,
-    };
+    let (transfer, more) = (Micros(first.transfer), More(others));
     format!(in alloc;
         "{name}{more}: its deadline of {deadline} us is less than its frame alone takes at {kbits} kbit/s, {transfer} us: is it a time in milliseconds?"
     )

@@ -3,6 +3,7 @@
 use crate::devices::{accepted, text_named};
 use crate::findings::{EdsLine, Finding};
 use crate::left_outs::push_left_out;
+use crate::names::Devices;
 use crate::owners::push_owner;
 use crate::parameters::push_parameters;
 use crate::words::push_shown;
@@ -11,7 +12,7 @@ use cop_eds_hazards::{Hazard, all_hazards, index_at, miscounts};
 use cop_net::{DeviceRow, NodeTable};
 use std::alloc::{AllocError, Global};
 use std::collections::BTreeSet;
-use std::str;
+use std::{fmt, str};
 
 /// A device's EDS text, with the first row that names it, and how many other rows do.
 #[derive(Clone, Copy)]
@@ -45,18 +46,24 @@ fn name_in(line: &[u8]) -> &[u8] {
 }
 
 /// The object of a section by which a device does something on the bus: TPDO 2 of 1801h.
-fn object_at(alloc: Global, index: u64) -> Result<String, AllocError> {
-    let number = (index & 0x1FF).saturating_add(1);
-    match index {
-        0x1005 | 0x1006 => String::from_str(alloc, "SYNC"),
-        0x1014 | 0x1015 => String::from_str(alloc, "EMCY"),
-        0x1016 => String::from_str(alloc, "The watch on heartbeats"),
-        0x1017 => String::from_str(alloc, "The heartbeat"),
-        0x1400..=0x15FF => format!(in alloc; "RPDO {number}"),
-        0x1600..=0x17FF => format!(in alloc; "The mapping of RPDO {number}"),
-        0x1800..=0x19FF => format!(in alloc; "TPDO {number}"),
-        0x1A00..=0x1BFF => format!(in alloc; "The mapping of TPDO {number}"),
-        _ => String::from_str(alloc, "The SDO server"),
+#[derive(Clone, Copy)]
+struct ObjectName(u64);
+
+impl fmt::Display for ObjectName {
+    fn fmt<W: fmt::Write>(&self, f: &mut fmt::Formatter<W>) -> fmt::Result {
+        let number = (self.0 & 0x1FF).saturating_add(1);
+        let kind = match self.0 {
+            0x1005 | 0x1006 => return f.write_str("SYNC"),
+            0x1014 | 0x1015 => return f.write_str("EMCY"),
+            0x1016 => return f.write_str("The watch on heartbeats"),
+            0x1017 => return f.write_str("The heartbeat"),
+            0x1400..=0x15FF => "RPDO",
+            0x1600..=0x17FF => "The mapping of RPDO",
+            0x1800..=0x19FF => "TPDO",
+            0x1A00..=0x1BFF => "The mapping of TPDO",
+            _ => return f.write_str("The SDO server"),
+        };
+        write!(f, "{kind} {number}")
     }
 }
 
@@ -67,16 +74,6 @@ fn unseen(index: u64) -> &'static str {
     } else {
         "a plan neither sees nor sets it"
     }
-}
-
-/// The devices that have a text: Valve, or Valve and 2 more.
-pub(crate) fn devices_of(alloc: Global, text: Text<'_, '_, '_>) -> Result<String, AllocError> {
-    let name = str::from_utf8(text.row.name.as_bytes()).unwrap_or("the device");
-    let others = text.others;
-    if others == 0 {
-        return String::from_str(alloc, name);
-    }
-    format!(in alloc; "{name} and {others} more")
 }
 
 /// Bytes of a text as they may be shown.
@@ -97,8 +94,8 @@ fn object_words(
 ) -> Result<String, AllocError> {
     let name = name_in(line_of(text.eds, hazard.line));
     let index = index_at(text.eds, hazard.line).unwrap_or(0);
-    let object = object_at(alloc, index)?;
-    let (devices, section) = (devices_of(alloc, text)?, shown(alloc, name)?);
+    let (object, devices) = (ObjectName(index), Devices(text));
+    let section = shown(alloc, name)?;
     if hazard.number == 80 {
         let unseen = unseen(index);
         return format!(in alloc;
@@ -113,7 +110,7 @@ fn object_words(
 /// What is said of a line that states something which is not as it is read.
 fn line_words(alloc: Global, text: Text<'_, '_, '_>, hazard: Hazard) -> Result<String, AllocError> {
     let line = shown(alloc, line_of(text.eds, hazard.line))?;
-    let devices = devices_of(alloc, text)?;
+    let devices = Devices(text);
     match hazard.number {
         82 => format!(in alloc;
             "by {line} {devices} may have PDOs that no section describes: they are not switched off. canplan tidy writes them out"

@@ -1,7 +1,8 @@
 //! What is said of values and limits that `tidy` left out of a text.
 
 use crate::findings::{EdsLine, Finding};
-use crate::hazards::{Text, devices_of, line_of, shown};
+use crate::hazards::{Text, line_of, shown};
+use crate::names::Devices;
 use cop_eds_hazards::LEFT_OUT;
 use std::alloc::{AllocError, Global};
 use std::str;
@@ -15,7 +16,7 @@ fn left_out_words(
 ) -> Result<String, AllocError> {
     let line = line_of(text.eds, first);
     let said = shown(alloc, line.strip_prefix(LEFT_OUT).unwrap_or(line))?;
-    let devices = devices_of(alloc, text)?;
+    let devices = Devices(text);
     let more = count.saturating_sub(1);
     if more == 0 {
         return format!(in alloc;

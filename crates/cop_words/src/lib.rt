@@ -11,6 +11,7 @@ mod hazards;
 mod left_outs;
 mod mappings;
 mod margins;
+mod names;
 mod networks;
 mod owners;
 mod paces;

@@ -1,9 +1,11 @@
 //! What is said of the mapping of a PDO.
 
 use crate::devices::{Device, push_value_line};
+use crate::names::PdoName;
 use cop_dict::{DataType, Dictionary, Direction, Mapped, MappingFault, Object};
 use cop_net::DevicePdo;
 use std::alloc::{AllocError, Global};
+use std::fmt;
 
 /// The index of a PDO's communication record.
 pub(crate) fn communication(pdo: DevicePdo) -> u16 {
@@ -12,16 +14,6 @@ pub(crate) fn communication(pdo: DevicePdo) -> u16 {
         Direction::Transmit => 0x17FF,
     };
     pdo.number.saturating_add(before)
-}
-
-/// A PDO as it is called: TPDO 1 of node 5.
-pub(crate) fn pdo_name(alloc: Global, pdo: DevicePdo) -> Result<String, AllocError> {
-    let (node, number) = (pdo.node, pdo.number);
-    let kind = match pdo.direction {
-        Direction::Receive => "RPDO",
-        Direction::Transmit => "TPDO",
-    };
-    format!(in alloc; "{kind} {number} of node {node}")
 }
 
 /// How many entries a mapping record counts, 0 where that cannot be said.
@@ -71,51 +63,57 @@ fn unmappable(object: &Object, mapped: Mapped) -> &'static str {
     "whose AccessType does not let a PDO move it so"
 }
 
-/// What is wrong with the object that an entry maps.
-fn object_words(alloc: Global, dict: &Dictionary, mapped: Mapped) -> Result<String, AllocError> {
-    let (index, sub, bits) = (mapped.index, mapped.sub, mapped.bits);
-    let why = match dict.entry(index, sub) {
-        Some(object) => unmappable(object, mapped),
-        None => "which is not there",
-    };
-    format!(in alloc; "{bits} bits of {index:04X}h sub {sub}, {why}")
-}
-
 /// What is wrong with an entry of a mapping record.
-fn entry_words(
-    alloc: Global,
-    dict: &Dictionary,
+#[derive(Clone, Copy)]
+struct BrokenEntry<'a> {
+    dict: &'a Dictionary,
     mapping: u16,
     sub: u8,
-) -> Result<String, AllocError> {
-    match dict.entry(mapping, sub).and_then(mapped_by) {
-        Some(mapped) => {
-            let said = object_words(alloc, dict, mapped)?;
-            format!(in alloc; "{mapping:04X}h sub {sub} maps {said}")
+}
+
+impl BrokenEntry<'_> {
+    /// Why the object may not be mapped.
+    fn why(self, mapped: Mapped) -> &'static str {
+        match self.dict.entry(mapped.index, mapped.sub) {
+            Some(object) => unmappable(object, mapped),
+            None => "which is not there",
         }
-        None => format!(in alloc; "{mapping:04X}h sub {sub} is absent, or is no UNSIGNED32"),
+    }
+}
+
+impl fmt::Display for BrokenEntry<'_> {
+    fn fmt<W: fmt::Write>(&self, f: &mut fmt::Formatter<W>) -> fmt::Result {
+        let (mapping, sub) = (self.mapping, self.sub);
+        write!(f, "{mapping:04X}h sub {sub}")?;
+        let Some(mapped) = self.dict.entry(mapping, sub).and_then(mapped_by) else {
+            return f.write_str(" is absent, or is no UNSIGNED32");
+        };
+        let why = self.why(mapped);
+        let Mapped { index, sub, bits } = mapped;
+        write!(f, " maps {bits} bits of {index:04X}h sub {sub}, {why}")
     }
 }
 
 /// What is wrong with a mapping record as a whole.
-fn record_words(
-    alloc: Global,
-    dict: &Dictionary,
+#[derive(Clone, Copy)]
+struct BrokenRecord<'a> {
+    dict: &'a Dictionary,
     pdo: DevicePdo,
     fault: MappingFault,
-) -> Result<String, AllocError> {
-    let index = communication(pdo);
-    let mapping = index.saturating_add(0x200);
-    if dict.entry(index, 1).is_none() {
-        return format!(in alloc; "{index:04X}h sub 1 is absent");
-    }
-    match fault {
-        MappingFault::TooLong => {
-            format!(in alloc;
-                "{mapping:04X}h has more than 64 entries, or they have more than 64 bits"
-            )
+}
+
+impl fmt::Display for BrokenRecord<'_> {
+    fn fmt<W: fmt::Write>(&self, f: &mut fmt::Formatter<W>) -> fmt::Result {
+        let index = communication(self.pdo);
+        let mapping = index.saturating_add(0x200);
+        if self.dict.entry(index, 1).is_none() {
+            return write!(f, "{index:04X}h sub 1 is absent");
         }
-        _ => format!(in alloc; "{mapping:04X}h sub 0 is absent, is 0, or is no UNSIGNED8"),
+        let why = match self.fault {
+            MappingFault::TooLong => " has more than 64 entries, or they have more than 64 bits",
+            _ => " sub 0 is absent, is 0, or is no UNSIGNED8",
+        };
+        write!(f, "{mapping:04X}h{why}")
     }
 }
 
@@ -150,13 +148,14 @@ pub(crate) fn push_mapping(
         Some(_) => broken_sub(dict, mapping),
         None => 0,
     };
-    let said = if sub == 0 {
-        record_words(alloc, dict, pdo, fault)?
+    let name = PdoName(pdo);
+    let line = if sub == 0 {
+        let said = BrokenRecord { dict, pdo, fault };
+        format!(in alloc; "{name}: {said}\n")?
     } else {
-        entry_words(alloc, dict, mapping, sub)?
+        let said = BrokenEntry { dict, mapping, sub };
+        format!(in alloc; "{name}: {said}\n")?
     };
-    let name = pdo_name(alloc, pdo)?;
-    let line = format!(in alloc; "{name}: {said}\n")?;
     words.extend_from_slice(line.as_bytes())?;
     push_nature(words, device)?;
     push_value_line(words, alloc, &device.eds, mapping, sub)
@@ -186,7 +185,7 @@ pub(crate) fn push_layout(
     let Ok(mapping) = cop_pdo::payload(&device.dictionary, pdo.direction, pdo.number) else {
         return Ok(());
     };
-    let name = pdo_name(alloc, pdo)?;
+    let name = PdoName(pdo);
     let begin = format!(in alloc; "{name} has the bits")?;
     words.extend_from_slice(begin.as_bytes())?;
     push_entries(words, alloc, mapping.entries())

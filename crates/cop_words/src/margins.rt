@@ -1,10 +1,8 @@
 //! What is said of a plan whose identifiers leave each deadline the greatest margin.
 
-use crate::mappings::pdo_name;
-use crate::refusals::micros;
-use cop_dict::Direction;
+use crate::names::{Micros, PdoName, tpdo_of};
 use cop_figures::{Figures, FrameTimes, PdoTimes, Tight};
-use cop_net::{DevicePdo, Network};
+use cop_net::Network;
 use std::alloc::{AllocError, Global};
 
 /// What a PDO has, by its name.
@@ -12,18 +10,13 @@ fn pdo_words(alloc: Global, network: &Network<'_>, times: &PdoTimes) -> Result<S
     let Some(row) = network.rows().get(times.pdo) else {
         return Ok(String::new(alloc));
     };
-    let pdo = DevicePdo {
-        direction: Direction::Transmit,
-        node: row.node,
-        number: row.tpdo,
-    };
-    let (name, left) = (pdo_name(alloc, pdo)?, micros(alloc, times.left())?);
+    let (name, left) = (PdoName(tpdo_of(row)), Micros(times.left()));
     format!(in alloc; "the margin is limited by {name}, which has {left} us left\n")
 }
 
 /// What an SDO frame has.
 fn frame_words(alloc: Global, times: &FrameTimes) -> Result<String, AllocError> {
-    let (id, left) = (times.stream.id, micros(alloc, times.left())?);
+    let (id, left) = (times.stream.id, Micros(times.left()));
     format!(in alloc;
         "the margin is limited by the SDO frame {id:03X}h, which has {left} us left\n"
     )
@@ -51,16 +44,8 @@ pub(crate) fn error_words(
     let Some(row) = network.rows().get(tight.times.pdo) else {
         return Ok(String::new(alloc));
     };
-    let (cost, left) = (
-        micros(alloc, tight.cost)?,
-        micros(alloc, tight.times.left())?,
-    );
-    let pdo = DevicePdo {
-        direction: Direction::Transmit,
-        node: row.node,
-        number: row.tpdo,
-    };
-    let name = pdo_name(alloc, pdo)?;
+    let (cost, left) = (Micros(tight.cost), Micros(tight.times.left()));
+    let name = PdoName(tpdo_of(row));
     format!(in alloc;
         "no error is counted: one error on the bus takes up to {cost} us, and {name} has {left} us left. Count errors by a row errors, plan with --margin, or give it a longer deadline\n"
     )
@@ -68,7 +53,7 @@ pub(crate) fn error_words(
 
 /// What the others have, where they have a greater margin, in ticks of 250 ns.
 pub fn others_words(alloc: Global, others: u64) -> Result<String, AllocError> {
-    let left = micros(alloc, others)?;
+    let left = Micros(others);
     format!(in alloc;
         "each of the others has at least {left} us left, or as much as any identifiers leave it\n"
     )

@@ -1,7 +1,8 @@
 //! What is said of a DCF file that was written for another node.
 
 use crate::findings::{EdsLine, Finding};
-use crate::hazards::{Text, devices_of, line_of, shown};
+use crate::hazards::{Text, line_of, shown};
+use crate::names::Devices;
 use cop_eds::{Amount, Eds};
 use std::alloc::{AllocError, Global};
 use std::str;
@@ -25,10 +26,8 @@ fn owner_words(
     line: usize,
     owner: u64,
 ) -> Result<String, AllocError> {
-    let (said, devices) = (
-        shown(alloc, line_of(text.eds, line))?,
-        devices_of(alloc, text)?,
-    );
+    let said = shown(alloc, line_of(text.eds, line))?;
+    let devices = Devices(text);
     let node = text.row.node;
     let others = text.others;
     if others == 0 {

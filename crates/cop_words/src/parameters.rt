@@ -1,7 +1,8 @@
 //! What is said of values that a text gives a device beside the ones that it begins with.
 
 use crate::findings::{EdsLine, Finding};
-use crate::hazards::{Text, devices_of, line_of, shown};
+use crate::hazards::{Text, line_of, shown};
+use crate::names::Devices;
 use cop_eds::{Amount, Eds};
 use std::alloc::{AllocError, Global};
 use std::str;
@@ -43,10 +44,8 @@ fn changed_words(
     first: usize,
     count: usize,
 ) -> Result<String, AllocError> {
-    let (line, devices) = (
-        shown(alloc, line_of(text.eds, first))?,
-        devices_of(alloc, text)?,
-    );
+    let line = shown(alloc, line_of(text.eds, first))?;
+    let devices = Devices(text);
     let more = count.saturating_sub(1);
     if more == 0 {
         return format!(in alloc;

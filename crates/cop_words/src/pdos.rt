@@ -1,13 +1,15 @@
 //! What is said of a PDO of a device that is refused.
 
 use crate::devices::{Device, device_of, push_type_line, push_value_line, row_of};
-use crate::mappings::{communication, pdo_name, push_layout, push_mapping};
+use crate::mappings::{communication, push_layout, push_mapping};
+use crate::names::PdoName;
 use crate::networks::Network;
 use crate::paces::sender;
 use crate::words::push_rule;
 use cop_dict::{Access, DataType, Description, Dictionary, Direction, MappingFault, Object};
 use cop_net::{Consumer, DevicePdo, NodeTable, ReceiveFault, read_pdos, whole_of};
 use std::alloc::{AllocError, Global};
+use std::fmt;
 
 /// The number of the rule that a mapping breaks.
 fn mapping_number(fault: MappingFault) -> u8 {
@@ -51,7 +53,7 @@ fn push_no_device(
     row: RefusedRow<'_>,
     pdo: DevicePdo,
 ) -> Result<(), AllocError> {
-    let (name, node, nodes) = (pdo_name(alloc, pdo)?, pdo.node, row.files.nodes.name);
+    let (name, node, nodes) = (PdoName(pdo), pdo.node, row.files.nodes.name);
     let line = format!(in alloc; "{name}: node {node} has no device row in {nodes}\n")?;
     words.extend_from_slice(line.as_bytes())?;
     Ok(())
@@ -96,13 +98,12 @@ fn cob_id_reason(description: Description) -> &'static str {
 }
 
 /// What is wrong with the COB-ID of a communication record.
-fn cob_id_words(alloc: Global, dict: &Dictionary, index: u16) -> Result<String, AllocError> {
-    let why = match dict.entry(index, 1) {
+fn cob_id_fault(dict: &Dictionary, index: u16) -> &'static str {
+    match dict.entry(index, 1) {
         None => "it is absent",
         Some(entry) if entry.unsigned32().is_none() => "it is no UNSIGNED32",
         Some(entry) => cob_id_reason(entry.description()),
-    };
-    format!(in alloc; "its COB-ID is {index:04X}h sub 1: {why}")
+    }
 }
 
 /// Adds what is wrong with the COB-ID of a PDO, and its line of the EDS text.
@@ -113,9 +114,8 @@ fn push_cob_id_of(
     pdo: DevicePdo,
 ) -> Result<(), AllocError> {
     let index = communication(pdo);
-    let name = pdo_name(alloc, pdo)?;
-    let said = cob_id_words(alloc, &device.dictionary, index)?;
-    let line = format!(in alloc; "{name}: {said}\n")?;
+    let (name, why) = (PdoName(pdo), cob_id_fault(&device.dictionary, index));
+    let line = format!(in alloc; "{name}: its COB-ID is {index:04X}h sub 1: {why}\n")?;
     words.extend_from_slice(line.as_bytes())?;
     push_value_line(words, alloc, &device.eds, index, 1)
 }
@@ -165,25 +165,21 @@ pub(crate) fn push_stray(
     }
 }
 
-/// The number of an entry, or what it is where it has none.
-fn number_words(alloc: Global, entry: &Object) -> Result<String, AllocError> {
-    if let Some(number) = whole_of(entry) {
-        return format!(in alloc; "{number}");
-    }
-    let said = match entry.description().data_type {
-        DataType::Boolean => "a BOOLEAN, which is no integer type",
-        _ => "of no integer type",
-    };
-    String::from_str(alloc, said)
-}
+/// What the value of an entry is: its number, or what it is where it has none.
+#[derive(Clone, Copy)]
+struct NumberOf<'a>(Option<&'a Object>);
 
-/// What the transmission type of a communication record is.
-fn type_words(alloc: Global, dict: &Dictionary, index: u16) -> Result<String, AllocError> {
-    let said = match dict.entry(index, 2) {
-        Some(entry) => number_words(alloc, entry)?,
-        None => String::from_str(alloc, "absent")?,
-    };
-    format!(in alloc; "{index:04X}h sub 2, its transmission type, is {said}")
+impl fmt::Display for NumberOf<'_> {
+    fn fmt<W: fmt::Write>(&self, f: &mut fmt::Formatter<W>) -> fmt::Result {
+        let Some(entry) = self.0 else {
+            return f.write_str("absent");
+        };
+        match (whole_of(entry), entry.description().data_type) {
+            (Some(number), _) => write!(f, "{number}"),
+            (None, DataType::Boolean) => f.write_str("a BOOLEAN, which is no integer type"),
+            (None, _) => f.write_str("of no integer type"),
+        }
+    }
 }
 
 /// Adds what the transmission type of a TPDO is, and the line of its EDS text that gives its value, or its data type where this is no
@@ -195,9 +191,10 @@ fn push_type_of(
     pdo: DevicePdo,
 ) -> Result<(), AllocError> {
     let index = communication(pdo);
-    let name = pdo_name(alloc, pdo)?;
-    let said = type_words(alloc, &device.dictionary, index)?;
-    let line = format!(in alloc; "{name}: {said}\n")?;
+    let (name, number) = (PdoName(pdo), NumberOf(device.dictionary.entry(index, 2)));
+    let line = format!(in alloc;
+        "{name}: {index:04X}h sub 2, its transmission type, is {number}\n"
+    )?;
     words.extend_from_slice(line.as_bytes())?;
     match device.dictionary.entry(index, 2) {
         Some(entry) if whole_of(entry).is_none() => {
@@ -295,7 +292,7 @@ pub(crate) fn push_receive(
         ReceiveFault::NoDevice => push_no_device(words, alloc, row, pdo),
         ReceiveFault::Mapping(fault) => push_broken_mapping(words, alloc, row, pdo, fault),
         ReceiveFault::Taken => {
-            let (name, said) = (pdo_name(alloc, pdo)?, taken_words(alloc, row, consumer)?);
+            let (name, said) = (PdoName(pdo), taken_words(alloc, row, consumer)?);
             let line = format!(in alloc; "{name}: {said}\n")?;
             words.extend_from_slice(line.as_bytes())?;
             Ok(())

@@ -1,41 +1,34 @@
 //! What is said of the rates that a plan refuses, and of those that a refusal file leaves out.
 
-use crate::mappings::pdo_name;
+use crate::names::{Micros, PdoName, tpdo_of};
 use cop_cert::Refusal;
-use cop_dict::Direction;
 use cop_figures::{Failing, FailingFrame, Reason, RefusedRate};
 use cop_frame::Rate;
-use cop_net::{DevicePdo, Network};
+use cop_net::{Network, PdoRow};
 use cop_rta::Verdict;
 use std::alloc::{AllocError, Global};
-
-/// Ticks of 250 ns in microseconds.
-pub(crate) fn micros(alloc: Global, ticks: u64) -> Result<String, AllocError> {
-    let (whole, rest) = (ticks / 4, ticks % 4);
-    let part = match rest {
-        0 => "",
-        1 => ".25",
-        2 => ".5",
-        _ => ".75",
-    };
-    format!(in alloc; "{whole}{part}")
-}
+use std::fmt;
 
 /// What a frame needs, and until when it has time.
-fn verdict_words(
-    alloc: Global,
+#[derive(Clone, Copy)]
+struct Needs {
     verdict: Verdict,
     deadline: Option<u64>,
-) -> Result<String, AllocError> {
-    let deadline = micros(alloc, deadline.unwrap_or(0))?;
-    match verdict {
-        Verdict::Late { response, .. } => {
-            let response = micros(alloc, response)?;
-            format!(in alloc; "needs {response} us, its deadline is {deadline} us")
+}
+
+impl fmt::Display for Needs {
+    fn fmt<W: fmt::Write>(&self, f: &mut fmt::Formatter<W>) -> fmt::Result {
+        let deadline = Micros(self.deadline.unwrap_or(0));
+        match self.verdict {
+            Verdict::Late { response, .. } => {
+                let response = Micros(response);
+                write!(f, "needs {response} us, its deadline is {deadline} us")
+            }
+            _ => write!(
+                f,
+                "has no busy time that ends within 10 s, its deadline is {deadline} us"
+            ),
         }
-        _ => format!(in alloc;
-            "has no busy time that ends within 10 s, its deadline is {deadline} us"
-        ),
     }
 }
 
@@ -58,25 +51,24 @@ fn told(members: &[Failing]) -> Option<&Failing> {
     Some(nearest)
 }
 
-/// What a PDO needs, by its name.
-fn failing_words(
+/// What is said of PDOs of which none can have the lowest priority among them, by one of them.
+fn member_words(
     alloc: Global,
-    network: &Network<'_>,
-    failing: &Failing,
+    row: &PdoRow,
+    member: &Failing,
+    count: usize,
 ) -> Result<String, AllocError> {
-    let Some(row) = network.rows().get(failing.pdo) else {
-        return Ok(String::new(alloc));
+    let name = PdoName(tpdo_of(row));
+    let needs = Needs {
+        verdict: member.verdict,
+        deadline: member.deadline,
     };
-    let pdo = DevicePdo {
-        direction: Direction::Transmit,
-        node: row.node,
-        number: row.tpdo,
-    };
-    let (name, needs) = (
-        pdo_name(alloc, pdo)?,
-        verdict_words(alloc, failing.verdict, failing.deadline)?,
-    );
-    format!(in alloc; "{name} {needs}")
+    if count == 1 {
+        return format!(in alloc; "{name} {needs}, with all other PDOs below it");
+    }
+    format!(in alloc;
+        "none of {count} PDOs can be the lowest of them: below the others {name} {needs}"
+    )
 }
 
 /// What is said of PDOs of which none can have the lowest priority among them.
@@ -88,29 +80,33 @@ fn places_words(
     let Some(member) = told(members) else {
         return Ok(String::new(alloc));
     };
-    let (said, count) = (failing_words(alloc, network, member)?, members.len());
-    if count == 1 {
-        return format!(in alloc; "{said}, with all other PDOs below it");
+    match network.rows().get(member.pdo) {
+        Some(row) => member_words(alloc, row, member, members.len()),
+        None => Ok(String::new(alloc)),
     }
-    format!(in alloc; "none of {count} PDOs can be the lowest of them: below the others {said}")
 }
 
 /// Where an SDO frame stands that so many PDOs cannot go below.
-fn above_words(alloc: Global, above: usize) -> Result<String, AllocError> {
-    match above {
-        0 => String::from_str(alloc, "with all PDOs below it"),
-        1 => String::from_str(alloc, "below 1 PDO that cannot go below it"),
-        _ => format!(in alloc; "below {above} PDOs that cannot go below it"),
+#[derive(Clone, Copy)]
+struct Below(usize);
+
+impl fmt::Display for Below {
+    fn fmt<W: fmt::Write>(&self, f: &mut fmt::Formatter<W>) -> fmt::Result {
+        match self.0 {
+            0 => f.write_str("with all PDOs below it"),
+            1 => f.write_str("below 1 PDO that cannot go below it"),
+            above => write!(f, "below {above} PDOs that cannot go below it"),
+        }
     }
 }
 
 /// What is said of an SDO frame.
 fn frame_words(alloc: Global, frame: &FailingFrame, above: usize) -> Result<String, AllocError> {
-    let (id, needs, place) = (
-        frame.id,
-        verdict_words(alloc, frame.verdict, frame.deadline)?,
-        above_words(alloc, above)?,
-    );
+    let (id, place) = (frame.id, Below(above));
+    let needs = Needs {
+        verdict: frame.verdict,
+        deadline: frame.deadline,
+    };
     format!(in alloc; "the SDO frame {id:03X}h {needs}, {place}")
 }
 

@@ -1,6 +1,7 @@
 //! What is said of warnings.
 
-use crate::mappings::{communication, pdo_name};
+use crate::mappings::communication;
+use crate::names::{PdoName, tpdo_of};
 use cop_dict::Direction;
 use cop_net::{DevicePdo, FrameKind, Network, PdoRow};
 use cop_warn::Warning;
@@ -12,17 +13,8 @@ pub(crate) fn row_at<'b>(network: &'b Network<'_>, place: u64) -> Option<&'b Pdo
     network.rows().get(before)
 }
 
-/// The TPDO of a row.
-fn tpdo_of(row: &PdoRow) -> DevicePdo {
-    DevicePdo {
-        direction: Direction::Transmit,
-        node: row.node,
-        number: row.tpdo,
-    }
-}
-
 fn deadline_words(alloc: Global, row: &PdoRow) -> Result<String, AllocError> {
-    let (name, jitter, deadline) = (pdo_name(alloc, tpdo_of(row))?, row.jitter, row.deadline);
+    let (name, jitter, deadline) = (PdoName(tpdo_of(row)), row.jitter, row.deadline);
     format!(in alloc;
         "{name}: its deadline of {deadline} us is not above its jitter of {jitter} us, so it is late at every rate: give it a longer deadline, or a shorter jitter where the device keeps it\n"
     )
@@ -30,7 +22,7 @@ fn deadline_words(alloc: Global, row: &PdoRow) -> Result<String, AllocError> {
 
 fn timer_words(alloc: Global, row: &PdoRow, millis: u64) -> Result<String, AllocError> {
     let (pdo, period) = (tpdo_of(row), row.period);
-    let (name, index) = (pdo_name(alloc, pdo)?, communication(pdo));
+    let (name, index) = (PdoName(pdo), communication(pdo));
     format!(in alloc;
         "{name}: its event timer ({index:04X}h sub 5) is {millis} ms and its row's period {period} us, so it is sent more often than planned: set the timer to 0 or to the period, or the row to the timer\n"
     )
@@ -38,7 +30,7 @@ fn timer_words(alloc: Global, row: &PdoRow, millis: u64) -> Result<String, Alloc
 
 fn inhibit_words(alloc: Global, row: &PdoRow, units: u64) -> Result<String, AllocError> {
     let (pdo, period) = (tpdo_of(row), row.period);
-    let (name, index) = (pdo_name(alloc, pdo)?, communication(pdo));
+    let (name, index) = (PdoName(pdo), communication(pdo));
     let micros = units.saturating_mul(100);
     format!(in alloc;
         "{name}: its inhibit time ({index:04X}h sub 3) is {micros} us and its row's period {period} us, so it may wait longer than planned: set the inhibit time to the period at most\n"
@@ -58,8 +50,8 @@ fn at_once_words(
         node,
         number,
     };
-    let (name, index) = (pdo_name(alloc, tpdo_of(row))?, communication(rpdo));
-    let receiver_name = pdo_name(alloc, rpdo)?;
+    let (name, index) = (PdoName(tpdo_of(row)), communication(rpdo));
+    let receiver_name = PdoName(rpdo);
     format!(in alloc;
         "{name} is sent by SYNC, and {receiver_name} uses it at once ({index:04X}h sub 2 is {kind}): give that RPDO a type of 0 to 240 if the node is to act with SYNC\n"
     )
