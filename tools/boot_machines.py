@@ -117,7 +117,7 @@ LEFT_ALONE = {
 
 # What is heard beside a boot that ends well: the example, the words of the rig, and what is said of it.
 TOLD = {
-    "a device tells an error": ("valve", "--error 5:8130:11", ["node 5 told an error by EMCY: code 8130h (communication), error register 11h"]),
+    "a device tells an error": ("valve", "--error 5:8130:11", ["node 5 told an error by EMCY: code 8130h (a heartbeat or a life guarding stayed away), error register 11h"]),
     "devices tell errors": (
         "conveyor", "--error 11:4210:09 13:FF01:81",
         ["node 11 told an error by EMCY: code 4210h (temperature), error register 09h", "node 13 told an error by EMCY: code FF01h (of the device's own kind), error register 81h"]),
